@@ -1,0 +1,6 @@
+pub mod Machine
+pub mod ByteKinds
+pub mod Runs
+pub mod ReadsBack
+pub mod Viable
+pub mod Examples

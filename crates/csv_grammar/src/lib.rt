@@ -1,0 +1,31 @@
+//! The grammar of CSV files (RFC 4180, section 2), as definitions that the crates above cite: the records of a text, the fault
+//! of a text, the content of a field, the table that a file is, and what is first wrong with a file. The functions here are
+//! the laws of these definitions: each is a theorem, and does nothing.
+#![tactic(auto)]
+
+ghost use Rattle.csv_grammar.specs.Laws.{OneListOfRecords, RecordsOrFault, OneFault, OneTable, OneFileFault};
+
+/// A text has at most one list of records.
+pub fn one_list_of_records()
+    ensures { OneListOfRecords }
+{}
+
+/// A text has records or a fault, and not both.
+pub fn records_or_fault()
+    ensures { RecordsOrFault }
+{}
+
+/// A text has at most one fault.
+pub fn one_fault()
+    ensures { OneFault }
+{}
+
+/// A file is at most one table.
+pub fn one_table()
+    ensures { OneTable }
+{}
+
+/// One thing at most is the first that is wrong with a file, and nothing is wrong with a table.
+pub fn one_file_fault()
+    ensures { OneFileFault }
+{}

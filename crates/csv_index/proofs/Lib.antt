@@ -1,0 +1,11 @@
+pub mod Standing
+pub mod FieldBytes
+pub mod Cutting
+pub mod Counting
+pub mod Following
+pub mod Reading
+pub mod Ending
+pub mod Mark
+pub mod Tables
+pub mod RawLemmas
+pub mod CellLemmas

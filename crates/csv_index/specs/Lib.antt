@@ -1,0 +1,9 @@
+pub mod Raws
+pub mod Places
+pub mod Told
+pub mod Scans
+pub mod Reading
+pub use Rattle.csv_grammar.specs.Bytes
+pub use Rattle.csv_grammar.specs.Records
+pub use Rattle.csv_grammar.specs.Faults
+pub use Rattle.csv_grammar.specs.Files

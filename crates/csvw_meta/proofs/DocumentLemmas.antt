@@ -1,0 +1,33 @@
+-- What the bytes of a text are as a document.
+use Rattle.std.proofs.Common.{◌≡◌, ◌<◌, ◌≤◌, ℕ, List, Bool, true, false, Some, None, IsUtf8, length, leb, refl, arith}
+use Rattle.std.proofs.lemmas.Bool.{le-leb, leb-true}
+use Rattle.std.proofs.lemmas.Str.{IsUtf8-from_is_utf8, is_utf8-from_IsUtf8}
+use Rattle.std.specs.Str.{is_utf8}
+use Rattle.serde_json.specs.Data.{Data}
+use Rattle.serde_json.specs.Read.{read}
+use Rattle.csv_grammar.specs.Files.{text_of}
+use Rattle.csvw_meta.specs.Walk.{document}
+
+-- a text that is UTF-8 and reads as a value is that document
+pub document-read : (bs : List ℕ) (d : Data) → length bs ≤ 1073741824 → IsUtf8 (text_of bs) → read (text_of bs) ≡ Some d → document bs ≡ Some d
+unfolding document
+document-read bs d short utf8 is = rw (le-leb (length bs) 1073741824 short, is_utf8-from_IsUtf8 (text_of bs) utf8) is
+
+none_at : (bs : List ℕ) (short utf8 : Bool) → leb (length bs) 1073741824 ≡ short → is_utf8 (text_of bs) ≡ utf8 → (IsUtf8 (text_of bs) → read (text_of bs) ≡ None) → document bs ≡ None
+unfolding document
+none_at bs true true e f h = rw (e, f) (h (IsUtf8-from_is_utf8 (text_of bs) f))
+none_at bs true false e f h = rw (e, f) refl
+none_at bs false utf8 e f h = rw e refl
+
+-- a text that is refused as soon as it is UTF-8 is no document
+pub document-none : (bs : List ℕ) → (IsUtf8 (text_of bs) → read (text_of bs) ≡ None) → document bs ≡ None
+document-none bs h = none_at bs (leb (length bs) 1073741824) (is_utf8 (text_of bs)) refl refl h
+
+long_at : (bs : List ℕ) (short : Bool) → leb (length bs) 1073741824 ≡ short → 1073741824 < length bs → document bs ≡ None
+unfolding document
+long_at bs true e h = let short = leb-true _ _ e in absurd (omega arith)
+long_at bs false e h = rw e refl
+
+-- a long text is no document
+pub document-long : (bs : List ℕ) → 1073741824 < length bs → document bs ≡ None
+document-long bs h = long_at bs (leb (length bs) 1073741824) refl h

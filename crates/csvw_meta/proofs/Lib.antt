@@ -1,0 +1,4 @@
+pub mod DocumentLemmas
+pub mod Conditions
+pub mod Columns
+pub mod WalkLemmas

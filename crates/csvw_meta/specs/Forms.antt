@@ -1,0 +1,32 @@
+-- The forms of a table's url and of a column's name.
+use Rattle.std.specs.Prelude.{ℕ, ◌-◌, Bool, ◌&&◌, ◌||◌, ◌==◌, List, length, take, drop, slice_index, codes, nat_eq, nat_lt, nat_le}
+use Rattle.std.specs.List.{list_all, ends_with}
+use Rattle.std.specs.Char.{is_ascii_alphabetic, is_ascii_alphanumeric}
+
+-- an ASCII letter comes first, and the test holds of every byte behind it
+abbrev pub is_word : (ℕ → Bool) → List ℕ → Bool
+is_word test bytes = nat_lt 0 (length bytes) && is_ascii_alphabetic (slice_index bytes 0) && list_all test (drop 1 bytes)
+
+-- an ASCII letter, digit or low line
+abbrev pub is_name_byte : ℕ → Bool
+is_name_byte b = is_ascii_alphanumeric b || b == 95
+
+-- an ASCII letter, digit, low line or hyphen
+abbrev pub is_url_byte : ℕ → Bool
+is_url_byte b = is_name_byte b || b == 45
+
+-- a column's name: a letter, then letters, digits and low lines, at most 128 in all
+abbrev pub is_column_name : List ℕ → Bool
+is_column_name bytes = nat_le (length bytes) 128 && is_word is_name_byte bytes
+
+-- what every url ends with
+abbrev pub url_end : List ℕ
+url_end = codes ".csv"
+
+-- a url without that
+abbrev pub table_name : List ℕ → List ℕ
+table_name url = take (length url - 4) url
+
+-- a table's url: a letter, then letters, digits, low lines and hyphens, then `.csv`, at most 132 characters in all
+abbrev pub is_table_url : List ℕ → Bool
+is_table_url url = nat_le (length url) 132 && ends_with nat_eq url url_end && is_word is_url_byte (table_name url)

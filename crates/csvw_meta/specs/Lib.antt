@@ -1,0 +1,9 @@
+pub mod Faults
+pub mod Forms
+pub mod Members
+pub mod Schemas
+pub mod Walk
+pub mod Refusals
+pub mod Views
+pub use Rattle.cell_types.specs.Values
+pub use Rattle.cell_types.specs.Columns

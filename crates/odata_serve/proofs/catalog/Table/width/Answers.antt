@@ -1,0 +1,11 @@
+use Rattle.std.proofs.Common.{◌∙◌}
+use Rattle.csvw_meta.specs.Views.{schema_view}
+use Rattle.odata_serve.proofs.KeptLemmas.{kept-wide}
+use Rattle.odata_serve.proofs.catalog.Table.width.Goals as goal
+
+pub returns-clause-rows : goal.returns-clause-rows
+returns-clause-rows c =
+    let table = c.self.inside in
+    let wide = kept-wide (schema_view table.schema).columns table.index table.bytes.items c.self.invariant.fits c.self.invariant.width in
+    let same = c.width.ensures ∙ c.self.invariant.width in
+    rw (same, ← c.self.view_is) wide
