@@ -1,2 +1,9 @@
-pub mod Values
-pub mod Columns
+pub mod Value
+pub mod Datatype
+pub mod Column
+pub mod WhiteSpace
+pub mod Integer
+pub mod Boolean
+pub mod Date
+pub mod Cell
+pub mod Laws

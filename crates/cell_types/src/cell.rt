@@ -1,23 +1,54 @@
 //! The value of a cell's text.
-ghost use Rattle.std.specs.Prelude.{◌≡◌, ◌<◌, Ok, Err, IfOk, IfErr, IfSome, IsErrOf, length, string_bytes};
+ghost use Rattle.std.specs.Prelude.{◌≡◌, ◌⊎◌, ◌≢◌, ◌<◌, Ok, Err, IfOk, IfErr, IsErrOf, length, string_bytes};
 ghost use Rattle.std.specs.List.{list_any};
 ghost use Rattle.std.specs.Str.{bytes_eq};
 ghost use Rattle.std.specs.Cow.{cow_str_bytes};
-ghost use Rattle.cell_types.specs.Values.{plain, text as text_value};
-ghost use Rattle.cell_types.specs.Columns.{described, is_null_text as is_null_text_of, text_or_default, told, value_of};
+ghost use Rattle.cell_types.specs.Datatype.{datatype_view, string};
+ghost use Rattle.cell_types.specs.Column.{column_view};
+ghost use Rattle.cell_types.specs.Value.{value_view, text as text_value};
+ghost use Rattle.cell_types.specs.Cell.{NeedsNoMemory, content_value, fault_name, is_null_text as is_null_text_of, null_reading, reading_view, text_or_default as text_or_default_of, value_of};
 
+use crate::boolean::read_boolean;
 use crate::column::Column;
+use crate::datatype::Datatype;
+use crate::date::read_date;
+use crate::integer::read_integer;
 use crate::value::Value;
+use crate::white_space::{is_normal, normal_copy};
 use std::alloc::Global;
 use std::borrow::CowStr;
 
 /// Why a text has no value in a column.
 #[derive(Clone, Copy, Debug, PartialEq, Eq)]
 pub enum CellFault {
+    /// The text of an integer is not an optional sign and one or more digits.
+    NotInteger,
+    /// An integer does not fit 64 signed bits.
+    OutOfRange,
+    /// The text of a boolean is none of those of true and false.
+    NotBoolean,
+    /// The text of a date is not in the column's form, or no day of the years 1 to 9999.
+    NotDate,
     /// The value is null, and the column requires one.
     Missing,
     /// Memory ran out.
     NoMemory,
+}
+
+impl CellFault {
+    /// Its name, as messages have it.
+    pub fn name(&self) -> &'static str
+        ensures { result.now ≡ fault_name self.now }
+    {
+        match self {
+            CellFault::NotInteger => "NotInteger",
+            CellFault::OutOfRange => "OutOfRange",
+            CellFault::NotBoolean => "NotBoolean",
+            CellFault::NotDate => "NotDate",
+            CellFault::Missing => "Missing",
+            CellFault::NoMemory => "NoMemory",
+        }
+    }
 }
 
 /// Whether a text is among some.
@@ -29,61 +60,97 @@ fn is_among(texts: &[String], text: &str) -> bool
 
 /// Whether a text stands for null in a column.
 fn is_null_text(column: &Column, text: &str) -> bool
-    ensures { result ≡ is_null_text_of (described column.now) text.now }
+    ensures { result ≡ is_null_text_of (column_view column.now) text.now }
 {
     is_among(column.nulls.as_slice(), text)
 }
 
-/// Whether a text, or the default where it is empty, stands for null in a column.
-fn is_null(column: &Column, text: &str) -> bool
-    ensures { result ≡ is_null_text_of (described column.now) (text_or_default (described column.now) text.now) }
+/// What a null is in a column.
+fn null_value<'a>(column: &Column) -> Result<Value<'a>, CellFault>
+    ensures { reading_view result ≡ null_reading (column_view column.now) }
+{
+    if column.required {
+        Err(CellFault::Missing)
+    } else {
+        Ok(Value::Null)
+    }
+}
+
+/// A text, or the column's default in the place of an empty one.
+fn text_or_default<'a>(column: &'a Column, text: &'a str) -> &'a str
+    ensures { result.now ≡ text_or_default_of (column_view column.now) text.now }
 {
     if text.is_empty() {
-        is_null_text(column, column.default.as_str())
+        column.default.as_str()
     } else {
-        is_null_text(column, text)
+        text
     }
 }
 
-/// A copy of a text, as a value.
-fn copied<'a>(alloc: Global, text: &str) -> Result<Value<'a>, CellFault>
-    ensures value { IfOk result (λ value. plain value ≡ text_value text.now) }
-    ensures fault { IfErr result (λ e. e ≡ CellFault.NoMemory) }
+/// The value of a text in a column of texts. Memory is taken only where the default stands in for an empty text.
+fn read_string<'a>(alloc: Global, column: &Column, text: CowStr<'a>) -> Result<Value<'a>, CellFault>
+    requires { datatype_view column.now.datatype ≡ string }
+    ensures value { IfOk result (λ value. content_value (column_view column.now) (cow_str_bytes text.entry) ≡ Ok (value_view value)) }
+    ensures fault { IfErr result (λ e. (e ≡ CellFault.NoMemory) ⊎ (content_value (column_view column.now) (cow_str_bytes text.entry) ≡ Err e)) }
+    ensures no_memory_needed { 0 < length (cow_str_bytes text.entry) → ¬ (IsErrOf result CellFault.NoMemory) }
 {
-    match String::from_str(alloc, text) {
-        Ok(copy) => Ok(Value::Text(CowStr::Owned(copy))),
-        Err(_) => Err(CellFault::NoMemory),
+    if is_null_text(column, text_or_default(column, text.as_str())) {
+        return null_value(column);
+    }
+    if text.as_str().is_empty() {
+        return match String::from_str(alloc, column.default.as_str()) {
+            Ok(copy) => Ok(Value::Text(CowStr::Owned(copy))),
+            Err(_) => Err(CellFault::NoMemory),
+        };
+    }
+    Ok(Value::Text(text))
+}
+
+/// The value of a normal text in a column of another datatype.
+fn read_content<'a>(column: &Column, text: &str) -> Result<Value<'a>, CellFault>
+    requires { datatype_view column.now.datatype ≢ string }
+    ensures { reading_view result ≡ content_value (column_view column.now) text.now }
+{
+    let content = text_or_default(column, text);
+    if is_null_text(column, content) {
+        return null_value(column);
+    }
+    match &column.datatype {
+        Datatype::Integer => read_integer(content),
+        Datatype::Boolean(form) => read_boolean(form, content),
+        Datatype::Date(form) => read_date(*form, content),
+        Datatype::Text => unreachable!(),
     }
 }
 
-/// The value of a text in a column (Model for Tabular Data and Metadata on the Web, section 6.4.2), which is the text itself or a null.
-/// Memory is taken only where a column's default stands in for an empty text.
+/// The value of a text in a column (Model for Tabular Data and Metadata on the Web, section 6.4). Memory is taken only where a text
+/// must be normalized, or where a column's default stands in for an empty `string`.
 pub fn read_text<'a>(
     alloc: Global,
     column: &Column,
     text: CowStr<'a>,
 ) -> Result<Value<'a>, CellFault>
-    ensures value { IfOk result (λ value. value_of (described column.now) (cow_str_bytes text.entry) ≡ Ok (plain value)) }
-    ensures fault { IfErr result (λ e. IfSome (told e) (λ cause. value_of (described column.now) (cow_str_bytes text.entry) ≡ Err cause)) }
-    ensures no_memory_needed { 0 < length (cow_str_bytes text.entry) → ¬ (IsErrOf result CellFault.NoMemory) }
+    ensures value { IfOk result (λ value. value_of (column_view column.now) (cow_str_bytes text.entry) ≡ Ok (value_view value)) }
+    ensures fault { IfErr result (λ e. (e ≡ CellFault.NoMemory) ⊎ (value_of (column_view column.now) (cow_str_bytes text.entry) ≡ Err e)) }
+    ensures no_memory_needed { NeedsNoMemory (datatype_view column.now.datatype) (cow_str_bytes text.entry) → ¬ (IsErrOf result CellFault.NoMemory) }
 {
-    if is_null(column, text.as_str()) {
-        if column.required {
-            return Err(CellFault::Missing);
-        }
-        return Ok(Value::Null);
+    if matches!(column.datatype, Datatype::Text) {
+        return read_string(alloc, column, text);
     }
-    if text.as_str().is_empty() {
-        return copied(alloc, column.default.as_str());
+    if is_normal(text.as_str()) {
+        return read_content(column, text.as_str());
     }
-    Ok(Value::Text(text))
+    match normal_copy(alloc, text.as_str()) {
+        Ok(copy) => read_content(column, copy.as_str()),
+        Err(_) => Err(CellFault::NoMemory),
+    }
 }
 
 /// [`read_text`] of a borrowed text.
 pub fn read_cell<'a>(alloc: Global, column: &Column, text: &'a str) -> Result<Value<'a>, CellFault>
-    ensures value { IfOk result (λ value. value_of (described column.now) text.now ≡ Ok (plain value)) }
-    ensures fault { IfErr result (λ e. IfSome (told e) (λ cause. value_of (described column.now) text.now ≡ Err cause)) }
-    ensures no_memory_needed { 0 < length text.now → ¬ (IsErrOf result CellFault.NoMemory) }
+    ensures value { IfOk result (λ value. value_of (column_view column.now) text.now ≡ Ok (value_view value)) }
+    ensures fault { IfErr result (λ e. (e ≡ CellFault.NoMemory) ⊎ (value_of (column_view column.now) text.now ≡ Err e)) }
+    ensures no_memory_needed { NeedsNoMemory (datatype_view column.now.datatype) text.now → ¬ (IsErrOf result CellFault.NoMemory) }
 {
     read_text(alloc, column, CowStr::Borrowed(text))
 }

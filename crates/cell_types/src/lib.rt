@@ -2,15 +2,21 @@
 //! one value of a text in a column, or the one cause why it has none.
 #![tactic(auto)]
 
+mod boolean;
 mod cell;
 mod column;
 mod datatype;
+mod date;
+mod integer;
+mod laws;
 mod value;
+mod white_space;
 
 pub use cell::{CellFault, read_cell, read_text};
 pub use column::Column;
-pub use datatype::Datatype;
+pub use datatype::{BooleanForm, Datatype, DateForm};
+pub use laws::{
+    dates_read_back, integers_read_back, memory_is_no_cause, normal_texts, values_are_ordered,
+    values_compare_as_their_views,
+};
 pub use value::Value;
-
-#[cfg(test)]
-mod tests;

@@ -1,10 +1,15 @@
 //! The values of cells.
 
+use jiff::civil::Date;
 use std::borrow::CowStr;
 
-/// The value of a cell. Null comes before every text, and texts are in the order of their code points, whichever memory keeps them.
+/// The value of a cell. Null comes before all values, then integers, texts, truth values and dates; texts are in the order of their
+/// code points, whichever memory keeps them, and false comes before true.
 #[derive(Clone, Debug, PartialEq, Eq, PartialOrd, Ord, Hash, Drop)]
 pub enum Value<'a> {
     Null,
+    Int(i128),
     Text(CowStr<'a>),
+    Bool(bool),
+    Date(Date),
 }

@@ -2,7 +2,9 @@
 use Rattle.std.proofs.Common.{[], ◌∷◌, refl, arith}
 use Rattle.csv_grammar.specs.Records.{unquoted, quoted, AreRecords}
 use Rattle.csv_grammar.specs.Faults.{bare_cr, stray_quote, after_quote, unfinished, HasFault}
+use Rattle.csv_grammar.specs.Structure.{separator, record_end, inner, AreRoles}
 use Rattle.csv_grammar.proofs.Viable.{whole, stuck, open_end}
+use Rattle.csv_grammar.proofs.Structure.{read_are}
 
 -- the empty text has no records
 pub empty_text : AreRecords [] []
@@ -54,3 +56,12 @@ open_quote = open_end (34 ∷ 97 ∷ []) _ refl refl
 -- a CR: the text ends behind a CR
 pub cr_last : HasFault (97 ∷ 13 ∷ []) 2 unfinished
 cr_last = open_end (97 ∷ 13 ∷ []) _ refl refl
+
+-- "a,",c CR LF: the second comma parts two fields, and the LF ends the record
+pub roles_of_line : AreRoles (34 ∷ 97 ∷ 44 ∷ 34 ∷ 44 ∷ 99 ∷ 13 ∷ 10 ∷ [])
+    (inner ∷ inner ∷ inner ∷ inner ∷ separator ∷ inner ∷ inner ∷ record_end ∷ [])
+roles_of_line = read_are (34 ∷ 97 ∷ 44 ∷ 34 ∷ 44 ∷ 99 ∷ 13 ∷ 10 ∷ []) _ refl
+
+-- a,"LF: the text is not in the grammar, and has a continuation that is
+pub roles_of_front : AreRoles (97 ∷ 44 ∷ 34 ∷ 10 ∷ []) (inner ∷ separator ∷ inner ∷ inner ∷ [])
+roles_of_front = read_are (97 ∷ 44 ∷ 34 ∷ 10 ∷ []) _ refl

@@ -43,7 +43,7 @@ records_unique bytes records others are also =
 -- ---- viable fronts
 
 -- bytes after which a text may end
-abbrev completion : Mode → List ℕ
+abbrev pub completion : Mode → List ℕ
 completion start = []
 completion (plain bytes last) = []
 completion (inside content) = double_quote ∷ []
@@ -51,7 +51,7 @@ completion (closed content) = []
 completion (returned field) = line_feed ∷ []
 
 -- and those bytes lead to an end
-completes : (lines : List Line) (fields : List Field) (m : Mode)
+pub completes : (lines : List Line) (fields : List Field) (m : Mode)
     → (q : Progress) × (text : CsvText) × (run (progress_at lines fields m) (completion m) ≡ Some q) × (finish q ≡ Some text)
 completes ls fs start = (_, _, refl, refl)
 completes ls fs (plain bytes last) = (_, _, refl, refl)

@@ -2,4 +2,6 @@ pub mod Bytes
 pub mod Records
 pub mod Faults
 pub mod Files
+pub mod Structure
+pub mod Following
 pub mod Laws

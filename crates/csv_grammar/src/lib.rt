@@ -3,7 +3,7 @@
 //! the laws of these definitions: each is a theorem, and does nothing.
 #![tactic(auto)]
 
-ghost use Rattle.csv_grammar.specs.Laws.{OneListOfRecords, RecordsOrFault, OneFault, OneTable, OneFileFault};
+ghost use Rattle.csv_grammar.specs.Laws.{OneListOfRecords, RecordsOrFault, OneFault, OneTable, OneFileFault, OneStructure, TableOrFault, WhatFollows};
 
 /// A text has at most one list of records.
 pub fn one_list_of_records()
@@ -28,4 +28,21 @@ pub fn one_table()
 /// One thing at most is the first that is wrong with a file, and nothing is wrong with a table.
 pub fn one_file_fault()
     ensures { OneFileFault }
+{}
+
+/// All continuations of a text agree on its structural places.
+#[inline(always)]
+pub fn one_structure()
+    ensures { OneStructure }
+{}
+
+/// What may follow a text, and what it is there for, hangs on the parity of the text's double quotes and on its last byte.
+#[inline(always)]
+pub fn what_follows()
+    ensures { WhatFollows }
+{}
+
+/// A file is a table, or something is wrong with it.
+pub fn table_or_fault()
+    ensures { TableOrFault }
 {}

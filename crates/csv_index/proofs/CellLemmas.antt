@@ -1,5 +1,7 @@
 -- Where the fields of a table stand among the places.
-use Rattle.std.proofs.Common.{◌≡◌, ℕ, suc, zero, ◌+◌, ◌*◌, ◌<◌, ◌≤◌, List, [], ◌∷◌, ◌++◌, length, get_or, Some, refl, ap, ◌∙◌, sym, arith, true}
+use Rattle.std.proofs.Common.{◌≡◌, ℕ, suc, zero, ◌+◌, ◌*◌, ◌<◌, ◌≤◌, List, [], ◌∷◌, ◌++◌, length, map, drop, subst, Some, add-one, refl, ap, ◌∙◌, sym, arith, true}
+use Rattle.std.proofs.Math.Seq.{drop-append-add}
+use Rattle.std.proofs.Math.Nat.{mul-le-mul}
 use Rattle.std.specs.List.{slice_get, slice_range, flat_map, AllByRecursion}
 use Rattle.std.specs.Option.{option_map, option_and_then}
 use Rattle.std.proofs.lemmas.Option.{slice_get-map}
@@ -7,7 +9,7 @@ use Rattle.std.specs.Str.{is_utf8}
 use Rattle.csv_grammar.specs.Records.{Field}
 use Rattle.csv_grammar.specs.Files.{HasWidth}
 use Rattle.csv_index.specs.Raws.{RawField, raw_of, raw_between}
-use Rattle.csv_index.specs.Places.{Places, cut, raws, Rise, FitsFile, IsIndexOf, cell_at}
+use Rattle.csv_index.specs.Places.{Places, cut, raws, start_at, Rise, FitsFile, IsIndexOf, cell_at}
 
 -- what is in a list behind a front
 pub slice_get-behind : {A : Type 0} (xs ys : List A) (n k : ℕ) → n ≡ length xs + k → slice_get (xs ++ ys) n ≡ slice_get ys k
@@ -39,38 +41,91 @@ AllByRecursion-at P [] n x all e = absurd (cc)
 AllByRecursion-at P (y ∷ xs) zero x all e = let same : y ≡ x = cc in rw same at all.0
 AllByRecursion-at P (y ∷ xs) (suc n) x all e = AllByRecursion-at P xs n x all.1 e
 
--- each place is behind the one before it
-pub Rise-first : (start size : ℕ) (ends : List ℕ) → Rise start ends size → 0 < length ends → start ≤ get_or ends 0 0
-Rise-first start size [] rise h = absurd (omega arith)
-Rise-first start size (end ∷ ends) rise h = rise.0
+-- the field that ends at a place
+pub cut_at : (start : ℕ) (ends bytes : List ℕ) (n end : ℕ) → slice_get ends n ≡ Some end → slice_get (cut start ends bytes) n ≡ Some (slice_range bytes (start_at start ends n) end)
+cut_at start [] bytes n end e = absurd (cc)
+cut_at start (first ∷ ends) bytes zero end e = let same : first ≡ end = cc in ap (λ k. Some (slice_range bytes start k)) same
+cut_at start (first ∷ ends) bytes (suc n) end e = cut_at (first + 1) ends bytes n end e
 
-pub Rise-next : (start size : ℕ) (ends : List ℕ) (before n : ℕ) → n ≡ before + 1 → Rise start ends size → n < length ends → get_or ends before 0 + 1 ≤ get_or ends n 0
-Rise-next start size [] before n e rise h = absurd (omega arith)
-Rise-next start size (end ∷ ends) before zero e rise h = absurd (omega arith)
-Rise-next start size (end ∷ ends) zero (suc n) e rise h =
-    let first : n ≡ 0 = omega arith in
-    rw first (Rise-first (end + 1) size ends rise.2 (omega arith))
-Rise-next start size (end ∷ ends) (suc before) (suc n) e rise h = Rise-next (end + 1) size ends before n (omega arith) rise.2 (omega arith)
+-- it begins before it ends
+pub start_before : (start size : ℕ) (ends : List ℕ) (n end : ℕ) → Rise start ends size → slice_get ends n ≡ Some end → (start_at start ends n ≤ end) × (end ≤ size)
+start_before start size [] n end rise e = absurd (cc)
+start_before start size (first ∷ ends) zero end rise e = let same : first ≡ end = cc in (omega (arith, rise.0), omega (arith, rise.1))
+start_before start size (first ∷ ends) (suc n) end rise e = start_before (first + 1) size ends n end rise.2 e
 
--- and none is past the end
-pub Rise-within : (start size : ℕ) (ends : List ℕ) (n : ℕ) → Rise start ends size → n < length ends → get_or ends n 0 ≤ size
-Rise-within start size [] n rise h = absurd (omega arith)
-Rise-within start size (end ∷ ends) zero rise h = rise.1
-Rise-within start size (end ∷ ends) (suc n) rise h = Rise-within (end + 1) size ends n rise.2 (omega arith)
+-- and behind the one before it
+pub start_next : (start : ℕ) (ends : List ℕ) (before n end : ℕ) → n ≡ before + 1 → slice_get ends before ≡ Some end → start_at start ends n ≡ end + 1
+start_next start [] before n end k e = absurd (cc)
+start_next start (first ∷ ends) before zero end k e = absurd (omega arith)
+start_next start (first ∷ ends) zero (suc n) end k e =
+    let same : first ≡ end = cc in
+    let none : n ≡ 0 = omega arith in
+    rw none (ap (λ x. x + 1) same)
+start_next start (first ∷ ends) (suc before) (suc n) end k e = start_next (first + 1) ends before n end (omega arith) e
 
--- the first field, and one behind another
-pub cut-first : (start : ℕ) (ends bytes : List ℕ) → 0 < length ends → slice_get (cut start ends bytes) 0 ≡ Some (slice_range bytes start (get_or ends 0 0))
-cut-first start [] bytes h = absurd (omega arith)
-cut-first start (end ∷ ends) bytes h = refl
+-- there are no more places than bytes, and one
+pub rise_length : (start size : ℕ) (ends : List ℕ) → Rise start ends size → 0 < length ends → start + length ends ≤ size + 1
+rise_length start size [] rise h = absurd (omega arith)
+rise_length start size (end ∷ []) rise h = omega (arith, rise.0, rise.1)
+rise_length start size (end ∷ next ∷ ends) rise h = omega (arith, rise.0, rise_length (end + 1) size (next ∷ ends) rise.2 (omega arith))
 
-pub cut-next : (start : ℕ) (ends bytes : List ℕ) (before n : ℕ) → n ≡ before + 1 → n < length ends
-    → slice_get (cut start ends bytes) n ≡ Some (slice_range bytes (get_or ends before 0 + 1) (get_or ends n 0))
-cut-next start [] bytes before n e h = absurd (omega arith)
-cut-next start (end ∷ ends) bytes before zero e h = absurd (omega arith)
-cut-next start (end ∷ ends) bytes zero (suc n) e h =
-    let first : n ≡ 0 = omega arith in
-    rw first (cut-first (end + 1) ends bytes (omega arith))
-cut-next start (end ∷ ends) bytes (suc before) (suc n) e h = cut-next (end + 1) ends bytes before n (omega arith) (omega arith)
+-- what is behind a place
+pub rise_behind : (start size : ℕ) (ends : List ℕ) (n end : ℕ) → Rise start ends size → slice_get ends n ≡ Some end → Rise (end + 1) (drop (suc n) ends) size
+rise_behind start size [] n end rise e = absurd (cc)
+rise_behind start size (first ∷ ends) zero end rise e = let same : first ≡ end = cc in subst (λ k. Rise (k + 1) ends size) same rise.2
+rise_behind start size (first ∷ ends) (suc n) end rise e = rise_behind (first + 1) size ends n end rise.2 e
+
+pub cut_behind : (start : ℕ) (ends bytes : List ℕ) (n end : ℕ) → slice_get ends n ≡ Some end → cut (end + 1) (drop (suc n) ends) bytes ≡ drop (suc n) (cut start ends bytes)
+cut_behind start [] bytes n end e = absurd (cc)
+cut_behind start (first ∷ ends) bytes zero end e = let same : first ≡ end = cc in ap (λ k. cut (k + 1) ends bytes) (sym same)
+cut_behind start (first ∷ ends) bytes (suc n) end e = cut_behind (first + 1) ends bytes n end e
+
+pub map-drop : {A B : Type 0} (f : A → B) (n : ℕ) (xs : List A) → map f (drop n xs) ≡ drop n (map f xs)
+map-drop f zero xs = refl
+map-drop f (suc n) [] = refl
+map-drop f (suc n) (x ∷ xs) = map-drop f n xs
+
+pub all_drop : {A : Type 0} (P : A → Type 0) (n : ℕ) (xs : List A) → AllByRecursion P xs → AllByRecursion P (drop n xs)
+all_drop P zero xs all = all
+all_drop P (suc n) [] all = tt
+all_drop P (suc n) (x ∷ xs) all = all_drop P n xs all.1
+
+-- the fields behind so many records of one width
+drop_records : (width row n : ℕ) (records : List (List Field)) → n ≡ row * width → AllByRecursion (HasWidth width) records
+    → drop n (flat_map (λ fields. fields) records) ≡ flat_map (λ fields. fields) (drop row records)
+drop_records width zero n records e widths = let none : n ≡ 0 = omega arith in ap (λ k. drop k (flat_map (λ fields. fields) records)) none
+drop_records width (suc row) n [] e widths = drop_none n
+  where
+    drop_none : (k : ℕ) → drop {A = Field} k [] ≡ []
+    drop_none zero = refl
+    drop_none (suc k) = refl
+drop_records width (suc row) n (fields ∷ records) e widths =
+    let size : n ≡ length fields + row * width = omega (arith, widths.0) in
+    ap (λ k. drop k (fields ++ flat_map (λ fields. fields) records)) size
+    ∙ drop-append-add fields (flat_map (λ fields. fields) records) (row * width)
+    ∙ drop_records width row (row * width) records refl widths.1
+
+-- the fields from a row on
+pub fields_from : (places : Places) (bytes : List ℕ) (row : ℕ) (header : List Field) (rows : List (List Field)) → IsIndexOf places bytes header rows
+    → drop ((row + 1) * places.width) (raws places bytes) ≡ map raw_of (flat_map (λ fields. fields) (drop row rows))
+fields_from places bytes row header rows index =
+    let n : ℕ = (row + 1) * places.width in
+    ap (drop n) index.fields
+    ∙ sym (map-drop raw_of n (flat_map (λ fields. fields) (header ∷ rows)))
+    ∙ ap (map raw_of) (drop_records (length header) (suc row) n (header ∷ rows) (ap (λ w. (row + 1) * w) index.width ∙ ap (λ k. k * length header) (add-one row)) (refl, index.table.widths))
+
+-- the numbers of the fields are small
+pub cell_fits : (places : Places) (bytes : List ℕ) (row : ℕ) → FitsFile places bytes → row ≤ places.rows
+    → (row + 1 ≤ (row + 1) * places.width) × ((row + 1) * places.width ≤ length places.ends) × (length places.ends ≤ length bytes + 1)
+cell_fits places bytes row fits h =
+    let wide : 1 ≤ places.width = omega (arith, fits.width) in
+    let more : row + 1 ≤ places.rows + 1 = omega arith in
+    let self_row : row + 1 ≤ row + 1 = omega arith in
+    let self_width : places.width ≤ places.width = omega arith in
+    let one : (row + 1) * 1 ≤ (row + 1) * places.width = mul-le-mul self_row wide in
+    let most : (row + 1) * places.width ≤ (places.rows + 1) * places.width = mul-le-mul more self_width in
+    let some : 0 < length places.ends = omega (arith, fits.count) in
+    (omega arith, omega (arith, fits.count), omega (arith, rise_length places.start (length bytes) places.ends fits.rise some))
 
 -- a field between the places is text
 pub raw_is_text : (places : Places) (bytes : List ℕ) (n : ℕ) (piece : List ℕ) → FitsFile places bytes → slice_get (cut places.start places.ends bytes) n ≡ Some piece
@@ -93,3 +148,22 @@ pub cell_from_raws : (places : Places) (bytes : List ℕ) (row col : ℕ) (raw :
     → col < places.width → slice_get (raws places bytes) ((row + 1) * places.width + col) ≡ Some raw → IsIndexOf places bytes header rows → cell_at rows row col ≡ Some raw
 cell_from_raws places bytes row col raw header rows h e index =
     record_from_raws places bytes (suc row) col ((row + 1) * places.width + col) raw header rows (omega arith) h e index
+
+-- what follows the field before a row
+pub record FieldsBehind (places : Places) (bytes : List ℕ) (row start : ℕ) (ends : List ℕ) : Type 0 where
+  pub rise : Rise start ends (length bytes)
+  pub text : AllByRecursion (λ raw. is_utf8 raw.bytes ≡ true) (map raw_between (cut start ends bytes))
+  pub are : map raw_between (cut start ends bytes) ≡ drop ((row + 1) * places.width) (raws places bytes)
+
+pub fields_behind : (places : Places) (bytes : List ℕ) (row before end : ℕ) (ends : List ℕ) → FitsFile places bytes → (row + 1) * places.width ≡ before + 1
+    → slice_get places.ends before ≡ Some end → ends ≡ drop (before + 1) places.ends → FieldsBehind places bytes row (end + 1) ends
+fields_behind places bytes row before end ends fits n e is =
+    let these : ends ≡ drop (suc before) places.ends = is ∙ ap (λ k. drop k places.ends) (add-one before) in
+    let pieces : map raw_between (cut (end + 1) ends bytes) ≡ drop (suc before) (raws places bytes) =
+    ap (λ l. map raw_between (cut (end + 1) l bytes)) these
+    ∙ ap (map raw_between) (cut_behind places.start places.ends bytes before end e)
+    ∙ map-drop raw_between (suc before) (cut places.start places.ends bytes) in record {
+      rise = subst (λ l. Rise (end + 1) l (length bytes)) (sym these) (rise_behind places.start (length bytes) places.ends before end fits.rise e);
+      text = subst (AllByRecursion (λ raw. is_utf8 raw.bytes ≡ true)) (sym pieces) (all_drop (λ raw. is_utf8 raw.bytes ≡ true) (suc before) (raws places bytes) fits.text);
+      are = pieces ∙ ap (λ k. drop k (raws places bytes)) (sym (n ∙ add-one before));
+    }

@@ -6,9 +6,13 @@ use Rattle.std.proofs.lemmas.Option.{none-some}
 use Rattle.std.proofs.lemmas.Bool.{eq-eqb, eqb-true, eqb-false, ne_eqb}
 use Rattle.csv_grammar.specs.Records.{Field}
 use Rattle.csv_grammar.specs.Files.{HasWidth, IsFirstOther}
-use Rattle.csv_grammar.proofs.Runs.{all_push}
-use Rattle.csv_index.specs.Scans.{Scanned, width_with, uneven_with}
-use Rattle.csv_index.specs.Reading.{CountsWidths}
+use Rattle.csv_index.specs.Widths.{CountsWidths, width_with, uneven_with}
+use Rattle.csv_index.specs.declared.widths.Widths.{Widths}
+
+-- one element more of which it holds
+pub all_push : {A : Type 0} (P : A → Type 0) (xs : List A) (x : A) → AllByRecursion P xs → P x → AllByRecursion P (xs ++ x ∷ [])
+all_push P [] x all here = (here, tt)
+all_push P (y ∷ xs) x all here = (all.0, all_push P xs x all.1 here)
 
 width_at_front : (rows more : List (List Field)) (k width : ℕ) → option_map length (slice_get rows k) ≡ Some width
     → option_map length (slice_get (rows ++ more) k) ≡ Some width
@@ -67,6 +71,6 @@ push count width (Some row) (header ∷ rows) fields e h =
     rw more (h.0, first_other_more header rows (fields ∷ []) row h.1)
 
 -- one record more
-pub counts_push : (s : Scanned) (n : ℕ) (records : List (List Field)) (fields : List Field) → s.records ≡ length records → n ≡ length fields
+pub counts_push : (s : Widths) (n : ℕ) (records : List (List Field)) (fields : List Field) → s.records ≡ length records → n ≡ length fields
     → CountsWidths s.width s.uneven records → CountsWidths (width_with s n) (uneven_with s n) (records ++ fields ∷ [])
 counts_push s n records fields count e counts = rw e (push s.records s.width s.uneven records fields count counts)

@@ -1,17 +1,19 @@
--- A scan of a whole file is an index of its table, or shows that it is none.
-use Rattle.std.proofs.Common.{◌≡◌, ◌≢◌, ℕ, ◌+◌, ◌-◌, ◌*◌, ◌<◌, suc, List, [], ◌∷◌, ◌++◌, length, map, true, Option, Some, None, drop, inl, inr, refl, sym, ap, ◌∙◌, subst, arith, length-append}
+-- A reading of a whole file is an index of its table, or shows that it is none.
+use Rattle.std.proofs.Common.{◌≡◌, ◌≢◌, ℕ, ◌+◌, ◌-◌, ◌*◌, ◌<◌, ◌≤◌, suc, List, [], ◌∷◌, ◌++◌, length, map, true, Option, Some, None, drop, inl, inr, refl, sym, ap, ◌∙◌, subst, arith, length-append}
 use Rattle.std.specs.Prelude.{IsUtf8, option_to_list, IfSome}
 use Rattle.std.specs.List.{AllByRecursion}
 use Rattle.std.specs.Str.{is_utf8}
 use Rattle.std.proofs.lemmas.List.{length-map}
 use Rattle.csv_grammar.specs.Records.{Field, Line, IsRecord, IsLast, AreRecords}
 use Rattle.csv_grammar.specs.Faults.{HasFault}
-use Rattle.csv_grammar.specs.Files.{mark_len, text_of, HasWidth}
+use Rattle.csv_grammar.specs.Files.{IsFileFault, mark_len, text_of, HasWidth}
 use Rattle.csv_index.specs.Raws.{raw_of, raw_between}
-use Rattle.csv_index.specs.Places.{Places, cut, IsIndexOf}
-use Rattle.csv_index.specs.Scans.{Scanned}
-use Rattle.csv_index.specs.Told.{Tells}
-use Rattle.csv_index.specs.Reading.{all_fields, CountsWidths, ScansAs, TellsText}
+use Rattle.csv_index.specs.Places.{Places, cut, Rise, IsIndexOf}
+use Rattle.csv_index.specs.declared.blocks.Block.{Block}
+use Rattle.csv_index.specs.declared.widths.Widths.{Widths}
+use Rattle.csv_index.specs.Fault.{text_cause}
+use Rattle.csv_index.specs.Widths.{CountsWidths}
+use Rattle.csv_index.specs.Structure.{all_fields, ends_of, ReadsAs, HasTextFault}
 use Rattle.csv_index.specs.declared.fault.TextFault.{TextFault}
 
 pub length-cut : (start : ℕ) (ends : List ℕ) (file : List ℕ) → length (cut start ends file) ≡ length ends
@@ -33,48 +35,54 @@ first_record bytes header rows records = on records.tree.lines records.tree.last
     on [] (Some fields) lines last e = let same : header ≡ fields = cc in rw same last.0.0
     on (line ∷ more) last lines ends e = let same : header ≡ line.fields = cc in rw same lines.0.0
 
--- the places of the scan
-abbrev pub places_of : ℕ → Scanned → Places
-places_of mark s = record { start = mark; width = s.width; rows = s.records - 1; ends = s.ends }
+-- the places of a reading
+abbrev pub places_of : ℕ → List Block → Option ℕ → Widths → Places
+places_of mark blocks last w = record { start = mark; width = w.width; rows = w.records - 1; ends = ends_of mark blocks last }
 
-index_in : (file : List ℕ) (header : List Field) (rows : List (List Field)) (s : Scanned) → IsUtf8 file → ScansAs file (mark_len file) (header ∷ rows) s
-    → s.uneven ≡ None → IsIndexOf (places_of (mark_len file) s) file header rows
-index_in file header rows s utf8 scan even =
-    let widths : CountsWidths s.width None (header ∷ rows) = subst (λ u. CountsWidths s.width u (header ∷ rows)) even scan.widths in
-    let some : 0 < length header = first_record (text_of file) header rows scan.are in
-    let count : length s.ends ≡ length (header ∷ rows) * length header =
-    sym (length-cut (mark_len file) s.ends file)
-    ∙ sym (length-map (cut (mark_len file) s.ends file) raw_between)
-    ∙ ap length scan.cuts.raws
+index_in : (file : List ℕ) (header : List Field) (rows : List (List Field)) (blocks : List Block) (last : Option ℕ) (w : Widths) → IsUtf8 file
+    → ReadsAs file (mark_len file) (header ∷ rows) blocks last w → w.uneven ≡ None → IsIndexOf (places_of (mark_len file) blocks last w) file header rows
+index_in file header rows blocks last w utf8 read even =
+    let ends : List ℕ = ends_of (mark_len file) blocks last in
+    let widths : CountsWidths w.width None (header ∷ rows) = subst (λ u. CountsWidths w.width u (header ∷ rows)) even read.widths in
+    let some : 0 < length header = first_record (text_of file) header rows read.are in
+    let count : length ends ≡ length (header ∷ rows) * length header =
+    sym (length-cut (mark_len file) ends file)
+    ∙ sym (length-map (cut (mark_len file) ends file) raw_between)
+    ∙ ap length read.cuts.raws
     ∙ length-map (all_fields (header ∷ rows)) raw_of
     ∙ length-all_fields (length header) (header ∷ rows) (refl, widths.1) in
-    let more : s.records - 1 + 1 ≡ length (header ∷ rows) = omega (arith, scan.count) in record {
-      table = record { utf8 = utf8; are = scan.are; widths = widths.1 };
+    let more : w.records - 1 + 1 ≡ length (header ∷ rows) = omega (arith, read.count) in record {
+      table = record { utf8 = utf8; are = read.are; widths = widths.1 };
       width = widths.0;
-      row_count = omega (arith, scan.count);
-      fields = scan.cuts.raws;
+      row_count = omega (arith, read.count);
+      fields = read.cuts.raws;
       fits = record {
         width = omega (arith, widths.0, some);
         count = rw (more, widths.0) count;
-        rise = scan.cuts.rise;
-        text = subst (AllByRecursion (λ raw. is_utf8 raw.bytes ≡ true)) (sym scan.cuts.raws) scan.cuts.text;
+        rise = read.cuts.rise;
+        text = subst (AllByRecursion (λ raw. is_utf8 raw.bytes ≡ true)) (sym read.cuts.raws) read.cuts.text;
       };
     }
 
 -- where a record was read, and no row differs
-pub index_of : (file : List ℕ) (mark : ℕ) (s : Scanned) → IsUtf8 file → mark ≡ mark_len file
-    → (records : List (List Field)) × ScansAs file mark records s → s.uneven ≡ None → s.records ≢ 0
-    → (header : List Field) × (rows : List (List Field)) × IsIndexOf (places_of mark s) file header rows
-index_of file mark s utf8 m ([], scan) even some = absurd (some scan.count)
-index_of file mark s utf8 m (header ∷ rows, scan) even some = (
+pub index_of : (file : List ℕ) (mark : ℕ) (blocks : List Block) (last : Option ℕ) (w : Widths) → IsUtf8 file → mark ≡ mark_len file
+    → (records : List (List Field)) × ReadsAs file mark records blocks last w → w.uneven ≡ None → w.records ≢ 0
+    → (header : List Field) × (rows : List (List Field)) × IsIndexOf (places_of mark blocks last w) file header rows
+index_of file mark blocks last w utf8 m ([], read) even some = absurd (some read.count)
+index_of file mark blocks last w utf8 m (header ∷ rows, read) even some = (
   header,
   rows,
-  subst (λ n. IsIndexOf (places_of n s) file header rows) (sym m)
-      (index_in file header rows s utf8 (subst (λ n. ScansAs file n (header ∷ rows) s) m scan) even),
+  subst (λ n. IsIndexOf (places_of n blocks last w) file header rows) (sym m)
+      (index_in file header rows blocks last w utf8 (subst (λ n. ReadsAs file n (header ∷ rows) blocks last w) m read) even),
 )
 
+-- the places are no further than the greatest number
+pub rise_wide : (start size wide : ℕ) (ends : List ℕ) → size ≤ wide → Rise start ends size → Rise start ends wide
+rise_wide start size wide [] h rise = tt
+rise_wide start size wide (end ∷ ends) h rise = (rise.0, omega arith, rise_wide (end + 1) size wide ends h rise.2)
+
 -- the text's fault is the file's
-pub text_tells : (file : List ℕ) (mark : ℕ) (e : TextFault) → IsUtf8 file → mark ≡ mark_len file → TellsText e file mark → Tells e file
-text_tells file mark e utf8 m (inl memory) = rw memory tt
-text_tells file mark e utf8 m (inr (place, cause, fault, tells)) =
+pub text_fault : (file : List ℕ) (mark : ℕ) (e : TextFault) → IsUtf8 file → mark ≡ mark_len file → HasTextFault e file mark → IfSome (text_cause e) (IsFileFault file)
+text_fault file mark e utf8 m (inl memory) = rw memory tt
+text_fault file mark e utf8 m (inr (place, cause, fault, tells)) =
     rw tells (record { utf8 = utf8; in_text = place; fault = subst (λ n. HasFault (drop n file) place cause) m fault; counted = ap (λ n. n + place) m })

@@ -1,8 +1,9 @@
 pub mod Raws
 pub mod Places
-pub mod Told
-pub mod Scans
-pub mod Reading
+pub mod Fault
+pub mod Blocks
+pub mod Widths
+pub mod Structure
 pub use Rattle.csv_grammar.specs.Bytes
 pub use Rattle.csv_grammar.specs.Records
 pub use Rattle.csv_grammar.specs.Faults

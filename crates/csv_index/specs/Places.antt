@@ -1,5 +1,5 @@
 -- What an index knows of a file: the structural places, which are the comma or the LF behind each field, or the end of the file.
-use Rattle.std.specs.Prelude.{◌≡◌, ℕ, ◌+◌, ◌*◌, ◌<◌, ◌≤◌, true, List, [], ◌∷◌, length, map, slice_get, slice_range, Option, option_map, option_and_then}
+use Rattle.std.specs.Prelude.{◌≡◌, ℕ, zero, suc, ◌+◌, ◌*◌, ◌<◌, ◌≤◌, true, List, [], ◌∷◌, length, map, slice_get, slice_range, Option, option_map, option_and_then}
 use Rattle.std.specs.List.{flat_map, AllByRecursion}
 use Rattle.std.specs.Str.{is_utf8}
 use Rattle.csv_grammar.specs.Records.{Field}
@@ -24,6 +24,12 @@ cut start (end ∷ ends) bytes = slice_range bytes start end ∷ cut (end + 1) e
 -- the fields between the places
 abbrev pub raws : Places → List ℕ → List RawField
 raws places bytes = map raw_between (cut places.start places.ends bytes)
+
+-- where the field of that number begins
+abbrev pub start_at : ℕ → List ℕ → ℕ → ℕ
+start_at start ends zero = start
+start_at start [] (suc n) = start
+start_at start (end ∷ ends) (suc n) = start_at (end + 1) ends n
 
 -- the places rise, and none is past the end
 abbrev pub Rise : ℕ → List ℕ → ℕ → Type 0

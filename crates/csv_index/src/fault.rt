@@ -1,4 +1,8 @@
 //! What may be wrong with a file.
+ghost use Rattle.std.specs.Prelude.{◌≡◌, IfOk, string_bytes};
+ghost use Rattle.csv_index.specs.Fault.{text_fault_text};
+
+use std::alloc::{AllocError, Global};
 
 /// The first thing wrong with a file. Places are bytes from the file's first byte, a byte order mark included; rows count from
 /// 0, which is the record after the header.
@@ -20,4 +24,22 @@ pub enum TextFault {
     Width { row: usize },
     /// Memory ran out.
     NoMemory,
+}
+
+impl TextFault {
+    /// Its name, with its place or row behind it, as in `BareCr at 3`.
+    pub fn text(self, alloc: Global) -> Result<String, AllocError>
+        ensures { IfOk result (λ text. string_bytes text ≡ text_fault_text self) }
+    {
+        match self {
+            TextFault::NotUtf8 { at } => format!(in alloc; "NotUtf8 at {at}"),
+            TextFault::BareCr { at } => format!(in alloc; "BareCr at {at}"),
+            TextFault::StrayQuote { at } => format!(in alloc; "StrayQuote at {at}"),
+            TextFault::AfterQuote { at } => format!(in alloc; "AfterQuote at {at}"),
+            TextFault::Unfinished { at } => format!(in alloc; "Unfinished at {at}"),
+            TextFault::NoHeader => String::from_str(alloc, "NoHeader"),
+            TextFault::Width { row } => format!(in alloc; "Width row {row}"),
+            TextFault::NoMemory => String::from_str(alloc, "NoMemory"),
+        }
+    }
 }

@@ -1,13 +1,19 @@
 //! The places of a file's fields.
-ghost use Rattle.std.specs.Prelude.{◌≡◌, ◌<◌, ◌+◌, ◌*◌, List, Some, IfOk, IfErr, IsUtf8, slice_get, length};
+ghost use Rattle.std.specs.Prelude.{◌≡◌, ◌≤◌, ◌<◌, ◌+◌, ◌*◌, List, Some, IfOk, IfErr, IfSome, IsUtf8, slice_get, slice_range, length, drop, map};
+ghost use Rattle.std.specs.List.{flat_map};
 ghost use Rattle.csv_grammar.specs.Records.{Field};
-ghost use Rattle.csv_grammar.specs.Files.{mark_len};
-ghost use Rattle.csv_index.specs.Places.{FitsFile, IsIndexOf, raws, header_at, cell_at, Rise, cut};
-ghost use Rattle.csv_index.specs.Told.{Tells};
+ghost use Rattle.csv_grammar.specs.Files.{IsFileFault, mark_len};
+ghost use Rattle.csv_index.specs.Raws.{raw_of};
+ghost use Rattle.csv_index.specs.Places.{FitsFile, IsIndexOf, raws, header_at, cell_at, start_at};
+ghost use Rattle.csv_index.specs.Fault.{text_cause};
 
+use crate::blocks::{Block, find};
+use crate::ends::Ends;
 use crate::fault::TextFault;
+use crate::fields::Fields;
 use crate::raw::Raw;
-use crate::scan::Scan;
+use crate::structure::Structure;
+use lane_class::BLOCK;
 use std::alloc::Global;
 use std::marker::Model;
 
@@ -19,7 +25,9 @@ pub struct Index {
     start: usize,
     width: usize,
     rows: usize,
-    ends: Vec<usize>,
+    blocks: Vec<Block>,
+    /// The end of a last record with no line break.
+    last: Option<usize>,
 }
 
 impl Model for Index {
@@ -27,29 +35,47 @@ impl Model for Index {
 
     ghost Value = { Places };
 
-    ghost view = { λ index. record { start = index.start; width = index.width; rows = index.rows; ends = index.ends.items } };
+    ghost use Rattle.std.specs.Prelude.{◌+◌, ◌*◌, ◌^◌, ◌<◌, length};
+    ghost use Rattle.csv_index.specs.Places.{Rise};
+    ghost use Rattle.csv_index.specs.Blocks.{AreRanked};
+    ghost use Rattle.csv_index.specs.Structure.{ends_of};
+
+    ghost view = { λ index. record {
+      start = index.start;
+      width = index.width;
+      rows = index.rows;
+      ends = ends_of index.start index.blocks.items index.last;
+    } };
+
+    ghost invariant = { λ index. record {
+      ranked : AreRanked index.blocks.items;
+      room : index.start + 64 * length index.blocks.items + 64 < 2 ^ 64;
+      rise : Rise index.start (ends_of index.start index.blocks.items index.last) (2 ^ 63);
+    } };
 }
 
 impl Index {
     /// Reads a file once. The bytes are a table, whose places the index has, or the error tells what is first wrong with them.
     pub fn build(alloc: Global, bytes: &[u8]) -> Result<Index, TextFault>
         ensures table { IfOk result (λ index. (header : List Field) × (rows : List (List Field)) × IsIndexOf index bytes.now header rows) }
-        ensures fault { IfErr result (λ e. Tells e bytes.now) }
+        ensures fault { IfErr result (λ e. IfSome (text_cause e) (IsFileFault bytes.now)) }
     {
         check_text(bytes)?;
         let start = mark_len(bytes);
-        let scan = Scan::over(alloc, bytes, start)?;
-        if let Some(row) = scan.uneven {
+        let structure = Structure::of(alloc, bytes, start)?;
+        let widths = structure.widths;
+        if let Some(row) = widths.uneven {
             return Err(TextFault::Width { row });
         }
-        if scan.records == 0 {
+        if widths.records == 0 {
             return Err(TextFault::NoHeader);
         }
         Ok(Index {
             start,
-            width: scan.width,
-            rows: scan.records - 1,
-            ends: scan.ends,
+            width: widths.width,
+            rows: widths.records - 1,
+            blocks: structure.blocks,
+            last: structure.last,
         })
     }
 
@@ -92,35 +118,91 @@ impl Index {
         self.field(bytes, (row + 1) * width + col)
     }
 
+    /// The fields from a row on, record after record, as [`Index::cell`] gives them one by one. The bytes are those of `build`. Each
+    /// field is found from the one before it, with no search. It takes no memory.
+    pub fn fields<'i, 'a>(&'i self, bytes: &'a [u8], row: usize) -> Fields<'i, 'a>
+        requires bytes { FitsFile self.now bytes.now }
+        requires row { row ≤ self.now.rows }
+        ensures raws { result ≡ drop ((row + 1) * self.now.width) (raws self.now bytes.now) }
+        ensures fields { (header : List Field) (rows : List (List Field)) → IsIndexOf self.now bytes.now header rows
+            → result ≡ map raw_of (flat_map (λ fields. fields) (drop row rows)) }
+    {
+        let before = (row + 1) * self.width - 1;
+        Fields {
+            ends: self.ends_behind(before),
+            bytes,
+            start: self.end_of(before) + 1,
+        }
+    }
+
     /// The field of that number, the header's first and then record after record.
     fn field<'a>(&self, bytes: &'a [u8], n: usize) -> Raw<'a>
         requires bytes { FitsFile self.now bytes.now }
         requires n { n < length self.now.ends }
         ensures { slice_get (raws self.now bytes.now) n ≡ Some (record { bytes = result.bytes.now; quoted = result.quoted }) }
     {
-        Raw::between(between_places(self.start, &self.ends, bytes, n))
+        Raw::between(piece(bytes, self.start_of(n), self.end_of(n)))
+    }
+
+    /// Where the field of that number begins: behind the place of the field before it.
+    fn start_of(&self, n: usize) -> usize
+        requires n { n < length self.now.ends }
+        ensures { result ≡ start_at self.now.start self.now.ends n }
+    {
+        if n == 0 {
+            self.start
+        } else {
+            self.end_of(n - 1) + 1
+        }
+    }
+
+    /// The place behind the field of that number.
+    fn end_of(&self, n: usize) -> usize
+        requires n { n < length self.now.ends }
+        ensures { slice_get self.now.ends n ≡ Some result }
+    {
+        match (find(&self.blocks, n), self.last) {
+            (Some((number, bit)), _) => self.start + number * BLOCK + bit as usize,
+            (None, Some(end)) => end,
+            (None, None) => unreachable!(),
+        }
+    }
+
+    /// The places behind the fields that follow the field of that number.
+    fn ends_behind(&self, n: usize) -> Ends<'_>
+        requires n { n < length self.now.ends }
+        ensures { result ≡ drop (n + 1) self.now.ends }
+    {
+        match find(&self.blocks, n) {
+            Some((number, bit)) => Ends {
+                word: self.blocks[number].ends() & (u64::MAX << bit) & !(1 << bit),
+                base: self.start + number * BLOCK,
+                rest: &self.blocks[number + 1..],
+                last: self.last,
+            },
+            None => Ends {
+                word: 0,
+                base: self.start,
+                rest: &[],
+                last: None,
+            },
+        }
     }
 }
 
-/// The bytes between the structural places of a field: the one before it, or the start, and the one behind it.
-fn between_places<'a>(start: usize, ends: &[usize], bytes: &'a [u8], n: usize) -> &'a [u8]
-    requires rise { Rise start ends.now (length bytes.now) }
-    requires n { n < length ends.now }
-    ensures { slice_get (cut start ends.now bytes.now) n ≡ Some result.now }
+/// The bytes from a place up to another.
+fn piece(bytes: &[u8], start: usize, end: usize) -> &[u8]
+    requires order { start ≤ end }
+    requires within { end ≤ length bytes.now }
+    ensures { result.now ≡ slice_range bytes.now start end }
 {
-    let end = ends[n];
-    if n == 0 {
-        &bytes[start..end]
-    } else {
-        let before = ends[n - 1];
-        &bytes[before + 1..end]
-    }
+    &bytes[start..end]
 }
 
 /// The bytes are UTF-8, or the error tells how many of them are.
 fn check_text(bytes: &[u8]) -> Result<(), TextFault>
     ensures utf8 { IfOk result (λ _. IsUtf8 bytes.now) }
-    ensures fault { IfErr result (λ e. Tells e bytes.now) }
+    ensures fault { IfErr result (λ e. IfSome (text_cause e) (IsFileFault bytes.now)) }
 {
     match simdutf8::compat::from_utf8(bytes) {
         Ok(_) => Ok(()),

@@ -1,16 +1,19 @@
-//! The places of the fields of a CSV file (RFC 4180, section 2). [`Index::build`] reads the file once and answers where each field
-//! stands, or the one thing that is first wrong with the file; [`Index::cell`] then gives a field as a slice of the bytes,
-//! and [`Raw::text`] its content.
+//! The places of the fields of a CSV file (RFC 4180, section 2). [`Index::build`] reads the file once, 64 bytes at a time, and keeps
+//! for each block of 64 bytes which of them part fields and end records, or answers the one thing that is first wrong with
+//! the file; [`Index::cell`] then gives a field as a slice of the bytes, [`Index::fields`] one field after another, and
+//! [`Raw::text`] what a field says.
 #![tactic(auto)]
 
+mod blocks;
+mod ends;
 mod fault;
+mod fields;
 mod index;
 mod raw;
-mod scan;
+mod structure;
+mod widths;
 
 pub use fault::TextFault;
+pub use fields::Fields;
 pub use index::Index;
 pub use raw::Raw;
-
-#[cfg(test)]
-mod tests;

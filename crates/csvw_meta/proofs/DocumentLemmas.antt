@@ -6,14 +6,15 @@ use Rattle.std.specs.Str.{is_utf8}
 use Rattle.serde_json.specs.Data.{Data}
 use Rattle.serde_json.specs.Read.{read}
 use Rattle.csv_grammar.specs.Files.{text_of}
-use Rattle.csvw_meta.specs.Walk.{document}
+use Rattle.csvw_meta.specs.declared.document.TheConstants.{MOST_METADATA_BYTES}
+use Rattle.csvw_meta.specs.Document.{document}
 
 -- a text that is UTF-8 and reads as a value is that document
-pub document-read : (bs : List ℕ) (d : Data) → length bs ≤ 1073741824 → IsUtf8 (text_of bs) → read (text_of bs) ≡ Some d → document bs ≡ Some d
+pub document-read : (bs : List ℕ) (d : Data) → length bs ≤ MOST_METADATA_BYTES → IsUtf8 (text_of bs) → read (text_of bs) ≡ Some d → document bs ≡ Some d
 unfolding document
-document-read bs d short utf8 is = rw (le-leb (length bs) 1073741824 short, is_utf8-from_IsUtf8 (text_of bs) utf8) is
+document-read bs d short utf8 is = rw (le-leb (length bs) MOST_METADATA_BYTES short, is_utf8-from_IsUtf8 (text_of bs) utf8) is
 
-none_at : (bs : List ℕ) (short utf8 : Bool) → leb (length bs) 1073741824 ≡ short → is_utf8 (text_of bs) ≡ utf8 → (IsUtf8 (text_of bs) → read (text_of bs) ≡ None) → document bs ≡ None
+none_at : (bs : List ℕ) (short utf8 : Bool) → leb (length bs) MOST_METADATA_BYTES ≡ short → is_utf8 (text_of bs) ≡ utf8 → (IsUtf8 (text_of bs) → read (text_of bs) ≡ None) → document bs ≡ None
 unfolding document
 none_at bs true true e f h = rw (e, f) (h (IsUtf8-from_is_utf8 (text_of bs) f))
 none_at bs true false e f h = rw (e, f) refl
@@ -21,13 +22,13 @@ none_at bs false utf8 e f h = rw e refl
 
 -- a text that is refused as soon as it is UTF-8 is no document
 pub document-none : (bs : List ℕ) → (IsUtf8 (text_of bs) → read (text_of bs) ≡ None) → document bs ≡ None
-document-none bs h = none_at bs (leb (length bs) 1073741824) (is_utf8 (text_of bs)) refl refl h
+document-none bs h = none_at bs (leb (length bs) MOST_METADATA_BYTES) (is_utf8 (text_of bs)) refl refl h
 
-long_at : (bs : List ℕ) (short : Bool) → leb (length bs) 1073741824 ≡ short → 1073741824 < length bs → document bs ≡ None
+long_at : (bs : List ℕ) (short : Bool) → leb (length bs) MOST_METADATA_BYTES ≡ short → MOST_METADATA_BYTES < length bs → document bs ≡ None
 unfolding document
 long_at bs true e h = let short = leb-true _ _ e in absurd (omega arith)
 long_at bs false e h = rw e refl
 
 -- a long text is no document
-pub document-long : (bs : List ℕ) → 1073741824 < length bs → document bs ≡ None
-document-long bs h = long_at bs (leb (length bs) 1073741824) refl h
+pub document-long : (bs : List ℕ) → MOST_METADATA_BYTES < length bs → document bs ≡ None
+document-long bs h = long_at bs (leb (length bs) MOST_METADATA_BYTES) refl h

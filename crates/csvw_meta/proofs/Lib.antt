@@ -1,4 +1,8 @@
+pub mod ListLemmas
+pub mod RefusalLemmas
+pub mod MemberLemmas
 pub mod DocumentLemmas
-pub mod Conditions
-pub mod Columns
-pub mod WalkLemmas
+pub mod FormLemmas
+pub mod DatatypeLemmas
+pub mod KeyLemmas
+pub mod LawLemmas

@@ -1,9 +1,16 @@
-pub mod Faults
-pub mod Forms
+pub mod Limits
+pub mod Fault
+pub mod Refusal
 pub mod Members
-pub mod Schemas
-pub mod Walk
-pub mod Refusals
-pub mod Views
-pub use Rattle.cell_types.specs.Values
-pub use Rattle.cell_types.specs.Columns
+pub mod Forms
+pub mod Texts
+pub mod Datatype
+pub mod Inherited
+pub mod Column
+pub mod Key
+pub mod Schema
+pub mod Table
+pub mod Group
+pub mod Document
+pub mod Laws
+pub use Rattle.cell_types.specs.Column as CellColumn

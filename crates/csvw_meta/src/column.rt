@@ -1,20 +1,18 @@
-//! The columns of a schema: the conditions on them, and what they are.
-ghost use Rattle.std.specs.Prelude.{◌≡◌, [], map, codes, option_map, IfOk};
-ghost use Rattle.std.specs.List.{list_any};
-ghost use Rattle.std.specs.Str.{bytes_eq};
-ghost use Rattle.serde_json.specs.View.{view, items_view};
-ghost use Rattle.csvw_meta.specs.Faults.{first_fault};
+//! The columns of a schema: the conditions on them, and what they say.
+ghost use Rattle.std.specs.Prelude.{◌≡◌, [], ◌∷◌, codes, map, IfOk};
+ghost use Rattle.serde_json.specs.View.{view};
+ghost use Rattle.cell_types.specs.Column.{column_view};
+ghost use Rattle.csvw_meta.specs.Refusal.{condition_of, first_cause};
 ghost use Rattle.csvw_meta.specs.Members.{member as member_of};
-ghost use Rattle.csvw_meta.specs.Walk.{name_of as name_in, is_real as is_real_of, is_new as is_new_among, object_column_conditions, column_conditions, each_column_conditions, counted as is_counted, item_count, columns_conditions, columns_of_items, columns_of};
-ghost use Rattle.cell_types.specs.Columns.{described};
-ghost use Rattle.csvw_meta.specs.Schemas.{column_of_name};
-ghost use Rattle.csvw_meta.specs.Refusals.{answered, names_in};
+ghost use Rattle.csvw_meta.specs.Column.{is_real as is_real_of, name_of as name_in, has_name as has_name_among, object_column_conditions, column_conditions, column_of};
 
-use crate::forms::has_name_form;
-use crate::inherited::check_inherited;
-use crate::members::{absent, given, member, text_member};
+use crate::datatype::make_datatype;
+use crate::forms::is_column_name;
+use crate::inherited::{check_inherited, is_required, make_default, make_nulls};
+use crate::members::{absent, has, member, nearest, text_member};
 use crate::refusal::{Refusal, ensure};
-use cell_types::{Column, Datatype};
+use crate::texts::{is_titles, make_titles};
+use cell_types::Column;
 use serde_json::Value;
 use std::alloc::{AllocError, Global};
 
@@ -22,137 +20,75 @@ use std::alloc::{AllocError, Global};
 pub(crate) fn name_of(column: &Value) -> &str
     ensures { result.now ≡ name_in (view column.now) }
 {
-    text_member(column, "name").unwrap_or("")
+    text_member(column, "name")
 }
 
-/// That `virtual` is absent or false.
-#[tactic(auto, unfolding(crate::specs::Walk::is_real))]
-fn is_real<'v>(column: &'v Value) -> Result<(), Refusal<'v>>
-    ensures { answered result ≡ is_real_of (member_of (codes "virtual") (view column.now)) }
+/// Whether `virtual` is absent or false.
+fn is_real(column: &Value) -> bool
+    ensures { result ≡ is_real_of (member_of (codes "virtual") (view column.now)) }
 {
     match member(column, "virtual") {
-        None | Some(Value::Bool(false)) => Ok(()),
-        Some(_) => Err(Refusal::Unsupported("virtual")),
+        None | Some(Value::Bool(false)) => true,
+        Some(_) => false,
     }
 }
 
-/// Whether an earlier column has the name.
-fn is_used(earlier: &[Value], name: &str) -> bool
-    ensures { result ≡ list_any (λ other. bytes_eq (name_in (view other)) name.now) earlier.now }
+/// Whether one of the columns has the name.
+pub(crate) fn has_name(columns: &[Value], name: &str) -> bool
+    ensures { result ≡ has_name_among (map view columns.now) name.now }
 {
-    earlier.iter().any(|other| name_of(other) == name)
-}
-
-/// That no earlier column has the name.
-fn is_new<'v>(earlier: &'v [Value], name: &'v str) -> Result<(), Refusal<'v>>
-    ensures { answered result ≡ is_new_among (names_in earlier.now) name.now }
-{
-    if is_used(earlier, name) {
-        return Err(Refusal::DuplicateName);
-    }
-    Ok(())
+    columns.iter().any(|column| name == name_of(column))
 }
 
 /// The conditions on a column that is an object, behind the earlier ones.
-#[tactic(auto, using(crate::proofs::Conditions::conditions), unfolding(crate::specs::Walk::object_column_conditions))]
+#[tactic(auto, using(crate::proofs::RefusalLemmas::conditions), unfolding(crate::specs::Column::object_column_conditions))]
 fn check_object<'v>(earlier: &'v [Value], column: &'v Value) -> Result<(), Refusal<'v>>
-    ensures { answered result
-        ≡ first_fault (object_column_conditions (names_in earlier.now) (view column.now)) }
+    ensures { condition_of result
+        ≡ first_cause (object_column_conditions (map view earlier.now) (view column.now)) }
 {
-    is_real(column)?;
+    ensure(is_real(column), Refusal::Unsupported("virtual"))?;
     absent(column, "separator")?;
-    given(column, "name", Refusal::Unsupported("name"))?;
-    has_name_form(text_member(column, "name"))?;
-    is_new(earlier, name_of(column))?;
-    absent(column, "titles")?;
+    ensure(has(column, "name"), Refusal::Unsupported("name"))?;
+    ensure(is_column_name(name_of(column)), Refusal::BadName)?;
+    ensure(!has_name(earlier, name_of(column)), Refusal::DuplicateName)?;
+    ensure(
+        member(column, "titles").is_none_or(is_titles),
+        Refusal::BadTitles,
+    )?;
     check_inherited(column)
 }
 
 /// The conditions on a column, behind the earlier ones.
-#[tactic(auto, unfolding(crate::specs::Walk::column_conditions))]
-fn check_column<'v>(earlier: &'v [Value], column: &'v Value) -> Result<(), Refusal<'v>>
-    ensures { answered result
-        ≡ first_fault (column_conditions (names_in earlier.now) (view column.now)) }
+#[tactic(auto, unfolding(crate::specs::Column::column_conditions))]
+pub(crate) fn check_column<'v>(earlier: &'v [Value], column: &'v Value) -> Result<(), Refusal<'v>>
+    ensures { condition_of result
+        ≡ first_cause (column_conditions (map view earlier.now) (view column.now)) }
 {
-    match column {
-        Value::Object(_) => check_object(earlier, column),
-        _ => Err(Refusal::NotObject),
+    if column.is_object() {
+        check_object(earlier, column)
+    } else {
+        Err(Refusal::NotObject)
     }
 }
 
-/// The conditions on columns, one after another.
-fn check_each<'v>(columns: &'v [Value]) -> Result<(), Refusal<'v>>
-    ensures { answered result ≡ first_fault (each_column_conditions [] (items_view columns.now)) }
+/// What a column says, where that schema, that table and that group are around it.
+pub(crate) fn make_column(
+    alloc: Global,
+    schema: &Value,
+    table: &Value,
+    group: &Value,
+    column: &Value,
+) -> Result<Column, AllocError>
+    ensures { IfOk result (λ made.
+        column_view made ≡ column_of (view schema.now ∷ view table.now ∷ view group.now ∷ []) (view column.now)) }
 {
-    for (i, column) in columns.iter().enumerate() {
-        check_column(&columns[..i], column)?;
-    }
-    Ok(())
-}
-
-/// That there are columns, and not more than the limit.
-fn counted<'v>(limit: u32, columns: &'v [Value]) -> Result<(), Refusal<'v>>
-    ensures { answered result ≡ is_counted limit (item_count (items_view columns.now)) }
-{
-    if columns.is_empty() {
-        return Err(Refusal::NoColumns);
-    }
-    ensure(columns.len() <= limit as usize, Refusal::TooManyColumns)
-}
-
-/// The conditions on the columns of a schema.
-#[tactic(auto, unfolding(crate::specs::Walk::columns_conditions))]
-pub(crate) fn check_columns<'v>(limit: u32, columns: Option<&'v Value>) -> Result<(), Refusal<'v>>
-    ensures { answered result
-        ≡ first_fault (columns_conditions limit (option_map (λ v. view v.now) columns.entry)) }
-{
-    match columns {
-        Some(Value::Array(items)) => {
-            counted(limit, items.as_slice())?;
-            check_each(items.as_slice())
-        }
-        _ => Err(Refusal::NoColumns),
-    }
-}
-
-/// The column that says its name alone: texts, of which the empty one is null.
-fn make_column(alloc: Global, column: &Value) -> Result<Column, AllocError>
-    ensures { IfOk result (λ made. described made ≡ column_of_name (name_in (view column.now))) }
-{
-    let mut nulls = Vec::new(alloc);
-    nulls.push(String::new(alloc))?;
+    let levels = [column, schema, table, group];
     Ok(Column {
         name: String::from_str(alloc, name_of(column))?,
-        titles: Vec::new(alloc),
-        datatype: Datatype::Text,
-        nulls,
-        default: String::new(alloc),
-        required: false,
+        titles: make_titles(alloc, member(column, "titles"))?,
+        datatype: make_datatype(alloc, nearest(&levels, "datatype"))?,
+        nulls: make_nulls(alloc, nearest(&levels, "null"))?,
+        default: make_default(alloc, nearest(&levels, "default"))?,
+        required: is_required(nearest(&levels, "required")),
     })
-}
-
-/// The columns, one after another.
-fn make_each(alloc: Global, columns: &[Value]) -> Result<Vec<Column>, AllocError>
-    ensures { IfOk result (λ made.
-        map described made.items ≡ columns_of_items (items_view columns.now)) }
-{
-    let mut made = Vec::with_capacity(alloc, columns.len())?;
-    for column in columns {
-        made.push(make_column(alloc, column)?)?;
-    }
-    Ok(made)
-}
-
-/// The columns of a schema, none where it has none.
-pub(crate) fn make_columns(
-    alloc: Global,
-    columns: Option<&Value>,
-) -> Result<Vec<Column>, AllocError>
-    ensures { IfOk result (λ made.
-        map described made.items ≡ columns_of (option_map (λ v. view v.now) columns.entry)) }
-{
-    match columns {
-        Some(Value::Array(items)) => make_each(alloc, items.as_slice()),
-        _ => Ok(Vec::new(alloc)),
-    }
 }

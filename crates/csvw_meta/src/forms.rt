@@ -1,13 +1,13 @@
 //! The forms of a table's url and of a column's name.
-ghost use Rattle.std.specs.Prelude.{◌≡◌, ◌&&◌, length, true, nat_eq, nat_lt, slice_index, option_map};
+ghost use Rattle.std.specs.Prelude.{◌≡◌, ◌&&◌, length, nat_lt, slice_index};
 ghost use Rattle.std.specs.Char.{is_ascii_alphabetic};
-ghost use Rattle.std.specs.List.{list_all, ends_with};
-ghost use Rattle.csvw_meta.specs.Faults.{bad_name, bad_url};
-ghost use Rattle.csvw_meta.specs.Forms.{is_name_byte as is_name_byte_of, is_url_byte as is_url_byte_of, is_column_name as is_column_name_of, is_table_url as is_table_url_of, table_name as table_name_of, url_end};
-ghost use Rattle.csvw_meta.specs.Walk.{has_form};
-ghost use Rattle.csvw_meta.specs.Refusals.{answered};
+ghost use Rattle.std.specs.List.{list_all};
+ghost use Rattle.csvw_meta.specs.Forms.{is_name_byte as is_name_byte_of, is_url_byte as is_url_byte_of, is_column_name as is_column_name_of, is_table_url as is_table_url_of, table_name as table_name_of};
 
-use crate::refusal::{Refusal, ensure};
+/// The most bytes of a column's name.
+pub(crate) const MOST_NAME_BYTES: usize = 128;
+/// The most bytes of a table's url.
+pub(crate) const MOST_URL_BYTES: usize = 132;
 
 /// An ASCII letter, digit or low line.
 fn is_name_byte(b: u8) -> bool
@@ -48,56 +48,31 @@ fn are_url_bytes(bytes: &[u8]) -> bool
 }
 
 /// The form of a column's name.
-fn is_column_name(name: &str) -> bool
+pub(crate) fn is_column_name(name: &str) -> bool
     ensures { result ≡ is_column_name_of name.now }
 {
     let bytes = name.as_bytes();
-    bytes.len() <= 128 && begins_with_letter(bytes) && are_name_bytes(&bytes[1..])
+    bytes.len() <= MOST_NAME_BYTES && begins_with_letter(bytes) && are_name_bytes(&bytes[1..])
 }
 
 /// The form of a table's url.
-fn is_table_url(url: &str) -> bool
+pub(crate) fn is_table_url(url: &str) -> bool
     ensures { result ≡ is_table_url_of url.now }
 {
     let bytes = url.as_bytes();
-    if bytes.len() > 132 || !bytes.ends_with(b".csv") {
+    if bytes.len() > MOST_URL_BYTES || !bytes.ends_with(b".csv") {
         return false;
     }
-    let name = &bytes[..bytes.len() - 4];
+    let name = table_name(url).as_bytes();
     begins_with_letter(name) && are_url_bytes(&name[1..])
 }
 
 /// A url without its `.csv`.
 pub(crate) fn table_name(url: &str) -> &str
-    requires { ends_with nat_eq url.now url_end ≡ true }
     ensures { result.now ≡ table_name_of url.now }
 {
     match url.strip_suffix(".csv") {
         Some(name) => name,
         None => url,
-    }
-}
-
-/// That the text is of the form of a column's name.
-#[tactic(auto, unfolding(crate::specs::Walk::has_form))]
-pub(crate) fn has_name_form<'k>(text: Option<&str>) -> Result<(), Refusal<'k>>
-    ensures { answered result
-        ≡ has_form is_column_name_of bad_name (option_map (λ text. text.now) text.entry) }
-{
-    match text {
-        Some(name) => ensure(is_column_name(name), Refusal::BadName),
-        None => Err(Refusal::BadName),
-    }
-}
-
-/// That the text is of the form of a table's url.
-#[tactic(auto, unfolding(crate::specs::Walk::has_form))]
-pub(crate) fn has_url_form<'k>(text: Option<&str>) -> Result<(), Refusal<'k>>
-    ensures { answered result
-        ≡ has_form is_table_url_of bad_url (option_map (λ text. text.now) text.entry) }
-{
-    match text {
-        Some(url) => ensure(is_table_url(url), Refusal::BadUrl),
-        None => Err(Refusal::BadUrl),
     }
 }

@@ -1,21 +1,57 @@
 //! The members that a column inherits from its schema, its table and the group.
-ghost use Rattle.std.specs.Prelude.{◌≡◌};
+ghost use Rattle.std.specs.Prelude.{◌≡◌, map, option_map, IfOk, string_bytes};
 ghost use Rattle.serde_json.specs.View.{view};
-ghost use Rattle.csvw_meta.specs.Faults.{first_fault};
-ghost use Rattle.csvw_meta.specs.Walk.{inherited_conditions};
-ghost use Rattle.csvw_meta.specs.Refusals.{answered};
+ghost use Rattle.csvw_meta.specs.Refusal.{condition_of, first_cause};
+ghost use Rattle.csvw_meta.specs.Inherited.{inherited_conditions, nulls_of, default_of, required_of};
 
-use crate::members::absent;
-use crate::refusal::Refusal;
+use crate::datatype::check_datatype;
+use crate::members::member;
+use crate::refusal::{Refusal, ensure};
+use crate::texts::{is_texts, make_texts};
 use serde_json::Value;
+use std::alloc::{AllocError, Global};
 
-/// The conditions on what columns inherit.
-#[tactic(auto, unfolding(crate::specs::Walk::inherited_conditions))]
-pub(crate) fn check_inherited<'v>(value: &'v Value) -> Result<(), Refusal<'v>>
-    ensures { answered result ≡ first_fault (inherited_conditions (view value.now)) }
+/// The conditions on what a level says for the columns in it.
+#[tactic(auto, using(crate::proofs::RefusalLemmas::conditions), unfolding(crate::specs::Inherited::inherited_conditions))]
+pub(crate) fn check_inherited<'v>(level: &'v Value) -> Result<(), Refusal<'v>>
+    ensures { condition_of result ≡ first_cause (inherited_conditions (view level.now)) }
 {
-    absent(value, "datatype")?;
-    absent(value, "null")?;
-    absent(value, "default")?;
-    absent(value, "required")
+    check_datatype(member(level, "datatype"))?;
+    ensure(member(level, "null").is_none_or(is_texts), Refusal::BadNull)?;
+    ensure(
+        member(level, "default").is_none_or(Value::is_string),
+        Refusal::BadDefault,
+    )?;
+    ensure(
+        member(level, "required").is_none_or(Value::is_boolean),
+        Refusal::BadRequired,
+    )
+}
+
+/// The texts that stand for null: the empty one where no level says any.
+pub(crate) fn make_nulls(alloc: Global, nulls: Option<&Value>) -> Result<Vec<String>, AllocError>
+    ensures { IfOk result (λ made. map string_bytes made.items ≡ nulls_of (option_map (λ v. view v.now) nulls.entry)) }
+{
+    match nulls {
+        Some(nulls) => make_texts(alloc, nulls),
+        None => {
+            let mut made = Vec::new(alloc);
+            made.push(String::new(alloc))?;
+            Ok(made)
+        }
+    }
+}
+
+/// What an empty text stands for: the empty text where no level says another.
+pub(crate) fn make_default(alloc: Global, default: Option<&Value>) -> Result<String, AllocError>
+    ensures { IfOk result (λ made. string_bytes made ≡ default_of (option_map (λ v. view v.now) default.entry)) }
+{
+    String::from_str(alloc, default.and_then(Value::as_str).unwrap_or(""))
+}
+
+/// Whether a value is required: not where no level says so.
+pub(crate) fn is_required(required: Option<&Value>) -> bool
+    ensures { result ≡ required_of (option_map (λ v. view v.now) required.entry) }
+{
+    required.and_then(Value::as_bool).unwrap_or(false)
 }

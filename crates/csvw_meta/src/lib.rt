@@ -1,21 +1,26 @@
 //! The schemas of tables from their metadata (Metadata Vocabulary for Tabular Data). [`Schemas::read`] gives what the metadata says, or
-//! the first fault of one walk over it.
+//! the first fault of one walk over it: the document, the group, each table, its schema, each column, and at each level what
+//! columns inherit.
 #![tactic(auto)]
 
 mod column;
+mod datatype;
 mod document;
 mod fault;
 mod forms;
+mod group;
 mod inherited;
+mod key;
+mod laws;
 mod limits;
 mod members;
 mod refusal;
 mod schema;
 mod table;
+mod texts;
 
+pub use document::Schemas;
 pub use fault::MetaFault;
-pub use limits::Limits;
-pub use schema::{Schema, Schemas};
-
-#[cfg(test)]
-mod tests;
+pub use laws::accepted_schemas;
+pub use limits::{Limits, MOST_COLUMNS, MOST_FILE_BYTES, MOST_TABLES, MOST_TRANSFORMATIONS};
+pub use schema::Schema;

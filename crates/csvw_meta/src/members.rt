@@ -1,9 +1,8 @@
 //! The members of objects. One whose value is null counts as absent.
-ghost use Rattle.std.specs.Prelude.{◌≡◌, option_map};
+ghost use Rattle.std.specs.Prelude.{◌≡◌, map, option_map};
 ghost use Rattle.serde_json.specs.View.{view};
-ghost use Rattle.csvw_meta.specs.Members.{member as member_of, text_member as text_member_of, absent as absent_in};
-ghost use Rattle.csvw_meta.specs.Walk.{given as given_in};
-ghost use Rattle.csvw_meta.specs.Refusals.{refused, answered};
+ghost use Rattle.csvw_meta.specs.Members.{member as member_of, has as has_of, text_member as text_member_of, array_member as array_member_of, absent as absent_of, nearest as nearest_of, count_conditions};
+ghost use Rattle.csvw_meta.specs.Refusal.{refusal_cause, condition_of, first_cause};
 
 use crate::refusal::{Refusal, ensure};
 use serde_json::Value;
@@ -18,25 +17,60 @@ pub(crate) fn member<'v>(value: &'v Value, name: &str) -> Option<&'v Value>
     }
 }
 
-/// The text of that member, where it has one.
-pub(crate) fn text_member<'v>(value: &'v Value, name: &str) -> Option<&'v str>
-    ensures { option_map (λ text. text.now) result ≡ text_member_of name.now (view value.now) }
+/// Whether there is such a member.
+pub(crate) fn has(value: &Value, name: &str) -> bool
+    ensures { result ≡ has_of name.now (view value.now) }
 {
-    member(value, name).and_then(Value::as_str)
+    member(value, name).is_some()
 }
 
-/// That there is no such member.
-#[tactic(auto, unfolding(crate::specs::Members::absent))]
+/// The text of that member, empty where it has none.
+pub(crate) fn text_member<'v>(value: &'v Value, name: &str) -> &'v str
+    ensures { result.now ≡ text_member_of name.now (view value.now) }
+{
+    member(value, name).and_then(Value::as_str).unwrap_or("")
+}
+
+/// The values of that member, none where it is no array.
+pub(crate) fn array_member<'v>(value: &'v Value, name: &str) -> &'v [Value]
+    ensures { map view result.now ≡ array_member_of name.now (view value.now) }
+{
+    match member(value, name).and_then(Value::as_array) {
+        Some(items) => items.as_slice(),
+        None => &[],
+    }
+}
+
+/// That there is no such member, for it is not served.
 pub(crate) fn absent<'k>(value: &Value, name: &'k str) -> Result<(), Refusal<'k>>
-    ensures { answered result ≡ absent_in name.now (view value.now) }
+    ensures { condition_of result ≡ absent_of name.now (view value.now) }
 {
-    ensure(member(value, name).is_none(), Refusal::Unsupported(name))
+    ensure(!has(value, name), Refusal::Unsupported(name))
 }
 
-/// That there is such a member.
-#[tactic(auto, unfolding(crate::specs::Walk::given))]
-pub(crate) fn given<'k>(value: &Value, name: &str, refusal: Refusal<'k>) -> Result<(), Refusal<'k>>
-    ensures { answered result ≡ given_in name.now (refused refusal.entry) (view value.now) }
+/// That there is a value, and that there are no more than the limit.
+#[tactic(auto, unfolding(crate::specs::Members::count_conditions))]
+pub(crate) fn check_count<'k>(
+    limit: u32,
+    none: Refusal<'k>,
+    many: Refusal<'k>,
+    values: &[Value],
+) -> Result<(), Refusal<'k>>
+    ensures { condition_of result
+        ≡ first_cause (count_conditions limit (refusal_cause none.entry) (refusal_cause many.entry) (map view values.now)) }
 {
-    ensure(member(value, name).is_some(), refusal)
+    ensure(!values.is_empty(), none)?;
+    ensure(values.len() <= limit as usize, many)
+}
+
+/// That member at the first level that has it.
+pub(crate) fn nearest<'v>(levels: &[&'v Value], name: &str) -> Option<&'v Value>
+    ensures { option_map (λ v. view v.now) result ≡ nearest_of name.now (map (λ level. view level.now) levels.now) }
+{
+    for level in levels {
+        if let Some(found) = member(level, name) {
+            return Some(found);
+        }
+    }
+    None
 }

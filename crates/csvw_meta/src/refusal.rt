@@ -1,7 +1,7 @@
 //! What a condition on metadata fails with. No memory is taken for it.
 ghost use Rattle.std.specs.Prelude.{◌≡◌, IfSome};
-ghost use Rattle.csvw_meta.specs.Views.{told};
-ghost use Rattle.csvw_meta.specs.Refusals.{refused, answered, holds};
+ghost use Rattle.csvw_meta.specs.Fault.{meta_cause};
+ghost use Rattle.csvw_meta.specs.Refusal.{refusal_cause, condition_of, ensure as ensure_of};
 
 use crate::fault::MetaFault;
 use std::alloc::Global;
@@ -11,35 +11,53 @@ use std::alloc::Global;
 pub(crate) enum Refusal<'a> {
     NotObject,
     NoTables,
+    TooManyTables,
     BadUrl,
+    DuplicateUrl,
     Unsupported(&'a str),
     NoColumns,
     TooManyColumns,
     BadName,
     DuplicateName,
+    BadDatatype,
+    BadFormat,
+    BadNull,
+    BadDefault,
+    BadRequired,
+    BadTitles,
+    BadKey,
 }
 
 impl<'a> Refusal<'a> {
     /// The fault, with a name of its own.
     pub(crate) fn fault(self, alloc: Global) -> MetaFault
-        ensures { IfSome (told result) (λ fault. fault ≡ refused self.entry) }
+        ensures { IfSome (meta_cause result) (λ cause. cause ≡ refusal_cause self.entry) }
     {
         match self {
             Refusal::NotObject => MetaFault::NotObject,
             Refusal::NoTables => MetaFault::NoTables,
+            Refusal::TooManyTables => MetaFault::TooManyTables,
             Refusal::BadUrl => MetaFault::BadUrl,
+            Refusal::DuplicateUrl => MetaFault::DuplicateUrl,
             Refusal::Unsupported(key) => unsupported(alloc, key),
             Refusal::NoColumns => MetaFault::NoColumns,
             Refusal::TooManyColumns => MetaFault::TooManyColumns,
             Refusal::BadName => MetaFault::BadName,
             Refusal::DuplicateName => MetaFault::DuplicateName,
+            Refusal::BadDatatype => MetaFault::BadDatatype,
+            Refusal::BadFormat => MetaFault::BadFormat,
+            Refusal::BadNull => MetaFault::BadNull,
+            Refusal::BadDefault => MetaFault::BadDefault,
+            Refusal::BadRequired => MetaFault::BadRequired,
+            Refusal::BadTitles => MetaFault::BadTitles,
+            Refusal::BadKey => MetaFault::BadKey,
         }
     }
 }
 
 /// The fault of a member that is not served.
 fn unsupported(alloc: Global, key: &str) -> MetaFault
-    ensures { IfSome (told result) (λ fault. fault ≡ refused (Refusal.Unsupported key.entry)) }
+    ensures { IfSome (meta_cause result) (λ cause. cause ≡ refusal_cause (Refusal.Unsupported key.entry)) }
 {
     match String::from_str(alloc, key) {
         Ok(key) => MetaFault::Unsupported { key },
@@ -49,7 +67,7 @@ fn unsupported(alloc: Global, key: &str) -> MetaFault
 
 /// That the test is true.
 pub(crate) fn ensure<'a>(test: bool, refusal: Refusal<'a>) -> Result<(), Refusal<'a>>
-    ensures { answered result ≡ holds test (refused refusal.entry) }
+    ensures { condition_of result ≡ ensure_of test (refusal_cause refusal.entry) }
 {
     if test { Ok(()) } else { Err(refusal) }
 }

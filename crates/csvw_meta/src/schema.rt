@@ -1,19 +1,20 @@
-//! The schemas of tables.
-ghost use Rattle.std.specs.Prelude.{◌≡◌, true, nat_eq, codes, Ok, Err, Some, IfOk, IfErr, IfSome, option_map, option_and_then};
-ghost use Rattle.std.specs.List.{ends_with};
+//! The schema of a table: the conditions on it, and its columns.
+ghost use Rattle.std.specs.Prelude.{◌≡◌, [], ◌∷◌, codes, map, option_map, IfOk};
 ghost use Rattle.serde_json.specs.View.{view};
-ghost use Rattle.csvw_meta.specs.Forms.{url_end};
-ghost use Rattle.csvw_meta.specs.Members.{member as member_of};
-ghost use Rattle.csvw_meta.specs.Walk.{walk, url_of, schema_of, schemas_of};
-ghost use Rattle.csvw_meta.specs.Views.{schema_view, schemas_view, told};
+ghost use Rattle.cell_types.specs.Column.{column_view};
+ghost use Rattle.csvw_meta.specs.Limits.{limits_view};
+ghost use Rattle.csvw_meta.specs.Refusal.{condition_of, first_cause, each_conditions};
+ghost use Rattle.csvw_meta.specs.Members.{member as member_of, fits};
+ghost use Rattle.csvw_meta.specs.Key.{is_key as is_key_of, key_of};
+ghost use Rattle.csvw_meta.specs.Column.{column_conditions, column_of};
+ghost use Rattle.csvw_meta.specs.Schema.{columns_in as columns_of, object_schema_conditions, schema_conditions};
 
-use crate::column::make_columns;
-use crate::document::read_document;
-use crate::fault::MetaFault;
-use crate::forms::table_name;
+use crate::column::{check_column, make_column};
+use crate::inherited::check_inherited;
+use crate::key::{is_key, make_key};
 use crate::limits::Limits;
-use crate::members::{member, text_member};
-use crate::table::check_metadata;
+use crate::members::{absent, array_member, check_count, member};
+use crate::refusal::{Refusal, ensure};
 use cell_types::Column;
 use serde_json::Value;
 use std::alloc::{AllocError, Global};
@@ -31,63 +32,90 @@ pub struct Schema {
     pub key: Vec<usize>,
 }
 
-/// The schemas of a folder, in the order of its metadata.
-#[derive(Debug, Drop)]
-pub struct Schemas {
-    pub tables: Vec<Schema>,
-}
-
-impl Schemas {
-    /// What a metadata text says, behind a byte order mark; or the first fault of the walk over it.
-    pub fn read(alloc: Global, bytes: &[u8], limits: &Limits) -> Result<Schemas, MetaFault>
-        ensures schemas { IfOk result (λ schemas. walk limits.now.columns bytes.now ≡ Ok (schemas_view schemas)) }
-        ensures fault { IfErr result (λ e. IfSome (told e) (λ fault. walk limits.now.columns bytes.now ≡ Err fault)) }
-    {
-        let metadata = read_document(alloc, bytes)?;
-        match check_metadata(limits.columns, &metadata) {
-            Ok(()) => Schemas::of_metadata(alloc, &metadata).map_err(|_| MetaFault::NoMemory),
-            Err(refusal) => Err(refusal.fault(alloc)),
-        }
-    }
-
-    /// The schemas of metadata that meets the conditions.
-    fn of_metadata(alloc: Global, metadata: &Value) -> Result<Schemas, AllocError>
-        requires { ends_with nat_eq (url_of (view metadata.now)) url_end ≡ true }
-        ensures { IfOk result (λ schemas. schemas_view schemas ≡ schemas_of (Some (view metadata.now))) }
-    {
-        let mut tables = Vec::new(alloc);
-        tables.push(Schema::of_table(alloc, metadata)?)?;
-        Ok(Schemas { tables })
-    }
-}
-
-impl Schema {
-    /// The schema of a table whose url is of its form.
-    fn of_table(alloc: Global, table: &Value) -> Result<Schema, AllocError>
-        requires { ends_with nat_eq (url_of (view table.now)) url_end ≡ true }
-        ensures { IfOk result (λ schema. schema_view schema ≡ schema_of (view table.now)) }
-    {
-        let url = url_in(table);
-        Ok(Schema {
-            url: String::from_str(alloc, url)?,
-            name: String::from_str(alloc, table_name(url))?,
-            columns: make_columns(alloc, columns_in(table))?,
-            key: Vec::new(alloc),
-        })
-    }
-}
-
-/// The url of a table, empty where it has none.
-fn url_in(table: &Value) -> &str
-    ensures { result.now ≡ url_of (view table.now) }
+/// The columns of a schema, none where it has none.
+fn columns_in(schema: &Value) -> &[Value]
+    ensures { map view result.now ≡ columns_of (view schema.now) }
 {
-    text_member(table, "url").unwrap_or("")
+    array_member(schema, "columns")
 }
 
-/// What a table's schema has for columns.
-fn columns_in(table: &Value) -> Option<&Value>
-    ensures { option_map (λ v. view v.now) result
-        ≡ option_and_then (member_of (codes "columns")) (member_of (codes "tableSchema") (view table.now)) }
+/// The conditions on columns, one after another.
+fn check_columns<'v>(columns: &'v [Value]) -> Result<(), Refusal<'v>>
+    ensures { condition_of result
+        ≡ first_cause (each_conditions column_conditions [] (map view columns.now)) }
 {
-    member(table, "tableSchema").and_then(|schema| member(schema, "columns"))
+    for (i, column) in columns.iter().enumerate() {
+        check_column(&columns[..i], column)?;
+    }
+    Ok(())
+}
+
+/// Whether a schema with those columns has no `primaryKey`, or one that is a key.
+fn has_key_or_none(schema: &Value, columns: &[Value]) -> bool
+    ensures { result ≡ fits (is_key_of (map view columns.now)) (member_of (codes "primaryKey") (view schema.now)) }
+{
+    match member(schema, "primaryKey") {
+        Some(key) => is_key(columns, key),
+        None => true,
+    }
+}
+
+/// The places of the columns of a schema's key, none where it has no key.
+pub(crate) fn make_schema_key(alloc: Global, schema: &Value) -> Result<Vec<usize>, AllocError>
+    ensures { IfOk result (λ made. made.items ≡ key_of (columns_of (view schema.now)) (member_of (codes "primaryKey") (view schema.now))) }
+{
+    make_key(alloc, columns_in(schema), member(schema, "primaryKey"))
+}
+
+/// The conditions on a schema that is an object.
+#[tactic(auto, using(crate::proofs::RefusalLemmas::conditions), unfolding(crate::specs::Schema::object_schema_conditions))]
+fn check_object<'v>(limits: &Limits, schema: &'v Value) -> Result<(), Refusal<'v>>
+    ensures { condition_of result
+        ≡ first_cause (object_schema_conditions (limits_view limits.now) (view schema.now)) }
+{
+    let columns = columns_in(schema);
+    absent(schema, "separator")?;
+    check_inherited(schema)?;
+    check_count(
+        limits.columns,
+        Refusal::NoColumns,
+        Refusal::TooManyColumns,
+        columns,
+    )?;
+    check_columns(columns)?;
+    ensure(has_key_or_none(schema, columns), Refusal::BadKey)
+}
+
+/// The conditions on what a table, or its group, has as `tableSchema`.
+#[tactic(auto, unfolding(crate::specs::Schema::schema_conditions))]
+pub(crate) fn check_schema<'v>(
+    limits: &Limits,
+    schema: Option<&'v Value>,
+) -> Result<(), Refusal<'v>>
+    ensures { condition_of result
+        ≡ first_cause (schema_conditions (limits_view limits.now) (option_map (λ v. view v.now) schema.entry)) }
+{
+    match schema {
+        Some(Value::String(_)) => Err(Refusal::Unsupported("tableSchema")),
+        Some(schema) if schema.is_object() => check_object(limits, schema),
+        _ => Err(Refusal::NoColumns),
+    }
+}
+
+/// What the columns of a schema say, where that table and that group are around it.
+pub(crate) fn make_columns(
+    alloc: Global,
+    schema: &Value,
+    table: &Value,
+    group: &Value,
+) -> Result<Vec<Column>, AllocError>
+    ensures { IfOk result (λ made.
+        map column_view made.items ≡ map (column_of (view schema.now ∷ view table.now ∷ view group.now ∷ [])) (columns_of (view schema.now))) }
+{
+    let columns = columns_in(schema);
+    let mut made = Vec::with_capacity(alloc, columns.len())?;
+    for column in columns {
+        made.push(make_column(alloc, schema, table, group, column)?)?;
+    }
+    Ok(made)
 }

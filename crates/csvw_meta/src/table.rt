@@ -1,75 +1,97 @@
-//! The conditions on metadata, its table and the table's schema.
-ghost use Rattle.std.specs.Prelude.{◌≡◌, option_map, Some};
+//! The tables of metadata: the conditions on them, and their schemas.
+ghost use Rattle.std.specs.Prelude.{◌≡◌, map, option_map, IfOk};
 ghost use Rattle.serde_json.specs.View.{view};
-ghost use Rattle.csvw_meta.specs.Faults.{first_fault};
-ghost use Rattle.csvw_meta.specs.Walk.{object_schema_conditions, schema_conditions, table_conditions, object_conditions, document_conditions};
-ghost use Rattle.csvw_meta.specs.Refusals.{answered};
+ghost use Rattle.csvw_meta.specs.Limits.{limits_view};
+ghost use Rattle.csvw_meta.specs.Refusal.{condition_of, first_cause};
+ghost use Rattle.csvw_meta.specs.Schema.{schema_view};
+ghost use Rattle.csvw_meta.specs.Table.{url_of as url_in, has_url as has_url_among, schema_in as schema_of, level_conditions, object_table_conditions, table_conditions, table_schema};
 
-use crate::column::check_columns;
-use crate::forms::has_url_form;
+use crate::forms::{is_table_url, table_name};
 use crate::inherited::check_inherited;
-use crate::members::{absent, given, member, text_member};
-use crate::refusal::Refusal;
+use crate::limits::Limits;
+use crate::members::{absent, nearest, text_member};
+use crate::refusal::{Refusal, ensure};
+use crate::schema::{Schema, check_schema, make_columns, make_schema_key};
 use serde_json::Value;
+use std::alloc::{AllocError, Global};
 
-/// The conditions on a schema that is an object. The limit is the most columns.
-#[tactic(auto, using(crate::proofs::Conditions::conditions), unfolding(crate::specs::Walk::object_schema_conditions))]
-fn check_object_schema<'v>(limit: u32, schema: &'v Value) -> Result<(), Refusal<'v>>
-    ensures { answered result
-        ≡ first_fault (object_schema_conditions limit (view schema.now)) }
+/// The url of a table, empty where it has none.
+fn url_of(table: &Value) -> &str
+    ensures { result.now ≡ url_in (view table.now) }
 {
-    absent(schema, "separator")?;
-    check_inherited(schema)?;
-    check_columns(limit, member(schema, "columns"))?;
-    absent(schema, "primaryKey")
+    text_member(table, "url")
 }
 
-/// The conditions on a schema. The limit is the most columns.
-#[tactic(auto, unfolding(crate::specs::Walk::schema_conditions))]
-fn check_schema<'v>(limit: u32, schema: Option<&'v Value>) -> Result<(), Refusal<'v>>
-    ensures { answered result
-        ≡ first_fault (schema_conditions limit (option_map (λ v. view v.now) schema.entry)) }
+/// Whether one of the tables has the url.
+fn has_url(tables: &[Value], url: &str) -> bool
+    ensures { result ≡ has_url_among (map view tables.now) url.now }
 {
-    match schema {
-        Some(schema) => match schema {
-            Value::String(_) => Err(Refusal::Unsupported("tableSchema")),
-            Value::Object(_) => check_object_schema(limit, schema),
-            _ => Err(Refusal::NoColumns),
-        },
-        None => Err(Refusal::NoColumns),
+    tables.iter().any(|table| url == url_of(table))
+}
+
+/// The schema of a table: its own, else that of its group.
+fn schema_in<'v>(group: &'v Value, table: &'v Value) -> Option<&'v Value>
+    ensures { option_map (λ v. view v.now) result ≡ schema_of (view group.now) (view table.now) }
+{
+    nearest(&[table, group], "tableSchema")
+}
+
+/// What is not served at a table or a group, and what its columns inherit.
+#[tactic(auto, using(crate::proofs::RefusalLemmas::conditions), unfolding(crate::specs::Table::level_conditions))]
+pub(crate) fn check_level<'v>(level: &'v Value) -> Result<(), Refusal<'v>>
+    ensures { condition_of result ≡ first_cause (level_conditions (view level.now)) }
+{
+    absent(level, "dialect")?;
+    absent(level, "transformations")?;
+    absent(level, "separator")?;
+    check_inherited(level)
+}
+
+/// The conditions on a table that is an object, behind the earlier ones of its group.
+#[tactic(auto, using(crate::proofs::RefusalLemmas::conditions), unfolding(crate::specs::Table::object_table_conditions))]
+fn check_object<'v>(
+    limits: &Limits,
+    group: &'v Value,
+    earlier: &'v [Value],
+    table: &'v Value,
+) -> Result<(), Refusal<'v>>
+    ensures { condition_of result
+        ≡ first_cause (object_table_conditions (limits_view limits.now) (view group.now) (map view earlier.now) (view table.now)) }
+{
+    ensure(is_table_url(url_of(table)), Refusal::BadUrl)?;
+    ensure(!has_url(earlier, url_of(table)), Refusal::DuplicateUrl)?;
+    check_level(table)?;
+    check_schema(limits, schema_in(group, table))
+}
+
+/// The conditions on a table, behind the earlier ones of its group. A table without a group is in one that is null.
+#[tactic(auto, unfolding(crate::specs::Table::table_conditions))]
+pub(crate) fn check_table<'v>(
+    limits: &Limits,
+    group: &'v Value,
+    earlier: &'v [Value],
+    table: &'v Value,
+) -> Result<(), Refusal<'v>>
+    ensures { condition_of result
+        ≡ first_cause (table_conditions (limits_view limits.now) (view group.now) (map view earlier.now) (view table.now)) }
+{
+    if table.is_object() {
+        check_object(limits, group, earlier, table)
+    } else {
+        Err(Refusal::NotObject)
     }
 }
 
-/// The conditions on a table. The limit is the most columns.
-#[tactic(auto, using(crate::proofs::Conditions::conditions), unfolding(crate::specs::Walk::table_conditions))]
-fn check_table<'v>(limit: u32, table: &'v Value) -> Result<(), Refusal<'v>>
-    ensures { answered result ≡ first_fault (table_conditions limit (view table.now)) }
+/// What a table of that group says.
+pub(crate) fn make_table(alloc: Global, group: &Value, table: &Value) -> Result<Schema, AllocError>
+    ensures { IfOk result (λ schema. schema_view schema ≡ table_schema (view group.now) (view table.now)) }
 {
-    has_url_form(text_member(table, "url"))?;
-    absent(table, "dialect")?;
-    absent(table, "transformations")?;
-    absent(table, "separator")?;
-    check_inherited(table)?;
-    check_schema(limit, member(table, "tableSchema"))
-}
-
-/// The conditions on metadata that is an object. The limit is the most columns of a table.
-#[tactic(auto, unfolding(crate::specs::Walk::object_conditions))]
-fn check_object<'v>(limit: u32, metadata: &'v Value) -> Result<(), Refusal<'v>>
-    ensures { answered result ≡ first_fault (object_conditions limit (view metadata.now)) }
-{
-    absent(metadata, "tables")?;
-    given(metadata, "url", Refusal::NoTables)?;
-    check_table(limit, metadata)
-}
-
-/// The conditions on metadata. The limit is the most columns of a table.
-pub(crate) fn check_metadata<'v>(limit: u32, metadata: &'v Value) -> Result<(), Refusal<'v>>
-    ensures { answered result
-        ≡ first_fault (document_conditions limit (Some (view metadata.now))) }
-{
-    match metadata {
-        Value::Object(_) => check_object(limit, metadata),
-        _ => Err(Refusal::NotObject),
-    }
+    let url = url_of(table);
+    let schema = schema_in(group, table).unwrap_or(&Value::Null);
+    Ok(Schema {
+        url: String::from_str(alloc, url)?,
+        name: String::from_str(alloc, table_name(url))?,
+        columns: make_columns(alloc, schema, table, group)?,
+        key: make_schema_key(alloc, schema)?,
+    })
 }

@@ -1,12 +1,13 @@
 //! Folders of files, and the one that is built in.
-ghost use Rattle.std.specs.Prelude.{◌≡◌, ◌≢◌, ℕ, List, Option, Some, IfOk, IfErr, IfSome, IsErrOf, false, string_bytes};
-ghost use Rattle.odata_serve.specs.Folders.{FolderOf, Means};
-ghost use Rattle.odata_serve.specs.Taken.{CountsRefusal, is_refusal, notes_folder, TellsCause};
+ghost use Rattle.std.specs.Prelude.{◌≡◌, IfErr, IfOk, IfSome, string_bytes};
+ghost use Rattle.table_store.specs.Catalog.{IsRefused, Means};
+ghost use Rattle.table_store.specs.Fault.{load_cause};
+ghost use Rattle.odata_serve.specs.Folders.{CountsFault, FoldersOf, MeansTaken, RefusesTaken, folder_cause, notes_folder};
 
-use crate::catalog::{Catalog, LoadFault, NamedFile};
 use csvw_meta::Limits;
 use std::alloc::{AllocError, Global};
 use std::marker::Model;
+use table_store::{Catalog, LoadFault, NamedFile};
 
 /// Why a folder gives no catalog.
 #[derive(Debug, Drop)]
@@ -21,19 +22,26 @@ pub enum FolderFault {
     NoMemory,
 }
 
+impl From<AllocError> for FolderFault {
+    ghost use Rattle.odata_serve.specs.declared.folders.FolderFault.TheVariants.{NoMemory};
+
+    ghost from_gives = { λ _ fault. fault ≡ NoMemory };
+
+    fn from(_error: AllocError) -> FolderFault {
+        FolderFault::NoMemory
+    }
+}
+
 /// Where folders are loaded from, by their names.
 pub trait Folders {
-    /// What the last load under a name took, where it tells it.
-    ghost took: { Self → List ℕ → Option FolderOf };
-
-    /// How many loads answered `NoMetadata` or `Device`.
-    ghost refusals: { Self → ℕ };
+    /// What the last load under a name took, where that is told; and the counts of two answers.
+    ghost folders: { Self → FoldersOf };
 
     /// The catalog of the folder of that name: what `Catalog::load` answers of what was taken.
     fn load(&mut self, alloc: Global, name: &str) -> Result<Catalog, FolderFault>
-        ensures tables { IfOk result (λ catalog. IfSome (took self.new name.now) (λ folder. Means folder catalog)) }
-        ensures fault { IfErr result (λ e. IfSome (took self.new name.now) (TellsCause e)) }
-        ensures refusals { CountsRefusal (refusals self.old) (refusals self.new) result };
+        ensures tables { IfOk result (λ catalog. MeansTaken ((folders self.new).took name.now) catalog) }
+        ensures fault { IfErr result (λ e. IfSome (folder_cause e) (RefusesTaken ((folders self.new).took name.now))) }
+        ensures counts { CountsFault (folders self.old) (folders self.new) result };
 }
 
 /// The name of the folder that is built in.
@@ -52,7 +60,7 @@ pub const NOTES_BYTES: &str = "Id,Text\n1,hello\n2,\"a, b\"\n";
 /// The folder `notes`, which the program has in itself; there is no other. It is seen as the number of its loads under other names.
 #[derive(Debug, Drop)]
 pub struct BuiltIn {
-    refusals: u64,
+    others: u64,
 }
 
 impl Model for BuiltIn {
@@ -60,24 +68,14 @@ impl Model for BuiltIn {
 
     ghost Value = { ℕ };
 
-    ghost view = { λ folder. folder.refusals };
+    ghost view = { λ folder. folder.others };
 }
 
 impl BuiltIn {
     pub fn new() -> BuiltIn
         ensures { result ≡ 0 }
     {
-        BuiltIn { refusals: 0 }
-    }
-}
-
-impl From<AllocError> for FolderFault {
-    ghost use Rattle.odata_serve.specs.declared.folders.FolderFault.TheVariants.{NoMemory};
-
-    ghost from_gives = { λ _ e. e ≡ NoMemory };
-
-    fn from(_e: AllocError) -> FolderFault {
-        FolderFault::NoMemory
+        BuiltIn { others: 0 }
     }
 }
 
@@ -92,37 +90,37 @@ fn notes_file(alloc: Global) -> Result<NamedFile, AllocError>
 }
 
 /// The catalog of the built-in folder.
-fn notes(alloc: Global) -> Result<Catalog, FolderFault>
+fn load_notes(alloc: Global) -> Result<Catalog, LoadFault>
     ensures tables { IfOk result (Means notes_folder) }
-    ensures fault { IfErr result (λ e. TellsCause e notes_folder) }
-    ensures own { IfErr result (λ e. is_refusal e ≡ false) }
+    ensures fault { IfErr result (λ e. IfSome (load_cause e) (IsRefused notes_folder)) }
 {
-    let meta = Vec::from_slice(alloc, NOTES_METADATA.as_bytes())?;
-    let file = notes_file(alloc)?;
-    let files = vec![in alloc; file].map_err(AllocError::from)?;
-    match Catalog::load(alloc, Limits::greatest(), meta, files) {
-        Ok(catalog) => Ok(catalog),
-        Err(fault) => Err(FolderFault::Load(fault)),
-    }
+    let Ok(meta) = Vec::from_slice(alloc, NOTES_METADATA.as_bytes()) else {
+        return Err(LoadFault::NoMemory);
+    };
+    let Ok(file) = notes_file(alloc) else {
+        return Err(LoadFault::NoMemory);
+    };
+    let Ok(files) = vec![in alloc; file] else {
+        return Err(LoadFault::NoMemory);
+    };
+    Catalog::load(alloc, Limits::greatest(), meta, files)
 }
 
 impl Folders for BuiltIn {
-    ghost took = { λ _ _. Some notes_folder };
+    ghost use Rattle.std.specs.Prelude.{Some};
+    ghost use Rattle.odata_serve.specs.Folders.{built_in};
 
-    ghost refusals = { λ s. s };
+    ghost folders = { λ s. record { took = λ name. Some (built_in name); no_metadata = s; device = 0 } };
 
     /// The catalog of `notes`; there is no metadata under any other name.
-    fn load(&mut self, alloc: Global, name: &str) -> Result<Catalog, FolderFault>
-        ensures tables { IfOk result (Means notes_folder) }
-        ensures fault { IfErr result (λ e. TellsCause e notes_folder) }
-        ensures refusals { CountsRefusal self.old self.new result }
-        ensures found { name.now ≡ NOTES.now → self.new ≡ self.old }
-        ensures other { name.now ≢ NOTES.now → IsErrOf result FolderFault.NoMetadata }
-    {
+    fn load(&mut self, alloc: Global, name: &str) -> Result<Catalog, FolderFault> {
         if name != NOTES {
-            self.refusals = self.refusals.saturating_add(1);
+            self.others = self.others.saturating_add(1);
             return Err(FolderFault::NoMetadata);
         }
-        notes(alloc)
+        match load_notes(alloc) {
+            Ok(catalog) => Ok(catalog),
+            Err(fault) => Err(FolderFault::Load(fault)),
+        }
     }
 }

@@ -1,46 +1,42 @@
 //! Answers requests of OData over a folder of CSV files. Without words on the command line the program answers standard input over the
-//! built-in folder `notes`, and ends with the status 0; a refusal is told on standard error and by the exit status.
+//! built-in folder `notes`; with words it checks a folder on a disk, answers a target or a file of requests over it, or serves it. It ends with the
+//! status 0; a fault is told on standard error and by the exit status.
 #![tactic(auto)]
 
-mod answers;
-mod bodies;
-mod catalog;
-mod counted;
-mod devices;
+mod check;
+mod disk;
 mod fault_line;
 mod folders;
-mod heads;
-mod json;
 mod program;
-mod replies;
-mod rows;
-mod streams;
+mod serve;
+mod words;
 
-use counted::Counted;
-use fault_line::fault_line;
-use folders::{BuiltIn, NOTES};
+use check::check_folder;
+use disk::Disk;
+use fault_line::{DEVICE, MEMORY, SCRIPT, fault_line};
+use folders::{BuiltIn, Folders, NOTES};
+use odata_http::Counted;
 use program::{ProgramFault, answer};
 use std::io::ErrorKind;
+use std::net::{Ipv4Addr, TcpListener};
 use std::process::ExitCode;
 use std::rt::Env;
-use std::{env, io};
+use std::{env, fs, io};
+use words::{Words, WordsFault, read_words};
 
-/// The exit status of a command line that is not served.
-const USAGE: u8 = 2;
+/// The exit status where all was done.
+const DONE: u8 = 0;
 
-/// The exit status of a device fault.
-const DEVICE: u8 = 3;
-
-/// The exit status of want of memory.
-const MEMORY: u8 = 4;
-
-/// Whether words stand behind the program's name.
-fn has_words(rt: &(impl Env + AllocGlobal)) -> io::Result<bool> {
-    Ok(env::args(rt)?.nth(1).is_some())
+/// The exit status of an error of the system.
+fn error_status(error: &io::Error) -> u8 {
+    match error.kind() {
+        ErrorKind::OutOfMemory => MEMORY,
+        _ => DEVICE,
+    }
 }
 
-/// Tells a fault on standard error, and gives its exit status.
-fn tell(rt: &(impl Eprint + AllocGlobal), fault: &ProgramFault) -> u8 {
+/// Writes what is said of a fault to standard error, and gives its exit status.
+fn report(rt: &(impl Eprint + AllocGlobal), fault: &ProgramFault) -> u8 {
     match fault_line(rt.alloc(), fault) {
         Ok((line, status)) => {
             if !line.is_empty() {
@@ -52,29 +48,112 @@ fn tell(rt: &(impl Eprint + AllocGlobal), fault: &ProgramFault) -> u8 {
     }
 }
 
-/// Answers standard input over the folder `notes`.
-fn answer_input(rt: &(impl Input + Print + Eprint + AllocGlobal)) -> u8 {
-    let mut folders = BuiltIn::new();
-    let mut source = Counted::new(rt.reader());
-    let mut sink = Counted::new(io::writer(rt));
-    match answer(rt.alloc(), &mut folders, NOTES, &mut source, &mut sink) {
-        Ok(()) => 0,
-        Err(fault) => tell(rt, &fault),
+/// The exit status of an end, which is told on standard error where it is a fault.
+fn end_status(rt: &(impl Eprint + AllocGlobal), end: Result<(), ProgramFault>) -> u8 {
+    match end {
+        Ok(()) => DONE,
+        Err(fault) => report(rt, &fault),
     }
 }
 
-fn main(rt: HostRuntime) -> ExitCode {
-    let status = match has_words(&rt) {
-        Ok(false) => answer_input(&rt),
-        Ok(true) => {
-            let _ = rt.eprintln("bad command line");
-            USAGE
+/// Answers standard input over the folder `notes`.
+fn answer_input(rt: &HostRuntime) -> u8 {
+    let mut folders = BuiltIn::new();
+    let mut input = Counted::new(rt.reader());
+    let mut out = Counted::new(io::writer(rt));
+    let end = answer(rt.alloc(), &mut folders, NOTES, &mut input, &mut out);
+    end_status(rt, end)
+}
+
+/// Says whether a folder is served.
+fn check_tables(rt: &HostRuntime, folder: &str) -> u8 {
+    let mut out = Counted::new(io::writer(rt));
+    let end = check_folder(rt.alloc(), &mut Disk::new(rt), folder, &mut out);
+    end_status(rt, end)
+}
+
+/// Answers one GET of a target over a folder.
+fn query(rt: &HostRuntime, folder: &str, target: &str) -> u8 {
+    let request = format!(in rt.alloc();
+        "GET {target} HTTP/1.1\r\nHost: localhost\r\nConnection: close\r\n\r\n"
+    );
+    let Ok(request) = request else {
+        return MEMORY;
+    };
+    let mut input = Counted::new(request.as_bytes());
+    let mut out = Counted::new(io::writer(rt));
+    let end = answer(rt.alloc(), &mut Disk::new(rt), folder, &mut input, &mut out);
+    end_status(rt, end)
+}
+
+/// Answers the stream of a file over a folder.
+fn answer_file(rt: &HostRuntime, folder: &str, file: &str) -> u8 {
+    match fs::open(rt, file) {
+        Ok(opened) => {
+            let mut input = Counted::new(opened);
+            let mut out = Counted::new(io::writer(rt));
+            let end = answer(rt.alloc(), &mut Disk::new(rt), folder, &mut input, &mut out);
+            end_status(rt, end)
         }
-        Err(e) if e.kind() == ErrorKind::OutOfMemory => MEMORY,
-        Err(_) => DEVICE,
+        Err(error) => error_status(&error),
+    }
+}
+
+/// Serves a folder on a port of this machine.
+fn serve_folder(rt: &HostRuntime, folder: &str, port: u16, connections: u32) -> u8 {
+    let catalog = match Disk::new(rt).load(rt.alloc(), folder) {
+        Ok(catalog) => catalog,
+        Err(fault) => return report(rt, &ProgramFault::Folder(fault)),
+    };
+    match TcpListener::bind(rt, (Ipv4Addr::LOCALHOST, port)) {
+        Ok(listener) => {
+            let mut out = io::writer(rt);
+            let end = serve::serve(rt.alloc(), &catalog, &listener, connections, &mut out);
+            end_status(rt, end)
+        }
+        Err(error) => error_status(&error),
+    }
+}
+
+/// Does what the words ask for, the first of which is the program's name.
+fn act(rt: &HostRuntime, line: &[&str]) -> u8 {
+    match read_words(rt.alloc(), line) {
+        Ok(Words::Nothing) => answer_input(rt),
+        Ok(Words::Check { folder }) => check_tables(rt, folder),
+        Ok(Words::Query { folder, target }) => query(rt, folder, target),
+        Ok(Words::Answer { folder, file }) => answer_file(rt, folder, file),
+        Ok(
+            Words::Serve {
+                folder,
+                port,
+                connections,
+            },
+        ) => serve_folder(rt, folder, port, connections),
+        Err(WordsFault::Usage) => {
+            let _ = rt.eprintln("bad command line");
+            SCRIPT
+        }
+        Err(WordsFault::NoMemory) => MEMORY,
+    }
+}
+
+/// Reads the words of the command line, and does what they ask for.
+fn run_words(rt: &HostRuntime) -> io::Result<u8> {
+    let mut words = Vec::new(rt.alloc());
+    for word in env::args(rt)? {
+        words.push(word)?;
+    }
+    let mut line = Vec::new(rt.alloc());
+    for word in words.iter() {
+        line.push(word.as_str())?;
+    }
+    Ok(act(rt, line.as_slice()))
+}
+
+fn main(rt: HostRuntime) -> ExitCode {
+    let status = match run_words(&rt) {
+        Ok(status) => status,
+        Err(error) => error_status(&error),
     };
     ExitCode::from(status)
 }
-
-#[cfg(test)]
-mod tests;

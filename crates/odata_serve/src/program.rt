@@ -1,11 +1,10 @@
-//! The answer to a stream over a folder.
-ghost use Rattle.std.specs.Prelude.{◌^◌, ◌<◌, ◌≤◌, ◌+◌};
-ghost use Rattle.odata_serve.specs.Runs.{course};
-ghost use Rattle.odata_serve.specs.Outcomes.{CountsFaults, IsAnswer};
+//! The answer to a stream over a folder, and what a folder has.
+ghost use Rattle.std.specs.Prelude.{◌^◌, ◌<◌};
+ghost use Rattle.odata_http.specs.Runs.{course};
+ghost use Rattle.odata_serve.specs.Program.{IsAnswer};
 
-use crate::devices::{Sink, Source};
 use crate::folders::{FolderFault, Folders};
-use crate::streams::{RunFault, run};
+use odata_http::{RunFault, Sink, Source, run};
 use std::alloc::Global;
 
 /// The most reads of one stream.
@@ -26,30 +25,26 @@ pub enum ProgramFault {
     NoMemory,
 }
 
-/// Loads the folder of that name, and answers the source's stream over it in the sink, in at most 1,048,576 reads.
+/// Loads the folder of that name, and answers the input's stream over it in the output, in at most [`MAX_READS`] reads.
 pub fn answer<F: Folders, R: Source, W: Sink>(
     alloc: Global,
     folders: &mut F,
     name: &str,
-    source: &mut R,
-    sink: &mut W,
+    input: &mut R,
+    out: &mut W,
 ) -> Result<(), ProgramFault>
-    requires refusals { F.refusals folders.old < 2 ^ 63 }
-    requires reads { R.reads source.old < 2 ^ 63 }
-    requires ends { R.ends source.old < 2 ^ 63 }
-    requires read_faults { R.faults source.old < 2 ^ 63 }
-    requires write_faults { W.faults sink.old < 2 ^ 63 }
-    ensures answer { IsAnswer (F.took folders.new name.now)
-        (course (R.left source.old) (R.left source.new) (W.taken sink.old) (W.taken sink.new) (R.ends source.old) (R.ends source.new)) result }
-    ensures faults { CountsFaults result (F.refusals folders.old) (F.refusals folders.new)
-        (R.faults source.old) (R.faults source.new) (W.faults sink.old) (W.faults sink.new) }
-    ensures reads { R.reads source.new ≤ R.reads source.old + 1048576 }
+    requires reads { (R.source input.old).reads < 2 ^ 63 }
+    requires ends { (R.source input.old).ends < 2 ^ 63 }
+    requires failed_reads { (R.source input.old).failed_reads < 2 ^ 63 }
+    requires failed_writes { (W.sink out.old).failed_writes < 2 ^ 63 }
+    ensures { IsAnswer name.now (F.folders folders.old) (F.folders folders.new)
+        (course (R.source input.old) (R.source input.new) (W.sink out.old) (W.sink out.new)) result }
 {
     let catalog = match folders.load(alloc, name) {
         Ok(catalog) => catalog,
         Err(fault) => return Err(ProgramFault::Folder(fault)),
     };
-    match run(alloc, &catalog, source, sink, MAX_READS) {
+    match run(alloc, &catalog, input, out, MAX_READS) {
         Ok(()) => Ok(()),
         Err(fault) => Err(ProgramFault::Run(fault)),
     }

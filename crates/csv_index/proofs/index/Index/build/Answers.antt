@@ -1,26 +1,29 @@
-use Rattle.std.proofs.Common.{List, sym, subst}
+use Rattle.std.proofs.Common.{List, length, ◌^◌, ◌≤◌, arith, sym, subst}
 use Rattle.std.specs.Str.{IsCharBoundary}
 use Rattle.std.proofs.lemmas.Result.{err_from_is_err_and}
-use Rattle.csv_grammar.specs.Records.{Field}
-use Rattle.csv_index.specs.Reading.{ScansAs}
 use Rattle.csv_index.proofs.Mark.{mark_boundary}
-use Rattle.csv_index.proofs.Tables.{index_of, text_tells}
+use Rattle.csv_index.proofs.Tables.{index_of, text_fault, rise_wide}
 use Rattle.csv_index.proofs.index.Index.build.Goals as goal
 
-pub over-requires-clause-boundary : goal.over-requires-clause-boundary
-over-requires-clause-boundary c =
+pub of-requires-clause-boundary : goal.of-requires-clause-boundary
+of-requires-clause-boundary c =
     subst (IsCharBoundary c.args.bytes.now) (sym c.mark_len-start.ensures) (mark_boundary c.args.bytes.now c.in_ok-check_text.ensures.utf8)
 
-pub returns-in_err-scan-clause-fault : goal.returns-in_err-scan-clause-fault
-returns-in_err-scan-clause-fault c =
-    let p = err_from_is_err_and c.from_residual-in_err-scan.result c.from_residual-in_err-scan.ensures.1 in
-    rw (p.1, p.2) (text_tells c.args.bytes.now c.mark_len-start.result c.in_err-scan.field-0.0 c.in_ok-check_text.ensures.utf8
-    c.mark_len-start.ensures c.in_err-scan.ensures.fault)
+pub returns-in_err-structure-clause-fault : goal.returns-in_err-structure-clause-fault
+returns-in_err-structure-clause-fault c =
+    let p = err_from_is_err_and c.from_residual-in_err-structure.result c.from_residual-in_err-structure.ensures.1 in
+    rw (p.1, p.2) (text_fault c.args.bytes.now c.mark_len-start.result c.in_err-structure.field-0.0 c.in_ok-check_text.ensures.utf8
+    c.mark_len-start.ensures c.in_err-structure.ensures.fault)
+
+pub invariant_of-result : goal.invariant_of-result
+invariant_of-result c =
+    let read = c.in_ok-structure.ensures.records.1 in record {
+      ranked = read.ranked;
+      room = read.room;
+      rise = rise_wide _ (length c.args.bytes.now) (2 ^ 63) _ (omega arith) read.cuts.rise;
+    }
 
 pub returns-clause-table : goal.returns-clause-table
 returns-clause-table c =
-    let file = c.args.bytes.now in
-    let mark = c.mark_len-start.result in
-    index_of file mark _ c.in_ok-check_text.ensures.utf8 c.mark_len-start.ensures
-    (subst (λ s. (records : List (List Field)) × ScansAs file mark records s) (sym c.scan.view_is) c.in_ok-scan.ensures.records)
-    c.in_default.is c.if-scan-eq0.false
+    index_of c.args.bytes.now c.mark_len-start.result _ _ _ c.in_ok-check_text.ensures.utf8 c.mark_len-start.ensures
+    c.in_ok-structure.ensures.records c.in_default.is c.if-widths-eq0.false

@@ -1,0 +1,66 @@
+-- How a column reads its cells (Model for Tabular Data and Metadata on the Web, section 6.4).
+use Rattle.std.specs.Prelude.{◌≡◌, ℕ, Bool, List, ◌==◌, ◌<◌, length, if◌then◌else◌, Result, Ok, Err, codes}
+use Rattle.std.specs.List.{list_any}
+use Rattle.std.specs.Str.{bytes_eq}
+use Rattle.cell_types.specs.declared.cell.CellFault.{CellFault}
+use Rattle.cell_types.specs.declared.cell.CellFault.TheVariants.{NotInteger, OutOfRange, NotBoolean, NotDate, Missing, NoMemory}
+use Rattle.cell_types.specs.declared.value.Value.{Value}
+use Rattle.cell_types.specs.Column.{ColumnOf}
+use Rattle.cell_types.specs.Datatype.{DatatypeOf, integer, string, boolean, date}
+use Rattle.cell_types.specs.Value.{CellValue, null, text, value_view}
+use Rattle.cell_types.specs.WhiteSpace.{normal_text}
+use Rattle.cell_types.specs.Integer.{integer_of}
+use Rattle.cell_types.specs.Boolean.{boolean_of}
+use Rattle.cell_types.specs.Date.{date_of}
+
+-- the text of a cell that a datatype reads: of `string` as it stands, else normalized
+abbrev pub content_of : DatatypeOf → List ℕ → List ℕ
+content_of string bytes = bytes
+content_of _ bytes = normal_text bytes
+
+-- the default takes the place of an empty text
+abbrev pub text_or_default : ColumnOf → List ℕ → List ℕ
+text_or_default column bytes = if length bytes == 0 then column.default else bytes
+
+-- the text stands for null
+abbrev pub is_null_text : ColumnOf → List ℕ → Bool
+is_null_text column bytes = list_any (λ null_text. bytes_eq null_text bytes) column.nulls
+
+-- what a datatype reads a text as
+abbrev pub typed_value : DatatypeOf → List ℕ → Result CellValue CellFault
+typed_value integer bytes = integer_of bytes
+typed_value string bytes = Ok (text bytes)
+typed_value (boolean of_true of_false) bytes = boolean_of of_true of_false bytes
+typed_value (date form) bytes = date_of form bytes
+
+-- what a null is: no value is missing where the column does not require one
+abbrev pub null_reading : ColumnOf → Result CellValue CellFault
+null_reading column = if column.required then Err Missing else Ok null
+
+-- the value of a text that is normalized where it must be
+abbrev pub content_value : ColumnOf → List ℕ → Result CellValue CellFault
+content_value column bytes = let content = text_or_default column bytes in
+    if is_null_text column content then null_reading column else typed_value column.datatype content
+
+-- the value of a text in a column
+abbrev pub value_of : ColumnOf → List ℕ → Result CellValue CellFault
+value_of column bytes = content_value column (content_of column.datatype bytes)
+
+-- no memory is needed for a `string` that is not empty, nor for a normal text of another datatype
+abbrev pub NeedsNoMemory : DatatypeOf → List ℕ → Type 0
+NeedsNoMemory string bytes = 0 < length bytes
+NeedsNoMemory _ bytes = normal_text bytes ≡ bytes
+
+-- a value that was read, or a fault
+abbrev pub reading_view : Result Value CellFault → Result CellValue CellFault
+reading_view (Ok value) = Ok (value_view value)
+reading_view (Err fault) = Err fault
+
+-- the name of a fault in a message
+abbrev pub fault_name : CellFault → List ℕ
+fault_name NotInteger = codes "NotInteger"
+fault_name OutOfRange = codes "OutOfRange"
+fault_name NotBoolean = codes "NotBoolean"
+fault_name NotDate = codes "NotDate"
+fault_name Missing = codes "Missing"
+fault_name NoMemory = codes "NoMemory"

@@ -1,0 +1,44 @@
+-- What holds of all texts and values.
+use Rattle.std.specs.Prelude.{◌≡◌, ◌≢◌, ◌↔◌, ℕ, ℤ, List, ◌+◌, ◌<◌, true, false, pos, IsTrue, Ok, Err, length, slice_index}
+use Rattle.std.specs.Cmp.{IsTotalOrder}
+use Rattle.std.specs.Fmt.{signed_decimal}
+use Rattle.std.specs.Int.{w64}
+use Rattle.std.specs.Int.RustNames.{FitsSigned}
+use Rattle.std.specs.declared.cmp.Ordering.TheVariants.{Equal, Less}
+use Rattle.jiff.specs.Words.{IsDate}
+use Rattle.cell_types.specs.declared.cell.CellFault.TheVariants.{NoMemory}
+use Rattle.cell_types.specs.declared.datatype.DateForm.{DateForm}
+use Rattle.cell_types.specs.Cell.{value_of}
+use Rattle.cell_types.specs.Column.{ColumnOf}
+use Rattle.cell_types.specs.Date.{IsDateText, date_of, date_text, is_date}
+use Rattle.cell_types.specs.Integer.{integer_of}
+use Rattle.cell_types.specs.Value.{CellValue, date, int, null, value_cmp, value_eq}
+use Rattle.cell_types.specs.WhiteSpace.{is_white, normal_text}
+
+-- a text in a column has a value or one of five causes: want of memory is none of them
+abbrev pub MemoryIsNoCause : Type 0
+MemoryIsNoCause = (column : ColumnOf) (bytes : List ℕ) → value_of column bytes ≢ Err NoMemory
+
+-- each white space of a normalized text is one space, and stands between two bytes that are none; to normalize it again changes nothing
+pub record NormalTexts : Type 0 where
+  pub again : (bytes : List ℕ) → normal_text (normal_text bytes) ≡ normal_text bytes
+  pub spaces : (bytes : List ℕ) (k : ℕ) → k < length (normal_text bytes) → is_white (slice_index (normal_text bytes) k) ≡ true
+      → (slice_index (normal_text bytes) k ≡ 32) × (0 < k) × (k + 1 < length (normal_text bytes)) × (is_white (slice_index (normal_text bytes) (k + 1)) ≡ false)
+
+-- the text of each integer of 64 signed bits reads as that integer, and no text as another one
+pub record IntegersReadBack : Type 0 where
+  pub back : (z : ℤ) → FitsSigned w64 z → integer_of (signed_decimal z) ≡ Ok (int z)
+  pub only : (bytes : List ℕ) (v : CellValue) → integer_of bytes ≡ Ok v → (z : ℤ) × FitsSigned w64 z × (v ≡ int z)
+
+-- in each form a text reads as a date just where it is that date's text; the dates are the calendar's days of the years 1 to 9999
+pub record DatesReadBack : Type 0 where
+  pub back : (form : DateForm) (y m d : ℕ) → is_date y m d ≡ true → date_of form (date_text form y m d) ≡ Ok (date (pos y) m d)
+  pub only : (form : DateForm) (bytes : List ℕ) (v : CellValue) → date_of form bytes ≡ Ok v → (y : ℕ) × (m : ℕ) × (d : ℕ) × IsDateText form bytes y m d × (v ≡ date (pos y) m d)
+  pub calendar : (y m d : ℕ) → (is_date y m d ≡ true) ↔ ((0 < y) × IsDate (pos y) (pos m) (pos d))
+
+-- values are one where they are equal, the order of values is total, and null comes before all others
+pub record ValuesAreOrdered : Type 0 where
+  pub equal : (a b : CellValue) → IsTrue (value_eq a b) ↔ (a ≡ b)
+  pub total : IsTotalOrder value_cmp
+  pub same : (a b : CellValue) → value_cmp a b ≡ Equal → a ≡ b
+  pub null_first : (a : CellValue) → a ≢ null → value_cmp null a ≡ Less

@@ -1,0 +1,161 @@
+-- What the roles of a tree's bytes count, and whether they end behind a record.
+use Rattle.std.proofs.Common.{◌≡◌, ℕ, zero, suc, ◌+◌, ◌-◌, ◌<◌, ◌≤◌, List, [], ◌∷◌, ◌++◌, length, append_assoc, append-nil, map, Bool, true, false, cond, Option, Some, None, refl, sym, ap, ◌∙◌, subst, arith}
+use Rattle.std.specs.Prelude.{option_to_list, IfSome, is_some}
+use Rattle.std.specs.List.{AllByRecursion, flat_map}
+use Rattle.std.proofs.lemmas.List.{length-map, length_push}
+use Rattle.csv_grammar.specs.Records.{Field, print_field, print_record, IsRecord, IsLast, LineBreak, crlf, lf, Line, CsvText, IsText, records_of}
+use Rattle.csv_grammar.specs.Structure.{Role, separator, record_end, inner, field_roles, record_roles, break_roles, line_roles, last_roles, text_roles}
+use Rattle.csv_index.specs.Widths.{CountsWidths, uncounted, record_counted, role_counted, roles_counted}
+use Rattle.csv_index.specs.declared.widths.Widths.{Widths}
+use Rattle.csv_index.proofs.WidthLemmas.{more_fields, roles_counted-append}
+use Rattle.csv_index.proofs.Counting.{counts_push}
+use Rattle.csv_index.proofs.Trees.{length-record_roles}
+
+-- ---- whether bytes stand behind the end of a record
+
+abbrev pub role_open : Role → Bool
+role_open separator = true
+role_open record_end = false
+role_open inner = true
+
+abbrev pub open_after : Bool → List Role → Bool
+open_after was [] = was
+open_after was (role ∷ roles) = open_after (role_open role) roles
+
+pub open_after-append : (was : Bool) (xs ys : List Role) → open_after was (xs ++ ys) ≡ open_after (open_after was xs) ys
+open_after-append was [] ys = refl
+open_after-append was (x ∷ xs) ys = open_after-append (role_open x) xs ys
+
+abbrev pub AreOpen : List Role → Type 0
+AreOpen roles = AllByRecursion (λ role. role_open role ≡ true) roles
+
+open_true : (roles : List Role) → AreOpen roles → open_after true roles ≡ true
+open_true [] all = refl
+open_true (role ∷ roles) all = ap (λ t. open_after t roles) all.0 ∙ open_true roles all.1
+
+open_some : (was : Bool) (roles : List Role) → AreOpen roles → 0 < length roles → open_after was roles ≡ true
+open_some was [] all some = absurd (omega arith)
+open_some was (role ∷ roles) all some = ap (λ t. open_after t roles) all.0 ∙ open_true roles all.1
+
+inner_open : (bytes : List ℕ) (roles : List Role) → AreOpen roles → AreOpen (map (λ _. inner) bytes ++ roles)
+inner_open [] roles all = all
+inner_open (b ∷ bytes) roles all = (refl, inner_open bytes roles all)
+
+record_open : (fields : List Field) → AreOpen (record_roles fields)
+record_open [] = tt
+record_open (field ∷ []) = subst AreOpen (append-nil (field_roles field)) (inner_open (print_field field) [] tt)
+record_open (field ∷ next ∷ fields) = inner_open (print_field field) (separator ∷ record_roles (next ∷ fields)) (refl, record_open (next ∷ fields))
+
+line_closed : (was : Bool) (line : Line) → open_after was (line_roles line) ≡ false
+line_closed was line = open_after-append was (record_roles line.fields) (break_roles line.end) ∙ on (open_after was (record_roles line.fields)) line.end
+  where
+    on : (b : Bool) (end : LineBreak) → open_after b (break_roles end) ≡ false
+    on b crlf = refl
+    on b lf = refl
+
+lines_closed : (lines : List Line) (roles : List Role) → open_after false (flat_map line_roles lines ++ roles) ≡ open_after false roles
+lines_closed [] roles = refl
+lines_closed (line ∷ lines) roles =
+    ap (open_after false) (append_assoc (line_roles line) (flat_map line_roles lines) roles)
+    ∙ open_after-append false (line_roles line) (flat_map line_roles lines ++ roles)
+    ∙ ap (λ t. open_after t (flat_map line_roles lines ++ roles)) (line_closed false line)
+    ∙ lines_closed lines roles
+
+last_open : (last : Option (List Field)) → IfSome last IsLast → open_after false (last_roles last) ≡ is_some last
+last_open None valid = refl
+last_open (Some fields) valid = open_some false (record_roles fields) (record_open fields) (omega (arith, length-record_roles fields, valid.1))
+
+pub tree_open : (tree : CsvText) → IsText tree → open_after false (text_roles tree) ≡ is_some tree.last
+tree_open tree valid = lines_closed tree.lines (last_roles tree.last) ∙ last_open tree.last valid.last
+
+-- ---- the widths
+
+inner_counts : (w : Widths) (bytes : List ℕ) (more : List Role) → roles_counted w (map (λ _. inner) bytes ++ more) ≡ roles_counted w more
+inner_counts w [] more = refl
+inner_counts w (b ∷ bytes) more = inner_counts w bytes more
+
+record_counts : (w : Widths) (fields : List Field) (more : List Role) (n : ℕ) → length fields ≡ n + 1
+    → roles_counted w (record_roles fields ++ more) ≡ roles_counted (more_fields w n) more
+record_counts w [] more n e = absurd (omega arith)
+record_counts w (field ∷ []) more n e =
+    let none : w.fields + n ≡ w.fields = omega arith in
+    inner_counts w (print_field field) more ∙ ap (λ k. roles_counted (record w { fields = k }) more) (sym none)
+record_counts w (field ∷ next ∷ fields) more zero e = absurd (omega arith)
+record_counts w (field ∷ next ∷ fields) more (suc n) e =
+    let sum : w.fields + 1 + n ≡ w.fields + suc n = omega arith in
+    ap (roles_counted w) (append_assoc (field_roles field) (separator ∷ record_roles (next ∷ fields)) more)
+    ∙ inner_counts w (print_field field) (separator ∷ record_roles (next ∷ fields) ++ more)
+    ∙ record_counts (more_fields w 1) (next ∷ fields) more n (omega arith)
+    ∙ ap (λ k. roles_counted (record w { fields = k }) more) sum
+
+line_counts : (w : Widths) (line : Line) (more : List Role) (n : ℕ) → length line.fields ≡ n + 1
+    → roles_counted w (line_roles line ++ more) ≡ roles_counted (record_counted (more_fields w n)) more
+line_counts w line more n e =
+    ap (roles_counted w) (append_assoc (record_roles line.fields) (break_roles line.end) more)
+    ∙ record_counts w line.fields (break_roles line.end ++ more) n e
+    ∙ on line.end
+  where
+    on : (end : LineBreak) → roles_counted (more_fields w n) (break_roles end ++ more) ≡ roles_counted (record_counted (more_fields w n)) more
+    on crlf = refl
+    on lf = refl
+
+-- what is counted of whole records
+pub record AreCounted (records : List (List Field)) (w : Widths) : Type 0 where
+  pub under_way : w.fields ≡ 0
+  pub count : w.records ≡ length records
+  pub widths : CountsWidths w.width w.uneven records
+
+counted_more : (records : List (List Field)) (fields : List Field) (w : Widths) (n : ℕ) → length fields ≡ n + 1 → AreCounted records w
+    → AreCounted (records ++ fields ∷ []) (record_counted (more_fields w n))
+counted_more records fields w n e counted = record {
+  under_way = refl;
+  count = omega (arith, length_push records fields, counted.count);
+  widths = counts_push (more_fields w n) (w.fields + n + 1) records fields counted.count (omega (arith, counted.under_way)) counted.widths;
+}
+
+-- behind lines
+pub record CountsOn (records : List (List Field)) (w : Widths) (roles more : List Role) : Type 0 where
+  pub behind : Widths
+  pub counted : AreCounted records behind
+  pub is : roles_counted w roles ≡ roles_counted behind more
+
+lines_counted : (records : List (List Field)) (lines : List Line) (w : Widths) (more : List Role) → AllByRecursion (λ line. IsRecord line.fields) lines → AreCounted records w
+    → CountsOn (records ++ map (λ line. line.fields) lines) w (flat_map line_roles lines ++ more) more
+lines_counted records [] w more valid counted = record {
+  behind = w;
+  counted = subst (λ rs. AreCounted rs w) (sym (append-nil records)) counted;
+  is = refl;
+}
+lines_counted records (line ∷ lines) w more valid counted =
+    let n : ℕ = length line.fields - 1 in
+    let e : length line.fields ≡ n + 1 = omega (arith, valid.0.0) in
+    let next = lines_counted (records ++ line.fields ∷ []) lines (record_counted (more_fields w n)) more valid.1 (counted_more records line.fields w n e counted) in record {
+      behind = next.behind;
+      counted = subst (λ rs. AreCounted rs next.behind) (append_assoc records (line.fields ∷ []) (map (λ (l : Line). l.fields) lines)) next.counted;
+      is = ap (roles_counted w) (append_assoc (line_roles line) (flat_map line_roles lines) more) ∙ line_counts w line (flat_map line_roles lines ++ more) n e ∙ next.is;
+    }
+
+none_counted : AreCounted [] uncounted
+none_counted = record { under_way = refl; count = refl; widths = refl }
+
+-- the records of lines
+abbrev pub line_records : List Line → List (List Field)
+line_records lines = map (λ line. line.fields) lines
+
+-- with the last record, where it has no line break
+pub tree_counted : (tree : CsvText) → IsText tree
+    → AreCounted (records_of tree) (cond (is_some tree.last) (record_counted (roles_counted uncounted (text_roles tree))) (roles_counted uncounted (text_roles tree)))
+tree_counted tree valid = on tree.last valid.last
+  where
+    on : (last : Option (List Field)) → IfSome last IsLast
+        → AreCounted (line_records tree.lines ++ option_to_list last) (cond (is_some last) (record_counted (roles_counted uncounted (flat_map line_roles tree.lines ++ last_roles last))) (roles_counted uncounted (flat_map line_roles tree.lines ++ last_roles last)))
+    on None ends =
+        let c = lines_counted [] tree.lines uncounted [] valid.lines none_counted in
+        subst (λ w. AreCounted (line_records tree.lines ++ []) w) (sym c.is) (subst (λ rs. AreCounted rs c.behind) (sym (append-nil (line_records tree.lines))) c.counted)
+    on (Some fields) ends =
+        let n : ℕ = length fields - 1 in
+        let e : length fields ≡ n + 1 = omega (arith, ends.0.0) in
+        let c = lines_counted [] tree.lines uncounted (record_roles fields) valid.lines none_counted in
+        let whole : roles_counted uncounted (flat_map line_roles tree.lines ++ record_roles fields) ≡ more_fields c.behind n =
+        c.is ∙ ap (roles_counted c.behind) (sym (append-nil (record_roles fields))) ∙ record_counts c.behind fields [] n e in
+        subst (λ w. AreCounted (line_records tree.lines ++ fields ∷ []) (record_counted w)) (sym whole) (counted_more (line_records tree.lines) fields c.behind n e c.counted)

@@ -1,0 +1,44 @@
+-- What a reading of a whole file says, in the words of the grammar.
+use Rattle.std.specs.Prelude.{◌≡◌, ◌⊎◌, ℕ, ◌+◌, ◌*◌, ◌^◌, ◌<◌, true, List, ◌++◌, length, map, drop, Option, Some, option_to_list}
+use Rattle.std.specs.List.{flat_map, AllByRecursion}
+use Rattle.std.specs.Str.{is_utf8}
+use Rattle.csv_grammar.specs.Records.{Field, AreRecords}
+use Rattle.csv_grammar.specs.Faults.{Cause, HasFault}
+use Rattle.csv_grammar.specs.Files.{malformed}
+use Rattle.csv_index.specs.Raws.{raw_of, raw_between}
+use Rattle.csv_index.specs.Places.{cut, Rise}
+use Rattle.csv_index.specs.Blocks.{block_places, AreRanked}
+use Rattle.csv_index.specs.Widths.{CountsWidths}
+use Rattle.csv_index.specs.Fault.{text_cause}
+use Rattle.csv_index.specs.declared.blocks.Block.{Block}
+use Rattle.csv_index.specs.declared.widths.Widths.{Widths}
+use Rattle.csv_index.specs.declared.fault.TextFault.{TextFault}
+use Rattle.csv_index.specs.declared.fault.TextFault.TheVariants.{NoMemory}
+
+-- the fields of the records, in order
+abbrev pub all_fields : List (List Field) → List Field
+all_fields records = flat_map (λ fields. fields) records
+
+-- the places are those behind these fields, and each field is text
+pub record Cuts (file : List ℕ) (mark : ℕ) (ends : List ℕ) (fields : List Field) : Type 0 where
+  pub raws : map raw_between (cut mark ends file) ≡ map raw_of fields
+  pub rise : Rise mark ends (length file)
+  pub text : AllByRecursion (λ raw. is_utf8 raw.bytes ≡ true) (map raw_of fields)
+
+-- the places behind the fields: those of the blocks, and the end of a last record with no line break
+abbrev pub ends_of : ℕ → List Block → Option ℕ → List ℕ
+ends_of start blocks last = block_places start blocks ++ option_to_list last
+
+-- the file from its mark on is these records
+pub record ReadsAs (file : List ℕ) (mark : ℕ) (records : List (List Field)) (blocks : List Block) (last : Option ℕ) (counted : Widths) : Type 0 where
+  pub are : AreRecords (drop mark file) records
+  pub cuts : Cuts file mark (ends_of mark blocks last) (all_fields records)
+  pub count : counted.records ≡ length records
+  pub widths : CountsWidths counted.width counted.uneven records
+  pub ranked : AreRanked blocks
+  pub room : mark + 64 * length blocks + 64 < 2 ^ 64
+
+-- the error is want of memory, or it tells the fault of the text behind the mark
+abbrev pub HasTextFault : TextFault → List ℕ → ℕ → Type 0
+HasTextFault e file mark =
+    (e ≡ NoMemory) ⊎ ((place : ℕ) × (cause : Cause) × HasFault (drop mark file) place cause × (text_cause e ≡ Some (malformed cause (mark + place))))

@@ -1,0 +1,49 @@
+//! The fields of a file in order.
+ghost use Rattle.std.specs.Prelude.{◌≡◌, [], ◌∷◌, MatchOption};
+
+use crate::ends::Ends;
+use crate::raw::Raw;
+use std::marker::Model;
+
+/// The fields that are left, the next one first and record after record.
+#[derive(Drop)]
+pub struct Fields<'i, 'a> {
+    /// The places behind them.
+    pub(crate) ends: Ends<'i>,
+    /// The file.
+    pub(crate) bytes: &'a [u8],
+    /// Where the next one begins.
+    pub(crate) start: usize,
+}
+
+impl<'i, 'a> Model for Fields<'i, 'a> {
+    ghost use Rattle.std.specs.Prelude.{◌≡◌, List, map, length, true};
+    ghost use Rattle.std.specs.List.{AllByRecursion};
+    ghost use Rattle.std.specs.Str.{is_utf8};
+    ghost use Rattle.csv_index.specs.Raws.{RawField, raw_between};
+
+    ghost Value = { List RawField };
+
+    ghost use Rattle.csv_index.specs.Places.{cut, Rise};
+
+    ghost view = { λ f. map raw_between (cut f.start f.ends f.bytes.now) };
+
+    ghost invariant = { λ f. record {
+      rise : Rise f.start f.ends (length f.bytes.now);
+      text : AllByRecursion (λ raw. is_utf8 raw.bytes ≡ true) (map raw_between (cut f.start f.ends f.bytes.now));
+    } };
+}
+
+impl<'i, 'a> Fields<'i, 'a> {
+    /// The next field, in a time that does not grow with the file: each byte of it is passed once. It takes no memory.
+    #[inline(always)]
+    pub fn next_field(&mut self) -> Option<Raw<'a>>
+        ensures { MatchOption result ((self.old ≡ []) × (self.new ≡ []))
+            (λ raw. self.old ≡ record { bytes = raw.bytes.now; quoted = raw.quoted } ∷ self.new) }
+    {
+        let end = self.ends.next()?;
+        let field = &self.bytes[self.start..end];
+        self.start = end + 1;
+        Some(Raw::between(field))
+    }
+}

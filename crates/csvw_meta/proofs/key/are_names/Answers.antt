@@ -1,0 +1,16 @@
+-- The texts are looked at one by one.
+use Rattle.std.proofs.Common.{map, rules, tests}
+use Rattle.std.proofs.lemmas.Iterator.{YieldsList-from_slice}
+use Rattle.std.proofs.lemmas.Iterator.Search.{all_from_yields_List}
+use Rattle.serde_json.specs.View.{view}
+use Rattle.csvw_meta.specs.Column.{has_name}
+use Rattle.csvw_meta.specs.Key.{text_of}
+use Rattle.csvw_meta.proofs.ListLemmas.{list_all-map}
+use Rattle.csvw_meta.proofs.key.are_names.Goals as goal
+
+pub returns : goal.returns
+returns c =
+    let columns = map view c.args.columns.now in
+    let values = c.args.values.now in
+    rw (list_all-map (has_name columns) text_of (map view values), list_all-map (λ value. has_name columns (text_of value)) view values)
+    (all_from_yields_List (λ value. has_name columns (text_of (view value))) _ _ _ c.all.ensures.ran (YieldsList-from_slice values cc) (λ x b q k. search (rules, tests)))

@@ -1,0 +1,14 @@
+-- The parts are looked at one by one.
+use Rattle.std.proofs.Common.{rules, tests}
+use Rattle.std.proofs.lemmas.Iterator.{YieldsList-from_slice}
+use Rattle.std.proofs.lemmas.Iterator.Search.{all_from_yields_List}
+use Rattle.serde_json.specs.View.{view}
+use Rattle.csvw_meta.specs.Texts.{is_text}
+use Rattle.csvw_meta.proofs.ListLemmas.{list_all-map}
+use Rattle.csvw_meta.proofs.texts.is_texts.Goals as goal
+
+pub returns : goal.returns
+returns c =
+    let parts = c.parts.result.now in
+    rw (← c.parts.ensures, list_all-map is_text view parts)
+    (all_from_yields_List (λ part. is_text (view part)) _ _ _ c.all.ensures.ran (YieldsList-from_slice parts cc) (λ x b q k. search (rules, tests)))

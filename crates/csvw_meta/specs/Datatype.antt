@@ -1,0 +1,109 @@
+-- Datatypes and their formats (Metadata Vocabulary for Tabular Data, sections 5.11 and 6.4).
+use Rattle.std.specs.Prelude.{ℕ, Bool, false, true, not, ◌&&◌, ◌||◌, ◌==◌, List, [], ◌∷◌, ◌++◌, length, nat_lt, codes, Option, None, Some, option_map, option_and_then, is_some, unwrap_or, if◌then◌else◌}
+use Rattle.std.specs.List.{list_any, find, before_first, after_first}
+use Rattle.std.specs.Str.{bytes_eq}
+use Rattle.serde_json.specs.Data.{Data, string, object}
+use Rattle.serde_json.specs.Find.{as_str}
+use Rattle.cell_types.specs.declared.datatype.BooleanForm.TheVariants.{Standard}
+use Rattle.cell_types.specs.declared.datatype.DateForm.{DateForm}
+use Rattle.cell_types.specs.declared.datatype.DateForm.TheVariants.{YearMonthDay, Compact, DayMonthYear, MonthDayYear, Dotted}
+use Rattle.cell_types.specs.Datatype as cell
+use Rattle.cell_types.specs.Datatype.{DatatypeOf, boolean_view, pattern_of}
+use Rattle.csvw_meta.specs.declared.datatype.Base.{Base}
+use Rattle.csvw_meta.specs.declared.datatype.Base.TheVariants.{Integer, Text, Boolean, Date}
+use Rattle.csvw_meta.specs.declared.datatype.Borrowed.{Borrowed}
+use Rattle.csvw_meta.specs.declared.datatype.Borrowed.TheVariants as borrowed
+use Rattle.csvw_meta.specs.Fault.{unsupported, bad_datatype, bad_format}
+use Rattle.csvw_meta.specs.Refusal.{Condition, ensure}
+use Rattle.csvw_meta.specs.Members.{member, has, absent}
+
+-- the datatypes that are served, by their names
+abbrev pub base_named : List ℕ → Option Base
+base_named name =
+    if bytes_eq name (codes "integer") then Some Integer
+    else (if bytes_eq name (codes "string") then Some Text
+    else (if bytes_eq name (codes "boolean") then Some Boolean
+    else (if bytes_eq name (codes "date") then Some Date else None)))
+
+-- the name of a datatype: a text, or what an object has for `base`, which is `string` where it has none
+abbrev pub datatype_name : Data → Option (List ℕ)
+datatype_name (string name) = Some name
+datatype_name (object ms) = as_str (unwrap_or (member (codes "base") (object ms)) (string (codes "string")))
+datatype_name d = None
+
+abbrev pub base_in : Data → Option Base
+base_in d = option_and_then base_named (datatype_name d)
+
+-- a datatype whose texts have a format
+abbrev pub has_formats : Option Base → Bool
+has_formats (Some Boolean) = true
+has_formats (Some Date) = true
+has_formats _ = false
+
+-- a vertical bar
+abbrev pub is_bar : ℕ → Bool
+is_bar byte = byte == 124
+
+-- what stands before the first bar and what stands behind it: neither is empty, they are different, and there is no other bar
+abbrev pub boolean_texts : List ℕ → Option (List ℕ × List ℕ)
+boolean_texts format = let of_true = before_first is_bar format in let of_false = after_first is_bar format in
+    if nat_lt 0 (length of_true) && nat_lt 0 (length of_false) && not (bytes_eq of_true of_false) && not (list_any is_bar of_false)
+    then Some (of_true, of_false) else None
+
+-- the form of dates with that pattern
+abbrev pub date_form : List ℕ → Option DateForm
+date_form format = find (λ form. bytes_eq (pattern_of form) format) (YearMonthDay ∷ Compact ∷ DayMonthYear ∷ MonthDayYear ∷ Dotted ∷ [])
+
+-- a datatype with a format: of a boolean the texts of true and of false, of a date its form
+abbrev pub datatype_with : Base → Option Data → Option DatatypeOf
+datatype_with Integer format = Some cell.integer
+datatype_with Text format = Some cell.string
+datatype_with Boolean None = Some (boolean_view Standard)
+datatype_with Boolean (Some d) = option_map (λ (texts : List ℕ × List ℕ). cell.boolean (texts.0 ∷ []) (texts.1 ∷ [])) (option_and_then boolean_texts (as_str d))
+datatype_with Date None = Some (cell.date YearMonthDay)
+datatype_with Date (Some d) = option_map cell.date (option_and_then date_form (as_str d))
+
+-- the datatype that a value is, where it is one that is served
+abbrev pub datatype_in : Data → Option DatatypeOf
+datatype_in d = option_and_then (λ base. datatype_with base (member (codes "format") d)) (base_in d)
+
+-- the constraints of section 5.11.1, which are not served
+unfoldable pub constraint_conditions : Data → List Condition
+constraint_conditions d =
+    absent (codes "length") d
+    ∷ absent (codes "minLength") d
+    ∷ absent (codes "maxLength") d
+    ∷ absent (codes "minimum") d
+    ∷ absent (codes "maximum") d
+    ∷ absent (codes "minInclusive") d
+    ∷ absent (codes "maxInclusive") d
+    ∷ absent (codes "minExclusive") d
+    ∷ absent (codes "maxExclusive") d
+    ∷ []
+
+-- the conditions on what a level has for `datatype`
+unfoldable pub datatype_conditions : Data → List Condition
+datatype_conditions d =
+    ensure (is_some (datatype_name d)) bad_datatype
+    ∷ ensure (is_some (base_in d)) (unsupported (unwrap_or (datatype_name d) []))
+    ∷ constraint_conditions d
+    ++ ensure (not (has (codes "format") d) || has_formats (base_in d)) (unsupported (codes "format"))
+    ∷ ensure (is_some (datatype_in d)) bad_format
+    ∷ []
+
+-- the conditions on it, none where it is absent
+unfoldable pub datatype_member_conditions : Option Data → List Condition
+datatype_member_conditions None = []
+datatype_member_conditions (Some d) = datatype_conditions d
+
+-- the datatype of a column, from the nearest level that says one; texts where none does
+abbrev pub datatype_of : Option Data → DatatypeOf
+datatype_of d = unwrap_or (option_and_then datatype_in d) cell.string
+
+-- what a borrowed datatype is
+abbrev pub borrowed_view : Borrowed → DatatypeOf
+borrowed_view borrowed.Integer = cell.integer
+borrowed_view borrowed.Text = cell.string
+borrowed_view borrowed.Boolean = boolean_view Standard
+borrowed_view (borrowed.BooleanTexts of_true of_false) = cell.boolean (of_true.now ∷ []) (of_false.now ∷ [])
+borrowed_view (borrowed.Date form) = cell.date form

@@ -1,0 +1,34 @@
+-- The members that a column inherits from its schema, its table and the group (Metadata Vocabulary for Tabular Data, section 5.7).
+use Rattle.std.specs.Prelude.{ℕ, Bool, false, List, [], ◌∷◌, ◌++◌, codes, Option, None, Some, option_and_then, is_some, unwrap_or}
+use Rattle.serde_json.specs.Data.{Data}
+use Rattle.serde_json.specs.Find.{as_str, as_bool}
+use Rattle.csvw_meta.specs.Fault.{bad_null, bad_default, bad_required}
+use Rattle.csvw_meta.specs.Refusal.{Condition, ensure}
+use Rattle.csvw_meta.specs.Members.{member, fits}
+use Rattle.csvw_meta.specs.Texts.{is_text, is_texts, texts_in}
+use Rattle.csvw_meta.specs.Datatype.{datatype_member_conditions}
+
+abbrev pub is_truth : Data → Bool
+is_truth d = is_some (as_bool d)
+
+-- the conditions on what a level says for the columns in it
+unfoldable pub inherited_conditions : Data → List Condition
+inherited_conditions d =
+    datatype_member_conditions (member (codes "datatype") d)
+    ++ ensure (fits is_texts (member (codes "null") d)) bad_null
+    ∷ ensure (fits is_text (member (codes "default") d)) bad_default
+    ∷ ensure (fits is_truth (member (codes "required") d)) bad_required
+    ∷ []
+
+-- the texts that stand for null: the empty one where no level says any
+abbrev pub nulls_of : Option Data → List (List ℕ)
+nulls_of None = [] ∷ []
+nulls_of (Some d) = texts_in d
+
+-- what an empty text stands for: the empty text where no level says another
+abbrev pub default_of : Option Data → List ℕ
+default_of d = unwrap_or (option_and_then as_str d) []
+
+-- whether a value is required: not where no level says so
+abbrev pub required_of : Option Data → Bool
+required_of d = unwrap_or (option_and_then as_bool d) false

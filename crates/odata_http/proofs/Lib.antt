@@ -1,0 +1,14 @@
+pub mod DeviceLemmas
+pub mod HeadLemmas
+pub mod HeadFinds
+pub mod FieldsLemmas
+pub mod RouteLemmas
+pub mod ReplyLemmas
+pub mod StreamLemmas
+pub mod StreamFinds
+pub mod StreamFronts
+pub mod AnswerLemmas
+pub mod OutputLemmas
+pub mod SessionLemmas
+pub mod RunLemmas
+pub mod RunEnds

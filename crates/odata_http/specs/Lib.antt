@@ -1,0 +1,16 @@
+pub mod Device
+pub mod Counted
+pub mod Head
+pub mod Fields
+pub mod Splitter
+pub mod Route
+pub mod Reply
+pub mod Stream
+pub mod Answer
+pub mod Runs
+pub mod RunFaults
+pub mod Output
+pub mod Session
+pub mod States
+pub use Rattle.table_store.specs.Table
+pub use Rattle.table_store.specs.Catalog

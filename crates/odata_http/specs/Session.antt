@@ -1,0 +1,63 @@
+-- A connection's part of a service: what it holds, and what each call makes of it.
+use Rattle.std.specs.Prelude.{◌≡◌, ℕ, List, [], ◌++◌, Bool, true, false, length, take, drop, min, MatchBool, Result, Ok, Err, ⊤}
+use Rattle.odata_http.specs.declared.session.SessionFault.{SessionFault}
+use Rattle.odata_http.specs.declared.session.SessionFault.TheVariants.{Failed, Ended, NoMemory}
+use Rattle.odata_http.specs.Head.{HeadOf}
+use Rattle.odata_http.specs.Reply.{ReplyOf}
+use Rattle.odata_http.specs.Stream.{IsCertain, AreFirstReplies, last_reply}
+
+-- the rest of the stream, the output that waits, and whether a reply closed, it ended, or it failed
+pub record SessionOf : Type 0 where
+  pub rest : List ℕ
+  pub output : List ℕ
+  pub closed : Bool
+  pub ended : Bool
+  pub failed : Bool
+
+-- before the first byte
+abbrev pub new_session : SessionOf
+new_session = record { rest = []; output = []; closed = false; ended = false; failed = false }
+
+-- it neither failed nor ended
+abbrev pub IsLive : SessionOf → Type 0
+IsLive s = (s.failed ≡ false) × (s.ended ≡ false)
+
+-- the replies that are certain behind the rest and the piece were added, and the rest of that is kept
+pub record TakesIn (reply : HeadOf → ReplyOf) (piece : List ℕ) (old new : SessionOf) : Type 0 where
+  pub certain : List ℕ
+  pub rest : List ℕ
+  pub closed : Bool
+  pub is : IsCertain reply (old.rest ++ piece) certain rest closed
+  pub new_is : new ≡ record { rest = rest; output = old.output ++ certain; closed = closed; ended = false; failed = false }
+
+-- some first replies were added, each of them whole, and the session failed
+pub record FailsIn (reply : HeadOf → ReplyOf) (stream : List ℕ) (old new : SessionOf) : Type 0 where
+  pub wrote : List ℕ
+  pub first : AreFirstReplies reply stream wrote
+  pub output : new.output ≡ old.output ++ wrote
+  pub failed : new.failed ≡ true
+  pub stays_open : new.closed ≡ false
+
+-- what feeding a piece makes of a session: nothing, once a reply closed
+abbrev pub IsFed : (HeadOf → ReplyOf) → List ℕ → SessionOf → SessionOf → Result ⊤ SessionFault → Type 0
+IsFed reply piece old new (Ok u) = IsLive old × MatchBool old.closed (new ≡ old) (TakesIn reply piece old new)
+IsFed reply piece old new (Err Failed) = (old.failed ≡ true) × (new ≡ old)
+IsFed reply piece old new (Err Ended) = (old.failed ≡ false) × (old.ended ≡ true) × (new ≡ old)
+IsFed reply piece old new (Err NoMemory) = IsLive old × (old.closed ≡ false) × FailsIn reply (old.rest ++ piece) old new
+
+-- the end of the stream: the reply to a rest that is not empty is added, where no reply closed
+abbrev pub IsOver : SessionOf → SessionOf → Type 0
+IsOver old new = new ≡ record { rest = []; output = old.output ++ last_reply old.rest old.closed; closed = old.closed; ended = true; failed = false }
+
+-- what the end of the stream makes of a session
+abbrev pub IsEnded : SessionOf → SessionOf → Result ⊤ SessionFault → Type 0
+IsEnded old new (Ok u) = IsLive old × IsOver old new
+IsEnded old new (Err Failed) = (old.failed ≡ true) × (new ≡ old)
+IsEnded old new (Err Ended) = (old.failed ≡ false) × (old.ended ≡ true) × (new ≡ old)
+IsEnded old new (Err NoMemory) = IsLive old × (old.closed ≡ false) × (new.output ≡ old.output) × (new.failed ≡ true)
+
+-- the first bytes of the output, as many as wait or fit, were moved into the front of a buffer
+pub record Takes (old new : SessionOf) (count : ℕ) (buf buf_after : List ℕ) : Type 0 where
+  pub count_is : count ≡ min (length old.output) (length buf)
+  pub bytes : take count buf_after ≡ take count old.output
+  pub new_is : new ≡ record old { output = drop count old.output }

@@ -1,0 +1,86 @@
+//! A reader or a writer of std as a device, with its calls, ends and failures counted.
+ghost use Rattle.std.specs.Prelude.{◌≡◌};
+ghost use Rattle.odata_http.specs.Device.{Counts};
+
+use crate::device::{DeviceFault, Sink, Source};
+use std::io::{Read, Write};
+use std::marker::Model;
+
+/// A reader or a writer of std. The counts stop at `u64::MAX`. An interrupted call has failed.
+#[derive(Debug, Drop)]
+pub struct Counted<T> {
+    inner: T,
+    calls: u64,
+    ends: u64,
+    failed: u64,
+}
+
+impl<T> Model for Counted<T> {
+    ghost use Rattle.odata_http.specs.Counted.{CountedOf};
+
+    ghost Value = { CountedOf T };
+
+    ghost view = { λ c. record { inner = c.inner; calls = c.calls; ends = c.ends; failed = c.failed } };
+}
+
+fn one_more(n: u64) -> u64
+    ensures { Counts n result }
+{
+    n.saturating_add(1)
+}
+
+impl<T> Counted<T> {
+    /// The reader or the writer, with nothing counted yet.
+    pub fn new(inner: T) -> Counted<T>
+        ensures { result ≡ record { inner = inner; calls = 0; ends = 0; failed = 0 } }
+    {
+        Counted {
+            inner,
+            calls: 0,
+            ends: 0,
+            failed: 0,
+        }
+    }
+}
+
+impl<T: Read> Source for Counted<T> {
+    ghost use Rattle.odata_http.specs.Device.{SourceOf};
+
+    ghost source = { λ s. record { left = T.remaining s.inner; reads = s.calls; ends = s.ends; failed_reads = s.failed } };
+
+    fn read(&mut self, buf: &mut [u8]) -> Result<usize, DeviceFault> {
+        self.calls = one_more(self.calls);
+        match self.inner.read(buf) {
+            Ok(0) if !buf.is_empty() => {
+                self.ends = one_more(self.ends);
+                Ok(0)
+            }
+            Ok(n) => Ok(n),
+            Err(_) => {
+                self.failed = one_more(self.failed);
+                Err(DeviceFault)
+            }
+        }
+    }
+}
+
+impl<T: Write> Sink for Counted<T> {
+    ghost use Rattle.odata_http.specs.Device.{SinkOf};
+
+    ghost sink = { λ s. record { taken = T.contents s.inner; failed_writes = s.failed } };
+
+    fn write(&mut self, bytes: &[u8]) -> Result<usize, DeviceFault> {
+        self.calls = one_more(self.calls);
+        match self.inner.write(bytes) {
+            Ok(0) if !bytes.is_empty() => {
+                self.failed = one_more(self.failed);
+                Err(DeviceFault)
+            }
+            Ok(n) => Ok(n),
+            Err(_) => {
+                self.failed = one_more(self.failed);
+                Err(DeviceFault)
+            }
+        }
+    }
+}

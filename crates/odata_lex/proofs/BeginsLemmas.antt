@@ -1,0 +1,256 @@
+-- The token that a text begins with is the one that `first_token` gives.
+use Rattle.std.proofs.Common.{◌≡◌, ℕ, suc, ◌≤◌, ◌<◌, Bool, true, false, ◌&&◌, ◌==◌, if◌then◌else◌, List, [], ◌∷◌, ◌++◌, length, take, drop, Option, None, Some, refl, ap, ◌∙◌, sym, arith, nat_le, length-take-le, append_assoc, add-one}
+use Rattle.std.proofs.lemmas.Bool.Decides.{nat_tests, Decides-eqb, Decides-and}
+use Rattle.std.proofs.lemmas.List.{take-append-drop, take_at, drop_at, length_push}
+use Rattle.std.specs.Bool.{Decides}
+use Rattle.std.specs.Char.{is_ascii_digit}
+use Rattle.std.specs.List.{list_all}
+use Rattle.std.specs.Option.{option_map}
+use Rattle.odata_lex.specs.Forms.{quote, minus, dollar, doubled, begins_word, IsText, IsNumber, IsWord, word, IsDollar, IsDateForm, IsDateText, IsOfKind, may_follow, EndsBefore}
+use Rattle.odata_lex.specs.First.{text_len, word_len, ends_word, is_day, begins_date, date_token, number_token, dollar_token, sign_token, first_token}
+use Rattle.odata_lex.specs.Tokens.{Begins, BeginsDate}
+use Rattle.odata_lex.specs.declared.token.TheConstants.{MAX_DIGITS}
+use Rattle.odata_lex.specs.declared.token.TokenKind.{TokenKind}
+use Rattle.odata_lex.specs.declared.token.TokenKind.TheVariants.{Text, Date, Number, Word, Dollar, OpenParenthesis, CloseParenthesis, Comma, Slash, Minus, Star, EqualsSign}
+use Rattle.odata_lex.proofs.Digits.{Decides-digits, Decides-digit}
+use Rattle.odata_lex.proofs.Dates.{Decides-date_form, Decides-day}
+use Rattle.odata_lex.proofs.Runs.{run_ends, run_word, run_within, word_len-append, word_len-yes, word_byte_of_digit, word_bytes_of_digits, ends_before, ends_word_before, from_not, word_byte_of_begin}
+use Rattle.odata_lex.proofs.Texts.{ClosesAt, closes, text_len-found}
+use Rattle.odata_lex.proofs.FirstLemmas.{first-quote, first-digit, first-word, first-dollar}
+
+-- a token of this kind and length begins the text
+pub record Finds (text : List ℕ) (kind : TokenKind) (n : ℕ) : Type 0 where
+  pub front : List ℕ
+  pub after : List ℕ
+  pub begins : Begins text kind front after
+  pub len : n ≡ length front
+
+abbrev pub FindsIn : List ℕ → Option (TokenKind × ℕ) → Type 0
+FindsIn text None = Unit {0}
+FindsIn text (Some found) = Finds text found.0 found.1
+
+-- ---- what is given begins the text
+
+text_found : (b : ℕ) (text : List ℕ) (o : Option ℕ) → b ≡ quote → ClosesAt false text o → FindsIn (b ∷ text) (option_map (λ n. (Text, suc n)) o)
+text_found b text None is h = tt
+text_found b text (Some n) is h = record {
+  front = b ∷ h.body;
+  after = h.after;
+  begins = record {
+    split = ap (λ l. b ∷ l) h.split;
+    form = record { content = h.content; printed = rw is (ap (λ l. quote ∷ l) h.printed) };
+    ends = h.ends;
+    no_date = λ e. absurd (cc);
+  };
+  len = ap suc h.len;
+}
+
+-- a text of that form begins where the test says so
+pub Decides-begins_date : (text : List ℕ) → Decides (begins_date text) (BeginsDate text)
+Decides-begins_date text = (there, back)
+  where
+    parts : begins_date text ≡ true → IsDateForm (take 10 text) × (ends_word (drop 10 text) ≡ true)
+    parts is = (Decides-and _ _ (Decides-date_form (take 10 text)) ((λ e. e), (λ e. e))).0 is
+
+    there : begins_date text ≡ true → BeginsDate text
+    there is = record { front = take 10 text; after = drop 10 text; split = sym (take-append-drop 10 text); form = (parts is).0; ends = ends_before _ (parts is).1 }
+
+    back : BeginsDate text → begins_date text ≡ true
+    back h =
+        let front : take 10 text ≡ h.front = rw h.split (take_at h.front h.after 10 h.form.ten) in
+        let after : drop 10 text ≡ h.after = rw h.split (drop_at h.front h.after 10 h.form.ten) in
+        rw (front, after) ((Decides-and _ _ (Decides-date_form h.front) ((λ e. e), (λ e. e))).1 (h.form, ends_word_before _ h.ends))
+
+date_found : (text : List ℕ) (q : Bool) → begins_date text ≡ true → is_day (take 10 text) ≡ q → FindsIn text (if q then Some (Date, 10) else None)
+date_found text false begins day = tt
+date_found text true begins day =
+    let form : IsDateForm (take 10 text) = ((Decides-and _ _ (Decides-date_form (take 10 text)) ((λ e. e), (λ e. e))).0 begins).0 in
+    let ends : ends_word (drop 10 text) ≡ true = ((Decides-and _ _ (Decides-date_form (take 10 text)) ((λ e. e), (λ e. e))).0 begins).1 in
+    record {
+      front = take 10 text;
+      after = drop 10 text;
+      begins = record { split = sym (take-append-drop 10 text); form = (Decides-day (take 10 text) form).0 day; ends = ends_before _ ends; no_date = λ e. absurd (cc) };
+      len = sym form.ten;
+    }
+
+fits_decides : (n : ℕ) → Decides (nat_le n MAX_DIGITS) (n ≤ MAX_DIGITS)
+fits_decides n = ((λ is. grind (arith, nat_tests)), (λ le. grind (arith, nat_tests)))
+
+number_found : (text : List ℕ) (q : Bool) → 0 < word_len text → begins_date text ≡ false → (nat_le (word_len text) MAX_DIGITS && list_all is_ascii_digit (take (word_len text) text)) ≡ q → FindsIn text (if q then Some (Number, word_len text) else None)
+number_found text false positive no_date is = tt
+number_found text true positive no_date is =
+    let both = (Decides-and _ _ (fits_decides (word_len text)) (Decides-digits (take (word_len text) text))).0 is in
+    let len : length (take (word_len text) text) ≡ word_len text = length-take-le (word_len text) text (run_within text) in
+    record {
+      front = take (word_len text) text;
+      after = drop (word_len text) text;
+      begins = record {
+        split = sym (take-append-drop (word_len text) text);
+        form = record { digits = both.1; nonempty = rw len positive; short = rw len both.0 };
+        ends = ends_before _ (run_ends text);
+        no_date = λ _ begins. let there : begins_date text ≡ true = (Decides-begins_date text).1 begins in cc;
+      };
+      len = sym len;
+    }
+
+word_found : (b : ℕ) (text : List ℕ) → begins_word b ≡ true → FindsIn (b ∷ text) (Some (Word, word_len (b ∷ text)))
+word_found b text begins = record {
+  front = take (word_len (b ∷ text)) (b ∷ text);
+  after = drop (word_len (b ∷ text)) (b ∷ text);
+  begins = record {
+    split = sym (take-append-drop (word_len (b ∷ text)) (b ∷ text));
+    form = run_word b text begins;
+    ends = ends_before _ (run_ends (b ∷ text));
+    no_date = λ e. absurd (cc);
+  };
+  len = sym (length-take-le (word_len (b ∷ text)) (b ∷ text) (run_within (b ∷ text)));
+}
+
+dollar_found_at : (d b : ℕ) (text : List ℕ) (q : Bool) → d ≡ dollar → begins_word b ≡ q → FindsIn (d ∷ b ∷ text) (if q then Some (Dollar, suc (word_len (b ∷ text))) else None)
+dollar_found_at d b text false is begins = tt
+dollar_found_at d b text true is begins = record {
+  front = d ∷ take (word_len (b ∷ text)) (b ∷ text);
+  after = drop (word_len (b ∷ text)) (b ∷ text);
+  begins = record {
+    split = ap (λ l. d ∷ l) (sym (take-append-drop (word_len (b ∷ text)) (b ∷ text)));
+    form = record { name = take (word_len (b ∷ text)) (b ∷ text); is_word = run_word b text begins; printed = rw is refl };
+    ends = ends_before _ (run_ends (b ∷ text));
+    no_date = λ e. absurd (cc);
+  };
+  len = ap suc (sym (length-take-le (word_len (b ∷ text)) (b ∷ text) (run_within (b ∷ text))));
+}
+
+dollar_found : (d : ℕ) (text : List ℕ) → d ≡ dollar → FindsIn (d ∷ text) (dollar_token text)
+dollar_found d [] is = tt
+dollar_found d (b ∷ text) is = dollar_found_at d b text _ is refl
+
+any_after : (kind : TokenKind) (after : List ℕ) → ((b : ℕ) → may_follow kind b ≡ true) → EndsBefore kind after
+any_after kind [] all = tt
+any_after kind (b ∷ after) all = all b
+
+one_byte : (kind : TokenKind) (b : ℕ) (text : List ℕ) → IsOfKind kind (b ∷ []) → ((c : ℕ) → may_follow kind c ≡ true) → (kind ≡ Number → ⊥) → Finds (b ∷ text) kind 1
+one_byte kind b text form all other = record {
+  front = b ∷ [];
+  after = text;
+  begins = record { split = refl; form = form; ends = any_after kind text all; no_date = λ e. absurd (other e) };
+  len = refl;
+}
+
+is_byte : (b c : ℕ) → (b == c) ≡ true → b ∷ [] ≡ c ∷ []
+is_byte b c is = ap (λ x. x ∷ []) ((Decides-eqb b c).0 is)
+
+pub sign_of : Bool → Bool → Bool → Bool → Bool → Bool → Bool → Option TokenKind
+sign_of a b c d e f g =
+    if a then Some OpenParenthesis else (if b then Some CloseParenthesis
+    else (if c then Some Comma else (if d then Some Slash
+    else (if e then Some Minus else (if f then Some Star
+    else (if g then Some EqualsSign else None))))))
+
+sign_found : (b : ℕ) (text : List ℕ) (o c m s n t e : Bool) → (b == 40) ≡ o → (b == 41) ≡ c → (b == 44) ≡ m → (b == 47) ≡ s → (b == minus) ≡ n → (b == 42) ≡ t → (b == 61) ≡ e → FindsIn (b ∷ text) (option_map (λ kind. (kind, 1)) (sign_of o c m s n t e))
+unfolding sign_of
+sign_found b text true _ _ _ _ _ _ is _ _ _ _ _ _ = one_byte OpenParenthesis b text (is_byte b 40 is) (λ _. refl) (λ q. cc)
+sign_found b text false true _ _ _ _ _ _ is _ _ _ _ _ = one_byte CloseParenthesis b text (is_byte b 41 is) (λ _. refl) (λ q. cc)
+sign_found b text false false true _ _ _ _ _ _ is _ _ _ _ = one_byte Comma b text (is_byte b 44 is) (λ _. refl) (λ q. cc)
+sign_found b text false false false true _ _ _ _ _ _ is _ _ _ = one_byte Slash b text (is_byte b 47 is) (λ _. refl) (λ q. cc)
+sign_found b text false false false false true _ _ _ _ _ _ is _ _ = one_byte Minus b text (is_byte b minus is) (λ _. refl) (λ q. cc)
+sign_found b text false false false false false true _ _ _ _ _ _ is _ = one_byte Star b text (is_byte b 42 is) (λ _. refl) (λ q. cc)
+sign_found b text false false false false false false true _ _ _ _ _ _ is = one_byte EqualsSign b text (is_byte b 61 is) (λ _. refl) (λ q. cc)
+sign_found b text false false false false false false false _ _ _ _ _ _ _ = tt
+
+digit_found : (b : ℕ) (text : List ℕ) (q : Bool) → is_ascii_digit b ≡ true → begins_date (b ∷ text) ≡ q → FindsIn (b ∷ text) (if q then date_token (b ∷ text) else number_token (b ∷ text))
+digit_found b text true digit begins = date_found (b ∷ text) _ begins refl
+digit_found b text false digit begins =
+    let more : word_len (b ∷ text) ≡ suc (word_len text) = word_len-yes b text (word_byte_of_digit b ((Decides-digit b).0 digit)) in
+    number_found (b ∷ text) _ (omega (arith, more)) begins refl
+
+found_at : (b : ℕ) (text : List ℕ) (q d w s : Bool) → (b == quote) ≡ q → is_ascii_digit b ≡ d → begins_word b ≡ w → (b == dollar) ≡ s → FindsIn (b ∷ text) (if q then option_map (λ n. (Text, suc n)) (text_len false text) else (if d then (if begins_date (b ∷ text) then date_token (b ∷ text) else number_token (b ∷ text)) else (if w then Some (Word, word_len (b ∷ text)) else (if s then dollar_token text else sign_token b))))
+unfolding sign_of
+found_at b text true _ _ _ is _ _ _ = text_found b text _ ((Decides-eqb b quote).0 is) (closes text false)
+found_at b text false true _ _ _ is _ _ = digit_found b text _ is refl
+found_at b text false false true _ _ _ is _ = word_found b text is
+found_at b text false false false true _ _ _ is = dollar_found b text ((Decides-eqb b dollar).0 is)
+found_at b text false false false false _ _ _ _ = sign_found b text _ _ _ _ _ _ _ refl refl refl refl refl refl refl
+
+pub first_token_found : (text : List ℕ) → FindsIn text (first_token text)
+unfolding first_token
+first_token_found [] = tt
+first_token_found (b ∷ text) = found_at b text _ _ _ _ refl refl refl refl
+
+-- ---- what begins the text is given
+
+given_text : (front after : List ℕ) → IsText front → EndsBefore Text after → first_token (front ++ after) ≡ Some (Text, length front)
+given_text front after form ends =
+    let seam : (doubled form.content ++ quote ∷ []) ++ after ≡ doubled form.content ++ quote ∷ after = append_assoc (doubled form.content) (quote ∷ []) after in
+    let found = text_len-found form.content after ends in
+    let len : length (doubled form.content ++ quote ∷ []) ≡ suc (length (doubled form.content)) = length_push (doubled form.content) quote ∙ add-one _ in
+    rw (form.printed, first-quote, seam, found, len) refl
+
+number_token-digits : (text front : List ℕ) (n : ℕ) → word_len text ≡ n → take n text ≡ front → list_all is_ascii_digit front ≡ true → nat_le n MAX_DIGITS ≡ true → number_token text ≡ Some (Number, n)
+number_token-digits text front n len taken digits short = rw (len, taken, digits, short) refl
+
+given_number : (front after : List ℕ) → IsNumber front → EndsBefore Number after → ¬ (BeginsDate (front ++ after)) → first_token (front ++ after) ≡ Some (Number, length front)
+given_number [] after form ends no_date = absurd (omega (arith, form.nonempty))
+given_number (b ∷ front) after form ends no_date =
+    let digit : is_ascii_digit b ≡ true = (Decides-digit b).1 form.digits.0 in
+    let other : begins_date (b ∷ front ++ after) ≡ false = from_not _ (λ is. no_date ((Decides-begins_date _).0 is)) in
+    let len : word_len (b ∷ front ++ after) ≡ suc (length front) = word_len-append (b ∷ front) after (word_bytes_of_digits (b ∷ front) form.digits) (ends_word_before after ends) in
+    let taken : take (suc (length front)) (b ∷ front ++ after) ≡ b ∷ front = take_at (b ∷ front) after _ refl in
+    let digits : list_all is_ascii_digit (b ∷ front) ≡ true = (Decides-digits (b ∷ front)).1 form.digits in
+    let short : nat_le (suc (length front)) MAX_DIGITS ≡ true = (fits_decides _).1 form.short in
+    rw (first-digit b (front ++ after) digit, other) (number_token-digits (b ∷ front ++ after) (b ∷ front) (suc (length front)) len taken digits short)
+
+date_token-day : (text front : List ℕ) → take 10 text ≡ front → is_day front ≡ true → date_token text ≡ Some (Date, 10)
+date_token-day text front taken day = ap (λ (t : List ℕ). if is_day t then Some (Date, 10) else None) taken ∙ ap (λ (q : Bool). if q then Some (Date, 10) else None) day
+
+given_date : (front after : List ℕ) → IsDateText front → EndsBefore Date after → first_token (front ++ after) ≡ Some (Date, length front)
+given_date [] after date ends = let e = date.form.ten in cc
+given_date (b ∷ front) after date ends =
+    let digit : is_ascii_digit b ≡ true = (Decides-digit b).1 date.form.year.0 in
+    let begins : begins_date (b ∷ front ++ after) ≡ true = (Decides-begins_date _).1 (record { front = b ∷ front; after = after; split = refl; form = date.form; ends = ends }) in
+    let taken : take 10 (b ∷ front ++ after) ≡ b ∷ front = take_at (b ∷ front) after 10 date.form.ten in
+    let day : is_day (b ∷ front) ≡ true = (Decides-day (b ∷ front) date.form).1 date in
+    let token : date_token (b ∷ front ++ after) ≡ Some (Date, 10) = date_token-day (b ∷ front ++ after) (b ∷ front) taken day in
+    let len : Some (Date, 10) ≡ Some (Date, length (b ∷ front)) = ap (λ n. Some (Date, n)) (sym date.form.ten) in
+    rw (first-digit b (front ++ after) digit, begins) (token ∙ len)
+
+run_given : (name after : List ℕ) → IsWord name → EndsBefore Word after → word_len (name ++ after) ≡ length name
+run_given name after (word {b = b} {bytes = bytes} begins others) ends =
+    word_len-append (b ∷ bytes) after (word_byte_of_begin b begins, others) (ends_word_before after ends)
+
+given_word : (front after : List ℕ) → IsWord front → EndsBefore Word after → first_token (front ++ after) ≡ Some (Word, length front)
+given_word front after (word {b = b} {bytes = bytes} begins others) ends =
+    let len = run_given (b ∷ bytes) after (word begins others) ends in rw (first-word b (bytes ++ after) begins, len) refl
+
+dollar_given : (name after : List ℕ) → IsWord name → EndsBefore Word after → dollar_token (name ++ after) ≡ Some (Dollar, suc (length name))
+dollar_given name after (word {b = b} {bytes = bytes} begins others) ends =
+    let len = run_given (b ∷ bytes) after (word begins others) ends in rw (begins, len) refl
+
+given_dollar : (front after : List ℕ) → IsDollar front → EndsBefore Dollar after → first_token (front ++ after) ≡ Some (Dollar, length front)
+given_dollar front after form ends =
+    rw (form.printed, first-dollar (form.name ++ after)) (dollar_given form.name after form.is_word (ends_word_same after ends))
+  where
+    ends_word_same : (rest : List ℕ) → EndsBefore Dollar rest → EndsBefore Word rest
+    ends_word_same [] ends = tt
+    ends_word_same (b ∷ rest) ends = ends
+
+given_sign : (kind : TokenKind) (b : ℕ) (front after : List ℕ) → front ≡ b ∷ [] → first_token (b ∷ after) ≡ Some (kind, 1) → first_token (front ++ after) ≡ Some (kind, length front)
+given_sign kind b front after is given = rw (is, given) refl
+
+given : (kind : TokenKind) (front after : List ℕ) → IsOfKind kind front → EndsBefore kind after → (kind ≡ Number → ¬ (BeginsDate (front ++ after))) → first_token (front ++ after) ≡ Some (kind, length front)
+unfolding first_token
+given Text front after form ends no_date = given_text front after form ends
+given Date front after form ends no_date = given_date front after form ends
+given Number front after form ends no_date = given_number front after form ends (no_date refl)
+given Word front after form ends no_date = given_word front after form ends
+given Dollar front after form ends no_date = given_dollar front after form ends
+given OpenParenthesis front after form ends no_date = given_sign _ _ front after form refl
+given CloseParenthesis front after form ends no_date = given_sign _ _ front after form refl
+given Comma front after form ends no_date = given_sign _ _ front after form refl
+given Slash front after form ends no_date = given_sign _ _ front after form refl
+given Minus front after form ends no_date = given_sign _ _ front after form refl
+given Star front after form ends no_date = given_sign _ _ front after form refl
+given EqualsSign front after form ends no_date = given_sign _ _ front after form refl
+
+pub first_token_given : (text : List ℕ) (kind : TokenKind) (front after : List ℕ) → Begins text kind front after → first_token text ≡ Some (kind, length front)
+first_token_given text kind front after begins =
+    ap first_token begins.split ∙ given kind front after begins.form begins.ends (λ number date. begins.no_date number (rw begins.split date))

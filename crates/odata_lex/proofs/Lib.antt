@@ -1,0 +1,9 @@
+pub mod Digits
+pub mod Dates
+pub mod Runs
+pub mod Texts
+pub mod FirstLemmas
+pub mod BeginsLemmas
+pub mod TokensLemmas
+pub mod Places
+pub mod Progress

@@ -1,0 +1,120 @@
+-- The form of each kind of token (OData 4.01 URL Conventions, section 5.1.1; OData ABNF Construction Rules, sections 6 and 7). Letters and
+-- digits are those of ASCII; any other character stands inside a Text alone.
+use Rattle.std.specs.Prelude.{◌≡◌, ℕ, ◌≤◌, ◌<◌, Bool, true, ◌==◌, ◌||◌, not, IsTrue, if◌then◌else◌, List, [], ◌∷◌, ◌++◌, length, take, slice_index, pos}
+use Rattle.std.specs.List.{AllByRecursion, slice_range}
+use Rattle.std.specs.Char.{is_ascii_alphabetic, is_ascii_alphanumeric}
+use Rattle.std.specs.Str.Parse.{AllDigits, digits_value}
+use Rattle.jiff.specs.Words.{IsDate}
+use Rattle.odata_lex.specs.declared.token.TheConstants.{MAX_DIGITS}
+use Rattle.odata_lex.specs.declared.token.TokenKind.{TokenKind}
+use Rattle.odata_lex.specs.declared.token.TokenKind.TheVariants.{Text, Date, Number, Word, Dollar, OpenParenthesis, CloseParenthesis, Comma, Slash, Minus, Star, EqualsSign}
+
+-- `'`
+abbrev pub quote : ℕ
+quote = 39
+
+-- `-`
+abbrev pub minus : ℕ
+minus = 45
+
+-- `$`
+abbrev pub dollar : ℕ
+dollar = 36
+
+-- `_`
+abbrev pub underscore : ℕ
+underscore = 95
+
+-- a letter or `_`
+abbrev pub begins_word : ℕ → Bool
+begins_word b = is_ascii_alphabetic b || b == underscore
+
+-- a letter, a digit or `_`
+abbrev pub is_word_byte : ℕ → Bool
+is_word_byte b = is_ascii_alphanumeric b || b == underscore
+
+-- a content with each `'` doubled
+abbrev pub doubled : List ℕ → List ℕ
+doubled [] = []
+doubled (b ∷ content) = if b == quote then quote ∷ quote ∷ doubled content else b ∷ doubled content
+
+-- a Text: `'`, a content with each `'` doubled, `'`
+pub record IsText (text : List ℕ) : Type 0 where
+  pub content : List ℕ
+  pub printed : text ≡ quote ∷ doubled content ++ quote ∷ []
+
+abbrev pub AreDigits : List ℕ → Type 0
+AreDigits bytes = AllDigits 10 bytes
+
+-- four digits, `-`, two digits, `-`, two digits
+pub record IsDateForm (text : List ℕ) : Type 0 where
+  pub ten : length text ≡ 10
+  pub year : AreDigits (take 4 text)
+  pub before_month : slice_index text 4 ≡ minus
+  pub month : AreDigits (slice_range text 5 7)
+  pub before_day : slice_index text 7 ≡ minus
+  pub day : AreDigits (slice_range text 8 10)
+
+-- the numbers that a text of that form writes
+abbrev pub year_of : List ℕ → ℕ
+year_of text = digits_value 10 (take 4 text)
+
+abbrev pub month_of : List ℕ → ℕ
+month_of text = digits_value 10 (slice_range text 5 7)
+
+abbrev pub day_of : List ℕ → ℕ
+day_of text = digits_value 10 (slice_range text 8 10)
+
+-- a day of the calendar, in the years from 1
+abbrev pub IsDayFromOne : ℕ → ℕ → ℕ → Type 0
+IsDayFromOne year month day = (1 ≤ year) × IsDate (pos year) (pos month) (pos day)
+
+-- a Date: that form, and a day of the calendar in the years from 1 (to 9999, for there are four digits)
+pub record IsDateText (text : List ℕ) : Type 0 where
+  pub form : IsDateForm text
+  pub day : IsDayFromOne (year_of text) (month_of text) (day_of text)
+
+-- a Number: digits
+pub record IsNumber (text : List ℕ) : Type 0 where
+  pub digits : AreDigits text
+  pub nonempty : 0 < length text
+  pub short : length text ≤ MAX_DIGITS
+
+-- a Word: a letter or `_`, then letters, digits and `_`
+pub data IsWord : List ℕ → Type 0 where
+  word : {b : ℕ} {bytes : List ℕ} → IsTrue (begins_word b) → AllByRecursion (λ c. IsTrue (is_word_byte c)) bytes → IsWord (b ∷ bytes)
+
+-- a Dollar: `$` and a Word
+pub record IsDollar (text : List ℕ) : Type 0 where
+  pub name : List ℕ
+  pub is_word : IsWord name
+  pub printed : text ≡ dollar ∷ name
+
+-- the text has the form of the kind
+abbrev pub IsOfKind : TokenKind → List ℕ → Type 0
+IsOfKind Text text = IsText text
+IsOfKind Date text = IsDateText text
+IsOfKind Number text = IsNumber text
+IsOfKind Word text = IsWord text
+IsOfKind Dollar text = IsDollar text
+IsOfKind OpenParenthesis text = text ≡ 40 ∷ []
+IsOfKind CloseParenthesis text = text ≡ 41 ∷ []
+IsOfKind Comma text = text ≡ 44 ∷ []
+IsOfKind Slash text = text ≡ 47 ∷ []
+IsOfKind Minus text = text ≡ minus ∷ []
+IsOfKind Star text = text ≡ 42 ∷ []
+IsOfKind EqualsSign text = text ≡ 61 ∷ []
+
+-- whether a byte may follow a token of the kind: no `'` follows a Text; no letter, digit or `_` a Date, Number, Word or Dollar
+abbrev pub may_follow : TokenKind → ℕ → Bool
+may_follow Text b = not (b == quote)
+may_follow Date b = not (is_word_byte b)
+may_follow Number b = not (is_word_byte b)
+may_follow Word b = not (is_word_byte b)
+may_follow Dollar b = not (is_word_byte b)
+may_follow _ b = true
+
+-- a token of the kind may end before this text
+abbrev pub EndsBefore : TokenKind → List ℕ → Type 0
+EndsBefore kind [] = Unit {0}
+EndsBefore kind (b ∷ _) = IsTrue (may_follow kind b)

@@ -1,0 +1,4 @@
+pub mod Forms
+pub mod Tokens
+pub mod Laws
+pub mod First

@@ -1,0 +1,9 @@
+pub mod ApplyLemmas
+pub mod DepthLemmas
+pub mod KeywordLemmas
+pub mod ListLemmas
+pub mod LiteralLemmas
+pub mod NumberLemmas
+pub mod OptionLemmas
+pub mod PhraseLemmas
+pub mod PrimaryLemmas

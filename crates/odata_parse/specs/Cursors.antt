@@ -1,0 +1,6 @@
+-- A token that the parsers hold.
+use Rattle.odata_lex.specs.Tokens.{TokenOf}
+use Rattle.odata_parse.specs.declared.cursor.Lexeme.{Lexeme}
+
+abbrev pub lexeme_view : Lexeme → TokenOf
+lexeme_view l = record { kind = l.kind; text = l.text.now }

@@ -1,0 +1,15 @@
+pub use Rattle.odata_lex.specs.Forms
+pub use Rattle.odata_lex.specs.Tokens
+pub mod Trees
+pub mod Keywords
+pub mod Literals
+pub mod Lists
+pub mod Expressions
+pub mod Options
+pub mod Apply
+pub mod Depth
+pub mod Cursors
+pub mod Parsing
+pub mod Format
+pub mod Flag
+pub mod Number

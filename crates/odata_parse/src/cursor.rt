@@ -1,0 +1,155 @@
+//! The tokens that are left to read.
+
+ghost use Rattle.std.specs.Prelude.{◌≡◌, ◌≢◌, ◌↔◌, List, [], ◌∷◌, drop, IfSome, IfNone, IfOk, IfErr, OnOk, OnErr, IsTrue};
+ghost use Rattle.odata_lex.specs.Forms.{IsOfKind};
+ghost use Rattle.odata_lex.specs.Tokens.{TokenOf, token_views, AreTokens};
+ghost use Rattle.odata_parse.specs.Keywords.{IsKeyword, lower};
+ghost use Rattle.odata_parse.specs.Cursors.{lexeme_view};
+
+use crate::fault::PhraseFault;
+use crate::keyword::spells;
+use odata_lex::{Token, TokenKind};
+use std::marker::Model;
+
+/// A token and its text.
+#[derive(Clone, Copy)]
+pub(crate) struct Lexeme<'a> {
+    pub(crate) kind: TokenKind,
+    pub(crate) text: &'a str,
+}
+
+/// Goes over the tokens of a text. To a contract it is the tokens that are left.
+#[derive(Drop)]
+pub(crate) struct Cursor<'a> {
+    source: &'a str,
+    rest: &'a [Token],
+}
+
+impl<'a> Model for Cursor<'a> {
+    ghost use Rattle.std.specs.Prelude.{List};
+    ghost use Rattle.std.specs.List.{All};
+    ghost use Rattle.odata_lex.specs.Tokens.{TokenOf, token_views, IsTokenAt};
+
+    ghost Value = { List TokenOf };
+
+    ghost view = { λ c. token_views c.source.now c.rest.now };
+
+    ghost invariant = { λ c. All (IsTokenAt c.source.now) c.rest.now };
+}
+
+impl<'a> Cursor<'a> {
+    pub(crate) fn new(source: &'a str, tokens: &'a [Token]) -> Self
+        requires { AreTokens source.now tokens.now }
+        ensures { result ≡ token_views source.now tokens.now }
+    {
+        Cursor {
+            source,
+            rest: tokens,
+        }
+    }
+
+    pub(crate) fn is_done(&self) -> bool
+        ensures { IsTrue result ↔ (self.now ≡ []) }
+    {
+        self.rest.is_empty()
+    }
+
+    /// The next token, which stays.
+    pub(crate) fn peek(&self) -> Option<Lexeme<'a>>
+        ensures some { IfSome result (λ l. self.now ≡ lexeme_view l ∷ drop 1 self.now) }
+        ensures form { IfSome result (λ l. IsOfKind l.kind l.text.now) }
+        ensures none { IfNone result (self.now ≡ []) }
+    {
+        let token = *self.rest.first()?;
+        Some(Lexeme {
+            kind: token.kind,
+            text: &self.source[token.start..token.end],
+        })
+    }
+
+    /// Goes past the next token.
+    pub(crate) fn skip(&mut self)
+        ensures { self.new ≡ drop 1 self.old }
+    {
+        let rest = self.rest;
+        if !rest.is_empty() {
+            self.rest = &rest[1..];
+        }
+    }
+
+    /// Takes the next token.
+    pub(crate) fn next(&mut self) -> Option<Lexeme<'a>>
+        ensures some { IfSome result (λ l. self.old ≡ lexeme_view l ∷ self.new) }
+        ensures form { IfSome result (λ l. IsOfKind l.kind l.text.now) }
+        ensures none { IfNone result ((self.old ≡ []) × (self.new ≡ [])) }
+    {
+        let first = self.peek();
+        self.skip();
+        first
+    }
+
+    /// Takes the next token if it is of a kind.
+    pub(crate) fn take(&mut self, kind: TokenKind) -> Option<Lexeme<'a>>
+        ensures some { IfSome result (λ l. (self.old ≡ lexeme_view l ∷ self.new) × (l.kind ≡ kind)) }
+        ensures form { IfSome result (λ l. IsOfKind l.kind l.text.now) }
+        ensures none { IfNone result ((self.new ≡ self.old) × ((t : TokenOf) (rest : List TokenOf) → self.old ≡ t ∷ rest → t.kind ≢ kind)) }
+    {
+        let first = self.peek()?;
+        if first.kind != kind {
+            return None;
+        }
+        self.skip();
+        Some(first)
+    }
+
+    /// Takes the next token if it is a keyword.
+    pub(crate) fn take_keyword(&mut self, keyword: &str) -> Option<Lexeme<'a>>
+        ensures some { IfSome result (λ l. (self.old ≡ lexeme_view l ∷ self.new) × IsKeyword (lower keyword.now) (lexeme_view l)) }
+        ensures none { IfNone result ((self.new ≡ self.old) × ((t : TokenOf) (rest : List TokenOf) → self.old ≡ t ∷ rest → ¬ (IsKeyword (lower keyword.now) t))) }
+    {
+        let first = self.peek()?;
+        if first.kind != TokenKind::Word || !spells(first.text, keyword) {
+            return None;
+        }
+        self.skip();
+        Some(first)
+    }
+
+    /// Takes the next token, which has to be of a kind.
+    pub(crate) fn expect(&mut self, kind: TokenKind) -> Result<Lexeme<'a>, PhraseFault>
+        ensures ok { IfOk result (λ l. (self.old ≡ lexeme_view l ∷ self.new) × (l.kind ≡ kind)) }
+        ensures form { IfOk result (λ l. IsOfKind l.kind l.text.now) }
+        ensures err { OnErr result ((t : TokenOf) (rest : List TokenOf) → self.old ≡ t ∷ rest → t.kind ≢ kind) }
+        ensures fault { IfErr result (λ e. e ≡ PhraseFault.Syntax) }
+    {
+        match self.take(kind) {
+            Some(lexeme) => Ok(lexeme),
+            None => Err(PhraseFault::Syntax),
+        }
+    }
+
+    /// Takes the next token, which has to be a keyword.
+    pub(crate) fn expect_keyword(&mut self, keyword: &str) -> Result<Lexeme<'a>, PhraseFault>
+        ensures ok { IfOk result (λ l. (self.old ≡ lexeme_view l ∷ self.new) × IsKeyword (lower keyword.now) (lexeme_view l)) }
+        ensures err { OnErr result ((t : TokenOf) (rest : List TokenOf) → self.old ≡ t ∷ rest → ¬ (IsKeyword (lower keyword.now) t)) }
+        ensures fault { IfErr result (λ e. e ≡ PhraseFault.Syntax) }
+    {
+        match self.take_keyword(keyword) {
+            Some(lexeme) => Ok(lexeme),
+            None => Err(PhraseFault::Syntax),
+        }
+    }
+
+    /// Nothing may be left.
+    pub(crate) fn end(&self) -> Result<(), PhraseFault>
+        ensures ok { OnOk result (self.now ≡ []) }
+        ensures err { OnErr result (self.now ≢ []) }
+        ensures fault { IfErr result (λ e. e ≡ PhraseFault.Syntax) }
+    {
+        if self.is_done() {
+            Ok(())
+        } else {
+            Err(PhraseFault::Syntax)
+        }
+    }
+}

@@ -1,0 +1,216 @@
+//! Expressions, level by level (OData 4.01 URL Conventions, sections 5.1.1 and 5.1.1.15). A level of operators that group to the left
+//! is a loop, so the depth of calls does not grow with the number of operators, but with parentheses and operators before an
+//! operand alone.
+
+ghost use Rattle.std.specs.Prelude.{◌≡◌, ◌≢◌, ◌<◌, ◌≤◌, List, ◌∷◌, length, codes, IfOk, IfErr, IfSome, IfNone, OnOk};
+ghost use Rattle.odata_lex.specs.Forms.{IsOfKind};
+ghost use Rattle.odata_lex.specs.Tokens.{TokenOf};
+ghost use Rattle.odata_lex.specs.declared.token.TokenKind.TheVariants.{OpenParenthesis, Word};
+ghost use Rattle.odata_parse.specs.declared.tree.BinaryOperator.{BinaryOperator};
+ghost use Rattle.odata_parse.specs.declared.tree.UnaryOperator.{UnaryOperator};
+ghost use Rattle.odata_parse.specs.Cursors.{lexeme_view};
+ghost use Rattle.odata_parse.specs.Expressions.{Reads, IsUnaryOperator, level_of};
+ghost use Rattle.odata_parse.specs.Keywords.{IsKeyword, operator_text};
+ghost use Rattle.odata_parse.specs.Literals.{IsLiteral};
+ghost use Rattle.odata_parse.specs.Parsing.{Calls, CanEnd, Gives};
+ghost use Rattle.odata_parse.specs.Trees.{ExprOf, LiteralOf, expr_view, unary, binary};
+
+use crate::cursor::{Cursor, Lexeme};
+use crate::fault::PhraseFault;
+use crate::keyword::{binary_function, binary_operator, spells, unary_function};
+use crate::list::list;
+use crate::literal::{literal_of, word_literal};
+use crate::tree::{
+    ArithmeticOperator, BinaryOperator, ComparisonOperator, Expr, Literal, LogicOperator,
+    UnaryOperator,
+};
+use odata_lex::TokenKind;
+use std::alloc::{AllocError, Global};
+
+/// The level of a whole expression.
+pub(crate) const TOP: usize = 8;
+
+/// The level of `-` and `not`.
+const UNARY: usize = 2;
+
+/// How loosely an operator binds.
+fn level(operator: BinaryOperator) -> usize
+    ensures { result ≡ level_of operator }
+{
+    match operator {
+        BinaryOperator::Arithmetic(operator) => match operator {
+            ArithmeticOperator::Mul | ArithmeticOperator::Div | ArithmeticOperator::Mod => 3,
+            ArithmeticOperator::Add | ArithmeticOperator::Sub => 4,
+        },
+        BinaryOperator::Comparison(operator) => match operator {
+            ComparisonOperator::Equal | ComparisonOperator::NotEqual => 6,
+            _ => 5,
+        },
+        BinaryOperator::Logic(LogicOperator::And) => 7,
+        BinaryOperator::Logic(LogicOperator::Or) => TOP,
+    }
+}
+
+/// Takes the next token if it is an operator of a level.
+fn take_operator(tokens: &mut Cursor<'_>, wanted: usize) -> Option<BinaryOperator>
+    ensures some { IfSome result (λ o. (t : TokenOf) × (tokens.old ≡ t ∷ tokens.new) × IsKeyword (operator_text o) t × (level_of o ≡ wanted)) }
+    ensures none { IfNone result ((tokens.new ≡ tokens.old) × ((t : TokenOf) (rest : List TokenOf) (o : BinaryOperator) → tokens.old ≡ t ∷ rest → IsKeyword (operator_text o) t → level_of o ≢ wanted)) }
+{
+    let first = tokens.peek()?;
+    match first.kind {
+        TokenKind::Word => {
+            let operator = binary_operator(first.text)?;
+            if level(operator) != wanted {
+                return None;
+            }
+            tokens.skip();
+            Some(operator)
+        }
+        _ => None,
+    }
+}
+
+/// Takes the next token if it is an operator before its operand.
+fn take_unary_operator(tokens: &mut Cursor<'_>) -> Option<UnaryOperator>
+    ensures some { IfSome result (λ o. (t : TokenOf) × (tokens.old ≡ t ∷ tokens.new) × IsUnaryOperator o t) }
+    ensures none { IfNone result ((tokens.new ≡ tokens.old) × ((t : TokenOf) (rest : List TokenOf) (o : UnaryOperator) → tokens.old ≡ t ∷ rest → ¬ (IsUnaryOperator o t))) }
+{
+    if let Some(_) = tokens.take(TokenKind::Minus) {
+        return Some(UnaryOperator::Negate);
+    }
+    if let Some(_) = tokens.take_keyword("not") {
+        return Some(UnaryOperator::Not);
+    }
+    None
+}
+
+/// Two operands and their operator.
+fn join(
+    alloc: Global,
+    operator: BinaryOperator,
+    left: Expr,
+    right: Expr,
+) -> Result<Expr, AllocError>
+    ensures { IfOk result (λ e. expr_view e ≡ binary operator (expr_view left) (expr_view right)) }
+{
+    Ok(Expr::Binary(operator, Box::new(alloc, left)?, Box::new(alloc, right)?))
+}
+
+/// A phrase of a level, as long as it can be.
+#[cycle(expression)]
+pub(crate) fn phrase(
+    alloc: Global,
+    tokens: &mut Cursor<'_>,
+    level: usize,
+) -> Result<Expr, PhraseFault>
+    requires above { 2 ≤ level }
+    requires within { level ≤ 8 }
+    ensures found { IfOk result (λ e. Reads level tokens.old (expr_view e) tokens.new) }
+    ensures each { (e : ExprOf) (after : List TokenOf) → Reads level tokens.old e after → CanEnd level after → Gives expr_view e after result tokens.new }
+    ensures shorter { OnOk result (length tokens.new < length tokens.old) }
+{
+    if level == UNARY {
+        return signed(alloc, tokens);
+    }
+    let mut left = phrase(alloc, tokens, level - 1)?;
+    while let Some(operator) = take_operator(tokens, level) {
+        let right = phrase(alloc, tokens, level - 1)?;
+        left = join(alloc, operator, left, right)?;
+    }
+    Ok(left)
+}
+
+/// `-` and `not`, and their operand.
+#[cycle(expression)]
+fn signed(alloc: Global, tokens: &mut Cursor<'_>) -> Result<Expr, PhraseFault>
+    ensures found { IfOk result (λ e. Reads 2 tokens.old (expr_view e) tokens.new) }
+    ensures each { (e : ExprOf) (after : List TokenOf) → Reads 2 tokens.old e after → CanEnd 2 after → Gives expr_view e after result tokens.new }
+    ensures shorter { OnOk result (length tokens.new < length tokens.old) }
+{
+    let Some(operator) = take_unary_operator(tokens) else {
+        return Ok(member(alloc, tokens)?);
+    };
+    let operand = signed(alloc, tokens)?;
+    Ok(Expr::Unary(operator, Box::new(alloc, operand)?))
+}
+
+/// A primary, and the list that it may be in.
+#[cycle(expression)]
+fn member(alloc: Global, tokens: &mut Cursor<'_>) -> Result<Expr, PhraseFault>
+    ensures found { IfOk result (λ e. Reads 1 tokens.old (expr_view e) tokens.new) }
+    ensures each { (e : ExprOf) (after : List TokenOf) → Reads 1 tokens.old e after → CanEnd 1 after → Gives expr_view e after result tokens.new }
+    ensures shorter { OnOk result (length tokens.new < length tokens.old) }
+{
+    let value = primary(alloc, tokens)?;
+    let Some(_) = tokens.take_keyword("in") else {
+        return Ok(value);
+    };
+    tokens.expect(TokenKind::OpenParenthesis)?;
+    let items = list::<Literal>(alloc, tokens, TokenKind::Comma)?;
+    tokens.expect(TokenKind::CloseParenthesis)?;
+    Ok(Expr::In(Box::new(alloc, value)?, items))
+}
+
+/// A value, a name, a call, or an expression in parentheses.
+#[cycle(expression)]
+fn primary(alloc: Global, tokens: &mut Cursor<'_>) -> Result<Expr, PhraseFault>
+    ensures found { IfOk result (λ e. Reads 0 tokens.old (expr_view e) tokens.new) }
+    ensures each { (e : ExprOf) (after : List TokenOf) → Reads 0 tokens.old e after → CanEnd 0 after → Gives expr_view e after result tokens.new }
+    ensures shorter { OnOk result (length tokens.new < length tokens.old) }
+{
+    let Some(first) = tokens.next() else {
+        return Err(PhraseFault::Syntax);
+    };
+    match first.kind {
+        TokenKind::OpenParenthesis => {
+            let inner = phrase(alloc, tokens, TOP)?;
+            tokens.expect(TokenKind::CloseParenthesis)?;
+            Ok(inner)
+        }
+        TokenKind::Word => Ok(word(alloc, tokens, first)?),
+        _ => Ok(Expr::Literal(literal_of(alloc, first)?)),
+    }
+}
+
+/// What begins with a word: a value, a name or a call.
+#[cycle(expression)]
+fn word(alloc: Global, tokens: &mut Cursor<'_>, first: Lexeme<'_>) -> Result<Expr, PhraseFault>
+    requires { first.kind ≡ Word }
+    ensures found { IfOk result (λ e. Reads 0 (lexeme_view first.entry ∷ tokens.old) (expr_view e) tokens.new) }
+    ensures each { (e : ExprOf) (after : List TokenOf) → Reads 0 (lexeme_view first.entry ∷ tokens.old) e after → CanEnd 0 after → Gives expr_view e after result tokens.new }
+    ensures shorter { OnOk result (length tokens.new ≤ length tokens.old) }
+{
+    if let Some(literal) = word_literal(first.text) {
+        return Ok(Expr::Literal(literal));
+    }
+    if let Some(_) = tokens.take(TokenKind::OpenParenthesis) {
+        return Ok(call(alloc, tokens, first)?);
+    }
+    if spells(first.text, "not") {
+        return Err(PhraseFault::Syntax);
+    }
+    Ok(Expr::Name(String::from_str(alloc, first.text)?))
+}
+
+/// A call of a function, from behind its first parenthesis on.
+#[cycle(expression)]
+fn call(alloc: Global, tokens: &mut Cursor<'_>, function: Lexeme<'_>) -> Result<Expr, PhraseFault>
+    requires { function.kind ≡ Word }
+    ensures found { IfOk result (λ e. Calls (lexeme_view function.entry) tokens.old (expr_view e) tokens.new) }
+    ensures each { (e : ExprOf) (after : List TokenOf) → Calls (lexeme_view function.entry) tokens.old e after → Gives expr_view e after result tokens.new }
+    ensures shorter { OnOk result (length tokens.new ≤ length tokens.old) }
+{
+    if let Some(function) = unary_function(function.text) {
+        let argument = phrase(alloc, tokens, TOP)?;
+        tokens.expect(TokenKind::CloseParenthesis)?;
+        return Ok(Expr::UnaryCall(function, Box::new(alloc, argument)?));
+    }
+    let Some(function) = binary_function(function.text) else {
+        return Err(PhraseFault::Syntax);
+    };
+    let left = phrase(alloc, tokens, TOP)?;
+    tokens.expect(TokenKind::Comma)?;
+    let right = phrase(alloc, tokens, TOP)?;
+    tokens.expect(TokenKind::CloseParenthesis)?;
+    Ok(Expr::BinaryCall(function, Box::new(alloc, left)?, Box::new(alloc, right)?))
+}

@@ -1,0 +1,35 @@
+//! The trees of OData expressions and query options from their tokens (OData 4.01 URL Conventions, section 5.1; OData ABNF
+//! Construction Rules), and the values of the options that are numbers, flags and formats. Each parser gives the one tree or value that the grammar has,
+//! or says that there is none.
+#![tactic(auto)]
+
+mod apply;
+mod cursor;
+mod depth;
+mod expression;
+mod fault;
+mod filter;
+mod flag;
+mod format;
+mod key;
+mod keyword;
+mod list;
+mod literal;
+mod number;
+mod orderby;
+mod select;
+mod syntax;
+pub mod tree;
+mod whole;
+
+pub use apply::parse_apply;
+pub use depth::{MAX_OPEN, MAX_OPERATORS};
+pub use fault::ParseFault;
+pub use filter::parse_filter;
+pub use flag::parse_flag;
+pub use format::{Format, parse_format};
+pub use key::parse_key;
+pub use number::{MAX_NUMBER, MAX_NUMBER_DIGITS, parse_number};
+pub use orderby::parse_orderby;
+pub use select::parse_select;
+pub use syntax::Syntax;

@@ -1,0 +1,12 @@
+use Rattle.csvw_meta.specs.Limits.{limits_view}
+use Rattle.table_store.specs.Catalog.{folder_view}
+use Rattle.table_store.specs.Fault.{load_cause}
+use Rattle.odata_serve.proofs.Disks.{refused_untold, empty_untold}
+use Rattle.odata_serve.proofs.disk.DiskFolders.load.Goals as goal
+
+pub returns-in-Err-clause-fault : goal.returns-in-Err-clause-fault
+returns-in-Err-clause-fault g c =
+    refused_untold (folder_view c.greatest.result c.in-Ok.meta.items c.in-Ok.files.items) (load_cause c.in-Err.fault) c.in-Err.ensures.fault
+
+pub returns-in-Err-NoMetadata-clause-fault : goal.returns-in-Err-NoMetadata-clause-fault
+returns-in-Err-NoMetadata-clause-fault g c = empty_untold

@@ -1,0 +1,86 @@
+-- The program's command, as `clap` describes commands, and what its reading of a command line asks for.
+use Rattle.std.specs.Prelude.{◌≡◌, ◌<◌, ◌^◌, ℕ, List, Option, Some, None, [], codes, map, option_and_then, option_map, pos, true}
+use Rattle.std.specs.Borrow.{Bor}
+use Rattle.std.specs.Str.Parse.{IsNumeral, digits_value, without_leading_plus}
+use Rattle.clap.specs.Words.{App, Row, Rule, Text, fault_of, first_of, new_app, new_rule, one_of, subcommand_of, with_rule, with_subcommand}
+use Rattle.clap.specs.declared.builder.ValueParser.TheVariants as parser
+use Rattle.odata_serve.specs.declared.words.Words.{Words}
+use Rattle.odata_serve.specs.declared.words.Words.TheVariants.{Nothing, Check, Query, Answer, Serve}
+
+-- an argument that has to be there
+abbrev pub required_rule : Text → Rule
+required_rule id = record (new_rule id) { required = true }
+
+-- `--port P`, a number of 16 bits
+abbrev pub port_rule : Rule
+port_rule = record (required_rule (codes "port")) { long = Some (codes "port"); parser = Some (parser.Signed (pos 0) (pos 65535)) }
+
+-- `--connections N`, a number of 32 bits
+abbrev pub connections_rule : Rule
+connections_rule = record (required_rule (codes "connections")) {
+  long = Some (codes "connections");
+  parser = Some (parser.Signed (pos 0) (pos 4294967295));
+}
+
+-- `NAME FOLDER`
+abbrev pub folder_app : Text → App
+folder_app name = with_rule (new_app name) (required_rule (codes "folder"))
+
+-- `NAME FOLDER SECOND`
+abbrev pub folder_and_app : Text → Text → App
+folder_and_app name second = with_rule (folder_app name) (required_rule second)
+
+-- `serve FOLDER --port P --connections N`
+abbrev pub serve_app : App
+serve_app = with_rule (with_rule (folder_app (codes "serve")) port_rule) connections_rule
+
+-- the command without its subcommands; `help` is none of them
+abbrev pub top_app : App
+top_app = record { top = record (new_app (codes "odata_serve")).top { disable_help_subcommand = true }; subs = [] }
+
+-- the whole command: `check FOLDER`, `query FOLDER TARGET`, `answer FOLDER FILE`, `serve FOLDER --port P --connections N`
+abbrev pub program_app : App
+program_app = with_subcommand (with_subcommand (with_subcommand (with_subcommand top_app
+    (folder_app (codes "check")).top)
+    (folder_and_app (codes "query") (codes "target")).top)
+    (folder_and_app (codes "answer") (codes "file")).top)
+    serve_app.top
+
+-- the words as texts
+abbrev pub texts : List (Bor Text) → List Text
+texts = map (λ word. word.now)
+
+-- the text is there, is a numeral of decimal digits with or without a `+` before it, of a number of so many bits, and n is that number
+abbrev pub IsNumberOf : ℕ → Option Text → ℕ → Type 0
+IsNumberOf bits None n = ⊥
+IsNumberOf bits (Some t) n =
+    (IsNumeral 10 (without_leading_plus t) × (digits_value 10 (without_leading_plus t) < 2 ^ bits)) × (n ≡ digits_value 10 (without_leading_plus t))
+
+-- what a subcommand with these arguments asks for
+abbrev pub SubcommandSays : Words → Text → List Row → Type 0
+SubcommandSays Nothing name rows = ⊥
+SubcommandSays (Check folder) name rows = (name ≡ codes "check") × (first_of (codes "folder") rows ≡ Some folder.now)
+SubcommandSays (Query folder target) name rows = (name ≡ codes "query") × (first_of (codes "folder") rows ≡ Some folder.now)
+    × (first_of (codes "target") rows ≡ Some target.now)
+SubcommandSays (Answer folder file) name rows = (name ≡ codes "answer") × (first_of (codes "folder") rows ≡ Some folder.now)
+    × (first_of (codes "file") rows ≡ Some file.now)
+SubcommandSays (Serve folder port connections) name rows = (name ≡ codes "serve") × (first_of (codes "folder") rows ≡ Some folder.now)
+    × IsNumberOf 16 (one_of (codes "port") rows) port
+    × IsNumberOf 32 (one_of (codes "connections") rows) connections
+
+-- what a reading asks for, by its subcommand and that one's arguments; without a subcommand nothing
+abbrev pub Says : Words → Option (Text × List Row) → Type 0
+Says words None = words ≡ Nothing
+Says words (Some (name, rows)) = SubcommandSays words name rows
+
+-- no words ask for what the reading has
+abbrev pub SaysNothing : Option (Text × List Row) → Type 0
+SaysNothing reading = (words : Words) → Says words reading → ⊥
+
+-- `clap` takes the texts, and what it reads asks for these words
+abbrev pub AreWords : List Text → Words → Type 0
+AreWords line words = (fault_of program_app line ≡ []) × Says words (subcommand_of program_app line)
+
+-- the texts are no command of the program
+abbrev pub NoWords : List Text → Type 0
+NoWords line = (words : Words) → AreWords line words → ⊥

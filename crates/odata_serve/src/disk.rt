@@ -1,0 +1,162 @@
+//! Folders on a disk. Of a folder `csv-metadata.json` is read, then each file that the metadata names, once, and no other file; of each
+//! at most one byte more than the limit of a file.
+ghost use Rattle.std.specs.Prelude.{None};
+
+use crate::folders::{FolderFault, Folders};
+use csvw_meta::{Limits, MOST_FILE_BYTES, MetaFault, Schema, Schemas};
+use std::alloc::{AllocError, Global};
+use std::fs::OpenFile;
+use std::io::{ErrorKind, Read};
+use std::rt::Files;
+use std::{fs, io};
+use table_store::{Catalog, NamedFile};
+
+/// The name of the file that has the metadata of a folder.
+const METADATA: &str = "csv-metadata.json";
+
+/// The folders of a disk, by their paths. What a load took is not told.
+#[derive(Drop)]
+pub struct Disk<'a, R> {
+    files: &'a R,
+    no_metadata: u64,
+    device: u64,
+}
+
+impl<'a, R: Files> Disk<'a, R> {
+    pub fn new(files: &'a R) -> Disk<'a, R> {
+        Disk {
+            files,
+            no_metadata: 0,
+            device: 0,
+        }
+    }
+}
+
+/// Why the files of a folder were not taken.
+#[derive(Clone, Copy, Debug, Drop)]
+enum TakeFault {
+    /// The folder has no metadata.
+    NoMetadata,
+    /// A file could not be read.
+    Device,
+    /// Memory ran out.
+    NoMemory,
+}
+
+impl From<AllocError> for TakeFault {
+    ghost use Rattle.std.specs.Prelude.{◌≡◌};
+    ghost use Rattle.odata_serve.specs.declared.disk.TakeFault.TheVariants.{NoMemory};
+
+    ghost from_gives = { λ _ fault. fault ≡ NoMemory };
+
+    fn from(_error: AllocError) -> TakeFault {
+        TakeFault::NoMemory
+    }
+}
+
+/// Whether the metadata was not read for want of memory.
+fn is_memory(fault: &MetaFault) -> bool {
+    matches!(fault, MetaFault::NoMemory)
+}
+
+/// The fault that an error of a file is.
+fn device_fault(error: &io::Error) -> TakeFault {
+    match error.kind() {
+        ErrorKind::OutOfMemory => TakeFault::NoMemory,
+        _ => TakeFault::Device,
+    }
+}
+
+/// All bytes of a file, or one more than the limit. Room is taken once by the file's length, where the system tells it.
+fn read_file<F: OpenFile + Read + Drop>(alloc: Global, file: F) -> Result<Vec<u8>, TakeFault> {
+    let most = u64::from(MOST_FILE_BYTES) + 1;
+    let room = match file.metadata() {
+        Ok(metadata) => metadata.len().saturating_add(1).min(most),
+        Err(_) => 0,
+    };
+    let mut bytes = Vec::with_capacity(alloc, room as usize)?;
+    match file.take(most).read_to_end(&mut bytes) {
+        Ok(_) => Ok(bytes),
+        Err(error) => Err(device_fault(&error)),
+    }
+}
+
+/// The bytes of a file of a folder, where there is one of that name.
+fn take_file<R: Files>(
+    alloc: Global,
+    files: &R,
+    folder: &str,
+    name: &str,
+) -> Result<Option<Vec<u8>>, TakeFault> {
+    let path = format!(in alloc; "{folder}/{name}")?;
+    match fs::open(files, path.as_str()) {
+        Ok(file) => Ok(Some(read_file(alloc, file)?)),
+        Err(error) if error.kind() == ErrorKind::NotFound => Ok(None),
+        Err(error) => Err(device_fault(&error)),
+    }
+}
+
+/// The file of a table, with its name.
+fn named_file(alloc: Global, url: &str, bytes: Vec<u8>) -> Result<NamedFile, AllocError> {
+    let name = String::from_str(alloc, url)?;
+    Ok(NamedFile { name, bytes })
+}
+
+/// The files of the tables, but those that are missing.
+fn take_tables<R: Files>(
+    alloc: Global,
+    files: &R,
+    folder: &str,
+    tables: &[Schema],
+) -> Result<Vec<NamedFile>, TakeFault> {
+    let mut taken = Vec::new(alloc);
+    for table in tables {
+        if let Some(bytes) = take_file(alloc, files, folder, table.url.as_str())? {
+            let file = named_file(alloc, table.url.as_str(), bytes)?;
+            if taken.push(file).is_err() {
+                return Err(TakeFault::NoMemory);
+            }
+        }
+    }
+    Ok(taken)
+}
+
+/// The metadata of a folder and the files that it names; no file where the metadata is refused.
+fn take_folder<R: Files>(
+    alloc: Global,
+    files: &R,
+    folder: &str,
+) -> Result<(Vec<u8>, Vec<NamedFile>), TakeFault> {
+    let Some(meta) = take_file(alloc, files, folder, METADATA)? else {
+        return Err(TakeFault::NoMetadata);
+    };
+    let taken = match Schemas::read(alloc, meta.as_slice(), &Limits::greatest()) {
+        Ok(schemas) => take_tables(alloc, files, folder, schemas.tables.as_slice())?,
+        Err(fault) if is_memory(&fault) => return Err(TakeFault::NoMemory),
+        Err(_fault) => Vec::new(alloc),
+    };
+    Ok((meta, taken))
+}
+
+impl<'a, R: Files> Folders for Disk<'a, R> {
+    ghost folders = { λ s. record { took = λ _. None; no_metadata = s.no_metadata; device = s.device } };
+
+    /// The catalog of the folder at that path.
+    fn load(&mut self, alloc: Global, name: &str) -> Result<Catalog, FolderFault> {
+        match take_folder(alloc, self.files, name) {
+            Ok((meta, files)) => match Catalog::load(alloc, Limits::greatest(), meta, files) {
+                Ok(catalog) => Ok(catalog),
+                Err(fault) => Err(FolderFault::Load(fault)),
+            },
+            Err(TakeFault::NoMetadata) => {
+                self.no_metadata = self.no_metadata.saturating_add(1);
+                Err(FolderFault::NoMetadata)
+            }
+            Err(TakeFault::Device) => {
+                self.device = self.device.saturating_add(1);
+                Err(FolderFault::Device)
+            }
+            Err(TakeFault::NoMemory) => Err(FolderFault::NoMemory),
+        }
+    }
+}

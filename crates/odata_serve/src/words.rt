@@ -1,0 +1,216 @@
+//! The words of the program's command line, read by `clap` as one command with a subcommand for each thing that the program does.
+//! What is read is `clap`'s reading of that command, no more and no less.
+ghost use Rattle.std.specs.Prelude.{◌≡◌, IfOk, IfErr, IfNone, IfSome, codes, option_map, false, ℕ, Some};
+ghost use Rattle.clap.specs.Words.{app_of, first_of, found_of, one_of, rows_of, rule_of, subcommand_rows_of};
+ghost use Rattle.clap.specs.declared.Command.TheViews.{out-Command};
+ghost use Rattle.odata_serve.specs.Words.{AreWords, IsNumberOf, NoWords, Says, SaysNothing, connections_rule, folder_app, folder_and_app, port_rule, program_app, required_rule, serve_app, texts};
+
+use clap::error::ErrorKind;
+use clap::{Arg, ArgMatches, Command, value_parser};
+use std::alloc::{AllocError, Global};
+
+/// What the program is asked to do.
+#[derive(Clone, Copy, Debug)]
+pub enum Words<'a> {
+    /// To answer standard input over the folder that is built in.
+    Nothing,
+    /// To say whether a folder is served.
+    Check {
+        folder: &'a str,
+    },
+    /// To answer one target over a folder.
+    Query {
+        folder: &'a str,
+        target: &'a str,
+    },
+    /// To answer the stream of a file over a folder.
+    Answer {
+        folder: &'a str,
+        file: &'a str,
+    },
+    /// To answer so many connections to a port, one after another, over a folder.
+    Serve {
+        folder: &'a str,
+        port: u16,
+        connections: u32,
+    },
+}
+
+/// Why no words were read.
+#[derive(Clone, Copy, Debug)]
+pub enum WordsFault {
+    /// They are no command of the program.
+    Usage,
+    /// Memory ran out.
+    NoMemory,
+}
+
+impl From<AllocError> for WordsFault {
+    ghost use Rattle.odata_serve.specs.declared.words.WordsFault.TheVariants.{NoMemory};
+
+    ghost from_gives = { λ _ e. e ≡ NoMemory };
+
+    fn from(_e: AllocError) -> WordsFault {
+        WordsFault::NoMemory
+    }
+}
+
+/// An argument that has to be there.
+fn required<'a>(alloc: Global, id: &'a str) -> Arg<'a>
+    ensures rule { rule_of result ≡ required_rule id.entry.now }
+    ensures local { result.global ≡ false }
+{
+    Arg::new(alloc, id).required(true)
+}
+
+/// The option `--port P`.
+fn port_option<'a>(alloc: Global) -> Arg<'a>
+    ensures rule { rule_of result ≡ port_rule }
+    ensures local { result.global ≡ false }
+{
+    let option = required(alloc, "port").long("port");
+    option.value_parser(value_parser!(u16))
+}
+
+/// The option `--connections N`.
+fn connections_option<'a>(alloc: Global) -> Arg<'a>
+    ensures rule { rule_of result ≡ connections_rule }
+    ensures local { result.global ≡ false }
+{
+    let option = required(alloc, "connections").long("connections");
+    option.value_parser(value_parser!(u32))
+}
+
+/// A subcommand of that name over a folder.
+fn folder_command<'a>(alloc: Global, name: &'a str) -> Result<Command<'a>, AllocError>
+    ensures app { IfOk result (λ c. app_of c ≡ folder_app name.entry.now) }
+    ensures local { IfOk result (λ c. (out-Command c).has_globals ≡ false) }
+{
+    Command::new(alloc, name).arg(required(alloc, "folder"))
+}
+
+/// A subcommand of that name over a folder and one thing more.
+fn folder_and_command<'a>(
+    alloc: Global,
+    name: &'a str,
+    second: &'a str,
+) -> Result<Command<'a>, AllocError>
+    ensures app { IfOk result (λ c. app_of c ≡ folder_and_app name.entry.now second.entry.now) }
+    ensures local { IfOk result (λ c. (out-Command c).has_globals ≡ false) }
+{
+    folder_command(alloc, name)?.arg(required(alloc, second))
+}
+
+/// The subcommand `serve`.
+fn serve_command<'a>(alloc: Global) -> Result<Command<'a>, AllocError>
+    ensures app { IfOk result (λ c. app_of c ≡ serve_app) }
+    ensures local { IfOk result (λ c. (out-Command c).has_globals ≡ false) }
+{
+    folder_command(alloc, "serve")?
+        .arg(port_option(alloc))?
+        .arg(connections_option(alloc))
+}
+
+/// The whole command.
+fn program_command<'a>(alloc: Global) -> Result<Command<'a>, AllocError>
+    ensures app { IfOk result (λ c. app_of c ≡ program_app) }
+{
+    let check = folder_command(alloc, "check")?;
+    let query = folder_and_command(alloc, "query", "target")?;
+    let answer = folder_and_command(alloc, "answer", "file")?;
+    let serve = serve_command(alloc)?;
+    let top = Command::new(alloc, "odata_serve").disable_help_subcommand(true);
+    let one = top.subcommand(check)?;
+    let two = one.subcommand(query)?;
+    let three = two.subcommand(answer)?;
+    let four = three.subcommand(serve)?;
+    Ok(four)
+}
+
+/// The text of an argument.
+fn text<'a>(matches: &ArgMatches<'a>, id: &str) -> Option<&'a str>
+    ensures { option_map (λ s. s.now) result ≡ first_of id.now (rows_of (found_of matches.now)) }
+{
+    matches.get_str(id)
+}
+
+/// The number behind `--port`.
+fn port<'a>(matches: &ArgMatches<'a>) -> Option<u16>
+    ensures some { IfSome result (IsNumberOf 16 (one_of (codes "port") (rows_of (found_of matches.now)))) }
+    ensures none { IfNone result ((n : ℕ) → IsNumberOf 16 (one_of (codes "port") (rows_of (found_of matches.now))) n → ⊥) }
+{
+    matches.get_one::<u16>("port")
+}
+
+/// The number behind `--connections`.
+fn connections<'a>(matches: &ArgMatches<'a>) -> Option<u32>
+    ensures some { IfSome result (IsNumberOf 32 (one_of (codes "connections") (rows_of (found_of matches.now)))) }
+    ensures none { IfNone result ((n : ℕ) → IsNumberOf 32 (one_of (codes "connections") (rows_of (found_of matches.now))) n → ⊥) }
+{
+    matches.get_one::<u32>("connections")
+}
+
+/// What a subcommand with these arguments asks for.
+#[tactic(auto, using(crate::proofs::Readings::no_connections))]
+fn subcommand_words<'a>(name: &'a str, inner: &ArgMatches<'a>) -> Option<Words<'a>>
+    ensures some { IfSome result (λ words. Says words (Some (name.now, rows_of (found_of inner.now)))) }
+    ensures none { IfNone result (SaysNothing (Some (name.now, rows_of (found_of inner.now)))) }
+{
+    match name {
+        "check" => {
+            let folder = text(inner, "folder")?;
+            Some(Words::Check { folder })
+        }
+        "query" => {
+            let folder = text(inner, "folder")?;
+            let target = text(inner, "target")?;
+            Some(Words::Query { folder, target })
+        }
+        "answer" => {
+            let folder = text(inner, "folder")?;
+            let file = text(inner, "file")?;
+            Some(Words::Answer { folder, file })
+        }
+        "serve" => {
+            let folder = text(inner, "folder")?;
+            let port = port(inner)?;
+            let connections = connections(inner)?;
+            Some(Words::Serve {
+                folder,
+                port,
+                connections,
+            })
+        }
+        _ => None,
+    }
+}
+
+/// What the matches ask for.
+fn matches_words<'a>(matches: &ArgMatches<'a>) -> Option<Words<'a>>
+    ensures some { IfSome result (λ words. Says words (subcommand_rows_of matches.now)) }
+    ensures none { IfNone result (SaysNothing (subcommand_rows_of matches.now)) }
+{
+    match matches.subcommand() {
+        None => Some(Words::Nothing),
+        Some((name, inner)) => subcommand_words(name, inner),
+    }
+}
+
+/// What the words of the command line ask for, of which the first is the program's own name. Words that `clap` refuses, and words that ask for its help,
+/// are `Usage`.
+pub fn read_words<'a>(alloc: Global, words: &'a [&'a str]) -> Result<Words<'a>, WordsFault>
+    ensures words { IfOk result (AreWords (texts words.now)) }
+    ensures usage { IfErr result (λ e. e ≡ WordsFault.Usage → NoWords (texts words.now)) }
+{
+    let command = program_command(alloc)?;
+    match command.try_get_matches_from(words) {
+        Ok(matches) => match matches_words(&matches) {
+            Some(read) => Ok(read),
+            None => Err(WordsFault::Usage),
+        },
+        Err(error) => match error.kind() {
+            ErrorKind::OutOfMemory => Err(WordsFault::NoMemory),
+            _ => Err(WordsFault::Usage),
+        },
+    }
+}

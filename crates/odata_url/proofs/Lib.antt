@@ -1,0 +1,9 @@
+pub mod CauseLemmas
+pub mod CutLemmas
+pub mod EscapeLemmas
+pub mod FaultLemmas
+pub mod OptionNameLemmas
+pub mod LawLemmas
+pub mod PrintedLemmas
+pub mod ReadLemmas
+pub mod TargetLemmas

@@ -1,0 +1,9 @@
+//! Worked cases of what a request says, over public calls alone: targets, tokens and trees.
+#![tactic(auto)]
+
+#[cfg(test)]
+mod target_cases;
+#[cfg(test)]
+mod token_cases;
+#[cfg(test)]
+mod tree_cases;

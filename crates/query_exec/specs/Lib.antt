@@ -1,0 +1,2 @@
+pub mod Rows
+pub use Rattle.table_store.specs.Table

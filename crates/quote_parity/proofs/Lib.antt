@@ -1,0 +1,6 @@
+mod WordLemmas
+mod BitLemmas
+mod KindLemmas
+mod MaskLemmas
+mod StepWords
+mod StepLemmas

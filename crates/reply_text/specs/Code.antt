@@ -1,0 +1,52 @@
+-- The codes of errors: each has a status (RFC 9110, section 15), a name and a message.
+use Rattle.std.specs.Prelude.{ℕ, List, codes}
+use Rattle.reply_text.specs.declared.code.Code.{Code}
+use Rattle.reply_text.specs.declared.code.Code.TheVariants.{BadRequest, BadHost, BadLength, NotServed, MethodNotAllowed, BadTarget, BadEscape, BadUtf8, UnknownOption, OptionTwice, NotFound, UnknownSet, OptionNotAllowed, NotAcceptable}
+
+abbrev pub status_of : Code → ℕ
+status_of BadRequest = 400
+status_of BadHost = 400
+status_of BadLength = 400
+status_of NotServed = 501
+status_of MethodNotAllowed = 405
+status_of BadTarget = 400
+status_of BadEscape = 400
+status_of BadUtf8 = 400
+status_of UnknownOption = 400
+status_of OptionTwice = 400
+status_of NotFound = 404
+status_of UnknownSet = 404
+status_of OptionNotAllowed = 400
+status_of NotAcceptable = 406
+
+abbrev pub code_name : Code → List ℕ
+code_name BadRequest = codes "BadRequest"
+code_name BadHost = codes "BadHost"
+code_name BadLength = codes "BadLength"
+code_name NotServed = codes "NotServed"
+code_name MethodNotAllowed = codes "MethodNotAllowed"
+code_name BadTarget = codes "BadTarget"
+code_name BadEscape = codes "BadEscape"
+code_name BadUtf8 = codes "BadUtf8"
+code_name UnknownOption = codes "UnknownOption"
+code_name OptionTwice = codes "OptionTwice"
+code_name NotFound = codes "NotFound"
+code_name UnknownSet = codes "UnknownSet"
+code_name OptionNotAllowed = codes "OptionNotAllowed"
+code_name NotAcceptable = codes "NotAcceptable"
+
+abbrev pub message_of : Code → List ℕ
+message_of BadRequest = codes "the request cannot be read"
+message_of BadHost = codes "the Host field is missing or repeated"
+message_of BadLength = codes "a request body is not accepted"
+message_of NotServed = codes "not served by this profile"
+message_of MethodNotAllowed = codes "only GET and HEAD are served"
+message_of BadTarget = codes "the target is not a path"
+message_of BadEscape = codes "a percent escape is broken"
+message_of BadUtf8 = codes "the target is not UTF-8"
+message_of UnknownOption = codes "unknown system option"
+message_of OptionTwice = codes "a system option stands twice"
+message_of NotFound = codes "no such resource"
+message_of UnknownSet = codes "no such table"
+message_of OptionNotAllowed = codes "the option does not fit the path"
+message_of NotAcceptable = codes "the format is not served"

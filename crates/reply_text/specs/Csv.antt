@@ -1,0 +1,44 @@
+-- Rows as CSV (RFC 4180, section 2).
+use Rattle.std.specs.Prelude.{ℕ, Bool, ◌||◌, ◌==◌, List, [], ◌∷◌, ◌++◌, length, map, if◌then◌else◌}
+use Rattle.std.specs.List.{flat_map, join_with_byte, list_any}
+use Rattle.csv_grammar.specs.Bytes.{double_quote, comma, carriage_return, line_feed}
+use Rattle.std.specs.Fmt.{signed_decimal}
+use Rattle.reply_text.specs.Value.{bool_text, day_text}
+use Rattle.cell_types.specs.Value.{CellValue, null, int, text, bool, date}
+use Rattle.query_exec.specs.Rows.{RowsOf}
+
+-- a byte that stands in double quotes alone
+abbrev pub is_quoted_byte : ℕ → Bool
+is_quoted_byte b = b == double_quote || b == comma || b == carriage_return || b == line_feed
+
+-- a text is in double quotes where it is empty or has such a byte
+abbrev pub needs_quotes : List ℕ → Bool
+needs_quotes bytes = (length bytes == 0) || list_any is_quoted_byte bytes
+
+-- a double quote is written as two
+abbrev pub doubled_byte : ℕ → List ℕ
+doubled_byte b = if b == double_quote then double_quote ∷ double_quote ∷ [] else b ∷ []
+
+abbrev pub csv_field : List ℕ → List ℕ
+csv_field bytes =
+    if needs_quotes bytes then double_quote ∷ [] ++ flat_map doubled_byte bytes ++ double_quote ∷ [] else bytes
+
+-- a value: null is nothing, and an empty text is not
+abbrev pub csv_value : CellValue → List ℕ
+csv_value null = []
+csv_value (int number) = signed_decimal number
+csv_value (text bytes) = csv_field bytes
+csv_value (bool truth) = bool_text truth
+csv_value (date year month day) = day_text year month day
+
+-- a line of fields
+abbrev pub csv_line : List (List ℕ) → List ℕ
+csv_line fields = join_with_byte comma fields ++ carriage_return ∷ line_feed ∷ []
+
+-- the line of a row
+abbrev pub row_line : List CellValue → List ℕ
+row_line values = csv_line (map csv_value values)
+
+-- the names, and then the rows, a line each
+abbrev pub csv_text : RowsOf → List ℕ
+csv_text rows = csv_line rows.names ++ flat_map row_line rows.rows

@@ -1,0 +1,86 @@
+//! The bodies of replies.
+ghost use Rattle.std.specs.Prelude.{◌≡◌, ◌++◌, OnOk, IfOk, map};
+ghost use Rattle.std.specs.List.{join_with_byte};
+ghost use Rattle.query_exec.specs.Rows.{rows_view};
+ghost use Rattle.reply_text.specs.Body.{entry_text, error_text, named_text, rows_text, service_text};
+
+use crate::code::Code;
+use crate::json::{push_comma, push_count, push_rows, push_text, push_text_member};
+use query_exec::Rows;
+use std::alloc::{AllocError, Global};
+use table_store::{Catalog, Table};
+
+/// Rows as a JSON object whose member `value` has an object for each row (OData 4.01 JSON Format, section 13).
+pub fn json_body(alloc: Global, rows: &Rows<'_>) -> Result<Vec<u8>, AllocError>
+    ensures { IfOk result (λ body. body.items ≡ rows_text (rows_view rows.now)) }
+{
+    let mut body = Vec::new(alloc);
+    body.extend_from_slice(b"{")?;
+    push_count(&mut body, rows.count)?;
+    push_text(&mut body, b"value")?;
+    body.extend_from_slice(b":[")?;
+    push_rows(&mut body, &rows.names, &rows.rows)?;
+    body.extend_from_slice(b"]}")?;
+    Ok(body)
+}
+
+/// Appends the members of an entry that say what it is.
+fn push_named(out: &mut Vec<u8>, name: &[u8]) -> Result<(), AllocError>
+    ensures { OnOk result (out.new.items ≡ out.old.items ++ named_text name.now) }
+{
+    push_text_member(out, b"name", name)?;
+    out.extend_from_slice(b",")?;
+    push_text_member(out, b"kind", b"EntitySet")
+}
+
+/// Appends the entry of a table of that name.
+fn push_entry(out: &mut Vec<u8>, name: &[u8]) -> Result<(), AllocError>
+    ensures { OnOk result (out.new.items ≡ out.old.items ++ entry_text name.now) }
+{
+    out.extend_from_slice(b"{")?;
+    push_named(out, name)?;
+    out.extend_from_slice(b",")?;
+    push_text_member(out, b"url", name)?;
+    out.extend_from_slice(b"}")
+}
+
+/// Appends the entries of tables, with a comma between each two.
+fn push_entries(out: &mut Vec<u8>, tables: &[Table]) -> Result<(), AllocError>
+    ensures { OnOk result (out.new.items ≡ out.old.items
+        ++ join_with_byte 44 (map entry_text (map (λ table. table.schema.name) tables.now))) }
+{
+    for (place, table) in tables.iter().enumerate() {
+        push_comma(out, place)?;
+        push_entry(out, table.name().as_bytes())?;
+    }
+    Ok(())
+}
+
+/// The service document: a JSON object whose member `value` has an object for each table, in the order of the metadata
+/// (OData 4.01 JSON Format, section 5).
+pub fn service_body(alloc: Global, catalog: &Catalog) -> Result<Vec<u8>, AllocError>
+    ensures { IfOk result (λ body. body.items ≡ service_text catalog.now.tables) }
+{
+    let mut body = Vec::new(alloc);
+    body.extend_from_slice(b"{")?;
+    push_text(&mut body, b"value")?;
+    body.extend_from_slice(b":[")?;
+    push_entries(&mut body, catalog.tables())?;
+    body.extend_from_slice(b"]}")?;
+    Ok(body)
+}
+
+/// An error as a JSON object with its code and message (OData 4.01 JSON Format, section 21.1).
+pub fn error_body(alloc: Global, code: Code) -> Result<Vec<u8>, AllocError>
+    ensures { IfOk result (λ body. body.items ≡ error_text code) }
+{
+    let mut body = Vec::new(alloc);
+    body.extend_from_slice(b"{")?;
+    push_text(&mut body, b"error")?;
+    body.extend_from_slice(b":{")?;
+    push_text_member(&mut body, b"code", code.name().as_bytes())?;
+    body.extend_from_slice(b",")?;
+    push_text_member(&mut body, b"message", code.message().as_bytes())?;
+    body.extend_from_slice(b"}}")?;
+    Ok(body)
+}

@@ -1,0 +1,97 @@
+//! The codes of errors.
+ghost use Rattle.std.specs.Prelude.{◌≡◌};
+ghost use Rattle.reply_text.specs.Code.{code_name, message_of, status_of};
+
+/// The codes of errors (OData 4.01 JSON Format, section 21.1), each with its status, name and message.
+#[derive(Clone, Copy, Debug, PartialEq, Eq)]
+pub enum Code {
+    /// The request cannot be read.
+    BadRequest,
+    /// The Host field is missing or repeated.
+    BadHost,
+    /// A request body is announced.
+    BadLength,
+    /// The request is outside what is served.
+    NotServed,
+    /// The method is neither GET nor HEAD.
+    MethodNotAllowed,
+    /// The target begins with neither a slash nor `http://`.
+    BadTarget,
+    /// An escape of the target is not two hexadecimal digits.
+    BadEscape,
+    /// The decoded target is not UTF-8.
+    BadUtf8,
+    /// No system option has that name.
+    UnknownOption,
+    /// A system option stands twice.
+    OptionTwice,
+    /// The path names nothing.
+    NotFound,
+    /// The path names no table.
+    UnknownSet,
+    /// The option does not fit the path.
+    OptionNotAllowed,
+    /// The format is not served.
+    NotAcceptable,
+}
+
+impl Code {
+    /// The status that a reply with this code has (RFC 9110, section 15).
+    pub fn status(self) -> u16
+        ensures { result ≡ status_of self }
+    {
+        match self {
+            Code::BadRequest | Code::BadHost | Code::BadLength => 400,
+            Code::BadTarget | Code::BadEscape | Code::BadUtf8 => 400,
+            Code::UnknownOption | Code::OptionTwice | Code::OptionNotAllowed => 400,
+            Code::NotFound | Code::UnknownSet => 404,
+            Code::MethodNotAllowed => 405,
+            Code::NotAcceptable => 406,
+            Code::NotServed => 501,
+        }
+    }
+
+    /// The name that the body has.
+    pub fn name(self) -> &'static str
+        ensures { result.now ≡ code_name self }
+    {
+        match self {
+            Code::BadRequest => "BadRequest",
+            Code::BadHost => "BadHost",
+            Code::BadLength => "BadLength",
+            Code::NotServed => "NotServed",
+            Code::MethodNotAllowed => "MethodNotAllowed",
+            Code::BadTarget => "BadTarget",
+            Code::BadEscape => "BadEscape",
+            Code::BadUtf8 => "BadUtf8",
+            Code::UnknownOption => "UnknownOption",
+            Code::OptionTwice => "OptionTwice",
+            Code::NotFound => "NotFound",
+            Code::UnknownSet => "UnknownSet",
+            Code::OptionNotAllowed => "OptionNotAllowed",
+            Code::NotAcceptable => "NotAcceptable",
+        }
+    }
+
+    /// What a reader of the reply is told.
+    pub fn message(self) -> &'static str
+        ensures { result.now ≡ message_of self }
+    {
+        match self {
+            Code::BadRequest => "the request cannot be read",
+            Code::BadHost => "the Host field is missing or repeated",
+            Code::BadLength => "a request body is not accepted",
+            Code::NotServed => "not served by this profile",
+            Code::MethodNotAllowed => "only GET and HEAD are served",
+            Code::BadTarget => "the target is not a path",
+            Code::BadEscape => "a percent escape is broken",
+            Code::BadUtf8 => "the target is not UTF-8",
+            Code::UnknownOption => "unknown system option",
+            Code::OptionTwice => "a system option stands twice",
+            Code::NotFound => "no such resource",
+            Code::UnknownSet => "no such table",
+            Code::OptionNotAllowed => "the option does not fit the path",
+            Code::NotAcceptable => "the format is not served",
+        }
+    }
+}

@@ -1,0 +1,131 @@
+//! Rows as CSV (RFC 4180, section 2), appended to one buffer in one pass.
+ghost use Rattle.std.specs.Prelude.{◌≡◌, ◌++◌, ◌||◌, ◌==◌, IfOk, OnOk, length, map};
+ghost use Rattle.std.specs.List.{flat_map, join_with_byte, list_any};
+ghost use Rattle.cell_types.specs.Value.{value_view};
+ghost use Rattle.query_exec.specs.Rows.{rows_view};
+ghost use Rattle.reply_text.specs.Csv.{csv_field, csv_line, csv_text, csv_value, doubled_byte, is_quoted_byte, needs_quotes, row_line};
+
+use crate::json::push_comma;
+use crate::value::{push_bool, push_date, push_integer};
+use cell_types::Value;
+use query_exec::Rows;
+use std::alloc::{AllocError, Global};
+
+/// Whether a byte stands in double quotes alone.
+fn is_quoted_byte(byte: u8) -> bool
+    ensures { result ≡ is_quoted_byte byte }
+{
+    byte == b'"' || byte == b',' || byte == b'\r' || byte == b'\n'
+}
+
+/// Whether a text has such a byte.
+fn has_quoted_byte(text: &[u8]) -> bool
+    ensures { result ≡ list_any is_quoted_byte text.now }
+{
+    text.iter().any(|byte| is_quoted_byte(*byte))
+}
+
+/// Whether a text stands in double quotes.
+fn needs_quotes(text: &[u8]) -> bool
+    ensures { result ≡ needs_quotes text.now }
+{
+    text.is_empty() || has_quoted_byte(text)
+}
+
+/// Appends a byte, a double quote as two.
+fn push_doubled_byte(out: &mut Vec<u8>, byte: u8) -> Result<(), AllocError>
+    ensures { OnOk result (out.new.items ≡ out.old.items ++ doubled_byte byte) }
+{
+    if byte == b'"' {
+        out.extend_from_slice(b"\"\"")
+    } else {
+        out.extend_from_slice(&[byte])
+    }
+}
+
+/// Appends a text with each of its double quotes written as two.
+fn push_doubled(out: &mut Vec<u8>, text: &[u8]) -> Result<(), AllocError>
+    ensures { OnOk result (out.new.items ≡ out.old.items ++ flat_map doubled_byte text.now) }
+{
+    for byte in text {
+        push_doubled_byte(out, *byte)?;
+    }
+    Ok(())
+}
+
+/// Appends a text, in double quotes where it needs them.
+fn push_field(out: &mut Vec<u8>, text: &[u8]) -> Result<(), AllocError>
+    ensures { OnOk result (out.new.items ≡ out.old.items ++ csv_field text.now) }
+{
+    if !needs_quotes(text) {
+        return out.extend_from_slice(text);
+    }
+    out.extend_from_slice(b"\"")?;
+    push_doubled(out, text)?;
+    out.extend_from_slice(b"\"")
+}
+
+/// Appends a value; null is nothing.
+fn push_value(out: &mut Vec<u8>, value: &Value<'_>) -> Result<(), AllocError>
+    ensures { OnOk result (out.new.items ≡ out.old.items ++ csv_value (value_view value.now)) }
+{
+    match value {
+        Value::Null => Ok(()),
+        Value::Int(number) => push_integer(out, *number),
+        Value::Text(text) => push_field(out, text.as_str().as_bytes()),
+        Value::Bool(truth) => push_bool(out, *truth),
+        Value::Date(date) => push_date(out, *date),
+    }
+}
+
+/// Appends the names, with a comma between each two.
+fn push_names(out: &mut Vec<u8>, names: &[&str]) -> Result<(), AllocError>
+    ensures { OnOk result (out.new.items ≡ out.old.items ++ join_with_byte 44 (map (λ name. name.now) names.now)) }
+{
+    for (place, name) in names.iter().enumerate() {
+        push_comma(out, place)?;
+        out.extend_from_slice(name.as_bytes())?;
+    }
+    Ok(())
+}
+
+/// Appends the values of a row, with a comma between each two.
+fn push_values(out: &mut Vec<u8>, values: &[Value<'_>]) -> Result<(), AllocError>
+    ensures { OnOk result (out.new.items ≡ out.old.items ++ join_with_byte 44 (map csv_value (map value_view values.now))) }
+{
+    for (place, value) in values.iter().enumerate() {
+        push_comma(out, place)?;
+        push_value(out, value)?;
+    }
+    Ok(())
+}
+
+/// Appends a row and its line break.
+fn push_row(out: &mut Vec<u8>, values: &[Value<'_>]) -> Result<(), AllocError>
+    ensures { OnOk result (out.new.items ≡ out.old.items ++ csv_line (map csv_value (map value_view values.now))) }
+{
+    push_values(out, values)?;
+    out.extend_from_slice(b"\r\n")
+}
+
+/// Appends rows, each with its line break.
+fn push_rows(out: &mut Vec<u8>, rows: &[Vec<Value<'_>>]) -> Result<(), AllocError>
+    ensures { OnOk result (out.new.items ≡ out.old.items
+        ++ flat_map row_line (map (λ row. map value_view row.items) rows.now)) }
+{
+    for row in rows {
+        push_row(out, row)?;
+    }
+    Ok(())
+}
+
+/// Rows as CSV: a line of the names, and a line for each row, each ended by CR LF.
+pub fn csv_body(alloc: Global, rows: &Rows<'_>) -> Result<Vec<u8>, AllocError>
+    ensures { IfOk result (λ body. body.items ≡ csv_text (rows_view rows.now)) }
+{
+    let mut body = Vec::new(alloc);
+    push_names(&mut body, &rows.names)?;
+    body.extend_from_slice(b"\r\n")?;
+    push_rows(&mut body, &rows.rows)?;
+    Ok(body)
+}

@@ -1,0 +1,191 @@
+//! The texts of JSON (RFC 8259), appended to one buffer.
+ghost use Rattle.jiff.specs.Words.{date_text};
+ghost use Rattle.std.specs.Prelude.{◌≡◌, ◌++◌, ◌∷◌, [], ◌<◌, OnOk, codes, length, map, position, unwrap_or};
+ghost use Rattle.std.specs.List.{flat_map, join_with_byte, zip};
+ghost use Rattle.std.specs.Fmt.{decimal};
+ghost use Rattle.cell_types.specs.Value.{value_view};
+ghost use Rattle.reply_text.specs.Json.{comma, escaped, hex_digit, json_count, json_member, json_row, json_text, json_value, needs_escape, quote, text_member};
+
+use crate::value::{push_bool, push_date, push_integer};
+use cell_types::Value;
+use itoa::Buffer;
+use jiff::civil::Date;
+use std::alloc::AllocError;
+
+/// A hexadecimal digit in lower case.
+fn hex_digit(n: u8) -> u8
+    requires { n < 16 }
+    ensures { result ≡ hex_digit n }
+{
+    if n < 10 { b'0' + n } else { b'a' - 10 + n }
+}
+
+/// Appends what stands for a byte in a text.
+fn push_escaped(out: &mut Vec<u8>, byte: u8) -> Result<(), AllocError>
+    ensures { OnOk result (out.new.items ≡ out.old.items ++ escaped byte) }
+{
+    match byte {
+        b'"' => out.extend_from_slice(b"\\\""),
+        b'\\' => out.extend_from_slice(b"\\\\"),
+        0x08 => out.extend_from_slice(b"\\b"),
+        0x0c => out.extend_from_slice(b"\\f"),
+        b'\n' => out.extend_from_slice(b"\\n"),
+        b'\r' => out.extend_from_slice(b"\\r"),
+        b'\t' => out.extend_from_slice(b"\\t"),
+        0x00..=0x1f => {
+            out.extend_from_slice(b"\\u00")?;
+            out.extend_from_slice(&[hex_digit(byte / 16), hex_digit(byte % 16)])
+        }
+        _ => out.extend_from_slice(&[byte]),
+    }
+}
+
+/// Whether another text stands for a byte.
+fn needs_escape(byte: u8) -> bool
+    ensures { result ≡ needs_escape byte }
+{
+    byte == b'"' || byte == b'\\' || byte < 0x20
+}
+
+/// How many bytes at the front stand for themselves.
+fn run_len(text: &[u8]) -> usize
+    ensures { result ≡ unwrap_or (position needs_escape text.now) (length text.now) }
+{
+    text.iter()
+        .position(|byte| needs_escape(*byte))
+        .unwrap_or(text.len())
+}
+
+/// Appends the inside of a text, whole runs at a time.
+fn push_inside(out: &mut Vec<u8>, text: &[u8]) -> Result<(), AllocError>
+    ensures { OnOk result (out.new.items ≡ out.old.items ++ flat_map escaped text.now) }
+{
+    let mut rest = text;
+    loop {
+        let (run, tail) = rest.split_at(run_len(rest));
+        out.extend_from_slice(run)?;
+        let Some((byte, others)) = tail.split_first() else {
+            return Ok(());
+        };
+        push_escaped(out, *byte)?;
+        rest = others;
+    }
+}
+
+/// Appends a text in quotes.
+pub fn push_text(out: &mut Vec<u8>, text: &[u8]) -> Result<(), AllocError>
+    ensures { OnOk result (out.new.items ≡ out.old.items ++ json_text text.now) }
+{
+    out.extend_from_slice(b"\"")?;
+    push_inside(out, text)?;
+    out.extend_from_slice(b"\"")
+}
+
+/// Appends a member whose value is a text.
+pub fn push_text_member(out: &mut Vec<u8>, name: &[u8], text: &[u8]) -> Result<(), AllocError>
+    ensures { OnOk result (out.new.items ≡ out.old.items ++ text_member name.now text.now) }
+{
+    push_text(out, name)?;
+    out.extend_from_slice(b":")?;
+    push_text(out, text)
+}
+
+/// Appends a date in quotes.
+fn push_quoted_date(out: &mut Vec<u8>, date: Date) -> Result<(), AllocError>
+    ensures { OnOk result (out.new.items ≡ out.old.items ++ (quote ∷ [] ++ date_text date ++ quote ∷ [])) }
+{
+    out.extend_from_slice(b"\"")?;
+    push_date(out, date)?;
+    out.extend_from_slice(b"\"")
+}
+
+/// Appends a value.
+fn push_value(out: &mut Vec<u8>, value: &Value<'_>) -> Result<(), AllocError>
+    ensures { OnOk result (out.new.items ≡ out.old.items ++ json_value (value_view value.now)) }
+{
+    match value {
+        Value::Null => out.extend_from_slice(b"null"),
+        Value::Int(number) => push_integer(out, *number),
+        Value::Text(text) => push_text(out, text.as_str().as_bytes()),
+        Value::Bool(truth) => push_bool(out, *truth),
+        Value::Date(date) => push_quoted_date(out, *date),
+    }
+}
+
+/// Appends a member of an object.
+fn push_member(out: &mut Vec<u8>, name: &str, value: &Value<'_>) -> Result<(), AllocError>
+    ensures { OnOk result (out.new.items ≡ out.old.items ++ json_member (name.now, value_view value.now)) }
+{
+    push_text(out, name.as_bytes())?;
+    out.extend_from_slice(b":")?;
+    push_value(out, value)
+}
+
+/// Appends a comma before every item but the first.
+pub fn push_comma(out: &mut Vec<u8>, place: usize) -> Result<(), AllocError>
+    ensures { OnOk result (out.new.items ≡ out.old.items ++ comma place) }
+{
+    if place == 0 {
+        Ok(())
+    } else {
+        out.extend_from_slice(b",")
+    }
+}
+
+/// Appends the members of a row, with a comma between each two.
+fn push_members(out: &mut Vec<u8>, names: &[&str], values: &[Value<'_>]) -> Result<(), AllocError>
+    ensures { OnOk result (out.new.items ≡ out.old.items
+        ++ join_with_byte 44 (map json_member (zip (map (λ name. name.now) names.now) (map value_view values.now)))) }
+{
+    for (place, (name, value)) in names.iter().zip(values).enumerate() {
+        push_comma(out, place)?;
+        push_member(out, name, value)?;
+    }
+    Ok(())
+}
+
+/// Appends a row.
+fn push_row(out: &mut Vec<u8>, names: &[&str], values: &[Value<'_>]) -> Result<(), AllocError>
+    ensures { OnOk result (out.new.items ≡ out.old.items
+        ++ json_row (map (λ name. name.now) names.now) (map value_view values.now)) }
+{
+    out.extend_from_slice(b"{")?;
+    push_members(out, names, values)?;
+    out.extend_from_slice(b"}")
+}
+
+/// Appends rows, with a comma between each two.
+pub fn push_rows(
+    out: &mut Vec<u8>,
+    names: &[&str],
+    rows: &[Vec<Value<'_>>],
+) -> Result<(), AllocError>
+    ensures { OnOk result (out.new.items ≡ out.old.items
+        ++ join_with_byte 44 (map (json_row (map (λ name. name.now) names.now)) (map (λ row. map value_view row.items) rows.now))) }
+{
+    for (place, row) in rows.iter().enumerate() {
+        push_comma(out, place)?;
+        push_row(out, names, row)?;
+    }
+    Ok(())
+}
+
+/// Appends a number in decimal digits.
+pub fn push_number(out: &mut Vec<u8>, number: u64) -> Result<(), AllocError>
+    ensures { OnOk result (out.new.items ≡ out.old.items ++ decimal number) }
+{
+    out.extend_from_slice(Buffer::new().format(number).as_bytes())
+}
+
+/// Appends the number of rows, where it was asked for.
+pub fn push_count(out: &mut Vec<u8>, count: Option<u64>) -> Result<(), AllocError>
+    ensures { OnOk result (out.new.items ≡ out.old.items ++ json_count count) }
+{
+    if let Some(count) = count {
+        push_text(out, b"@odata.count")?;
+        out.extend_from_slice(b":")?;
+        push_number(out, count)?;
+        out.extend_from_slice(b",")?;
+    }
+    Ok(())
+}

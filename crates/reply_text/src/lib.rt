@@ -1,0 +1,13 @@
+//! The bodies of replies: rows, the service document and errors as JSON (RFC 8259; OData 4.01 JSON Format), and rows as CSV (RFC 4180), each appended to one buffer in one
+//! pass. Each function gives the stated text.
+#![tactic(auto)]
+
+mod body;
+mod code;
+mod csv;
+mod json;
+mod value;
+
+pub use body::{error_body, json_body, service_body};
+pub use code::Code;
+pub use csv::csv_body;

@@ -1,0 +1,14 @@
+//! Cases of the service: replies to heads, streams in pieces, devices that fail and the bodies of rows, each over public calls alone.
+//! Expected bytes are written by hand, from the standards.
+#![tactic(auto)]
+
+#[cfg(test)]
+mod bodies;
+#[cfg(test)]
+mod devices;
+#[cfg(test)]
+mod fixture;
+#[cfg(test)]
+mod replies;
+#[cfg(test)]
+mod streams;

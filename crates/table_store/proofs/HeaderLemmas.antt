@@ -1,0 +1,60 @@
+-- A header against the columns, one cell after another.
+use Rattle.std.proofs.Common.{◌≡◌, ℕ, suc, ◌+◌, ◌<◌, ◌≤◌, Bool, true, false, cond, ◌||◌, string_bytes, List, [], ◌∷◌, length, drop, map, Option, Some, None, slice_get, refl, ap, arith}
+use Rattle.std.proofs.lemmas.List.{drop_all, length-map, length-drop}
+use Rattle.std.specs.List.{list_any}
+use Rattle.std.specs.Str.{bytes_eq}
+use Rattle.csv_grammar.specs.Records.{Field, content}
+use Rattle.csv_index.specs.Raws.{RawField, raw_content}
+use Rattle.cell_types.specs.Column.{ColumnOf, column_view}
+use Rattle.cell_types.specs.declared.column.Column.{Column}
+use Rattle.table_store.specs.Table.{mismatch_from, is_called}
+use Rattle.table_store.specs.Loading.{field_of}
+use Rattle.table_store.proofs.PlaceLemmas.{drop-from_slice_get}
+
+-- the first place from a column on that does not match
+abbrev pub other_from : ℕ → List Column → List RawField → Option ℕ
+other_from col columns fields = mismatch_from col (map column_view (drop col columns)) (map field_of (drop col fields))
+
+pub other_from-past : (columns : List Column) (fields : List RawField) (col : ℕ) (column : Column) (raw : RawField)
+    → slice_get columns col ≡ Some column → slice_get fields col ≡ Some raw → is_called (column_view column) (raw_content raw) ≡ true
+    → other_from col columns fields ≡ other_from (col + 1) columns fields
+other_from-past columns fields col column raw e f called =
+    rw (drop-from_slice_get columns col column e, drop-from_slice_get fields col raw f) (rw called refl)
+
+pub other_from-here : (columns : List Column) (fields : List RawField) (col : ℕ) (column : Column) (raw : RawField)
+    → slice_get columns col ≡ Some column → slice_get fields col ≡ Some raw → is_called (column_view column) (raw_content raw) ≡ false
+    → other_from col columns fields ≡ Some col
+other_from-here columns fields col column raw e f called =
+    rw (drop-from_slice_get columns col column e, drop-from_slice_get fields col raw f) (rw called refl)
+
+-- a header cell with no column
+pub mismatch_from-more : (place : ℕ) (fields : List Field) → 0 < length fields → mismatch_from place [] fields ≡ Some place
+mismatch_from-more place [] h = absurd (omega arith)
+mismatch_from-more place (field ∷ fields) h = refl
+
+pub other_from-long : (columns : List Column) (fields : List RawField) (col : ℕ) → length columns ≤ col → col < length fields → other_from col columns fields ≡ Some col
+other_from-long columns fields col h k =
+    let long : 0 < length (map field_of (drop col fields)) = omega (arith, length-map (drop col fields) field_of, length-drop col fields) in
+    rw (drop_all col columns h) (mismatch_from-more col (map field_of (drop col fields)) long)
+
+cond_none : (b : Bool) (rest : Option ℕ) (place : ℕ) → cond b rest (Some place) ≡ None → rest ≡ None
+cond_none true rest place e = e
+cond_none false rest place e = cc
+
+-- a header that matches has a cell for each column
+pub mismatch_from-length : (place : ℕ) (columns : List ColumnOf) (header : List Field) → mismatch_from place columns header ≡ None → length columns ≡ length header
+mismatch_from-length place [] [] e = refl
+mismatch_from-length place [] (field ∷ fields) e = cc
+mismatch_from-length place (column ∷ columns) [] e = cc
+mismatch_from-length place (column ∷ columns) (field ∷ fields) e =
+    ap suc (mismatch_from-length (place + 1) columns fields (cond_none (is_called column (content field)) (mismatch_from (place + 1) columns fields) place e))
+
+list_any-map : {X Y : Type 0} (p : Y → Bool) (f : X → Y) (xs : List X) → list_any p (map f xs) ≡ list_any (λ x. p (f x)) xs
+list_any-map p f [] = refl
+list_any-map p f (x ∷ xs) = ap (λ rest. p (f x) || rest) (list_any-map p f xs)
+
+-- a text that is not the column's name may be a title
+pub is_called-title : (column : Column) (text : List ℕ) (b : Bool) → bytes_eq (string_bytes column.name) text ≡ false
+    → b ≡ list_any (λ title. bytes_eq (string_bytes title) text) column.titles.items → b ≡ is_called (column_view column) text
+is_called-title column text b other title =
+    rw (other, list_any-map (λ t. bytes_eq t text) string_bytes column.titles.items) title

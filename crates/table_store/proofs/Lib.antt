@@ -1,0 +1,10 @@
+pub mod PlaceLemmas
+pub mod RowLemmas
+pub mod HeaderLemmas
+pub mod FieldLemmas
+pub mod InsideLemmas
+pub mod LoadingLemmas
+pub mod FileLemmas
+pub mod CatalogLemmas
+pub mod OneMeaning
+pub mod SomeMeaning

@@ -1,0 +1,11 @@
+use Rattle.std.proofs.Common.{◌∙◌}
+use Rattle.csvw_meta.specs.Schema.{schema_view}
+use Rattle.table_store.proofs.InsideLemmas.{cell-wide}
+use Rattle.table_store.proofs.table.Table.width.Goals as goal
+
+pub returns-clause-rows : goal.returns-clause-rows
+returns-clause-rows c =
+    let table = c.self.inside in
+    let wide = cell-wide (schema_view table.schema).columns table.index table.bytes.items c.self.invariant.fits c.self.invariant.width in
+    let same = c.width.ensures ∙ c.self.invariant.width in
+    rw (same, ← c.self.view_is) wide

@@ -1,0 +1,108 @@
+//! The tables of a folder.
+ghost use Rattle.std.specs.Prelude.{◌≡◌, None, IfOk, IfErr, IfSome, find, map};
+ghost use Rattle.std.specs.List.{IsDistinct};
+ghost use Rattle.std.specs.Option.{option_copied};
+ghost use Rattle.std.specs.Str.{bytes_eq};
+ghost use Rattle.csvw_meta.specs.Limits.{limits_view};
+ghost use Rattle.csvw_meta.specs.Schema.{SchemaOf, schema_view};
+ghost use Rattle.table_store.specs.File.{file_view};
+ghost use Rattle.table_store.specs.Fault.{load_cause};
+ghost use Rattle.table_store.specs.Catalog.{folder_view, HaveTables, Means, IsRefused};
+ghost use Rattle.table_store.specs.Loading.{IsFirstRefused};
+
+use crate::fault::LoadFault;
+use crate::file::{NamedFile, take_bytes};
+use crate::table::Table;
+use csvw_meta::{Limits, MetaFault, Schema, Schemas};
+use std::alloc::Global;
+use std::marker::Model;
+
+/// The tables of a folder, in the order of its metadata.
+#[derive(Drop)]
+pub struct Catalog {
+    limits: Limits,
+    tables: Vec<Table>,
+}
+
+impl Model for Catalog {
+    ghost use Rattle.table_store.specs.Catalog.{CatalogOf};
+
+    ghost Value = { CatalogOf };
+
+    ghost use Rattle.csvw_meta.specs.Limits.{limits_view};
+
+    ghost view = { λ catalog. record { limits = limits_view catalog.limits; tables = catalog.tables.items } };
+}
+
+impl Catalog {
+    /// The tables that a folder means, or the one cause why it is refused: the metadata's, or that of the first table, in the order of
+    /// the metadata, that is refused. Files that no table names are ignored; of two files with one name the first counts.
+    pub fn load(
+        alloc: Global,
+        limits: Limits,
+        meta: Vec<u8>,
+        files: Vec<NamedFile>,
+    ) -> Result<Catalog, LoadFault>
+        ensures tables { IfOk result (λ catalog. Means (folder_view limits meta.items files.items) catalog) }
+        ensures fault { IfErr result (λ e. IfSome (load_cause e) (IsRefused (folder_view limits meta.items files.items))) }
+
+        // Only want of memory has no cause.
+        ensures memory { IfErr result (λ e. load_cause e ≡ None → e ≡ LoadFault.NoMemory) }
+    {
+        let schemas = match Schemas::read(alloc, meta.as_slice(), &limits) {
+            Ok(schemas) => schemas,
+            Err(MetaFault::NoMemory) => return Err(LoadFault::NoMemory),
+            Err(fault) => return Err(LoadFault::Meta(fault)),
+        };
+        csvw_meta::accepted_schemas();
+        let tables = load_tables(alloc, limits.file, schemas.tables, files)?;
+        Ok(Catalog { limits, tables })
+    }
+
+    pub fn limits(&self) -> &Limits
+        ensures { limits_view result.now ≡ self.now.limits }
+    {
+        &self.limits
+    }
+
+    /// The tables, in the order of the metadata.
+    pub fn tables(&self) -> &[Table]
+        ensures { result.now ≡ self.now.tables }
+    {
+        self.tables.as_slice()
+    }
+
+    /// The first table of a name.
+    pub fn table(&self, name: &str) -> Option<&Table>
+        ensures { option_copied result ≡ find (λ table. bytes_eq table.schema.name name.now) self.now.tables }
+    {
+        self.tables.iter().find(|table| table.name() == name)
+    }
+}
+
+/// The tables of schemas, in order, each of a file of at most so many bytes as the limit; or why the first that is refused is.
+fn load_tables(
+    alloc: Global,
+    limit: u32,
+    schemas: Vec<Schema>,
+    files: Vec<NamedFile>,
+) -> Result<Vec<Table>, LoadFault>
+    requires { IsDistinct bytes_eq (map (λ (schema : SchemaOf). schema.url) (map schema_view schemas.items)) }
+    ensures tables { IfOk result (λ tables. HaveTables limit (map file_view files.items) (map schema_view schemas.items) tables.items) }
+    ensures fault { IfErr result (λ e. IfSome (load_cause e)
+        (IsFirstRefused limit (map file_view files.items) (map schema_view schemas.items))) }
+    ensures memory { IfErr result (λ e. load_cause e ≡ None → e ≡ LoadFault.NoMemory) }
+{
+    let mut files = files;
+    let Ok(mut tables) = Vec::with_capacity(alloc, schemas.len()) else {
+        return Err(LoadFault::NoMemory);
+    };
+    for schema in schemas {
+        let file = take_bytes(alloc, &mut files, schema.url.as_str());
+        let table = Table::load(alloc, limit, schema, file)?;
+        if tables.push(table).is_err() {
+            return Err(LoadFault::NoMemory);
+        }
+    }
+    Ok(tables)
+}

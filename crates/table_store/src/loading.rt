@@ -1,0 +1,183 @@
+//! The steps of loading a table from its file: the header against the columns, and then each cell.
+ghost use Rattle.std.specs.Prelude.{◌≡◌, ◌<◌, ◌⊎◌, None, Some, Ok, Err, IfOk, IfErr, IfNone, IfSome, length, map, option_map, string_bytes};
+ghost use Rattle.std.specs.List.{list_any};
+ghost use Rattle.std.specs.Result.{result_err};
+ghost use Rattle.std.specs.Str.{bytes_eq};
+ghost use Rattle.cell_types.specs.Value.{value_view};
+ghost use Rattle.cell_types.specs.Column.{column_view};
+ghost use Rattle.cell_types.specs.Cell.{value_of};
+ghost use Rattle.csv_index.specs.Places.{FitsFile};
+ghost use Rattle.csv_index.specs.Raws.{raw_content};
+ghost use Rattle.csvw_meta.specs.Schema.{schema_view};
+ghost use Rattle.table_store.specs.Table.{is_called as is_called_by, mismatch_from, values_from, rows_from};
+ghost use Rattle.table_store.specs.Fault.{bad_cell, cell_cause};
+ghost use Rattle.table_store.specs.Loading.{field_of, header_of, record_of, records_of, IsTableAt, table_cause, HasFileCause};
+
+use cell_types::{CellFault, Column, Value, read_text};
+use csv_index::{Index, Raw, TextFault};
+use csvw_meta::Schema;
+use std::alloc::{AllocError, Global};
+
+/// A cell that has no value. Rows and columns count from 0.
+#[derive(Clone, Copy, Debug)]
+pub struct BadCell {
+    pub row: usize,
+    pub col: usize,
+    pub fault: CellFault,
+}
+
+/// Why a table is refused.
+#[derive(Clone, Copy, Debug)]
+pub enum TableFault {
+    /// No file has the url for its name.
+    FileMissing,
+    /// The file has more bytes than the limit.
+    FileTooLarge,
+    /// The file is no table.
+    Text(TextFault),
+    /// The first place where a column and a header cell do not match or one is missing.
+    Header(usize),
+    /// The first cell that has no value.
+    Cell(BadCell),
+    /// Memory ran out.
+    NoMemory,
+}
+
+/// Whether a text is among some titles.
+fn is_title(titles: &[String], text: &str) -> bool
+    ensures { result ≡ list_any (λ title. bytes_eq (string_bytes title) text.now) titles.now }
+{
+    titles.iter().any(|title| title.as_str() == text)
+}
+
+/// Whether a header cell of a column may be that text.
+fn is_called(column: &Column, text: &str) -> bool
+    ensures { result ≡ is_called_by (column_view column.now) text.now }
+{
+    column.name.as_str() == text || is_title(column.titles.as_slice(), text)
+}
+
+/// The first place where a column and a header cell do not match or one is missing.
+fn first_mismatch(
+    alloc: Global,
+    columns: &[Column],
+    index: &Index,
+    bytes: &[u8],
+) -> Result<Option<usize>, AllocError>
+    requires { FitsFile index.now bytes.now }
+    ensures { IfOk result (λ place. place
+        ≡ mismatch_from 0 (map column_view columns.now) (map field_of (header_of index.now bytes.now))) }
+{
+    let width = index.width();
+    for (col, column) in columns.iter().enumerate() {
+        if col >= width {
+            return Ok(Some(col));
+        }
+        let text = index.header(bytes, col).text(alloc)?;
+        if !is_called(column, text.as_str()) {
+            return Ok(Some(col));
+        }
+    }
+    if columns.len() < width {
+        return Ok(Some(columns.len()));
+    }
+    Ok(None)
+}
+
+/// The value of a field in a column.
+pub fn cell_value<'a>(alloc: Global, column: &Column, raw: Raw<'a>) -> Result<Value<'a>, CellFault>
+    ensures value { IfOk result (λ value. value_of (column_view column.now)
+        (raw_content (record { bytes = raw.entry.bytes.now; quoted = raw.entry.quoted })) ≡ Ok (value_view value)) }
+    ensures fault { IfErr result (λ e. (e ≡ CellFault.NoMemory) ⊎ (value_of (column_view column.now)
+        (raw_content (record { bytes = raw.entry.bytes.now; quoted = raw.entry.quoted })) ≡ Err e)) }
+{
+    match raw.text(alloc) {
+        Ok(text) => read_text(alloc, column, text),
+        Err(_) => Err(CellFault::NoMemory),
+    }
+}
+
+/// Why a field has no value in a column, where it has none.
+fn cell_fault(alloc: Global, column: &Column, raw: Raw<'_>) -> Option<CellFault>
+    ensures value { IfNone result (result_err (value_of (column_view column.now)
+        (raw_content (record { bytes = raw.entry.bytes.now; quoted = raw.entry.quoted }))) ≡ None) }
+    ensures fault { IfSome result (λ e. (e ≡ CellFault.NoMemory) ⊎ (value_of (column_view column.now)
+        (raw_content (record { bytes = raw.entry.bytes.now; quoted = raw.entry.quoted })) ≡ Err e)) }
+{
+    cell_value(alloc, column, raw).err()
+}
+
+/// Whether each cell of a row has a value, or the first that has none.
+fn check_row(
+    alloc: Global,
+    columns: &[Column],
+    index: &Index,
+    bytes: &[u8],
+    row: usize,
+) -> Result<(), BadCell>
+    requires bytes { FitsFile index.now bytes.now }
+    requires row { row < index.now.rows }
+    requires width { length columns.now ≡ index.now.width }
+    ensures values { IfOk result (λ _. result_err (values_from 0 (map column_view columns.now)
+        (map field_of (record_of index.now bytes.now row))) ≡ None) }
+    ensures row { IfErr result (λ bad. bad.row ≡ row) }
+    ensures fault { IfErr result (λ bad. (bad.fault ≡ CellFault.NoMemory) ⊎ (result_err (values_from 0 (map column_view columns.now)
+        (map field_of (record_of index.now bytes.now row))) ≡ Some (bad.col, bad.fault))) }
+{
+    for (col, column) in columns.iter().enumerate() {
+        let raw = index.cell(bytes, row, col);
+        if let Some(fault) = cell_fault(alloc, column, raw) {
+            return Err(BadCell { row, col, fault });
+        }
+    }
+    Ok(())
+}
+
+/// Whether each cell has a value, or the first, row by row, that has none.
+fn check_rows(alloc: Global, columns: &[Column], index: &Index, bytes: &[u8]) -> Result<(), BadCell>
+    requires bytes { FitsFile index.now bytes.now }
+    requires width { length columns.now ≡ index.now.width }
+    ensures values { IfOk result (λ _. result_err (rows_from 0 (map column_view columns.now)
+        (map (map field_of) (records_of index.now bytes.now))) ≡ None) }
+    ensures fault { IfErr result (λ bad. (bad.fault ≡ CellFault.NoMemory) ⊎ (result_err (rows_from 0 (map column_view columns.now)
+        (map (map field_of) (records_of index.now bytes.now))) ≡ Some (bad.row, bad.col, bad.fault))) }
+{
+    for row in 0..index.rows() {
+        check_row(alloc, columns, index, bytes, row)?;
+    }
+    Ok(())
+}
+
+/// The fault of a table with that cell.
+fn fault_of(bad: BadCell) -> TableFault
+    ensures cause { table_cause result ≡ option_map (bad_cell bad.row bad.col) (cell_cause bad.fault) }
+    ensures memory { table_cause result ≡ None → result ≡ TableFault.NoMemory }
+{
+    match bad.fault {
+        CellFault::NoMemory => TableFault::NoMemory,
+        _ => TableFault::Cell(bad),
+    }
+}
+
+/// The places of a file that is the table of a schema, or the first thing that is wrong with it.
+pub fn read_file(alloc: Global, schema: &Schema, bytes: &[u8]) -> Result<Index, TableFault>
+    ensures read { IfOk result (λ index. IsTableAt (schema_view schema.now).columns bytes.now index) }
+    ensures fault { IfErr result (λ e. IfSome (table_cause e) (HasFileCause (schema_view schema.now) bytes.now)) }
+    ensures memory { IfErr result (λ e. table_cause e ≡ None → e ≡ TableFault.NoMemory) }
+{
+    let columns = schema.columns.as_slice();
+    let index = match Index::build(alloc, bytes) {
+        Ok(index) => index,
+        Err(TextFault::NoMemory) => return Err(TableFault::NoMemory),
+        Err(fault) => return Err(TableFault::Text(fault)),
+    };
+    match first_mismatch(alloc, columns, &index, bytes) {
+        Ok(None) => {}
+        Ok(Some(col)) => return Err(TableFault::Header(col)),
+        Err(_) => return Err(TableFault::NoMemory),
+    }
+    match check_rows(alloc, columns, &index, bytes) {
+        Ok(()) => Ok(index),
+        Err(bad) => Err(fault_of(bad)),
+    }
+}
