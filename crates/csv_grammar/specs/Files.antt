@@ -10,7 +10,7 @@ use Rattle.csv_grammar.specs.Faults.{Cause, HasFault}
 
 -- how many bytes the byte order mark at the front takes
 abbrev pub mark_len : List ℕ → ℕ
-mark_len bytes = if starts_with nat_eq bytes byte_order_mark then 3 else 0
+mark_len bytes = if starts_with nat_eq bytes byte_order_mark then length byte_order_mark else 0
 
 -- the file without that mark
 abbrev pub text_of : List ℕ → List ℕ
@@ -27,15 +27,15 @@ pub record IsTable (bytes : List ℕ) (header : List Field) (rows : List (List F
   pub widths : AllByRecursion (HasWidth (length header)) rows
 
 -- what is wrong with a file
-pub data FileFault : Type 0 where
+pub data FileCause : Type 0 where
   -- the length of the longest front that is UTF-8
-  not_utf8 : ℕ → FileFault
+  not_utf8 : ℕ → FileCause
   -- the text has no records, and why, and at which place
-  malformed : Cause → ℕ → FileFault
+  malformed : Cause → ℕ → FileCause
   -- the text has no record at all
-  no_header : FileFault
+  no_header : FileCause
   -- the first row, counted from 0, that has not as many fields as the header
-  wrong_width : ℕ → FileFault
+  wrong_width : ℕ → FileCause
 
 -- the row is the first that has not as many fields as the header
 pub record IsFirstOther (header : List Field) (rows : List (List Field)) (row : ℕ) : Type 0 where
@@ -60,7 +60,7 @@ pub record IsUneven (bytes : List ℕ) (row : ℕ) : Type 0 where
   pub first : IsFirstOther header rows row
 
 -- this is the first thing wrong with the file: in this order, the bytes, the grammar, the header, the widths
-abbrev pub IsFileFault : List ℕ → FileFault → Type 0
+abbrev pub IsFileFault : List ℕ → FileCause → Type 0
 IsFileFault bytes (not_utf8 at) = ¬ (IsUtf8 bytes) × (at ≡ utf8_valid_len bytes)
 IsFileFault bytes (malformed cause place) = IsMalformed bytes cause place
 IsFileFault bytes no_header = IsUtf8 bytes × AreRecords (text_of bytes) []

@@ -5,7 +5,7 @@ use Rattle.csv_grammar.specs.Records.{Field, CsvText, print_text, IsText, AreRec
 use Rattle.csv_grammar.specs.Faults.{Cause, unfinished, IsViable, cause_at, HasFault}
 use Rattle.csv_grammar.specs.Structure.{Role, separator, record_end, text_roles, AreRoles}
 use Rattle.csv_grammar.specs.Following.{carry_of, may_follow, may_end, following_role}
-use Rattle.csv_grammar.specs.Files.{FileFault, IsFileFault, IsTable}
+use Rattle.csv_grammar.specs.Files.{FileCause, IsFileFault, IsTable}
 
 -- a text has at most one list of records
 abbrev pub OneListOfRecords : Type 0
@@ -26,8 +26,8 @@ OneTable = (bytes : List ℕ) (header other : List Field) (rows others : List (L
 
 -- one thing at most is the first that is wrong with a file, and nothing is wrong with a table
 pub record OneFileFault : Type 0 where
-  pub one : (bytes : List ℕ) (f g : FileFault) → IsFileFault bytes f → IsFileFault bytes g → f ≡ g
-  pub none : (bytes : List ℕ) (header : List Field) (rows : List (List Field)) (f : FileFault) → IsTable bytes header rows → ¬ (IsFileFault bytes f)
+  pub one : (bytes : List ℕ) (f g : FileCause) → IsFileFault bytes f → IsFileFault bytes g → f ≡ g
+  pub none : (bytes : List ℕ) (header : List Field) (rows : List (List Field)) (f : FileCause) → IsTable bytes header rows → ¬ (IsFileFault bytes f)
 
 -- the structural places of a text that some continuation brings into the grammar
 pub record OneStructure : Type 0 where
@@ -63,4 +63,4 @@ pub record WhatFollows : Type 0 where
 
 -- a file is a table, or something is wrong with it
 abbrev pub TableOrFault : Type 0
-TableOrFault = (bytes : List ℕ) → ((header : List Field) × (rows : List (List Field)) × IsTable bytes header rows) ⊎ ((f : FileFault) × IsFileFault bytes f)
+TableOrFault = (bytes : List ℕ) → ((header : List Field) × (rows : List (List Field)) × IsTable bytes header rows) ⊎ ((f : FileCause) × IsFileFault bytes f)

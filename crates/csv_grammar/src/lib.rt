@@ -1,9 +1,13 @@
 //! The grammar of CSV files (RFC 4180, section 2), as definitions that the crates above cite: the records of a text, the fault
-//! of a text, the content of a field, the table that a file is, and what is first wrong with a file. The functions here are
-//! the laws of these definitions: each is a theorem, and does nothing.
+//! of a text, the content of a field, the table that a file is, and what is first wrong with a file. [`mark_len`] is what all
+//! readers of a file begin with. The other functions here are the laws of these definitions: each is a theorem, and does nothing.
 #![tactic(auto)]
 
 ghost use Rattle.csv_grammar.specs.Laws.{OneListOfRecords, RecordsOrFault, OneFault, OneTable, OneFileFault, OneStructure, TableOrFault, WhatFollows};
+
+mod files;
+
+pub use files::mark_len;
 
 /// A text has at most one list of records.
 pub fn one_list_of_records()

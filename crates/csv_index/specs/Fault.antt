@@ -2,12 +2,12 @@
 use Rattle.std.specs.Prelude.{ℕ, List, ◌++◌, codes, Option, None, Some}
 use Rattle.std.specs.Fmt.{decimal}
 use Rattle.csv_grammar.specs.Faults.{bare_cr, stray_quote, after_quote, unfinished}
-use Rattle.csv_grammar.specs.Files.{FileFault, not_utf8, malformed, no_header, wrong_width}
+use Rattle.csv_grammar.specs.Files.{FileCause, not_utf8, malformed, no_header, wrong_width}
 use Rattle.csv_index.specs.declared.fault.TextFault.{TextFault}
 use Rattle.csv_index.specs.declared.fault.TextFault.TheVariants.{NotUtf8, BareCr, StrayQuote, AfterQuote, Unfinished, NoHeader, Width, NoMemory}
 
 -- what is wrong with the file; nothing, where memory ran out
-abbrev pub text_cause : TextFault → Option FileFault
+abbrev pub text_cause : TextFault → Option FileCause
 text_cause (NotUtf8 at) = Some (not_utf8 at)
 text_cause (BareCr at) = Some (malformed bare_cr at)
 text_cause (StrayQuote at) = Some (malformed stray_quote at)

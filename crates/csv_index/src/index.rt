@@ -2,7 +2,7 @@
 ghost use Rattle.std.specs.Prelude.{◌≡◌, ◌≤◌, ◌<◌, ◌+◌, ◌*◌, List, Some, IfOk, IfErr, IfSome, IsUtf8, slice_get, slice_range, length, drop, map};
 ghost use Rattle.std.specs.List.{flat_map};
 ghost use Rattle.csv_grammar.specs.Records.{Field};
-ghost use Rattle.csv_grammar.specs.Files.{IsFileFault, mark_len};
+ghost use Rattle.csv_grammar.specs.Files.{IsFileFault};
 ghost use Rattle.csv_index.specs.Raws.{raw_of};
 ghost use Rattle.csv_index.specs.Places.{FitsFile, IsIndexOf, raws, header_at, cell_at, start_at};
 ghost use Rattle.csv_index.specs.Fault.{text_cause};
@@ -13,11 +13,10 @@ use crate::fault::TextFault;
 use crate::fields::Fields;
 use crate::raw::Raw;
 use crate::structure::Structure;
+use csv_grammar::mark_len;
 use lane_class::BLOCK;
 use std::alloc::Global;
 use std::marker::Model;
-
-const BYTE_ORDER_MARK: [u8; 3] = [0xEF, 0xBB, 0xBF];
 
 /// Where each field of a file stands.
 #[derive(Drop)]
@@ -209,16 +208,5 @@ fn check_text(bytes: &[u8]) -> Result<(), TextFault>
         Err(e) => Err(TextFault::NotUtf8 {
             at: e.valid_up_to(),
         }),
-    }
-}
-
-/// How many bytes the byte order mark at the front takes (RFC 3629, section 6).
-fn mark_len(bytes: &[u8]) -> usize
-    ensures { result ≡ mark_len bytes.now }
-{
-    if bytes.starts_with(&BYTE_ORDER_MARK) {
-        3
-    } else {
-        0
     }
 }

@@ -16,6 +16,7 @@ use crate::members::has;
 use crate::refusal::{Refusal, ensure};
 use crate::schema::Schema;
 use crate::table::{check_table, make_table};
+use csv_grammar::mark_len;
 use serde_json::Value;
 use std::alloc::{AllocError, Global};
 
@@ -32,10 +33,7 @@ pub struct Schemas {
 fn text(bytes: &[u8]) -> &[u8]
     ensures { result.now ≡ text_of bytes.now }
 {
-    match bytes.strip_prefix(b"\xef\xbb\xbf") {
-        Some(text) => text,
-        None => bytes,
-    }
+    &bytes[mark_len(bytes)..]
 }
 
 /// The value that the bytes are.

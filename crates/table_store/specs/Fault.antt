@@ -1,7 +1,7 @@
 -- Why a folder is refused, and the text of it.
 use Rattle.std.specs.Prelude.{ℕ, List, ◌++◌, codes, Option, None, Some, option_map, string_bytes}
 use Rattle.std.specs.Fmt.{decimal}
-use Rattle.csv_grammar.specs.Files.{FileFault}
+use Rattle.csv_grammar.specs.Files.{FileCause}
 use Rattle.csv_index.specs.Fault.{text_cause, text_fault_text}
 use Rattle.cell_types.specs.declared.cell.CellFault.{CellFault}
 use Rattle.cell_types.specs.declared.cell.CellFault.TheVariants as cell
@@ -14,7 +14,7 @@ use Rattle.table_store.specs.declared.fault.LoadFault.TheVariants.{Meta, FileMis
 pub data TableCause : Type 0 where
   file_missing : TableCause
   file_too_large : TableCause
-  bad_text : FileFault → TableCause
+  bad_text : FileCause → TableCause
   -- the first place where a column and a header cell do not match or one is missing
   bad_header : ℕ → TableCause
   -- the first cell, row by row, that has no value, by its row and column, and why

@@ -5,7 +5,7 @@ use Rattle.std.proofs.lemmas.Bool.{cases_order}
 use Rattle.std.proofs.lemmas.Option.{same_Some, none-some}
 use Rattle.csv_grammar.specs.Records.{Field}
 use Rattle.csv_grammar.specs.Faults.{Cause}
-use Rattle.csv_grammar.specs.Files.{mark_len, text_of, HasWidth, IsTable, FileFault, not_utf8, malformed, no_header, wrong_width, IsFirstOther, IsMalformed, IsUneven, IsFileFault}
+use Rattle.csv_grammar.specs.Files.{mark_len, text_of, HasWidth, IsTable, FileCause, not_utf8, malformed, no_header, wrong_width, IsFirstOther, IsMalformed, IsUneven, IsFileFault}
 use Rattle.csv_grammar.proofs.Viable.{records_unique, fault_unique}
 use Rattle.csv_grammar.proofs.one_file_fault.Goals as goal
 
@@ -50,7 +50,7 @@ same_malformed bytes c d p q one two =
     let same = fault_unique (text_of bytes) one.in_text two.in_text c d one.fault two.fault in
     ap₂ malformed same.1 (one.counted ∙ (ap (λ n. mark_len bytes + n) same.0 ∙ sym two.counted))
 
-same_fault : (bytes : List ℕ) (f g : FileFault) → IsFileFault bytes f → IsFileFault bytes g → f ≡ g
+same_fault : (bytes : List ℕ) (f g : FileCause) → IsFileFault bytes f → IsFileFault bytes g → f ≡ g
 same_fault bytes (not_utf8 p) (not_utf8 q) one two = ap not_utf8 (one.1 ∙ sym two.1)
 same_fault bytes (not_utf8 p) (malformed d q) one two = absurd (one.0 two.utf8)
 same_fault bytes (not_utf8 p) no_header one two = absurd (one.0 two.0)
@@ -71,7 +71,7 @@ same_fault bytes (wrong_width p) no_header one two =
 same_fault bytes (wrong_width p) (wrong_width q) one two = ap wrong_width (same_row bytes p q one two)
 
 -- nothing is wrong with a table
-no_fault : (bytes : List ℕ) (header : List Field) (rows : List (List Field)) (f : FileFault) → IsTable bytes header rows → ¬ (IsFileFault bytes f)
+no_fault : (bytes : List ℕ) (header : List Field) (rows : List (List Field)) (f : FileCause) → IsTable bytes header rows → ¬ (IsFileFault bytes f)
 no_fault bytes header rows (not_utf8 p) table fault = fault.0 table.utf8
 no_fault bytes header rows (malformed c p) table fault = fault.fault.outside (header ∷ rows) table.are
 no_fault bytes header rows no_header table fault =

@@ -6,7 +6,7 @@ use Rattle.std.specs.Str.Lossy.{utf8_valid_len}
 use Rattle.std.proofs.lemmas.Bool.{cases_order}
 use Rattle.std.proofs.lemmas.Str.{IsUtf8-from_is_utf8, is_utf8-from_IsUtf8}
 use Rattle.csv_grammar.specs.Records.{Field, AreRecords}
-use Rattle.csv_grammar.specs.Files.{mark_len, text_of, HasWidth, IsTable, FileFault, not_utf8, malformed, no_header, wrong_width, IsFirstOther, IsFileFault}
+use Rattle.csv_grammar.specs.Files.{mark_len, text_of, HasWidth, IsTable, FileCause, not_utf8, malformed, no_header, wrong_width, IsFirstOther, IsFileFault}
 use Rattle.csv_grammar.proofs.Viable.{records_or_stop}
 use Rattle.csv_grammar.proofs.table_or_fault.Goals as goal
 
@@ -31,7 +31,7 @@ rows_or_other header (fields ∷ rows) =
     ]
 
 of_records : (bytes : List ℕ) (records : List (List Field)) → IsUtf8 bytes → AreRecords (text_of bytes) records
-    → ((header : List Field) × (rows : List (List Field)) × IsTable bytes header rows) ⊎ ((f : FileFault) × IsFileFault bytes f)
+    → ((header : List Field) × (rows : List (List Field)) × IsTable bytes header rows) ⊎ ((f : FileCause) × IsFileFault bytes f)
 of_records bytes [] utf8 are = inr (no_header, (utf8, are))
 of_records bytes (header ∷ rows) utf8 are =
     elim (rows_or_other header rows) [
@@ -40,7 +40,7 @@ of_records bytes (header ∷ rows) utf8 are =
     ]
 
 of_text : (bytes : List ℕ) (test : Bool) → is_utf8 bytes ≡ test
-    → ((header : List Field) × (rows : List (List Field)) × IsTable bytes header rows) ⊎ ((f : FileFault) × IsFileFault bytes f)
+    → ((header : List Field) × (rows : List (List Field)) × IsTable bytes header rows) ⊎ ((f : FileCause) × IsFileFault bytes f)
 of_text bytes false e = inr (not_utf8 (utf8_valid_len bytes), ((λ utf8. let t : true ≡ false = sym (is_utf8-from_IsUtf8 bytes utf8) ∙ e in cc), refl))
 of_text bytes true e =
     let utf8 = IsUtf8-from_is_utf8 bytes e in

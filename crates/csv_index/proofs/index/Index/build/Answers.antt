@@ -7,13 +7,13 @@ use Rattle.csv_index.proofs.index.Index.build.Goals as goal
 
 pub of-requires-clause-boundary : goal.of-requires-clause-boundary
 of-requires-clause-boundary c =
-    subst (IsCharBoundary c.args.bytes.now) (sym c.mark_len-start.ensures) (mark_boundary c.args.bytes.now c.in_ok-check_text.ensures.utf8)
+    subst (IsCharBoundary c.args.bytes.now) (sym c.mark_len-start.ensures.mark) (mark_boundary c.args.bytes.now c.in_ok-check_text.ensures.utf8)
 
 pub returns-in_err-structure-clause-fault : goal.returns-in_err-structure-clause-fault
 returns-in_err-structure-clause-fault c =
     let p = err_from_is_err_and c.from_residual-in_err-structure.result c.from_residual-in_err-structure.ensures.1 in
     rw (p.1, p.2) (text_fault c.args.bytes.now c.mark_len-start.result c.in_err-structure.field-0.0 c.in_ok-check_text.ensures.utf8
-    c.mark_len-start.ensures c.in_err-structure.ensures.fault)
+    c.mark_len-start.ensures.mark c.in_err-structure.ensures.fault)
 
 pub invariant_of-result : goal.invariant_of-result
 invariant_of-result c =
@@ -25,5 +25,5 @@ invariant_of-result c =
 
 pub returns-clause-table : goal.returns-clause-table
 returns-clause-table c =
-    index_of c.args.bytes.now c.mark_len-start.result _ _ _ c.in_ok-check_text.ensures.utf8 c.mark_len-start.ensures
+    index_of c.args.bytes.now c.mark_len-start.result _ _ _ c.in_ok-check_text.ensures.utf8 c.mark_len-start.ensures.mark
     c.in_ok-structure.ensures.records c.in_default.is c.if-widths-eq0.false
