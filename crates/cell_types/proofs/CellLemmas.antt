@@ -1,5 +1,5 @@
--- What a definition of cells never answers.
-use Rattle.std.proofs.Common.{◌≢◌, ◌&&◌, ℕ, pos, List, true, false, cond, Ok, Err, Result}
+-- What a definition of cells answers, and what it never does.
+use Rattle.std.proofs.Common.{◌≡◌, ◌≢◌, ◌&&◌, ℕ, pos, List, Bool, true, false, cond, Ok, Err, Result, refl, subst, sym}
 use Rattle.std.specs.List.{list_any}
 use Rattle.std.specs.Str.{bytes_eq}
 use Rattle.std.specs.Str.Parse.{signed_digits_value}
@@ -13,8 +13,11 @@ use Rattle.cell_types.specs.Column.{ColumnOf}
 use Rattle.cell_types.specs.Datatype.{DatatypeOf, integer, string, boolean, date}
 use Rattle.cell_types.specs.Date.{date_of, date_text, day_place, is_date, month_place, number_at, year_place}
 use Rattle.cell_types.specs.Integer.{fits_64_bits, integer_of, is_integer}
+use Rattle.cell_types.specs.Laws.{IsOfColumn, IsOfDatatype, ValuesFitColumns}
 use Rattle.cell_types.specs.Value as value
 use Rattle.cell_types.specs.Value.{CellValue}
+use Rattle.cell_types.proofs.DateLemmas.{date_of-only}
+use Rattle.cell_types.proofs.IntegerLemmas.{integer_of-only}
 
 abbrev NeedsNone : Result CellValue CellFault → Type 0
 NeedsNone r = r ≢ Err NoMemory
@@ -57,3 +60,53 @@ content_value-memory column bytes =
 
 pub value_of-memory : (column : ColumnOf) (bytes : List ℕ) → NeedsNone (value_of column bytes)
 value_of-memory column bytes = content_value-memory column (content_of column.datatype bytes)
+
+abbrev reads_as : CellValue → Result CellValue CellFault
+reads_as v = Ok v
+
+same_value : (a b : CellValue) → reads_as a ≡ reads_as b → a ≡ b
+same_value a b e = cc
+
+boolean_of-fits : (ts fs : List (List ℕ)) (bytes : List ℕ) (v : CellValue) → boolean_of ts fs bytes ≡ Ok v → IsOfDatatype (boolean ts fs) v
+boolean_of-fits ts fs bytes v =
+    let is_false = list_any (λ other. bytes_eq other bytes) fs in
+    let P : Result CellValue CellFault → Type 0 = λ r. r ≡ Ok v → IsOfDatatype (boolean ts fs) v in
+    let of = λ (b : Bool) (e : value.bool b ≡ v). subst (IsOfDatatype (boolean ts fs)) e tt in
+    cond_both (list_any (λ other. bytes_eq other bytes) ts) (Ok (value.bool true)) (cond is_false (Ok (value.bool false)) (Err NotBoolean)) P
+    (λ _ e. of true (same_value (value.bool true) v e))
+    (λ _. cond_both is_false (Ok (value.bool false)) (Err NotBoolean) P (λ _ e. of false (same_value (value.bool false) v e)) (λ _ e. absurd (cc)))
+
+typed_value-fits : (datatype : DatatypeOf) (bytes : List ℕ) (v : CellValue) → typed_value datatype bytes ≡ Ok v → IsOfDatatype datatype v
+typed_value-fits integer bytes v e = let is = integer_of-only bytes v e in subst (IsOfDatatype integer) (sym is.2) is.1
+typed_value-fits string bytes v e = subst (IsOfDatatype string) (same_value (value.text bytes) v e) tt
+typed_value-fits (boolean ts fs) bytes v e = boolean_of-fits ts fs bytes v e
+typed_value-fits (date form) bytes v e =
+    let is = date_of-only form bytes v e in
+    subst (IsOfDatatype (date form)) (sym is.4) (is.0, refl, is.3.0)
+
+-- null is of no datatype
+no_null : (datatype : DatatypeOf) → IsOfDatatype datatype value.null → ⊥
+no_null integer h = h
+no_null string h = h
+no_null (boolean ts fs) h = h
+no_null (date form) h = h
+
+of_datatype : (column : ColumnOf) (v : CellValue) → IsOfDatatype column.datatype v → IsOfColumn column v
+of_datatype column value.null h = absurd (no_null column.datatype h)
+of_datatype column (value.int z) h = h
+of_datatype column (value.text t) h = h
+of_datatype column (value.bool b) h = h
+of_datatype column (value.date y m d) h = h
+
+null_reading-fits : (column : ColumnOf) (v : CellValue) → null_reading column ≡ Ok v → IsOfColumn column v
+null_reading-fits column v =
+    cond_both column.required (Err Missing) (Ok value.null) (λ r. r ≡ Ok v → IsOfColumn column v)
+    (λ _ e. absurd (cc))
+    (λ is e. subst (IsOfColumn column) (same_value value.null v e) is)
+
+pub value_of-fits : ValuesFitColumns
+value_of-fits column bytes v =
+    let content = text_or_default column (content_of column.datatype bytes) in
+    cond_both (is_null_text column content) (null_reading column) (typed_value column.datatype content) (λ r. r ≡ Ok v → IsOfColumn column v)
+    (λ _ e. null_reading-fits column v e)
+    (λ _ e. of_datatype column v (typed_value-fits column.datatype content v e))

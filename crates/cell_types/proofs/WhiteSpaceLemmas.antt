@@ -7,7 +7,8 @@ use Rattle.std.proofs.lemmas.Bool.{and_parts, not-true, and_left, and_right, cas
 use Rattle.std.proofs.lemmas.Bool.Decides.{nat_tests}
 use Rattle.std.proofs.lemmas.List.{append_assoc, length-take-le, length-drop, get_or-drop}
 use Rattle.std.proofs.Math.ListN.{drop_of_length-le}
-use Rattle.std.proofs.lemmas.List.Splits.{length-slice_split, slice_split-cons_yes, slice_split_none, slice_split_first}
+use Rattle.std.proofs.lemmas.List.Elements.{All-from_recursion}
+use Rattle.std.proofs.lemmas.List.Splits.{length-slice_split, slice_split-cons_yes, slice_split_at, slice_split_none, slice_split_first}
 use Rattle.std.proofs.lemmas.List.Sums.{prefix_len_passes, prefix_len_stops, prefix_len-le-length, passes_at_first, fails_before_first}
 use Rattle.std.proofs.lemmas.Str.{IsCharBoundary-start, IsCharBoundary-after_ascii}
 use Rattle.cell_types.specs.WhiteSpace.{is_white, is_word, words, normal_text}
@@ -302,3 +303,22 @@ pub normal_text-spaces : (bytes : List ℕ) (k : ℕ) → k < length (normal_tex
 normal_text-spaces bytes k inside white =
     let at = spaced-at true (normal_text bytes) (spaced-normal_text bytes (omega arith)) k inside white in
     (at.0, at.1 refl, at.2, at.3)
+
+plain-all : (w : List ℕ) → IsPlain w → All (λ b. is_white b ≡ false) w
+plain-all w h = All-from_recursion (λ b. is_white b ≡ false) w h
+
+words-join : (w : List ℕ) (ws : List (List ℕ)) → AreWords (w ∷ ws) → words (join_with_byte 32 (w ∷ ws)) ≡ w ∷ ws
+unfolding words
+words-join w [] h = rw (slice_split_none is_white w (plain-all w h.0.1), h.0.0) refl
+words-join w (v ∷ ws) h =
+    rw (slice_split_at is_white w 32 (join_with_byte 32 (v ∷ ws)) (plain-all w h.0.1) refl, h.0.0) (ap (λ rest. w ∷ rest) (words-join v ws h.1))
+
+words-join_of : (ws : List (List ℕ)) → AreWords ws → words (join_with_byte 32 ws) ≡ ws
+unfolding words
+words-join_of [] h = refl
+words-join_of (w ∷ ws) h = words-join w ws h
+
+-- a normal text has the words of the text
+pub words-normal_text : (bytes : List ℕ) → words (normal_text bytes) ≡ words bytes
+unfolding normal_text words
+words-normal_text bytes = words-join_of (words bytes) (words-filter (slice_split is_white bytes) (plain-split bytes))

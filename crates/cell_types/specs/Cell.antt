@@ -1,5 +1,5 @@
 -- How a column reads its cells (Model for Tabular Data and Metadata on the Web, section 6.4).
-use Rattle.std.specs.Prelude.{◌≡◌, ℕ, Bool, List, ◌==◌, ◌<◌, length, if◌then◌else◌, Result, Ok, Err, codes}
+use Rattle.std.specs.Prelude.{◌≡◌, ◌≢◌, ℕ, Bool, false, List, ◌==◌, ◌<◌, length, if◌then◌else◌, Result, Ok, Err, codes}
 use Rattle.std.specs.List.{list_any}
 use Rattle.std.specs.Str.{bytes_eq}
 use Rattle.cell_types.specs.declared.cell.CellFault.{CellFault}
@@ -46,10 +46,15 @@ content_value column bytes = let content = text_or_default column bytes in
 abbrev pub value_of : ColumnOf → List ℕ → Result CellValue CellFault
 value_of column bytes = content_value column (content_of column.datatype bytes)
 
--- no memory is needed for a `string` that is not empty, nor for a normal text of another datatype
-abbrev pub NeedsNoMemory : DatatypeOf → List ℕ → Type 0
-NeedsNoMemory string bytes = 0 < length bytes
-NeedsNoMemory _ bytes = normal_text bytes ≡ bytes
+-- a text is copied: an empty `string` where a default that is neither empty nor null takes its place, and a text of another
+-- datatype that is not normal
+abbrev pub IsCopied : DatatypeOf → ColumnOf → List ℕ → Type 0
+IsCopied string column bytes = (length bytes ≡ 0) × (0 < length column.default) × (is_null_text column column.default ≡ false)
+IsCopied _ column bytes = normal_text bytes ≢ bytes
+
+-- memory is needed for a text of a column only where it is copied
+abbrev pub NeedsMemory : ColumnOf → List ℕ → Type 0
+NeedsMemory column bytes = IsCopied column.datatype column bytes
 
 -- a value that was read, or a fault
 abbrev pub reading_view : Result Value CellFault → Result CellValue CellFault
@@ -57,10 +62,10 @@ reading_view (Ok value) = Ok (value_view value)
 reading_view (Err fault) = Err fault
 
 -- the name of a fault in a message
-abbrev pub fault_name : CellFault → List ℕ
-fault_name NotInteger = codes "NotInteger"
-fault_name OutOfRange = codes "OutOfRange"
-fault_name NotBoolean = codes "NotBoolean"
-fault_name NotDate = codes "NotDate"
-fault_name Missing = codes "Missing"
-fault_name NoMemory = codes "NoMemory"
+abbrev pub cell_fault_name : CellFault → List ℕ
+cell_fault_name NotInteger = codes "NotInteger"
+cell_fault_name OutOfRange = codes "OutOfRange"
+cell_fault_name NotBoolean = codes "NotBoolean"
+cell_fault_name NotDate = codes "NotDate"
+cell_fault_name Missing = codes "Missing"
+cell_fault_name NoMemory = codes "NoMemory"

@@ -10,17 +10,21 @@ use Rattle.cell_types.specs.declared.cell.CellFault.TheVariants.{NoMemory}
 use Rattle.cell_types.specs.declared.datatype.DateForm.{DateForm}
 use Rattle.cell_types.specs.Cell.{value_of}
 use Rattle.cell_types.specs.Column.{ColumnOf}
+use Rattle.cell_types.specs.Datatype as datatype
+use Rattle.cell_types.specs.Datatype.{DatatypeOf}
 use Rattle.cell_types.specs.Date.{IsDateText, date_of, date_text, is_date}
 use Rattle.cell_types.specs.Integer.{integer_of}
-use Rattle.cell_types.specs.Value.{CellValue, date, int, null, value_cmp, value_eq}
-use Rattle.cell_types.specs.WhiteSpace.{is_white, normal_text}
+use Rattle.cell_types.specs.Value.{CellValue, bool, date, int, null, text, value_cmp, value_eq}
+use Rattle.cell_types.specs.WhiteSpace.{is_white, normal_text, words}
 
 -- a text in a column has a value or one of five causes: want of memory is none of them
 abbrev pub MemoryIsNoCause : Type 0
 MemoryIsNoCause = (column : ColumnOf) (bytes : List ℕ) → value_of column bytes ≢ Err NoMemory
 
--- each white space of a normalized text is one space, and stands between two bytes that are none; to normalize it again changes nothing
+-- a normalized text has the same words; each of its white spaces is one space, and stands between two bytes that are none; to
+-- normalize it again changes nothing
 pub record NormalTexts : Type 0 where
+  pub same : (bytes : List ℕ) → words (normal_text bytes) ≡ words bytes
   pub again : (bytes : List ℕ) → normal_text (normal_text bytes) ≡ normal_text bytes
   pub spaces : (bytes : List ℕ) (k : ℕ) → k < length (normal_text bytes) → is_white (slice_index (normal_text bytes) k) ≡ true
       → (slice_index (normal_text bytes) k ≡ 32) × (0 < k) × (k + 1 < length (normal_text bytes)) × (is_white (slice_index (normal_text bytes) (k + 1)) ≡ false)
@@ -42,3 +46,20 @@ pub record ValuesAreOrdered : Type 0 where
   pub total : IsTotalOrder value_cmp
   pub same : (a b : CellValue) → value_cmp a b ≡ Equal → a ≡ b
   pub null_first : (a : CellValue) → a ≢ null → value_cmp null a ≡ Less
+
+-- a value of a datatype: an integer of 64 signed bits, a text, a truth value, a day of the calendar in the years 1 to 9999
+abbrev pub IsOfDatatype : DatatypeOf → CellValue → Type 0
+IsOfDatatype datatype.integer (int z) = FitsSigned w64 z
+IsOfDatatype datatype.string (text t) = Unit {0}
+IsOfDatatype (datatype.boolean of_true of_false) (bool b) = Unit {0}
+IsOfDatatype (datatype.date form) (date year month day) = (y : ℕ) × (year ≡ pos y) × (is_date y month day ≡ true)
+IsOfDatatype _ _ = ⊥
+
+-- a value that a column may have: null where it does not require one, or a value of its datatype
+abbrev pub IsOfColumn : ColumnOf → CellValue → Type 0
+IsOfColumn column null = column.required ≡ false
+IsOfColumn column value = IsOfDatatype column.datatype value
+
+-- the value of each text in a column is one that the column may have
+abbrev pub ValuesFitColumns : Type 0
+ValuesFitColumns = (column : ColumnOf) (bytes : List ℕ) (value : CellValue) → value_of column bytes ≡ Ok value → IsOfColumn column value

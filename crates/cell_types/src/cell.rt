@@ -6,7 +6,7 @@ ghost use Rattle.std.specs.Cow.{cow_str_bytes};
 ghost use Rattle.cell_types.specs.Datatype.{datatype_view, string};
 ghost use Rattle.cell_types.specs.Column.{column_view};
 ghost use Rattle.cell_types.specs.Value.{value_view, text as text_value};
-ghost use Rattle.cell_types.specs.Cell.{NeedsNoMemory, content_value, fault_name, is_null_text as is_null_text_of, null_reading, reading_view, text_or_default as text_or_default_of, value_of};
+ghost use Rattle.cell_types.specs.Cell.{NeedsMemory, cell_fault_name, content_value, is_null_text as is_null_text_of, null_reading, reading_view, text_or_default as text_or_default_of, value_of};
 
 use crate::boolean::read_boolean;
 use crate::column::Column;
@@ -38,7 +38,7 @@ pub enum CellFault {
 impl CellFault {
     /// Its name, as messages have it.
     pub fn name(&self) -> &'static str
-        ensures { result.now ≡ fault_name self.now }
+        ensures { result.now ≡ cell_fault_name self.now }
     {
         match self {
             CellFault::NotInteger => "NotInteger",
@@ -87,17 +87,17 @@ fn text_or_default<'a>(column: &'a Column, text: &'a str) -> &'a str
     }
 }
 
-/// The value of a text in a column of texts. Memory is taken only where the default stands in for an empty text.
+/// The value of a text in a column of texts. Memory is taken only where a default that is no null stands in for an empty text.
 fn read_string<'a>(alloc: Global, column: &Column, text: CowStr<'a>) -> Result<Value<'a>, CellFault>
     requires { datatype_view column.now.datatype ≡ string }
     ensures value { IfOk result (λ value. content_value (column_view column.now) (cow_str_bytes text.entry) ≡ Ok (value_view value)) }
     ensures fault { IfErr result (λ e. (e ≡ CellFault.NoMemory) ⊎ (content_value (column_view column.now) (cow_str_bytes text.entry) ≡ Err e)) }
-    ensures no_memory_needed { 0 < length (cow_str_bytes text.entry) → ¬ (IsErrOf result CellFault.NoMemory) }
+    ensures memory { IsErrOf result CellFault.NoMemory → NeedsMemory (column_view column.now) (cow_str_bytes text.entry) }
 {
     if is_null_text(column, text_or_default(column, text.as_str())) {
         return null_value(column);
     }
-    if text.as_str().is_empty() {
+    if text.as_str().is_empty() && !column.default.is_empty() {
         return match String::from_str(alloc, column.default.as_str()) {
             Ok(copy) => Ok(Value::Text(CowStr::Owned(copy))),
             Err(_) => Err(CellFault::NoMemory),
@@ -124,7 +124,7 @@ fn read_content<'a>(column: &Column, text: &str) -> Result<Value<'a>, CellFault>
 }
 
 /// The value of a text in a column (Model for Tabular Data and Metadata on the Web, section 6.4). Memory is taken only where a text
-/// must be normalized, or where a column's default stands in for an empty `string`.
+/// must be normalized, or where a default that is no null stands in for an empty `string`.
 pub fn read_text<'a>(
     alloc: Global,
     column: &Column,
@@ -132,7 +132,7 @@ pub fn read_text<'a>(
 ) -> Result<Value<'a>, CellFault>
     ensures value { IfOk result (λ value. value_of (column_view column.now) (cow_str_bytes text.entry) ≡ Ok (value_view value)) }
     ensures fault { IfErr result (λ e. (e ≡ CellFault.NoMemory) ⊎ (value_of (column_view column.now) (cow_str_bytes text.entry) ≡ Err e)) }
-    ensures no_memory_needed { NeedsNoMemory (datatype_view column.now.datatype) (cow_str_bytes text.entry) → ¬ (IsErrOf result CellFault.NoMemory) }
+    ensures memory { IsErrOf result CellFault.NoMemory → NeedsMemory (column_view column.now) (cow_str_bytes text.entry) }
 {
     if matches!(column.datatype, Datatype::Text) {
         return read_string(alloc, column, text);
@@ -150,7 +150,7 @@ pub fn read_text<'a>(
 pub fn read_cell<'a>(alloc: Global, column: &Column, text: &'a str) -> Result<Value<'a>, CellFault>
     ensures value { IfOk result (λ value. value_of (column_view column.now) text.now ≡ Ok (value_view value)) }
     ensures fault { IfErr result (λ e. (e ≡ CellFault.NoMemory) ⊎ (value_of (column_view column.now) text.now ≡ Err e)) }
-    ensures no_memory_needed { NeedsNoMemory (datatype_view column.now.datatype) text.now → ¬ (IsErrOf result CellFault.NoMemory) }
+    ensures memory { IsErrOf result CellFault.NoMemory → NeedsMemory (column_view column.now) text.now }
 {
     read_text(alloc, column, CowStr::Borrowed(text))
 }

@@ -1,7 +1,7 @@
 //! The laws of the definitions of cells: each function is a theorem, and does nothing.
 ghost use Rattle.std.specs.Prelude.{◌≡◌};
 ghost use Rattle.cell_types.specs.declared.value.Value.{Value};
-ghost use Rattle.cell_types.specs.Laws.{DatesReadBack, IntegersReadBack, MemoryIsNoCause, NormalTexts, ValuesAreOrdered};
+ghost use Rattle.cell_types.specs.Laws.{DatesReadBack, IntegersReadBack, MemoryIsNoCause, NormalTexts, ValuesAreOrdered, ValuesFitColumns};
 ghost use Rattle.cell_types.specs.Value.{value_cmp, value_eq, value_view};
 
 use crate::value::Value as CellValue;
@@ -11,7 +11,12 @@ pub fn memory_is_no_cause()
     ensures { MemoryIsNoCause }
 {}
 
-/// A normalized text has no white space but single spaces between its words.
+/// The value of a text in a column is of the column's datatype, or null where the column does not require one.
+pub fn values_fit_columns()
+    ensures { ValuesFitColumns }
+{}
+
+/// A normalized text has the words of the text, and no white space but single spaces between them.
 pub fn normal_texts()
     ensures { NormalTexts }
 {}

@@ -17,6 +17,6 @@ pub use column::Column;
 pub use datatype::{BooleanForm, Datatype, DateForm};
 pub use laws::{
     dates_read_back, integers_read_back, memory_is_no_cause, normal_texts, values_are_ordered,
-    values_compare_as_their_views,
+    values_compare_as_their_views, values_fit_columns,
 };
 pub use value::Value;

@@ -5,7 +5,7 @@ use Rattle.csv_grammar.specs.Files.{FileCause}
 use Rattle.csv_index.specs.Fault.{text_cause, text_fault_text}
 use Rattle.cell_types.specs.declared.cell.CellFault.{CellFault}
 use Rattle.cell_types.specs.declared.cell.CellFault.TheVariants as cell
-use Rattle.cell_types.specs.Cell.{fault_name}
+use Rattle.cell_types.specs.Cell.{cell_fault_name}
 use Rattle.csvw_meta.specs.Fault.{MetaCause, meta_cause, meta_fault_text}
 use Rattle.table_store.specs.declared.fault.LoadFault.{LoadFault}
 use Rattle.table_store.specs.declared.fault.LoadFault.TheVariants.{Meta, FileMissing, FileTooLarge, Text, Header, Cell, NoMemory}
@@ -53,5 +53,5 @@ load_fault_text (FileTooLarge table) = file_text (string_bytes table) (codes "Fi
 load_fault_text (Text table fault) = file_text (string_bytes table) (text_fault_text fault)
 load_fault_text (Header table col) = file_text (string_bytes table) (codes "Header col " ++ decimal col)
 load_fault_text (Cell table row col fault) =
-    file_text (string_bytes table) (codes "Cell row " ++ decimal row ++ codes " col " ++ decimal col ++ codes " " ++ fault_name fault)
+    file_text (string_bytes table) (codes "Cell row " ++ decimal row ++ codes " col " ++ decimal col ++ codes " " ++ cell_fault_name fault)
 load_fault_text NoMemory = codes "NoMemory"
