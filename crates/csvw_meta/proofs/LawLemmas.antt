@@ -101,7 +101,7 @@ count-met limit none many ds h =
     let few = leb-true (length ds) limit (ensured (leb (length ds) limit) many (head_met (tail_met h))) in
     (omega arith, few)
 
-object_column : (earlier : List Data) (d : Data) → AllMet (column_conditions earlier d) → AllMet (object_column_conditions earlier d)
+pub object_column : (earlier : List Data) (d : Data) → AllMet (column_conditions earlier d) → AllMet (object_column_conditions earlier d)
 unfolding column_conditions
 object_column earlier d h = kind_met (is_some (as_object d)) not_object (object_column_conditions earlier d) h
 
@@ -152,31 +152,18 @@ schema_key-accepted limits schema h =
     let met = back_met (first ++ count ++ each) (ensure (fits (is_key columns) key) bad_key ∷ []) h in
     key-accepted columns key (ensured (fits (is_key columns) key) bad_key (head_met met))
 
--- what a table has for a schema that is accepted
-pub schema-accepted : (limits : LimitsOf) (schema : Option Data) → AllMet (schema_conditions limits schema)
-    → AreAcceptedColumns limits (columns_in (unwrap_or schema null))
+-- what a table has for a schema that is accepted is an object
+pub object_schema : (limits : LimitsOf) (schema : Option Data) → AllMet (schema_conditions limits schema) → AllMet (object_schema_conditions limits (unwrap_or schema null))
 unfolding schema_conditions
-schema-accepted limits None h = absurd (let e = head_met h in cc)
-schema-accepted limits (Some null) h = absurd (let e = head_met h in cc)
-schema-accepted limits (Some (boolean b)) h = absurd (let e = head_met h in cc)
-schema-accepted limits (Some (number n)) h = absurd (let e = head_met h in cc)
-schema-accepted limits (Some (string s)) h = absurd (let e = head_met h in cc)
-schema-accepted limits (Some (array ds)) h = absurd (let e = head_met h in cc)
-schema-accepted limits (Some (object ms)) h = columns-accepted limits (object ms) h
+object_schema limits None h = absurd (let e = head_met h in cc)
+object_schema limits (Some null) h = absurd (let e = head_met h in cc)
+object_schema limits (Some (boolean b)) h = absurd (let e = head_met h in cc)
+object_schema limits (Some (number n)) h = absurd (let e = head_met h in cc)
+object_schema limits (Some (string s)) h = absurd (let e = head_met h in cc)
+object_schema limits (Some (array ds)) h = absurd (let e = head_met h in cc)
+object_schema limits (Some (object ms)) h = h
 
--- so is its key
-pub key_of_schema-accepted : (limits : LimitsOf) (schema : Option Data) → AllMet (schema_conditions limits schema)
-    → IsAcceptedKey (columns_in (unwrap_or schema null)) (key_of (columns_in (unwrap_or schema null)) (member (codes "primaryKey") (unwrap_or schema null)))
-unfolding schema_conditions
-key_of_schema-accepted limits None h = absurd (let e = head_met h in cc)
-key_of_schema-accepted limits (Some null) h = absurd (let e = head_met h in cc)
-key_of_schema-accepted limits (Some (boolean b)) h = absurd (let e = head_met h in cc)
-key_of_schema-accepted limits (Some (number n)) h = absurd (let e = head_met h in cc)
-key_of_schema-accepted limits (Some (string s)) h = absurd (let e = head_met h in cc)
-key_of_schema-accepted limits (Some (array ds)) h = absurd (let e = head_met h in cc)
-key_of_schema-accepted limits (Some (object ms)) h = schema_key-accepted limits (object ms) h
-
-object_table : (limits : LimitsOf) (group : Data) (earlier : List Data) (d : Data) → AllMet (table_conditions limits group earlier d) → AllMet (object_table_conditions limits group earlier d)
+pub object_table : (limits : LimitsOf) (group : Data) (earlier : List Data) (d : Data) → AllMet (table_conditions limits group earlier d) → AllMet (object_table_conditions limits group earlier d)
 unfolding table_conditions
 object_table limits group earlier d h = kind_met (is_some (as_object d)) not_object (object_table_conditions limits group earlier d) h
 
@@ -197,7 +184,7 @@ accepted_columns : (limits : LimitsOf) (group : Data) (earlier : List Data) (d :
 unfolding object_table_conditions
 accepted_columns limits group earlier d h =
     let behind = tail_met (tail_met (object_table limits group earlier d h)) in
-    schema-accepted limits (schema_in group d) (back_met (level_conditions d) (schema_conditions limits (schema_in group d)) behind)
+    columns-accepted limits (schema_or_null group d) (object_schema limits (schema_in group d) (back_met (level_conditions d) (schema_conditions limits (schema_in group d)) behind))
 
 -- and a key that is accepted
 accepted_key : (limits : LimitsOf) (group : Data) (earlier : List Data) (d : Data) → AllMet (table_conditions limits group earlier d)
@@ -205,7 +192,7 @@ accepted_key : (limits : LimitsOf) (group : Data) (earlier : List Data) (d : Dat
 unfolding object_table_conditions
 accepted_key limits group earlier d h =
     let behind = tail_met (tail_met (object_table limits group earlier d h)) in
-    key_of_schema-accepted limits (schema_in group d) (back_met (level_conditions d) (schema_conditions limits (schema_in group d)) behind)
+    schema_key-accepted limits (schema_or_null group d) (object_schema limits (schema_in group d) (back_met (level_conditions d) (schema_conditions limits (schema_in group d)) behind))
 
 -- what a table that is accepted says
 table-accepted : (limits : LimitsOf) (group : Data) (earlier : List Data) (d : Data) → AllMet (table_conditions limits group earlier d) → IsAccepted limits (table_schema group d)
@@ -259,7 +246,7 @@ object_at limits d false e room h = rw e (lone_table-accepted limits d room (rw 
 metadata-accepted : (limits : LimitsOf) (d : Data) → 1 ≤ limits.tables → AllMet (metadata_conditions limits d) → AreAccepted limits (metadata_schemas d)
 metadata-accepted limits d room h = object_at limits d (is_group d) refl room (kind_met (is_some (as_object d)) not_object (object_conditions limits d) h)
 
-outcome : (limits : LimitsOf) (cause : Option MetaCause) (all schemas : List SchemaOf) → unless_cause cause all ≡ Ok schemas → (cause ≡ None) × (all ≡ schemas)
+pub outcome : (limits : LimitsOf) (cause : Option MetaCause) (all schemas : List SchemaOf) → unless_cause cause all ≡ Ok schemas → (cause ≡ None) × (all ≡ schemas)
 outcome limits None all schemas h = (refl, cc)
 outcome limits (Some cause) all schemas h = absurd (cc)
 

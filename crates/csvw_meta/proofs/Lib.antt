@@ -6,3 +6,4 @@ pub mod FormLemmas
 pub mod DatatypeLemmas
 pub mod KeyLemmas
 pub mod LawLemmas
+pub mod LevelLemmas

@@ -1,12 +1,21 @@
--- What holds of every metadata text that is accepted.
-use Rattle.std.specs.Prelude.{◌≡◌, ℕ, ◌<◌, ◌≤◌, nat_eq, List, map, length, true, Ok}
-use Rattle.std.specs.List.{All, IsDistinct}
+-- What holds of every metadata text.
+use Rattle.std.specs.Prelude.{◌≡◌, ◌≢◌, ℕ, ◌+◌, ◌<◌, ◌≤◌, nat_eq, List, ◌∷◌, ◌++◌, map, length, true, false, ◌⊎◌, None, Some, Ok, Err, if◌then◌else◌}
+use Rattle.std.specs.List.{All, IsDistinct, flat_map, starts_with}
 use Rattle.std.specs.Str.{bytes_eq}
+use Rattle.serde_json.specs.Data.{Data, null}
+use Rattle.csv_grammar.specs.Bytes.{byte_order_mark}
 use Rattle.cell_types.specs.Column.{ColumnOf}
+use Rattle.csvw_meta.specs.declared.document.TheConstants.{MOST_METADATA_BYTES}
+use Rattle.csvw_meta.specs.Fault.{MetaCause}
 use Rattle.csvw_meta.specs.Limits.{LimitsOf}
+use Rattle.csvw_meta.specs.Refusal.{first_cause}
+use Rattle.csvw_meta.specs.Members.{member, nearest}
+use Rattle.csvw_meta.specs.Inherited.{inherited_conditions}
 use Rattle.csvw_meta.specs.Forms.{is_table_url, is_column_name, table_name}
 use Rattle.csvw_meta.specs.Schema.{SchemaOf}
-use Rattle.csvw_meta.specs.Document.{schemas_of}
+use Rattle.csvw_meta.specs.Table.{schema_or_null, table_columns}
+use Rattle.csvw_meta.specs.Group.{tables_in}
+use Rattle.csvw_meta.specs.Document.{document, is_group, schemas_of}
 
 -- the schema has a url of its form, at least one column, not too many, with different names of their form, and a key of places of
 -- columns, each once
@@ -30,3 +39,38 @@ pub record AreAccepted (limits : LimitsOf) (schemas : List SchemaOf) : Type 0 wh
 -- so are the schemas of a text that is accepted, where a table may be
 abbrev pub AcceptedSchemas : Type 0
 AcceptedSchemas = (limits : LimitsOf) (bytes : List ℕ) (schemas : List SchemaOf) → 1 ≤ limits.tables → schemas_of limits bytes ≡ Ok schemas → AreAccepted limits schemas
+
+-- a metadata text has schemas or a cause, and not both
+pub record SchemasOrCause : Type 0 where
+  pub one : (limits : LimitsOf) (bytes : List ℕ)
+      → ((schemas : List SchemaOf) × (schemas_of limits bytes ≡ Ok schemas)) ⊎ ((cause : MetaCause) × (schemas_of limits bytes ≡ Err cause))
+  pub only : (limits : LimitsOf) (bytes : List ℕ) (schemas : List SchemaOf) (cause : MetaCause)
+      → schemas_of limits bytes ≡ Ok schemas → schemas_of limits bytes ≢ Err cause
+
+-- one byte order mark in front of a text changes nothing, where there is room for it
+abbrev pub MarkIsDropped : Type 0
+MarkIsDropped = (limits : LimitsOf) (bytes : List ℕ) → starts_with nat_eq bytes byte_order_mark ≡ false → length byte_order_mark + length bytes ≤ MOST_METADATA_BYTES
+    → schemas_of limits (byte_order_mark ++ bytes) ≡ schemas_of limits bytes
+
+-- what columns inherit is what the nearest level says: no level behind the first that says anything counts
+pub record NearestLevel : Type 0 where
+  pub first : (name : List ℕ) (before : List Data) (level : Data) (behind : List Data) (value : Data) → All (λ d. member name d ≡ None) before
+      → member name level ≡ Some value → nearest name (before ++ level ∷ behind) ≡ Some value
+  pub none : (name : List ℕ) (levels : List Data) → All (λ d. member name d ≡ None) levels → nearest name levels ≡ None
+
+-- what a level says for the columns in it is of its form
+abbrev pub IsOfForm : Data → Type 0
+IsOfForm level = first_cause (inherited_conditions level) ≡ None
+
+-- a table of that group, its schema and its columns
+abbrev pub levels_in : Data → Data → List Data
+levels_in group d = d ∷ schema_or_null group d ∷ table_columns group d
+
+-- the levels of metadata: the group with those of each table, or those of the table that stands alone
+abbrev pub levels_of : Data → List Data
+levels_of d = if is_group d then d ∷ flat_map (levels_in d) (tables_in d) else levels_in null d
+
+-- each level of a text that is accepted is of its form, also where a nearer level says another
+abbrev pub LevelsAreOfForm : Type 0
+LevelsAreOfForm = (limits : LimitsOf) (bytes : List ℕ) (d : Data) (schemas : List SchemaOf) → document bytes ≡ Some d → schemas_of limits bytes ≡ Ok schemas
+    → All IsOfForm (levels_of d)

@@ -1,8 +1,28 @@
 //! The laws of the definitions that [`crate::Schemas::read`] cites: each is a theorem, and does nothing.
-ghost use Rattle.csvw_meta.specs.Laws.{AcceptedSchemas};
+ghost use Rattle.csvw_meta.specs.Laws.{AcceptedSchemas, LevelsAreOfForm, MarkIsDropped, NearestLevel, SchemasOrCause};
 
 /// Accepted metadata has at least one table and no more than the limit, with different urls of their form, each with at least one
 /// column and no more than the limit, with different names of their form, and with a key of places of columns, each once.
 pub fn accepted_schemas()
     ensures { AcceptedSchemas }
+{}
+
+/// A metadata text has schemas or a cause why it has none, and not both.
+pub fn schemas_or_cause()
+    ensures { SchemasOrCause }
+{}
+
+/// One byte order mark in front of a metadata text counts for nothing.
+pub fn mark_is_dropped()
+    ensures { MarkIsDropped }
+{}
+
+/// What a column inherits is what the nearest level says.
+pub fn nearest_level()
+    ensures { NearestLevel }
+{}
+
+/// In accepted metadata what each level says is of its form, also where a nearer level says another.
+pub fn levels_are_of_form()
+    ensures { LevelsAreOfForm }
 {}

@@ -21,6 +21,8 @@ mod texts;
 
 pub use document::Schemas;
 pub use fault::MetaFault;
-pub use laws::accepted_schemas;
+pub use laws::{
+    accepted_schemas, levels_are_of_form, mark_is_dropped, nearest_level, schemas_or_cause,
+};
 pub use limits::{Limits, MOST_COLUMNS, MOST_FILE_BYTES, MOST_TABLES, MOST_TRANSFORMATIONS};
 pub use schema::Schema;
