@@ -1,10 +1,12 @@
 -- A url and its end.
-use Rattle.std.proofs.Common.{◌≡◌, ◌-◌, ℕ, List, ◌++◌, Bool, true, false, length, take, refl, sym, ap, ◌∙◌, arith, length-append}
+use Rattle.std.proofs.Common.{◌≡◌, ◌-◌, ◌&&◌, ℕ, List, ◌++◌, Bool, true, false, length, nat_le, take, refl, sym, ap, ◌∙◌, arith, length-append}
+use Rattle.std.proofs.lemmas.Bool.{and_parts}
 use Rattle.std.proofs.lemmas.List.{take-append-drop}
 use Rattle.std.proofs.lemmas.List.Prefix.{end_rest}
 use Rattle.std.proofs.Math.Seq.{take-append_seam}
 use Rattle.std.specs.Cmp.Lexicographic.{same_text}
-use Rattle.csvw_meta.specs.Forms.{url_end, has_url_end, table_name}
+use Rattle.csvw_meta.specs.declared.forms.TheConstants.{MOST_URL_BYTES}
+use Rattle.csvw_meta.specs.Forms.{url_end, has_url_end, is_table_url, is_url_byte, is_word, table_name}
 
 -- one that ends with `.csv` is a front and `.csv`
 url-ends : (url : List ℕ) → has_url_end url ≡ true → url ≡ take (length url - length url_end) url ++ url_end
@@ -28,3 +30,10 @@ pub table_name-front : (url front : List ℕ) → url ≡ front ++ url_end → f
 table_name-front url front e =
     let n : length url - length url_end ≡ length front = omega (arith, simp length-append at (ap length e)) in
     rw (front_ends url front e, n, e) (sym (take-append_seam front url_end))
+
+-- a url of the form is its name and `.csv`
+pub url-name : (url : List ℕ) → is_table_url url ≡ true → url ≡ table_name url ++ url_end
+url-name url h =
+    let short = nat_le (length url) MOST_URL_BYTES in
+    let ends = (and_parts short (has_url_end url) (and_parts (short && has_url_end url) (is_word is_url_byte (table_name url)) h).0).1 in
+    rw ends (url-ends url ends)

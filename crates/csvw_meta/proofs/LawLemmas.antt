@@ -22,7 +22,9 @@ use Rattle.csvw_meta.specs.Group.{tables_in, group_conditions, group_schemas}
 use Rattle.csvw_meta.specs.Document.{document, is_group, lone_table_conditions, object_conditions, metadata_conditions, metadata_schemas, unless_cause, schemas_of_value}
 use Rattle.cell_types.specs.Column.{ColumnOf}
 use Rattle.csvw_meta.specs.Key.{is_key, key_of}
+use Rattle.csvw_meta.proofs.FormLemmas.{url-name}
 use Rattle.csvw_meta.proofs.ListLemmas.{map-map}
+use Rattle.csvw_meta.proofs.NameLemmas.{names-distinct}
 use Rattle.csvw_meta.proofs.KeyLemmas.{IsAcceptedKey, key-accepted}
 use Rattle.csvw_meta.specs.Laws.{IsAccepted, AreAccepted, AcceptedSchemas}
 
@@ -203,7 +205,7 @@ table-accepted limits group earlier d h =
     let key = accepted_key limits group earlier d h in
     record {
       url = table-form limits group earlier d h;
-      name = refl;
+      name = url-name (url_of d) (table-form limits group earlier d h);
       some = rw (length-map columns column) accepted.count.0;
       few = rw (length-map columns column) accepted.count.1;
       names = All-map (λ (column : ColumnOf). is_column_name column.name ≡ true) column columns accepted.names;
@@ -221,11 +223,14 @@ tables-accepted limits group h =
     let each = each_conditions (table_conditions limits group) [] tables in
     let each_met = back_met (count ++ level_conditions group) each h in
     let counted = count-met limits.tables no_tables too_many_tables tables (front_met count (level_conditions group) (front_met (count ++ level_conditions group) each h)) in
+    let all = All-map (IsAccepted limits) (table_schema group) tables (each-all (table_conditions limits group) (λ d. IsAccepted limits (table_schema group d)) (table-accepted limits group) [] tables each_met) in
+    let urls : IsDistinct bytes_eq (map (λ (schema : SchemaOf). schema.url) (group_schemas group)) = rw (map-map (λ (schema : SchemaOf). schema.url) (table_schema group) tables) (each-distinct (table_conditions limits group) url_of (table-new limits group) tables each_met) in
     record {
       some = rw (length-map tables (table_schema group)) counted.0;
       few = rw (length-map tables (table_schema group)) counted.1;
-      each = All-map (IsAccepted limits) (table_schema group) tables (each-all (table_conditions limits group) (λ d. IsAccepted limits (table_schema group d)) (table-accepted limits group) [] tables each_met);
-      distinct = rw (map-map (λ (schema : SchemaOf). schema.url) (table_schema group) tables) (each-distinct (table_conditions limits group) url_of (table-new limits group) tables each_met);
+      each = all;
+      distinct = urls;
+      named = names-distinct limits (group_schemas group) all urls;
     }
 
 lone_table-accepted : (limits : LimitsOf) (d : Data) → 1 ≤ limits.tables → AllMet (lone_table_conditions limits d) → AreAccepted limits (table_schema null d ∷ [])
@@ -235,6 +240,7 @@ lone_table-accepted limits d room h = record {
   few = room;
   each = All-cons (IsAccepted limits) (table_schema null d) [] (table-accepted limits null [] d (tail_met h)) (All-nil (IsAccepted limits));
   distinct = (tt, tt);
+  named = (tt, tt);
 }
 
 object_at : (limits : LimitsOf) (d : Data) (group : Bool) → is_group d ≡ group → 1 ≤ limits.tables → AllMet (object_conditions limits d) → AreAccepted limits (metadata_schemas d)

@@ -5,5 +5,6 @@ pub mod DocumentLemmas
 pub mod FormLemmas
 pub mod DatatypeLemmas
 pub mod KeyLemmas
+pub mod NameLemmas
 pub mod LawLemmas
 pub mod LevelLemmas

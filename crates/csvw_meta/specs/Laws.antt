@@ -11,17 +11,17 @@ use Rattle.csvw_meta.specs.Limits.{LimitsOf}
 use Rattle.csvw_meta.specs.Refusal.{first_cause}
 use Rattle.csvw_meta.specs.Members.{member, nearest}
 use Rattle.csvw_meta.specs.Inherited.{inherited_conditions}
-use Rattle.csvw_meta.specs.Forms.{is_table_url, is_column_name, table_name}
+use Rattle.csvw_meta.specs.Forms.{is_table_url, is_column_name, url_end}
 use Rattle.csvw_meta.specs.Schema.{SchemaOf}
 use Rattle.csvw_meta.specs.Table.{schema_or_null, table_columns}
 use Rattle.csvw_meta.specs.Group.{tables_in}
 use Rattle.csvw_meta.specs.Document.{document, is_group, schemas_of}
 
--- the schema has a url of its form, at least one column, not too many, with different names of their form, and a key of places of
--- columns, each once
+-- the schema has a url of its form, which is its name and `.csv`, at least one column, not too many, with different names of their form,
+-- and a key of places of columns, each once
 pub record IsAccepted (limits : LimitsOf) (schema : SchemaOf) : Type 0 where
   pub url : is_table_url schema.url ≡ true
-  pub name : schema.name ≡ table_name schema.url
+  pub name : schema.url ≡ schema.name ++ url_end
   pub some : 1 ≤ length schema.columns
   pub few : length schema.columns ≤ limits.columns
   pub names : All (λ (column : ColumnOf). is_column_name column.name ≡ true) schema.columns
@@ -29,12 +29,13 @@ pub record IsAccepted (limits : LimitsOf) (schema : SchemaOf) : Type 0 where
   pub places : All (λ place. place < length schema.columns) schema.key
   pub once : IsDistinct nat_eq schema.key
 
--- there is at least one schema, there are not too many, and their urls are different
+-- there is at least one schema, there are not too many, and their urls are different, and so their names
 pub record AreAccepted (limits : LimitsOf) (schemas : List SchemaOf) : Type 0 where
   pub some : 1 ≤ length schemas
   pub few : length schemas ≤ limits.tables
   pub each : All (IsAccepted limits) schemas
   pub distinct : IsDistinct bytes_eq (map (λ (schema : SchemaOf). schema.url) schemas)
+  pub named : IsDistinct bytes_eq (map (λ (schema : SchemaOf). schema.name) schemas)
 
 -- so are the schemas of a text that is accepted, where a table may be
 abbrev pub AcceptedSchemas : Type 0
