@@ -1,6 +1,7 @@
 -- Places in lists of fields, and a list of fields cut into rows.
-use Rattle.std.proofs.Common.{◌≡◌, ℕ, zero, suc, ◌+◌, ◌*◌, ◌<◌, List, [], ◌∷◌, length, take, drop, get_or, Some, slice_get, refl, ap, sym, ◌∙◌, arith}
-use Rattle.std.proofs.lemmas.List.{length-take, length-map, drop-drop, drop_more}
+use Rattle.std.proofs.Common.{◌≡◌, ℕ, zero, suc, ◌+◌, ◌-◌, ◌*◌, ◌<◌, ◌≤◌, List, [], ◌∷◌, length, take, drop, get_or, Some, slice_get, refl, ap, sym, ◌∙◌, arith}
+use Rattle.std.proofs.lemmas.Nat.{mul-le}
+use Rattle.std.proofs.lemmas.List.{length-take, length-drop, length-map, drop-drop, drop_more}
 use Rattle.std.proofs.lemmas.Option.{slice_get-get_or, get_or_from_slice_get, slice_get_within}
 use Rattle.csv_index.specs.Raws.{RawField, raw_between}
 use Rattle.csv_index.specs.Places.{Places, FitsFile, cut, raws}
@@ -16,6 +17,13 @@ drop-from_slice_get xs i x e =
 -- and a read gives it
 pub slice_get-from_read : {X : Type 0} (xs : List X) (i : ℕ) (x : X) → i < length xs → x ≡ get_or xs i x → slice_get xs i ≡ Some x
 slice_get-from_read xs i x within e = slice_get-get_or xs i x within ∙ ap (λ y. Some y) (sym e)
+
+-- the first of the rest from a place stands there, and behind it the rest from the next
+pub drop-first : {X : Type 0} (xs : List X) (i : ℕ) (x : X) (rest : List X) → drop i xs ≡ x ∷ rest → (slice_get xs i ≡ Some x) × (drop (i + 1) xs ≡ rest)
+drop-first [] zero x rest e = cc
+drop-first [] (suc i) x rest e = cc
+drop-first (y ∷ ys) zero x rest e = (cc, cc)
+drop-first (y ∷ ys) (suc i) x rest e = let f : suc i + 1 ≡ suc (i + 1) = omega arith in rw f (drop-first ys i x rest e)
 
 pub slice_get-drop : {X : Type 0} (n : ℕ) (xs : List X) (i : ℕ) → slice_get (drop n xs) i ≡ slice_get xs (n + i)
 slice_get-drop zero xs i = let e : 0 + i ≡ i = omega arith in rw e refl
@@ -74,3 +82,23 @@ pub length-header_of : (places : Places) (bytes : List ℕ) → FitsFile places 
 length-header_of places bytes fits =
     let count : length places.ends ≡ places.rows * places.width + places.width = omega (arith, fits.count) in
     omega (arith, length-take places.width (raws places bytes), length-raws places bytes)
+
+-- the fields from a record on begin with that record, and go on with those from the next record on
+pub take-record_of : (places : Places) (bytes : List ℕ) (row width : ℕ) (fields : List RawField) → width ≡ places.width
+    → fields ≡ drop ((row + 1) * places.width) (raws places bytes) → take width fields ≡ record_of places bytes row
+take-record_of places bytes row width fields e f = rw (e, f) refl
+
+pub drop-record_of : (places : Places) (bytes : List ℕ) (row width : ℕ) (fields : List RawField) → width ≡ places.width
+    → fields ≡ drop ((row + 1) * places.width) (raws places bytes) → drop width fields ≡ drop ((row + 1 + 1) * places.width) (raws places bytes)
+drop-record_of places bytes row width fields e f =
+    let next : (row + 1) * places.width + places.width ≡ (row + 1 + 1) * places.width = omega arith in
+    rw (e, f) (drop-drop places.width ((row + 1) * places.width) (raws places bytes) ∙ ap (λ k. drop k (raws places bytes)) next)
+
+-- which is whole
+pub record_within : (places : Places) (bytes : List ℕ) (row : ℕ) (fields : List RawField) → FitsFile places bytes → row < places.rows
+    → fields ≡ drop ((row + 1) * places.width) (raws places bytes) → places.width ≤ length fields
+record_within places bytes row fields fits h e =
+    let size : length fields ≡ length (raws places bytes) - (row + 1) * places.width = ap length e ∙ length-drop ((row + 1) * places.width) (raws places bytes) in
+    let next : (row + 1) * places.width + places.width ≡ (row + 1 + 1) * places.width = omega arith in
+    let most : (row + 1 + 1) * places.width ≤ (places.rows + 1) * places.width = mul-le (row + 1 + 1) places.width (places.rows + 1) places.width (omega arith) (omega arith) in
+    omega (arith, size, next, most, length-raws places bytes, fits.count)

@@ -1,5 +1,5 @@
 //! The steps of loading a table from its file: the header against the columns, and then each cell.
-ghost use Rattle.std.specs.Prelude.{◌≡◌, ◌<◌, ◌⊎◌, None, Some, Ok, Err, IfOk, IfErr, IfNone, IfSome, length, map, option_map, string_bytes};
+ghost use Rattle.std.specs.Prelude.{◌≡◌, ◌≤◌, ◌⊎◌, None, Some, Ok, Err, IfOk, IfErr, IfNone, IfSome, length, take, drop, map, option_map, string_bytes};
 ghost use Rattle.std.specs.List.{list_any};
 ghost use Rattle.std.specs.Result.{result_err};
 ghost use Rattle.std.specs.Str.{bytes_eq};
@@ -11,10 +11,10 @@ ghost use Rattle.csv_index.specs.Raws.{raw_content};
 ghost use Rattle.csvw_meta.specs.Schema.{schema_view};
 ghost use Rattle.table_store.specs.Table.{is_called as is_called_by, mismatch_from, values_from, rows_from};
 ghost use Rattle.table_store.specs.Fault.{bad_cell, cell_cause};
-ghost use Rattle.table_store.specs.Loading.{field_of, header_of, record_of, records_of, IsTableAt, table_cause, HasFileCause};
+ghost use Rattle.table_store.specs.Loading.{field_of, header_of, records_of, IsTableAt, table_cause, HasFileCause};
 
 use cell_types::{CellFault, Column, Value, read_text};
-use csv_index::{Index, Raw, TextFault};
+use csv_index::{Fields, Index, Raw, TextFault};
 use csvw_meta::Schema;
 use std::alloc::{AllocError, Global};
 
@@ -107,25 +107,25 @@ fn cell_fault(alloc: Global, column: &Column, raw: Raw<'_>) -> Option<CellFault>
     cell_value(alloc, column, raw).err()
 }
 
-/// Whether each cell of a row has a value, or the first that has none.
+/// Whether each cell of a row has a value, or the first that has none. The row's fields are the next of those that are left.
 fn check_row(
     alloc: Global,
     columns: &[Column],
-    index: &Index,
-    bytes: &[u8],
+    fields: &mut Fields<'_, '_>,
     row: usize,
 ) -> Result<(), BadCell>
-    requires bytes { FitsFile index.now bytes.now }
-    requires row { row < index.now.rows }
-    requires width { length columns.now ≡ index.now.width }
+    requires width { length columns.now ≤ length fields.old }
+    ensures passed { IfOk result (λ _. fields.new ≡ drop (length columns.now) fields.old) }
     ensures values { IfOk result (λ _. result_err (values_from 0 (map column_view columns.now)
-        (map field_of (record_of index.now bytes.now row))) ≡ None) }
+        (map field_of (take (length columns.now) fields.old))) ≡ None) }
     ensures row { IfErr result (λ bad. bad.row ≡ row) }
     ensures fault { IfErr result (λ bad. (bad.fault ≡ CellFault.NoMemory) ⊎ (result_err (values_from 0 (map column_view columns.now)
-        (map field_of (record_of index.now bytes.now row))) ≡ Some (bad.col, bad.fault))) }
+        (map field_of (take (length columns.now) fields.old))) ≡ Some (bad.col, bad.fault))) }
 {
     for (col, column) in columns.iter().enumerate() {
-        let raw = index.cell(bytes, row, col);
+        let Some(raw) = fields.next_field() else {
+            unreachable!();
+        };
         if let Some(fault) = cell_fault(alloc, column, raw) {
             return Err(BadCell { row, col, fault });
         }
@@ -142,8 +142,9 @@ fn check_rows(alloc: Global, columns: &[Column], index: &Index, bytes: &[u8]) ->
     ensures fault { IfErr result (λ bad. (bad.fault ≡ CellFault.NoMemory) ⊎ (result_err (rows_from 0 (map column_view columns.now)
         (map (map field_of) (records_of index.now bytes.now))) ≡ Some (bad.row, bad.col, bad.fault))) }
 {
+    let mut fields = index.fields(bytes, 0);
     for row in 0..index.rows() {
-        check_row(alloc, columns, index, bytes, row)?;
+        check_row(alloc, columns, &mut fields, row)?;
     }
     Ok(())
 }
