@@ -1,5 +1,5 @@
 -- The place behind a field, found among blocks, and those that follow.
-use Rattle.std.proofs.Common.{◌≡◌, ℕ, zero, suc, ◌+◌, ◌-◌, ◌*◌, ◌%◌, ◌^◌, ◌<◌, ◌≤◌, List, [], ◌∷◌, ◌++◌, length, length-append, append_assoc, drop, Option, None, Some, refl, sym, ap, ◌∙◌, subst, arith, bit_and, w64, min, Bool, true, false, ◌==◌, ◌≢◌}
+use Rattle.std.proofs.Common.{◌≡◌, ℕ, zero, suc, ◌+◌, ◌-◌, ◌*◌, ◌%◌, ◌^◌, ◌<◌, ◌≤◌, List, [], ◌∷◌, ◌++◌, length, length-append, append_assoc, drop, Option, None, Some, refl, sym, ap, ◌∙◌, arith, bit_and, w64, Bool, true, false, ◌==◌, ◌≢◌}
 use Rattle.std.proofs.lemmas.Bool.{eqb-true, eqb-false}
 use Rattle.std.specs.Prelude.{slice_get, option_to_list}
 use Rattle.std.specs.Int.{bit_at, bit_not}
@@ -10,7 +10,7 @@ use Rattle.csv_index.specs.Blocks.{set_places, block_ends, block_places, Stands}
 use Rattle.csv_index.specs.Structure.{ends_of}
 use Rattle.csv_index.specs.declared.blocks.Block.{Block}
 use Rattle.csv_index.proofs.Bits.{places_split, places_none, places_same}
-use Rattle.csv_index.proofs.BlockLemmas.{block_places-length, slice_get-within}
+use Rattle.csv_index.proofs.BlockLemmas.{block_places-length}
 use Rattle.csv_index.proofs.CellLemmas.{slice_get-behind}
 
 -- a place is no further than the last

@@ -1,19 +1,18 @@
 -- A reading in blocks: what is known behind a front of the text, with one block more, and at the end.
-use Rattle.std.proofs.Common.{◌≡◌, ◌≢◌, ℕ, zero, suc, ◌+◌, ◌-◌, ◌*◌, ◌/◌, ◌%◌, ◌^◌, ◌<◌, ◌≤◌, ◌==◌, min, List, [], ◌∷◌, ◌++◌, length, length-append, length-drop, append_assoc, append-nil, get_or, take, drop, map, replicate, Bool, true, false, cond, Option, Some, None, refl, sym, ap, ◌∙◌, subst, arith, bit_or, add-one, w64, ltb, inr}
+use Rattle.std.proofs.Common.{◌≡◌, ◌≢◌, ℕ, zero, suc, ◌+◌, ◌-◌, ◌*◌, ◌%◌, ◌^◌, ◌<◌, ◌≤◌, ◌==◌, min, List, [], ◌∷◌, ◌++◌, length, length-append, length-drop, append-nil, take, drop, replicate, Bool, true, false, cond, Option, Some, None, refl, sym, ap, ◌∙◌, subst, arith, bit_or, w64, ltb, inr}
 use Rattle.std.specs.Prelude.{IsUtf8, slice_get, slice_index, option_to_list, is_some, ◌↔◌}
-use Rattle.std.specs.List.{AllByRecursion}
 use Rattle.std.specs.Int.{bit_at, trailing_zeros}
 use Rattle.std.specs.Int.RustNames.{count_ones}
-use Rattle.std.specs.Str.{is_utf8, IsCharBoundary}
+use Rattle.std.specs.Str.{IsCharBoundary}
 use Rattle.std.proofs.Math.Nat.{mod-eq_of_lt, pow-le-pow_right}
 use Rattle.std.proofs.Math.Seq.{take-add}
-use Rattle.std.proofs.lemmas.List.{take_all, take_at, drop_at, take-append-drop, take-append-le, length-take, get_or-take}
+use Rattle.std.proofs.lemmas.List.{take_all, take-append-drop, take-append-le, length-take, get_or-take}
 use Rattle.std.proofs.Math.ListN.{get_or-append}
 use Rattle.std.proofs.lemmas.Bool.{ne_eqb, ltb-true, ltb-false}
 use Rattle.std.proofs.lemmas.Nat.Bits.{bit_at-lt, bit_at_above, bit_at-trailing_zeros}
 use Rattle.std.proofs.lemmas.Nat.{or_lt}
 use Rattle.std.proofs.lemmas.Str.{IsUtf8-drop}
-use Rattle.csv_grammar.specs.Records.{Field, CsvText, print_text, records_of, AreRecords}
+use Rattle.csv_grammar.specs.Records.{Field, CsvText, records_of, AreRecords}
 use Rattle.csv_grammar.specs.Faults.{unfinished, IsViable, cause_at, HasFault}
 use Rattle.csv_grammar.specs.Files.{malformed}
 use Rattle.csv_grammar.specs.Structure.{Role, separator, record_end, inner, text_roles, AreRoles}
@@ -24,9 +23,7 @@ use Rattle.lane_class.specs.declared.Classes.{Classes}
 use Rattle.quote_parity.specs.Words.{IsLowest}
 use Rattle.quote_parity.specs.Carry.{MarksRole, AreMasks}
 use Rattle.quote_parity.specs.declared.carry.Masks.{Masks}
-use Rattle.csv_index.specs.Raws.{raw_of}
-use Rattle.csv_index.specs.Places.{Rise}
-use Rattle.csv_index.specs.Blocks.{set_places, block_ends, block_places, rank, AreRanked}
+use Rattle.csv_index.specs.Blocks.{set_places, block_places, rank, AreRanked}
 use Rattle.csv_index.specs.Widths.{CountsWidths, uncounted, record_counted, role_counted, roles_counted, mask_role, mask_roles}
 use Rattle.csv_index.specs.Structure.{all_fields, Cuts, ends_of, ReadsAs, HasTextFault}
 use Rattle.csv_index.specs.Fault.{text_cause}
@@ -34,12 +31,12 @@ use Rattle.csv_index.specs.declared.fault.TextFault.{TextFault}
 use Rattle.csv_index.specs.declared.fault.TextFault.TheVariants.{Unfinished}
 use Rattle.csv_index.specs.declared.blocks.Block.{Block}
 use Rattle.csv_index.specs.declared.widths.Widths.{Widths}
-use Rattle.csv_index.proofs.Bits.{role_places, role_places-append, role_places-length, places_from_roles, places_split, places_none, places_count, roles_split, roles_one, length-mask_roles, ones_whole}
+use Rattle.csv_index.proofs.Bits.{role_places, role_places-append, role_places-length, places_from_roles, places_split, places_none, places_count, roles_split, roles_one, ones_whole}
 use Rattle.csv_index.proofs.BlockLemmas.{block_places-push, block_places-length}
 use Rattle.csv_index.proofs.EndLemmas.{empty}
 use Rattle.csv_index.proofs.CellLemmas.{slice_get-front, slice_get-behind}
-use Rattle.csv_index.proofs.WidthLemmas.{roles_counted-append, no_ends, more_fields}
-use Rattle.csv_index.proofs.Trees.{Pieces, last_end, tree_pieces, tree_texts}
+use Rattle.csv_index.proofs.WidthLemmas.{roles_counted-append, no_ends}
+use Rattle.csv_index.proofs.Trees.{last_end, tree_pieces, tree_texts}
 use Rattle.csv_index.proofs.TreeCounts.{role_open, open_after, open_after-append, tree_open, tree_counted}
 
 -- ---- a block of the text

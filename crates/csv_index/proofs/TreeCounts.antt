@@ -1,13 +1,13 @@
 -- What the roles of a tree's bytes count, and whether they end behind a record.
-use Rattle.std.proofs.Common.{◌≡◌, ℕ, zero, suc, ◌+◌, ◌-◌, ◌<◌, ◌≤◌, List, [], ◌∷◌, ◌++◌, length, append_assoc, append-nil, map, Bool, true, false, cond, Option, Some, None, refl, sym, ap, ◌∙◌, subst, arith}
+use Rattle.std.proofs.Common.{◌≡◌, ℕ, zero, suc, ◌+◌, ◌-◌, ◌<◌, List, [], ◌∷◌, ◌++◌, length, append_assoc, append-nil, map, Bool, true, false, cond, Option, Some, None, refl, sym, ap, ◌∙◌, subst, arith}
 use Rattle.std.specs.Prelude.{option_to_list, IfSome, is_some}
 use Rattle.std.specs.List.{AllByRecursion, flat_map}
-use Rattle.std.proofs.lemmas.List.{length-map, length_push}
-use Rattle.csv_grammar.specs.Records.{Field, print_field, print_record, IsRecord, IsLast, LineBreak, crlf, lf, Line, CsvText, IsText, records_of}
+use Rattle.std.proofs.lemmas.List.{length_push}
+use Rattle.csv_grammar.specs.Records.{Field, print_field, IsRecord, IsLast, LineBreak, crlf, lf, Line, CsvText, IsText, records_of}
 use Rattle.csv_grammar.specs.Structure.{Role, separator, record_end, inner, field_roles, record_roles, break_roles, line_roles, last_roles, text_roles}
-use Rattle.csv_index.specs.Widths.{CountsWidths, uncounted, record_counted, role_counted, roles_counted}
+use Rattle.csv_index.specs.Widths.{CountsWidths, uncounted, record_counted, roles_counted}
 use Rattle.csv_index.specs.declared.widths.Widths.{Widths}
-use Rattle.csv_index.proofs.WidthLemmas.{more_fields, roles_counted-append}
+use Rattle.csv_index.proofs.WidthLemmas.{more_fields}
 use Rattle.csv_index.proofs.Counting.{counts_push}
 use Rattle.csv_index.proofs.Trees.{length-record_roles}
 

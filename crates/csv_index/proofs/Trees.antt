@@ -1,6 +1,6 @@
 -- The structural places of a tree part its bytes into its fields.
-use Rattle.std.proofs.Common.{◌≡◌, ℕ, zero, suc, ◌+◌, ◌-◌, ◌<◌, ◌≤◌, List, [], ◌∷◌, ◌++◌, length, length-append, length-drop, append_assoc, append-nil, get_or, take, drop, map, Bool, true, false, Option, Some, None, refl, sym, ap, ◌∙◌, subst, arith}
-use Rattle.std.specs.Prelude.{IsUtf8, slice_range, option_to_list, IfSome, is_some}
+use Rattle.std.proofs.Common.{◌≡◌, ℕ, ◌+◌, ◌-◌, ◌<◌, ◌≤◌, List, [], ◌∷◌, ◌++◌, length, length-append, length-drop, append_assoc, append-nil, get_or, take, drop, map, true, Option, Some, None, refl, sym, ap, ◌∙◌, subst, arith}
+use Rattle.std.specs.Prelude.{IsUtf8, slice_range, option_to_list, IfSome}
 use Rattle.std.specs.List.{AllByRecursion, flat_map}
 use Rattle.std.specs.Str.{is_utf8}
 use Rattle.std.proofs.lemmas.List.{take_at, drop_at, get_or_at, drop-drop, length-map, map-append}
@@ -8,7 +8,7 @@ use Rattle.std.proofs.Math.Seq.{drop-append-add}
 use Rattle.std.proofs.lemmas.Str.{IsUtf8-drop, is_utf8-from_IsUtf8, IsCharBoundary-before_ascii}
 use Rattle.csv_grammar.specs.Bytes.{comma, carriage_return, line_feed}
 use Rattle.csv_grammar.specs.Records.{Field, print_field, IsField, print_record, IsRecord, IsLast, LineBreak, crlf, lf, Line, print_break, print_line, CsvText, print_last, print_text, IsText, records_of}
-use Rattle.csv_grammar.specs.Structure.{Role, separator, record_end, inner, field_roles, record_roles, break_roles, line_roles, last_roles, text_roles}
+use Rattle.csv_grammar.specs.Structure.{Role, separator, inner, field_roles, record_roles, break_roles, line_roles, last_roles, text_roles}
 use Rattle.csv_index.specs.Raws.{RawField, raw_of, raw_between}
 use Rattle.csv_index.specs.Places.{cut, Rise}
 use Rattle.csv_index.specs.Structure.{all_fields}

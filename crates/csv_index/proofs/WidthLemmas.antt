@@ -1,12 +1,12 @@
 -- What the masks of a block count.
-use Rattle.std.proofs.Common.{◌≡◌, ℕ, zero, suc, ◌+◌, ◌-◌, ◌*◌, ◌%◌, ◌^◌, ◌<◌, ◌≤◌, List, [], ◌∷◌, ◌++◌, length, cond, ◌==◌, refl, sym, ap, ◌∙◌, subst, arith, add-one, bit_and, w64}
+use Rattle.std.proofs.Common.{◌≡◌, ℕ, zero, suc, ◌+◌, ◌-◌, ◌*◌, ◌%◌, ◌^◌, ◌<◌, ◌≤◌, List, [], ◌∷◌, ◌++◌, cond, ◌==◌, refl, sym, ap, ◌∙◌, arith, add-one, bit_and, w64}
 use Rattle.std.specs.Int.{bit_at}
 use Rattle.std.specs.Int.RustNames.{count_ones}
 use Rattle.std.specs.Int.{trailing_zeros, bit_not}
 use Rattle.std.proofs.lemmas.Nat.Bits.{bit_at-lt, bit_at-trailing_zeros, bit_at_clear_other, bit_at-zero}
 use Rattle.std.proofs.lemmas.Nat.{ones-le}
 use Rattle.csv_grammar.specs.Structure.{Role, separator, record_end, inner}
-use Rattle.csv_index.specs.Widths.{record_counted, role_counted, roles_counted, mask_role, mask_roles}
+use Rattle.csv_index.specs.Widths.{record_counted, role_counted, roles_counted, mask_roles}
 use Rattle.csv_index.specs.declared.widths.Widths.{Widths}
 use Rattle.csv_index.proofs.Bits.{ones_next, ones_none, ones_rise, ones_most, ones_before, ones_whole, cleared_below, roles_around}
 

@@ -1,5 +1,5 @@
-use Rattle.std.proofs.Common.{◌≡◌, ◌-◌, ◌≤◌, ◌<◌, ◌^◌, min, length, arith, rules}
-use Rattle.csv_index.specs.Blocks.{block_places, block_ends}
+use Rattle.std.proofs.Common.{◌≤◌, length, arith}
+use Rattle.csv_index.specs.Blocks.{block_places}
 use Rattle.csv_index.proofs.BlockLemmas.{found, none_found, slice_get-read}
 use Rattle.csv_index.proofs.blocks.find.Goals as goal
 

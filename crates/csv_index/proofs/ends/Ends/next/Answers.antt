@@ -1,4 +1,4 @@
-use Rattle.std.proofs.Common.{◌≡◌, ◌+◌, ◌<◌, ◌∷◌, ◌++◌, arith, sym, ap, ◌∙◌, refl}
+use Rattle.std.proofs.Common.{◌+◌, ◌<◌, ◌++◌, arith, sym, ap, ◌∙◌, refl}
 use Rattle.csv_index.specs.Structure.{ends_of}
 use Rattle.csv_index.proofs.EndLemmas.{empty, ends_next, last_taken, ends_lowest}
 use Rattle.csv_index.specs.Blocks.{set_places}

@@ -1,9 +1,7 @@
 -- The next field is between where it begins and the next place.
-use Rattle.std.proofs.Common.{◌≡◌, ◌+◌, ◌∷◌, length, map, true, arith, sym, ap, ◌∙◌, subst}
-use Rattle.std.specs.List.{AllByRecursion}
-use Rattle.std.specs.Str.{is_utf8}
+use Rattle.std.proofs.Common.{◌+◌, ◌∷◌, map, sym, ap, ◌∙◌}
 use Rattle.csv_index.specs.Raws.{raw_between}
-use Rattle.csv_index.specs.Places.{Rise, cut}
+use Rattle.csv_index.specs.Places.{cut}
 use Rattle.csv_index.proofs.fields.Fields.next_field.Goals as goal
 
 pub returns : goal.returns

@@ -1,4 +1,4 @@
-use Rattle.std.proofs.Common.{List, length, ◌^◌, ◌≤◌, arith, sym, subst}
+use Rattle.std.proofs.Common.{length, ◌^◌, arith, sym, subst}
 use Rattle.std.specs.Str.{IsCharBoundary}
 use Rattle.std.proofs.lemmas.Result.{err_from_is_err_and}
 use Rattle.csv_index.proofs.Mark.{mark_boundary}

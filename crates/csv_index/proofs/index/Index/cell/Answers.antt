@@ -1,5 +1,5 @@
 -- The field's number is among the places, and is that of the row and the column.
-use Rattle.std.proofs.Common.{◌≡◌, ◌+◌, ◌*◌, ◌≤◌, length, arith}
+use Rattle.std.proofs.Common.{◌+◌, ◌*◌, ◌≤◌, length, arith}
 use Rattle.csv_index.proofs.CellLemmas.{cell_from_raws, cell_fits}
 use Rattle.csv_index.proofs.index.Index.cell.Goals as goal
 

@@ -1,6 +1,5 @@
 -- The place is a block's, or the end of the last record.
-use Rattle.std.proofs.Common.{◌≡◌, ◌+◌, ◌*◌, ◌<◌, ◌≤◌, List, length, Some, None, arith, sym, ap, ◌∙◌, subst}
-use Rattle.std.specs.List.{slice_get}
+use Rattle.std.proofs.Common.{◌<◌, ◌≤◌, length, Some, arith, ap, ◌∙◌}
 use Rattle.csv_index.specs.Blocks.{block_places}
 use Rattle.csv_index.specs.Structure.{ends_of}
 use Rattle.csv_index.proofs.FindLemmas.{found_end, last_place, no_last}

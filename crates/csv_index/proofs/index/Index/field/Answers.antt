@@ -1,10 +1,10 @@
 -- What is between two places is the field's text.
-use Rattle.std.proofs.Common.{◌≡◌, Some, length, ap, ◌∙◌, sym, arith}
+use Rattle.std.proofs.Common.{◌≡◌, Some, length, ap, ◌∙◌, sym}
 use Rattle.std.specs.List.{slice_get, slice_range}
 use Rattle.std.specs.Option.{option_map}
 use Rattle.std.proofs.lemmas.Option.{slice_get-map}
 use Rattle.csv_index.specs.Raws.{raw_between}
-use Rattle.csv_index.specs.Places.{cut, start_at}
+use Rattle.csv_index.specs.Places.{cut}
 use Rattle.csv_index.proofs.CellLemmas.{raw_is_text, cut_at, start_before}
 use Rattle.csv_index.proofs.index.Index.field.Goals as goal
 

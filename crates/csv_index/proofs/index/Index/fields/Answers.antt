@@ -1,9 +1,6 @@
 -- The fields behind the last of the row above.
-use Rattle.std.proofs.Common.{◌≡◌, ℕ, suc, ◌+◌, ◌-◌, ◌*◌, ◌^◌, ◌≤◌, length, drop, map, Some, add-one, true, arith, sym, ap, ◌∙◌, subst}
-use Rattle.std.specs.List.{slice_get, AllByRecursion}
-use Rattle.std.specs.Str.{is_utf8}
-use Rattle.csv_index.specs.Raws.{raw_between}
-use Rattle.csv_index.specs.Places.{Places, Rise, cut, raws}
+use Rattle.std.proofs.Common.{◌≡◌, ◌+◌, ◌-◌, ◌*◌, ◌≤◌, length, arith, sym, ap, ◌∙◌}
+use Rattle.csv_index.specs.Places.{Places}
 use Rattle.csv_index.proofs.CellLemmas.{cell_fits, start_before, fields_behind, fields_from}
 use Rattle.csv_index.proofs.index.Index.fields.Goals as goal
 

@@ -1,5 +1,5 @@
 -- The field begins behind the place of the one before it.
-use Rattle.std.proofs.Common.{◌≡◌, ◌+◌, ◌-◌, ◌^◌, Some, arith, sym}
+use Rattle.std.proofs.Common.{◌≡◌, ◌-◌, ◌^◌, Some, arith, sym}
 use Rattle.std.specs.List.{slice_get}
 use Rattle.csv_index.specs.Structure.{ends_of}
 use Rattle.csv_index.proofs.CellLemmas.{start_next}

@@ -1,5 +1,5 @@
 -- The text is read block after block.
-use Rattle.std.proofs.Common.{◌≡◌, ℕ, ◌+◌, ◌-◌, ◌*◌, ◌<◌, ◌≤◌, ◌==◌, List, [], ◌∷◌, ◌++◌, length, length-drop, take, drop, bit_or, refl, sym, ap, ◌∙◌, subst, arith, rules, ◌^◌, true, false}
+use Rattle.std.proofs.Common.{◌≡◌, ◌+◌, ◌-◌, ◌*◌, ◌<◌, ◌≤◌, ◌==◌, [], ◌∷◌, ◌++◌, length, length-drop, take, drop, refl, ap, ◌∙◌, subst, arith, rules, ◌^◌, true, false}
 use Rattle.std.specs.Bool.{then_some}
 use Rattle.std.specs.Int.RustNames.{count_ones}
 use Rattle.std.proofs.lemmas.Nat.{ones-le}
@@ -7,10 +7,28 @@ use Rattle.std.proofs.lemmas.Nat.Bits.{shr_and_one}
 use Rattle.std.proofs.lemmas.List.{take_all}
 use Rattle.csv_grammar.specs.Records.{AreRecords}
 use Rattle.lane_class.specs.Classes.{block_at, AreClasses}
-use Rattle.csv_index.specs.Structure.{ReadsAs, HasTextFault}
-use Rattle.csv_index.proofs.StructureLemmas.{HasRead, has_read_none, has_read_more, steps_to, read_fault, read_most, next_roles, reads_as, reads_by, text_is, tells, tells_end}
-use Rattle.csv_index.proofs.structure.Structure.of.Goals.{then-open, else-open}
+use Rattle.csv_index.proofs.StructureLemmas.{StepsTo, has_read_none, has_read_more, steps_to, read_fault, read_most, next_roles, reads_as, reads_by, text_is, tells, tells_end}
+use Rattle.csv_index.proofs.structure.Structure.of.Goals.{At-loop-number, After-step-behind, then-open, else-open}
 use Rattle.csv_index.proofs.structure.Structure.of.Goals as goal
+
+-- the step of a turn is over the next block
+next_step : (c : After-step-behind) → StepsTo (drop c.args.mark c.args.file.now) c.loop-number.number c.min-len.result c.step-behind.result.0 c.step-behind.result.1
+next_step c =
+    let text = drop c.args.mark c.args.file.now in
+    let size = ap length (text_is c.args.file.now c.args.mark) in
+    let more : 64 * c.loop-number.number < length text = omega (arith, c.div_ceil-count.ensures, c.loop-number-test.true) in
+    steps_to text c.args.mark c.loop-number.number c.min-len.result (c.loop-number.number * 64) c.classify.result c.step-behind.result.0 c.loop-number.carry c.step-behind.result.1
+    c.loop-number.blocks.items c.loop-number.widths c.loop-number.before c.loop-number.open c.loop-number.invariant more refl (omega (arith, c.min-len.ensures))
+    (subst (AreClasses c.classify.result) (c.load.ensures ∙ ap (λ t. block_at t (c.loop-number.number * 64)) (text_is c.args.file.now c.args.mark)) c.classify.ensures)
+    c.step-behind.ensures.carry c.step-behind.ensures.masks c.step-behind.ensures.within
+
+-- what is counted so far is no more than the bytes
+counts_within : (c : At-loop-number)
+    → (c.loop-number.widths.fields ≤ length c.args.file.now) × (c.loop-number.widths.records ≤ length c.args.file.now) × (c.loop-number.before ≤ length c.args.file.now)
+counts_within c =
+    let m = read_most c.one_structure.ensures (drop c.args.mark c.args.file.now) c.args.mark c.loop-number.number c.loop-number.carry c.loop-number.blocks.items c.loop-number.widths c.loop-number.before c.loop-number.open c.loop-number.invariant in
+    let size = length-drop c.args.mark c.args.file.now in
+    (omega (arith, m.0, size), omega (arith, m.1, size), omega (arith, m.2, size))
 
 pub loop-number-init : goal.loop-number-init
 loop-number-init c =
@@ -20,58 +38,39 @@ loop-number-init c =
 pub fault_at-requires-clause-place : goal.fault_at-requires-clause-place
 fault_at-requires-clause-place c =
     let text = drop c.args.mark c.args.file.now in
+    let s = next_step (goal.at.fault_at-requires-clause-place c).After-step-behind in
     let size = ap length (text_is c.args.file.now c.args.mark) in
-    let more : 64 * c.loop-number.number < length (drop c.args.mark c.args.file.now) = omega (arith, c.div_ceil-count.ensures, c.loop-number-test.true) in
-    let s = steps_to text c.args.mark c.loop-number.number c.min-len.result (c.loop-number.number * 64) c.classify.result c.step-behind.result.0 c.loop-number.carry c.step-behind.result.1
-    c.loop-number.blocks.items c.loop-number.widths c.loop-number.before c.loop-number.open c.loop-number.invariant more refl (omega (arith, c.min-len.ensures))
-    (subst (AreClasses c.classify.result) (c.load.ensures ∙ ap (λ t. block_at t (c.loop-number.number * 64)) (text_is c.args.file.now c.args.mark)) c.classify.ensures)
-    c.step-behind.ensures.carry c.step-behind.ensures.masks c.step-behind.ensures.within in
     let f = read_fault text c.loop-number.number c.min-len.result _ c.step-behind.result.0 c.step-behind.result.1 s c.if-masks-ne0.true refl in omega (arith, f.0, size)
 
 pub returns-then-masks-ne0-clause-fault : goal.returns-then-masks-ne0-clause-fault
 returns-then-masks-ne0-clause-fault c =
     let text = drop c.args.mark c.args.file.now in
-    let size = ap length (text_is c.args.file.now c.args.mark) in
-    let more : 64 * c.loop-number.number < length (drop c.args.mark c.args.file.now) = omega (arith, c.div_ceil-count.ensures, c.loop-number-test.true) in
-    let s = steps_to text c.args.mark c.loop-number.number c.min-len.result (c.loop-number.number * 64) c.classify.result c.step-behind.result.0 c.loop-number.carry c.step-behind.result.1
-    c.loop-number.blocks.items c.loop-number.widths c.loop-number.before c.loop-number.open c.loop-number.invariant more refl (omega (arith, c.min-len.ensures))
-    (subst (AreClasses c.classify.result) (c.load.ensures ∙ ap (λ t. block_at t (c.loop-number.number * 64)) (text_is c.args.file.now c.args.mark)) c.classify.ensures)
-    c.step-behind.ensures.carry c.step-behind.ensures.masks c.step-behind.ensures.within in
+    let s = next_step (goal.at.returns-then-masks-ne0-clause-fault c).After-step-behind in
     let f = read_fault text c.loop-number.number c.min-len.result _ c.step-behind.result.0 c.step-behind.result.1 s c.if-masks-ne0.true refl in
     tells c.args.file.now _ c.args.mark _ c.fault_at.result (text_is c.args.file.now c.args.mark) f.1 c.fault_at.ensures
 
 pub overflow_add-before : goal.overflow_add-before
 overflow_add-before c =
-    let m = read_most c.one_structure.ensures (drop c.args.mark c.args.file.now) c.args.mark c.loop-number.number c.loop-number.carry c.loop-number.blocks.items c.loop-number.widths c.loop-number.before c.loop-number.open c.loop-number.invariant in omega (arith, m.2, length-drop c.args.mark c.args.file.now, ones-le 64 c.ends.result (omega arith))
+    let m = counts_within (goal.at.overflow_add-before c).At-loop-number in omega (arith, m.2, ones-le 64 c.ends.result (omega arith))
 
 pub add-requires-clause-fields : goal.add-requires-clause-fields
 add-requires-clause-fields c =
-    let m = read_most c.one_structure.ensures (drop c.args.mark c.args.file.now) c.args.mark c.loop-number.number c.loop-number.carry c.loop-number.blocks.items c.loop-number.widths c.loop-number.before c.loop-number.open c.loop-number.invariant in omega (arith, m.0, length-drop c.args.mark c.args.file.now)
+    let m = counts_within (goal.at.add-requires-clause-fields c).At-loop-number in omega (arith, m.0)
 
 pub add-requires-clause-records : goal.add-requires-clause-records
 add-requires-clause-records c =
-    let m = read_most c.one_structure.ensures (drop c.args.mark c.args.file.now) c.args.mark c.loop-number.number c.loop-number.carry c.loop-number.blocks.items c.loop-number.widths c.loop-number.before c.loop-number.open c.loop-number.invariant in omega (arith, m.1, length-drop c.args.mark c.args.file.now)
+    let m = counts_within (goal.at.add-requires-clause-records c).At-loop-number in omega (arith, m.1)
 
 pub add-requires-clause-apart : goal.add-requires-clause-apart
 add-requires-clause-apart c =
     let text = drop c.args.mark c.args.file.now in
-    let size = ap length (text_is c.args.file.now c.args.mark) in
-    let more : 64 * c.loop-number.number < length (drop c.args.mark c.args.file.now) = omega (arith, c.div_ceil-count.ensures, c.loop-number-test.true) in
-    let s = steps_to text c.args.mark c.loop-number.number c.min-len.result (c.loop-number.number * 64) c.classify.result c.step-behind.result.0 c.loop-number.carry c.step-behind.result.1
-    c.loop-number.blocks.items c.loop-number.widths c.loop-number.before c.loop-number.open c.loop-number.invariant more refl (omega (arith, c.min-len.ensures))
-    (subst (AreClasses c.classify.result) (c.load.ensures ∙ ap (λ t. block_at t (c.loop-number.number * 64)) (text_is c.args.file.now c.args.mark)) c.classify.ensures)
-    c.step-behind.ensures.carry c.step-behind.ensures.masks c.step-behind.ensures.within in
+    let s = next_step (goal.at.add-requires-clause-apart c).After-step-behind in
     (next_roles c.one_structure.ensures text c.loop-number.number c.min-len.result c.step-behind.result.0 c.step-behind.result.1 c.loop-number.invariant.roles c.loop-number.invariant.are s c.if-masks-ne0.false).apart
 
 pub loop-number-preserved : goal.loop-number-preserved
 loop-number-preserved c =
     let text = drop c.args.mark c.args.file.now in
-    let size = ap length (text_is c.args.file.now c.args.mark) in
-    let more : 64 * c.loop-number.number < length (drop c.args.mark c.args.file.now) = omega (arith, c.div_ceil-count.ensures, c.loop-number-test.true) in
-    let s = steps_to text c.args.mark c.loop-number.number c.min-len.result (c.loop-number.number * 64) c.classify.result c.step-behind.result.0 c.loop-number.carry c.step-behind.result.1
-    c.loop-number.blocks.items c.loop-number.widths c.loop-number.before c.loop-number.open c.loop-number.invariant more refl (omega (arith, c.min-len.ensures))
-    (subst (AreClasses c.classify.result) (c.load.ensures ∙ ap (λ t. block_at t (c.loop-number.number * 64)) (text_is c.args.file.now c.args.mark)) c.classify.ensures)
-    c.step-behind.ensures.carry c.step-behind.ensures.masks c.step-behind.ensures.within in
+    let s = next_step (goal.at.loop-number-preserved c).After-step-behind in
     let items : c.keep.new.blocks.items ≡ c.loop-number.blocks.items ++ record { sep = c.step-behind.result.0.sep; eol = c.step-behind.result.0.eol; before = c.loop-number.before } ∷ [] = c.in_ok-keep.ensures.kept in
     rw items (has_read_more c.one_structure.ensures text c.args.mark c.loop-number.number c.min-len.result (c.min-len.result - 1) c.step-behind.result.0 c.loop-number.carry c.step-behind.result.1
     c.loop-number.blocks.items c.loop-number.widths c.add.new.self c.loop-number.before _ c.loop-number.open _ c.loop-number.invariant s c.if-masks-ne0.false c.add.ensures
@@ -79,11 +78,11 @@ loop-number-preserved c =
 
 pub end_record-requires-clause-fields : goal.end_record-requires-clause-fields
 end_record-requires-clause-fields c =
-    let m = read_most c.one_structure.ensures (drop c.args.mark c.args.file.now) c.args.mark c.loop-number.number c.loop-number.carry c.loop-number.blocks.items c.loop-number.widths c.loop-number.before c.loop-number.open c.loop-number.invariant in omega (arith, m.0, length-drop c.args.mark c.args.file.now)
+    let m = counts_within (goal.at.end_record-requires-clause-fields c).At-loop-number in omega (arith, m.0)
 
 pub end_record-requires-clause-records : goal.end_record-requires-clause-records
 end_record-requires-clause-records c =
-    let m = read_most c.one_structure.ensures (drop c.args.mark c.args.file.now) c.args.mark c.loop-number.number c.loop-number.carry c.loop-number.blocks.items c.loop-number.widths c.loop-number.before c.loop-number.open c.loop-number.invariant in omega (arith, m.1, length-drop c.args.mark c.args.file.now)
+    let m = counts_within (goal.at.end_record-requires-clause-records c).At-loop-number in omega (arith, m.1)
 
 pub returns-in_default-clause-fault : goal.returns-in_default-clause-fault
 returns-in_default-clause-fault c =

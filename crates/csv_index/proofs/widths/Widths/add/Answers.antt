@@ -1,9 +1,8 @@
 -- Each turn counts up to the end of a record.
-use Rattle.std.proofs.Common.{◌≡◌, ◌+◌, ◌-◌, ◌<◌, ◌≤◌, arith, refl, w64, ap, ◌∙◌, sym}
+use Rattle.std.proofs.Common.{◌<◌, arith, refl, w64}
 use Rattle.std.proofs.lemmas.Nat.Bits.{bit_at-trailing_zeros}
-use Rattle.csv_index.specs.Widths.{record_counted}
 use Rattle.csv_index.proofs.Bits.{cleared_less}
-use Rattle.csv_index.proofs.WidthLemmas.{IsCounting, counting_none, counting_more, counting_all, more_fields}
+use Rattle.csv_index.proofs.WidthLemmas.{counting_more, counting_all}
 use Rattle.csv_index.proofs.widths.Widths.add.Goals as goal
 
 pub overflow_sub-self : goal.overflow_sub-self
