@@ -1,11 +1,14 @@
 -- Tables one after another: the files that are left, and the first table that is refused.
-use Rattle.std.proofs.Common.{◌≡◌, ℕ, false, List, [], ◌∷◌, ◌++◌, map, Option, Some, None, IfSome, option_map, refl, ◌∙◌, inl, inr}
-use Rattle.std.specs.List.{AllByRecursion}
+use Rattle.std.proofs.Common.{◌≡◌, ℕ, suc, false, List, [], ◌∷◌, ◌++◌, map, Option, Some, None, IfSome, option_map, refl, ◌∙◌, inl, inr, arith}
+use Rattle.std.specs.List.{All, AllByRecursion}
 use Rattle.std.specs.Str.{bytes_eq}
+use Rattle.csvw_meta.specs.Limits.{LimitsOf}
 use Rattle.csvw_meta.specs.Schema.{SchemaOf}
+use Rattle.csvw_meta.specs.Laws.{IsAccepted}
 use Rattle.table_store.specs.File.{FileOf, file_named}
 use Rattle.table_store.specs.Table.{TableOf}
 use Rattle.table_store.specs.Fault.{TableCause, LoadCause, no_metadata, bad_meta, bad_table}
+use Rattle.table_store.specs.Keys.{AreColumns}
 use Rattle.table_store.specs.Catalog.{HasTable, HasTableCause, HaveTables, IsFirstBadTable}
 use Rattle.table_store.specs.Loading.{IsRefusedTable, IsFirstRefused}
 
@@ -14,6 +17,12 @@ pub refused-table : (limit : ℕ) (file : Option (List ℕ)) (schema : SchemaOf)
     → schema.url ≡ url → IfSome cause (HasTableCause limit file schema) → IfSome load (IsRefusedTable limit file schema)
 refused-table limit file schema url None load e same has = rw e tt
 refused-table limit file schema url (Some cause) load e same has = rw e (same, has)
+
+-- the keys of accepted schemas are places of their columns
+pub accepted_keys : (limits : LimitsOf) (schemas : List SchemaOf) → All (IsAccepted limits) schemas → AllByRecursion (λ (schema : SchemaOf). AreColumns schema.key schema.columns) schemas
+accepted_keys limits [] accepted = tt
+accepted_keys limits (schema ∷ schemas) accepted =
+    ((accepted 0 schema (omega arith)).places, accepted_keys limits schemas (λ k d within. accepted (suc k) d (omega arith)))
 
 -- each of these schemas has the file that it had
 abbrev pub HaveFiles : List FileOf → List FileOf → List SchemaOf → Type 0
@@ -64,6 +73,6 @@ HaveTables-schemas limit files [] [] have = refl
 HaveTables-schemas limit files [] (t ∷ tables) have = absurd have
 HaveTables-schemas limit files (s ∷ schemas) [] have = absurd have
 HaveTables-schemas limit files (s ∷ schemas) (t ∷ tables) have =
-    let head : t.schema ≡ s = have.0.is.of_schema in
+    let head : t.schema ≡ s = have.0.is.cells.of_schema in
     let tail = HaveTables-schemas limit files schemas tables have.1 in
     cc

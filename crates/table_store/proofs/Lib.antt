@@ -5,6 +5,8 @@ pub mod FieldLemmas
 pub mod InsideLemmas
 pub mod LoadingLemmas
 pub mod FileLemmas
+pub mod KeyLemmas
 pub mod CatalogLemmas
 pub mod OneMeaning
 pub mod SomeMeaning
+pub mod KeysOfTables

@@ -1,13 +1,17 @@
 -- A folder has one meaning at most, one cause at most, and not both.
-use Rattle.std.proofs.Common.{◌≡◌, ℕ, List, [], ◌∷◌, Option, Some, None, length, Result, Ok, Err, refl, ap, sym, ◌∙◌, option_map, inl, inr, arith}
+use Rattle.std.proofs.Common.{◌≡◌, ℕ, List, [], ◌∷◌, Option, Some, None, length, Result, Ok, Err, refl, ap, sym, ◌∙◌, option_map, ◌⊎◌, inl, inr, arith}
+use Rattle.csv_grammar.specs.Records.{Field}
+use Rattle.csv_grammar.specs.Files.{FileCause, IsTable, IsFileFault}
 use Rattle.csv_grammar.specs.Laws.{OneTable, OneFileFault}
 use Rattle.cell_types.specs.declared.cell.CellFault.{CellFault}
+use Rattle.cell_types.specs.Value.{CellValue}
 use Rattle.csvw_meta.specs.Document.{schemas_of}
 use Rattle.csvw_meta.specs.Fault.{MetaCause}
 use Rattle.csvw_meta.specs.Schema.{SchemaOf}
 use Rattle.table_store.specs.File.{FileOf, file_named}
-use Rattle.table_store.specs.Table.{TableOf, IsAnnotated, HasOtherHeader, HasBadCell, mismatch_from, rows_from}
-use Rattle.table_store.specs.Fault.{TableCause, file_missing, file_too_large, bad_text, bad_header, bad_cell, LoadCause, no_metadata, bad_meta, bad_table}
+use Rattle.table_store.specs.Key.{row_keys, null_row, repeated_row}
+use Rattle.table_store.specs.Table.{TableOf, keys_of, HasCells, IsAnnotated, mismatch_from, rows_from}
+use Rattle.table_store.specs.Fault.{TableCause, file_missing, file_too_large, bad_text, bad_header, bad_cell, key_null, key_twice, LoadCause, no_metadata, bad_meta, bad_table}
 use Rattle.table_store.specs.Catalog.{FolderOf, CatalogOf, HasFile, HasTable, HasTableCause, HaveTables, IsFirstBadTable, Means, IsRefused, schemas_in}
 use Rattle.table_store.specs.Loading.{HasFileCause}
 
@@ -15,15 +19,15 @@ some-same : {X : Type 0} (o : Option X) (x y : X) → o ≡ Some x → o ≡ Som
 some-same o x y e f = cc
 
 -- ---- one file
-other_rows : (one : OneTable) (schema : SchemaOf) (bytes : List ℕ) (table other : TableOf) → IsAnnotated schema bytes table → IsAnnotated schema bytes other → table.rows ≡ other.rows
+other_rows : (one : OneTable) (schema : SchemaOf) (bytes : List ℕ) (table other : TableOf) → HasCells schema bytes table → HasCells schema bytes other → table.rows ≡ other.rows
 other_rows one schema bytes table other a b =
     let same = one bytes a.header b.header a.records b.records a.is b.is in
     let rows = a.values in
     let others = rw (sym same.1) at b.values in
     cc
 
-one_annotated : (one : OneTable) (schema : SchemaOf) (bytes : List ℕ) (table other : TableOf) → IsAnnotated schema bytes table → IsAnnotated schema bytes other → table ≡ other
-one_annotated one schema bytes table other a b =
+one_cells : (one : OneTable) (schema : SchemaOf) (bytes : List ℕ) (table other : TableOf) → HasCells schema bytes table → HasCells schema bytes other → table ≡ other
+one_cells one schema bytes table other a b =
     let rows = other_rows one schema bytes table other a b in
     let schemas : table.schema ≡ other.schema = a.of_schema ∙ sym b.of_schema in
     ap (λ schema. let t : TableOf = record { schema = schema; rows = table.rows } in t) schemas ∙ ap (λ rows. let t : TableOf = record { schema = other.schema; rows = rows } in t) rows
@@ -36,7 +40,7 @@ pub one_table_of : (one : OneTable) (limit : ℕ) (file : Option (List ℕ)) (sc
 one_table_of one limit file schema table other a b =
     let same : a.bytes ≡ b.bytes = some-same file a.bytes b.bytes a.has_file.0 b.has_file.0 in
     let is : IsAnnotated schema b.bytes table = rw same at a.is in
-    one_annotated one schema b.bytes table other is b.is
+    one_cells one schema b.bytes table other is.cells b.is.cells
 
 pub one_tables : (one : OneTable) (limit : ℕ) (files : List FileOf) (schemas : List SchemaOf) (tables others : List TableOf)
     → HaveTables limit files schemas tables → HaveTables limit files schemas others → tables ≡ others
@@ -51,59 +55,83 @@ one_tables one limit files (s ∷ schemas) (t ∷ tables) (u ∷ others) a b =
     cc
 
 -- ---- one cause of a table
-one_other_header : (one : OneTable) (schema : SchemaOf) (bytes : List ℕ) (p q : ℕ) → HasOtherHeader schema bytes p → HasOtherHeader schema bytes q → p ≡ q
-one_other_header one schema bytes p q a b =
-    let same = one bytes a.header b.header a.records b.records a.is b.is in
-    some-same (mismatch_from 0 schema.columns b.header) p q (rw same.0 at a.first) b.first
+-- the first thing wrong with keys
+first_of_keys : Option ℕ → Option ℕ → Option TableCause
+first_of_keys (Some row) twice = Some (key_null row)
+first_of_keys None (Some row) = Some (key_twice row)
+first_of_keys None None = None
 
-header_matches_not : (one : OneTable) (schema : SchemaOf) (bytes : List ℕ) (p row col : ℕ) (fault : CellFault) → HasOtherHeader schema bytes p → HasBadCell schema bytes row col fault → ⊥
-header_matches_not one schema bytes p row col fault a b =
-    let same = one bytes a.header b.header a.records b.records a.is b.is in
-    let other : mismatch_from 0 schema.columns b.header ≡ Some p = rw same.0 at a.first in
-    let matches = b.header_matches in
-    cc
+-- the first thing wrong with a header and its records
+first_of_rows : SchemaOf → Result (List (List CellValue)) (ℕ × ℕ × CellFault) → Option TableCause
+first_of_rows schema (Ok rows) = first_of_keys (null_row (row_keys schema.key rows)) (repeated_row (row_keys schema.key rows))
+first_of_rows schema (Err bad) = Some (bad_cell bad.0 bad.1 bad.2)
 
-err-same : {X E : Type 0} (r : Result X E) (x y : E) → r ≡ Err x → r ≡ Err y → x ≡ y
-err-same r x y e f = cc
+first_of_header : SchemaOf → Option ℕ → List (List Field) → Option TableCause
+first_of_header schema (Some place) records = Some (bad_header place)
+first_of_header schema None records = first_of_rows schema (rows_from 0 schema.columns records)
 
-one_bad_cell : (one : OneTable) (schema : SchemaOf) (bytes : List ℕ) (row col : ℕ) (fault : CellFault) (other place : ℕ) (why : CellFault)
-    → HasBadCell schema bytes row col fault → HasBadCell schema bytes other place why → bad_cell row col fault ≡ bad_cell other place why
-one_bad_cell one schema bytes row col fault other place why a b =
-    let same = one bytes a.header b.header a.records b.records a.is b.is in
-    let first : rows_from 0 schema.columns b.records ≡ Err (row, col, fault) = rw same.1 at a.first in
-    ap (λ t. bad_cell t.0 t.1 t.2) (err-same (rows_from 0 schema.columns b.records) (row, col, fault) (other, place, why) first b.first)
+-- which a table with cells has of its keys
+of_cells : (schema : SchemaOf) (bytes : List ℕ) (table : TableOf) (a : HasCells schema bytes table)
+    → first_of_header schema (mismatch_from 0 schema.columns a.header) a.records ≡ first_of_keys (null_row (keys_of table)) (repeated_row (keys_of table))
+unfolding first_of_header first_of_keys first_of_rows
+of_cells schema bytes table a =
+    rw (a.header_matches, a.values) (ap (λ (s : SchemaOf). first_of_keys (null_row (row_keys s.key table.rows)) (repeated_row (row_keys s.key table.rows))) (sym a.of_schema))
+
+-- what is first wrong with the bytes of a file: that they are no table, or what is first wrong with its header and records
+abbrev IsOfRecords : SchemaOf → List ℕ → Option TableCause → Type 0
+IsOfRecords schema bytes found =
+    (header : List Field) × (records : List (List Field)) × IsTable bytes header records
+    × (first_of_header schema (mismatch_from 0 schema.columns header) records ≡ found)
+
+of_records : (schema : SchemaOf) (bytes : List ℕ) (c : TableCause) → HasFileCause schema bytes c
+    → ((fault : FileCause) × (c ≡ bad_text fault) × IsFileFault bytes fault) ⊎ IsOfRecords schema bytes (Some c)
+unfolding first_of_header first_of_rows first_of_keys
+of_records schema bytes file_missing a = absurd a
+of_records schema bytes file_too_large a = absurd a
+of_records schema bytes (bad_text fault) a = inl (fault, refl, a)
+of_records schema bytes (bad_header place) a = inr (a.header, a.records, a.is, rw a.first refl)
+of_records schema bytes (bad_cell row col fault) a = inr (a.header, a.records, a.is, rw (a.header_matches, a.first) refl)
+of_records schema bytes (key_null row) a =
+    inr (a.cells.header, a.cells.records, a.cells.is, of_cells schema bytes a.table a.cells ∙ rw a.first refl)
+of_records schema bytes (key_twice row) a =
+    inr (a.cells.header, a.cells.records, a.cells.is, of_cells schema bytes a.table a.cells ∙ rw (a.whole, a.first) refl)
+
+one_of_records : (one : OneTable) (schema : SchemaOf) (bytes : List ℕ) (c d : Option TableCause) → IsOfRecords schema bytes c → IsOfRecords schema bytes d → c ≡ d
+one_of_records one schema bytes c d a b =
+    let same = one bytes a.0 b.0 a.1 b.1 a.2 b.2 in
+    sym a.3 ∙ rw (same.0, same.1) b.3
+
+some-one : {X : Type 0} (x y : X) → Some x ≡ Some y → x ≡ y
+some-one x y e = cc
 
 -- bytes that are there and not too many have one cause
 one_file_cause : (one : OneTable) (faults : OneFileFault) (schema : SchemaOf) (bytes : List ℕ) (c d : TableCause) → HasFileCause schema bytes c → HasFileCause schema bytes d → c ≡ d
-one_file_cause one faults schema bytes file_missing d a b = absurd a
-one_file_cause one faults schema bytes file_too_large d a b = absurd a
-one_file_cause one faults schema bytes c file_missing a b = absurd b
-one_file_cause one faults schema bytes c file_too_large a b = absurd b
-one_file_cause one faults schema bytes (bad_text f) (bad_text g) a b = ap bad_text (faults.one bytes f g a b)
-one_file_cause one faults schema bytes (bad_text f) (bad_header q) a b = absurd (faults.none bytes b.header b.records f b.is a)
-one_file_cause one faults schema bytes (bad_text f) (bad_cell row col fault) a b = absurd (faults.none bytes b.header b.records f b.is a)
-one_file_cause one faults schema bytes (bad_header p) (bad_text g) a b = absurd (faults.none bytes a.header a.records g a.is b)
-one_file_cause one faults schema bytes (bad_header p) (bad_header q) a b = ap bad_header (one_other_header one schema bytes p q a b)
-one_file_cause one faults schema bytes (bad_header p) (bad_cell row col fault) a b = absurd (header_matches_not one schema bytes p row col fault a b)
-one_file_cause one faults schema bytes (bad_cell row col fault) (bad_text g) a b = absurd (faults.none bytes a.header a.records g a.is b)
-one_file_cause one faults schema bytes (bad_cell row col fault) (bad_header q) a b = absurd (header_matches_not one schema bytes q row col fault b a)
-one_file_cause one faults schema bytes (bad_cell row col fault) (bad_cell other place why) a b = one_bad_cell one schema bytes row col fault other place why a b
+one_file_cause one faults schema bytes c d a b =
+    elim (of_records schema bytes c a) [
+      | inl f ↦
+          elim (of_records schema bytes d b) [
+            | inl g ↦ f.1 ∙ ap bad_text (faults.one bytes f.0 g.0 f.2 g.2) ∙ sym g.1
+            | inr s ↦ absurd (faults.none bytes s.0 s.1 f.0 s.2 f.2)
+          ]
+      | inr r ↦
+          elim (of_records schema bytes d b) [
+            | inl g ↦ absurd (faults.none bytes r.0 r.1 g.0 r.2 g.2)
+            | inr s ↦ some-one c d (one_of_records one schema bytes (Some c) (Some d) r s)
+          ]
+    ]
 
 -- a table has none of them
 no_file_cause : (one : OneTable) (faults : OneFileFault) (schema : SchemaOf) (bytes : List ℕ) (table : TableOf) (c : TableCause) → IsAnnotated schema bytes table → HasFileCause schema bytes c → ⊥
-no_file_cause one faults schema bytes table file_missing a b = b
-no_file_cause one faults schema bytes table file_too_large a b = b
-no_file_cause one faults schema bytes table (bad_text f) a b = faults.none bytes a.header a.records f a.is b
-no_file_cause one faults schema bytes table (bad_header p) a b =
-    let same = one bytes b.header a.header b.records a.records b.is a.is in
-    let other : mismatch_from 0 schema.columns a.header ≡ Some p = rw same.0 at b.first in
-    let matches = a.header_matches in
-    absurd (let e : None ≡ Some p = sym matches ∙ other in cc)
-no_file_cause one faults schema bytes table (bad_cell row col fault) a b =
-    let same = one bytes b.header a.header b.records a.records b.is a.is in
-    let first : rows_from 0 schema.columns a.records ≡ Err (row, col, fault) = rw same.1 at b.first in
-    let e : Ok table.rows ≡ Err (row, col, fault) = sym a.values ∙ first in
-    cc
+unfolding first_of_keys
+no_file_cause one faults schema bytes table c a b =
+    elim (of_records schema bytes c b) [
+      | inl f ↦ faults.none bytes a.cells.header a.cells.records f.0 a.cells.is f.2
+      | inr r ↦
+          let whole : IsOfRecords schema bytes None =
+          (a.cells.header, a.cells.records, a.cells.is, of_cells schema bytes table a.cells ∙ rw (a.whole, a.distinct) refl) in
+          let e : None ≡ Some c = one_of_records one schema bytes None (Some c) whole r in
+          cc
+    ]
 
 -- a cause of a table whose file is there, as one of its bytes
 of_bytes : (limit : ℕ) (file : Option (List ℕ)) (schema : SchemaOf) (bytes : List ℕ) (c : TableCause) → HasFile limit file bytes → HasTableCause limit file schema c → HasFileCause schema bytes c
@@ -114,6 +142,8 @@ of_bytes limit file schema bytes file_too_large has a =
 of_bytes limit file schema bytes (bad_text f) has a = let same : a.0 ≡ bytes = some-same file a.0 bytes a.1.0 has.0 in rw (← same) a.2
 of_bytes limit file schema bytes (bad_header p) has a = let same : a.0 ≡ bytes = some-same file a.0 bytes a.1.0 has.0 in rw (← same) a.2
 of_bytes limit file schema bytes (bad_cell row col fault) has a = let same : a.0 ≡ bytes = some-same file a.0 bytes a.1.0 has.0 in rw (← same) a.2
+of_bytes limit file schema bytes (key_null row) has a = let same : a.0 ≡ bytes = some-same file a.0 bytes a.1.0 has.0 in rw (← same) a.2
+of_bytes limit file schema bytes (key_twice row) has a = let same : a.0 ≡ bytes = some-same file a.0 bytes a.1.0 has.0 in rw (← same) a.2
 
 pub no_table_cause : (one : OneTable) (faults : OneFileFault) (limit : ℕ) (file : Option (List ℕ)) (schema : SchemaOf) (table : TableOf) (c : TableCause) → HasTable limit file schema table → HasTableCause limit file schema c → ⊥
 no_table_cause one faults limit file schema table c a b = no_file_cause one faults schema a.bytes table c a.is (of_bytes limit file schema a.bytes c a.has_file b)
@@ -125,6 +155,8 @@ one_early_cause limit file schema file_too_large a b = absurd (let e : None ≡ 
 one_early_cause limit file schema (bad_text f) a b = absurd (let e : None ≡ Some b.0 = sym a ∙ b.1.0 in cc)
 one_early_cause limit file schema (bad_header p) a b = absurd (let e : None ≡ Some b.0 = sym a ∙ b.1.0 in cc)
 one_early_cause limit file schema (bad_cell row col fault) a b = absurd (let e : None ≡ Some b.0 = sym a ∙ b.1.0 in cc)
+one_early_cause limit file schema (key_null row) a b = absurd (let e : None ≡ Some b.0 = sym a ∙ b.1.0 in cc)
+one_early_cause limit file schema (key_twice row) a b = absurd (let e : None ≡ Some b.0 = sym a ∙ b.1.0 in cc)
 
 one_large_cause : (limit : ℕ) (file : Option (List ℕ)) (schema : SchemaOf) (d : TableCause) → HasTableCause limit file schema file_too_large → HasTableCause limit file schema d → file_too_large ≡ d
 one_large_cause limit file schema file_missing a b = sym (one_early_cause limit file schema file_too_large b a)
@@ -132,6 +164,8 @@ one_large_cause limit file schema file_too_large a b = refl
 one_large_cause limit file schema (bad_text f) a b = absurd (of_bytes limit file schema b.0 file_too_large b.1 a)
 one_large_cause limit file schema (bad_header p) a b = absurd (of_bytes limit file schema b.0 file_too_large b.1 a)
 one_large_cause limit file schema (bad_cell row col fault) a b = absurd (of_bytes limit file schema b.0 file_too_large b.1 a)
+one_large_cause limit file schema (key_null row) a b = absurd (of_bytes limit file schema b.0 file_too_large b.1 a)
+one_large_cause limit file schema (key_twice row) a b = absurd (of_bytes limit file schema b.0 file_too_large b.1 a)
 
 pub one_table_cause : (one : OneTable) (faults : OneFileFault) (limit : ℕ) (file : Option (List ℕ)) (schema : SchemaOf) (c d : TableCause) → HasTableCause limit file schema c → HasTableCause limit file schema d → c ≡ d
 one_table_cause one faults limit file schema file_missing d a b = one_early_cause limit file schema d a b
@@ -139,6 +173,8 @@ one_table_cause one faults limit file schema file_too_large d a b = one_large_ca
 one_table_cause one faults limit file schema (bad_text f) d a b = one_file_cause one faults schema a.0 (bad_text f) d a.2 (of_bytes limit file schema a.0 d a.1 b)
 one_table_cause one faults limit file schema (bad_header p) d a b = one_file_cause one faults schema a.0 (bad_header p) d a.2 (of_bytes limit file schema a.0 d a.1 b)
 one_table_cause one faults limit file schema (bad_cell row col fault) d a b = one_file_cause one faults schema a.0 (bad_cell row col fault) d a.2 (of_bytes limit file schema a.0 d a.1 b)
+one_table_cause one faults limit file schema (key_null row) d a b = one_file_cause one faults schema a.0 (key_null row) d a.2 (of_bytes limit file schema a.0 d a.1 b)
+one_table_cause one faults limit file schema (key_twice row) d a b = one_file_cause one faults schema a.0 (key_twice row) d a.2 (of_bytes limit file schema a.0 d a.1 b)
 
 -- ---- the first table that is refused
 pub none_bad : (one : OneTable) (faults : OneFileFault) (limit : ℕ) (files : List FileOf) (schemas : List SchemaOf) (tables : List TableOf) (url : List ℕ) (c : TableCause)

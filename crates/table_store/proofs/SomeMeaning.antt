@@ -10,25 +10,31 @@ use Rattle.csvw_meta.specs.Document.{schemas_of}
 use Rattle.csvw_meta.specs.Fault.{MetaCause}
 use Rattle.csvw_meta.specs.Schema.{SchemaOf}
 use Rattle.table_store.specs.File.{FileOf, file_named}
-use Rattle.table_store.specs.Table.{TableOf, mismatch_from, rows_from}
-use Rattle.table_store.specs.Fault.{TableCause, file_missing, file_too_large, bad_text, bad_header, bad_cell, LoadCause, no_metadata, bad_meta, bad_table}
+use Rattle.table_store.specs.Key.{null_row, repeated_row}
+use Rattle.table_store.specs.Table.{TableOf, keys_of, HasCells, mismatch_from, rows_from}
+use Rattle.table_store.specs.Fault.{TableCause, file_missing, file_too_large, bad_text, bad_header, bad_cell, key_null, key_twice, LoadCause, no_metadata, bad_meta, bad_table}
 use Rattle.table_store.specs.Catalog.{FolderOf, CatalogOf, HasTable, HasTableCause, HaveTables, IsFirstBadTable, Means, IsRefused, schemas_in}
 
 -- a table of a file, or the cause why there is none
 abbrev HasOne : ℕ → Option (List ℕ) → SchemaOf → Type 0
 HasOne limit file schema = ((table : TableOf) × HasTable limit file schema table) ⊎ ((cause : TableCause) × HasTableCause limit file schema cause)
 
+-- a table with cells, by its keys
+of_keys : (limit : ℕ) (schema : SchemaOf) (bytes : List ℕ) (table : TableOf) → length bytes ≤ limit → HasCells schema bytes table
+    → (nulls twice : Option ℕ) → null_row (keys_of table) ≡ nulls → repeated_row (keys_of table) ≡ twice → HasOne limit (Some bytes) schema
+of_keys limit schema bytes table small cells None None e f =
+    inl (table, record { bytes = bytes; has_file = (refl, small); is = record { cells = cells; whole = e; distinct = f } })
+of_keys limit schema bytes table small cells None (Some row) e f =
+    inr (key_twice row, (bytes, (refl, small), record { table = table; cells = cells; whole = e; first = f }))
+of_keys limit schema bytes table small cells (Some row) twice e f =
+    inr (key_null row, (bytes, (refl, small), record { table = table; cells = cells; first = e }))
+
 of_rows : (limit : ℕ) (schema : SchemaOf) (bytes : List ℕ) (header : List Field) (records : List (List Field)) → length bytes ≤ limit → IsTable bytes header records
     → mismatch_from 0 schema.columns header ≡ None → (rows : Result (List (List CellValue)) (ℕ × ℕ × CellFault)) → rows_from 0 schema.columns records ≡ rows → HasOne limit (Some bytes) schema
 of_rows limit schema bytes header records small is matches (Ok rows) e =
-    inl (
-      record { schema = schema; rows = rows },
-      record {
-        bytes = bytes;
-        has_file = (refl, small);
-        is = record { header = header; records = records; is = is; header_matches = matches; of_schema = refl; values = e };
-      },
-    )
+    let table : TableOf = record { schema = schema; rows = rows } in
+    of_keys limit schema bytes table small (record { header = header; records = records; is = is; header_matches = matches; of_schema = refl; values = e })
+    (null_row (keys_of table)) (repeated_row (keys_of table)) refl refl
 of_rows limit schema bytes header records small is matches (Err bad) e =
     inr (bad_cell bad.0 bad.1 bad.2, (bytes, (refl, small), record { header = header; records = records; is = is; header_matches = matches; first = e }))
 

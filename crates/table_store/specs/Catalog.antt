@@ -10,8 +10,8 @@ use Rattle.csvw_meta.specs.Schema.{SchemaOf}
 use Rattle.csvw_meta.specs.Document.{schemas_of}
 use Rattle.table_store.specs.declared.file.NamedFile.{NamedFile}
 use Rattle.table_store.specs.File.{FileOf, file_view, file_named}
-use Rattle.table_store.specs.Table.{TableOf, IsAnnotated, HasOtherHeader, HasBadCell}
-use Rattle.table_store.specs.Fault.{TableCause, file_missing, file_too_large, bad_text, bad_header, bad_cell, LoadCause, no_metadata, bad_meta, bad_table}
+use Rattle.table_store.specs.Table.{TableOf, IsAnnotated, HasOtherHeader, HasBadCell, HasNullKey, HasKeyTwice}
+use Rattle.table_store.specs.Fault.{TableCause, file_missing, file_too_large, bad_text, bad_header, bad_cell, key_null, key_twice, LoadCause, no_metadata, bad_meta, bad_table}
 
 -- the limits, the metadata where there is one, and the files
 pub record FolderOf : Type 0 where
@@ -44,6 +44,8 @@ HasTableCause limit file schema file_too_large = (bytes : List ℕ) × (file ≡
 HasTableCause limit file schema (bad_text fault) = (bytes : List ℕ) × HasFile limit file bytes × IsFileFault bytes fault
 HasTableCause limit file schema (bad_header place) = (bytes : List ℕ) × HasFile limit file bytes × HasOtherHeader schema bytes place
 HasTableCause limit file schema (bad_cell row col fault) = (bytes : List ℕ) × HasFile limit file bytes × HasBadCell schema bytes row col fault
+HasTableCause limit file schema (key_null row) = (bytes : List ℕ) × HasFile limit file bytes × HasNullKey schema bytes row
+HasTableCause limit file schema (key_twice row) = (bytes : List ℕ) × HasFile limit file bytes × HasKeyTwice schema bytes row
 
 -- each schema has its table, in order
 abbrev pub HaveTables : ℕ → List FileOf → List SchemaOf → List TableOf → Type 0

@@ -8,7 +8,7 @@ use Rattle.cell_types.specs.declared.cell.CellFault.TheVariants as cell
 use Rattle.cell_types.specs.Cell.{cell_fault_name}
 use Rattle.csvw_meta.specs.Fault.{MetaCause, meta_cause, meta_fault_text}
 use Rattle.table_store.specs.declared.fault.LoadFault.{LoadFault}
-use Rattle.table_store.specs.declared.fault.LoadFault.TheVariants.{Meta, FileMissing, FileTooLarge, Text, Header, Cell, NoMemory}
+use Rattle.table_store.specs.declared.fault.LoadFault.TheVariants.{Meta, FileMissing, FileTooLarge, Text, Header, Cell, KeyNull, KeyTwice, NoMemory}
 
 -- why a table is refused
 pub data TableCause : Type 0 where
@@ -19,6 +19,10 @@ pub data TableCause : Type 0 where
   bad_header : ℕ → TableCause
   -- the first cell, row by row, that has no value, by its row and column, and why
   bad_cell : ℕ → ℕ → CellFault → TableCause
+  -- the first row whose key has a null
+  key_null : ℕ → TableCause
+  -- the first row whose key is that of an earlier row
+  key_twice : ℕ → TableCause
 
 -- why a folder is refused: it has no metadata, its metadata is refused, or the table of that url is
 pub data LoadCause : Type 0 where
@@ -39,6 +43,8 @@ load_cause (FileTooLarge table) = Some (bad_table (string_bytes table) file_too_
 load_cause (Text table fault) = option_map (λ f. bad_table (string_bytes table) (bad_text f)) (text_cause fault)
 load_cause (Header table col) = Some (bad_table (string_bytes table) (bad_header col))
 load_cause (Cell table row col fault) = option_map (λ f. bad_table (string_bytes table) (bad_cell row col f)) (cell_cause fault)
+load_cause (KeyNull table row) = Some (bad_table (string_bytes table) (key_null row))
+load_cause (KeyTwice table row) = Some (bad_table (string_bytes table) (key_twice row))
 load_cause NoMemory = None
 
 -- a file, and what is wrong with it
@@ -54,4 +60,6 @@ load_fault_text (Text table fault) = file_text (string_bytes table) (text_fault_
 load_fault_text (Header table col) = file_text (string_bytes table) (codes "Header col " ++ decimal col)
 load_fault_text (Cell table row col fault) =
     file_text (string_bytes table) (codes "Cell row " ++ decimal row ++ codes " col " ++ decimal col ++ codes " " ++ cell_fault_name fault)
+load_fault_text (KeyNull table row) = file_text (string_bytes table) (codes "KeyNull row " ++ decimal row)
+load_fault_text (KeyTwice table row) = file_text (string_bytes table) (codes "KeyTwice row " ++ decimal row)
 load_fault_text NoMemory = codes "NoMemory"

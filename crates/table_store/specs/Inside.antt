@@ -1,4 +1,5 @@
--- What a table holds: a schema, the bytes of a file and its index. The values are those of the fields that the index finds.
+-- What a table holds: cells, which are a schema, the bytes of a file and its index, and keys. The values are those of the fields that
+-- the index finds.
 use Rattle.std.specs.Prelude.{◌≡◌, ℕ, zero, suc, List, [], ◌∷◌, length, map, take, drop, Result, Ok, Err}
 use Rattle.std.specs.List.{zip}
 use Rattle.csv_index.specs.Raws.{RawField, raw_content}
@@ -8,8 +9,10 @@ use Rattle.cell_types.specs.Value.{CellValue, null}
 use Rattle.cell_types.specs.Column.{ColumnOf}
 use Rattle.cell_types.specs.Cell.{value_of}
 use Rattle.csvw_meta.specs.Schema.{schema_view}
-use Rattle.table_store.specs.declared.table.Table.TheInside.{Inside}
-use Rattle.table_store.specs.Table.{TableOf}
+use Rattle.table_store.specs.declared.cells.Cells.TheInside.{Inside}
+use Rattle.table_store.specs.declared.table.Table.TheInside.{Inside as InsideTable}
+use Rattle.table_store.specs.Table.{TableOf, keys_of}
+use Rattle.table_store.specs.Keys.{keys_view}
 
 -- so many rows of fields of that width, one after another
 abbrev pub rows_of_fields : ℕ → ℕ → List RawField → List (List RawField)
@@ -56,3 +59,7 @@ pub record IsWhole (table : Inside) : Type 0 where
   pub width : table.index.width ≡ length (schema_view table.schema).columns
   pub values : AllHaveValues (schema_view table.schema).columns
       (rows_of_fields table.index.rows table.index.width (drop table.index.width (raws table.index table.bytes.items)))
+
+-- the keys are those of the rows
+abbrev pub IsKeyed : InsideTable → Type 0
+IsKeyed table = keys_view table.keys ≡ keys_of table.cells

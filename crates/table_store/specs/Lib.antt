@@ -1,8 +1,10 @@
 pub mod File
+pub mod Key
 pub mod Table
 pub mod Inside
 pub mod Fault
 pub mod Loading
+pub mod Keys
 pub mod Catalog
 pub mod Laws
 pub use Rattle.csv_grammar.specs.Files

@@ -9,10 +9,10 @@ use Rattle.cell_types.specs.Column.{ColumnOf}
 use Rattle.csvw_meta.specs.Schema.{SchemaOf}
 use Rattle.table_store.specs.declared.loading.TableFault.{TableFault}
 use Rattle.table_store.specs.declared.loading.TableFault.TheVariants.{FileMissing, FileTooLarge, Text, Header, Cell, NoMemory}
-use Rattle.table_store.specs.Table.{mismatch_from, rows_from, HasOtherHeader, HasBadCell}
-use Rattle.table_store.specs.Fault.{TableCause, file_missing, file_too_large, bad_text, bad_header, bad_cell, cell_cause, LoadCause, no_metadata, bad_meta, bad_table}
+use Rattle.table_store.specs.Table.{TableOf, mismatch_from, rows_from, HasCells, HasOtherHeader, HasBadCell, HasNullKey, HasKeyTwice}
+use Rattle.table_store.specs.Fault.{TableCause, file_missing, file_too_large, bad_text, bad_header, bad_cell, key_null, key_twice, cell_cause, LoadCause, no_metadata, bad_meta, bad_table}
 use Rattle.table_store.specs.File.{FileOf}
-use Rattle.table_store.specs.Catalog.{HasTableCause, IsFirstBadTable}
+use Rattle.table_store.specs.Catalog.{HasFile, HasTableCause, IsFirstBadTable}
 use Rattle.table_store.specs.Inside.{rows_of_fields, rows_in, AllHaveValues}
 
 -- an unquoted field that says what a field says
@@ -58,6 +58,14 @@ HasFileCause schema bytes file_too_large = ⊥
 HasFileCause schema bytes (bad_text fault) = IsFileFault bytes fault
 HasFileCause schema bytes (bad_header place) = HasOtherHeader schema bytes place
 HasFileCause schema bytes (bad_cell row col fault) = HasBadCell schema bytes row col fault
+HasFileCause schema bytes (key_null row) = HasNullKey schema bytes row
+HasFileCause schema bytes (key_twice row) = HasKeyTwice schema bytes row
+
+-- there is a file, not above the limit, whose cells have these values
+pub record HasFileCells (limit : ℕ) (file : Option (List ℕ)) (schema : SchemaOf) (table : TableOf) : Type 0 where
+  pub bytes : List ℕ
+  pub has_file : HasFile limit file bytes
+  pub cells : HasCells schema bytes table
 
 -- the table of the schema is refused under this cause
 abbrev pub IsRefusedTable : ℕ → Option (List ℕ) → SchemaOf → LoadCause → Type 0

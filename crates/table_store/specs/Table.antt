@@ -9,6 +9,7 @@ use Rattle.cell_types.specs.Value.{CellValue}
 use Rattle.cell_types.specs.Column.{ColumnOf}
 use Rattle.cell_types.specs.Cell.{value_of}
 use Rattle.csvw_meta.specs.Schema.{SchemaOf}
+use Rattle.table_store.specs.Key.{row_keys, null_row, repeated_row}
 
 -- a schema, and the rows of values in order
 pub record TableOf : Type 0 where
@@ -51,14 +52,24 @@ abbrev pub rows_from : ℕ → List ColumnOf → List (List Field) → Result (L
 rows_from row columns [] = Ok []
 rows_from row columns (record_fields ∷ records) = row_then row (values_from 0 columns record_fields) (rows_from (row + 1) columns records)
 
--- the file is the table of that schema
-pub record IsAnnotated (schema : SchemaOf) (bytes : List ℕ) (table : TableOf) : Type 0 where
+-- the file is a table whose header matches the schema and whose cells have these values
+pub record HasCells (schema : SchemaOf) (bytes : List ℕ) (table : TableOf) : Type 0 where
   pub header : List Field
   pub records : List (List Field)
   pub is : IsTable bytes header records
   pub header_matches : mismatch_from 0 schema.columns header ≡ None
   pub of_schema : table.schema ≡ schema
   pub values : rows_from 0 schema.columns records ≡ Ok table.rows
+
+-- the keys of the rows of a table
+abbrev pub keys_of : TableOf → List (List CellValue)
+keys_of table = row_keys table.schema.key table.rows
+
+-- the file is the table of that schema: its keys have no null, and no row has that of an earlier one
+pub record IsAnnotated (schema : SchemaOf) (bytes : List ℕ) (table : TableOf) : Type 0 where
+  pub cells : HasCells schema bytes table
+  pub whole : null_row (keys_of table) ≡ None
+  pub distinct : repeated_row (keys_of table) ≡ None
 
 -- the file is a table whose header does not match at the place
 pub record HasOtherHeader (schema : SchemaOf) (bytes : List ℕ) (place : ℕ) : Type 0 where
@@ -74,3 +85,16 @@ pub record HasBadCell (schema : SchemaOf) (bytes : List ℕ) (row col : ℕ) (fa
   pub is : IsTable bytes header records
   pub header_matches : mismatch_from 0 schema.columns header ≡ None
   pub first : rows_from 0 schema.columns records ≡ Err (row, col, fault)
+
+-- each cell of the file has a value, and the key of a row is the first with a null
+pub record HasNullKey (schema : SchemaOf) (bytes : List ℕ) (row : ℕ) : Type 0 where
+  pub table : TableOf
+  pub cells : HasCells schema bytes table
+  pub first : null_row (keys_of table) ≡ Some row
+
+-- no key has a null, and a row is the first whose key is that of an earlier one
+pub record HasKeyTwice (schema : SchemaOf) (bytes : List ℕ) (row : ℕ) : Type 0 where
+  pub table : TableOf
+  pub cells : HasCells schema bytes table
+  pub whole : null_row (keys_of table) ≡ None
+  pub first : repeated_row (keys_of table) ≡ Some row

@@ -1,6 +1,6 @@
 //! The tables of a folder.
 ghost use Rattle.std.specs.Prelude.{◌≡◌, None, IfOk, IfErr, IfSome, find, map};
-ghost use Rattle.std.specs.List.{IsDistinct};
+ghost use Rattle.std.specs.List.{IsDistinct, AllByRecursion};
 ghost use Rattle.std.specs.Option.{option_copied};
 ghost use Rattle.std.specs.Str.{bytes_eq};
 ghost use Rattle.csvw_meta.specs.Limits.{limits_view};
@@ -8,6 +8,7 @@ ghost use Rattle.csvw_meta.specs.Schema.{SchemaOf, schema_view};
 ghost use Rattle.table_store.specs.File.{file_view};
 ghost use Rattle.table_store.specs.Fault.{load_cause};
 ghost use Rattle.table_store.specs.Catalog.{folder_view, HaveTables, Means, IsRefused};
+ghost use Rattle.table_store.specs.Keys.{AreColumns};
 ghost use Rattle.table_store.specs.Loading.{IsFirstRefused};
 
 use crate::fault::LoadFault;
@@ -87,7 +88,8 @@ fn load_tables(
     schemas: Vec<Schema>,
     files: Vec<NamedFile>,
 ) -> Result<Vec<Table>, LoadFault>
-    requires { IsDistinct bytes_eq (map (λ (schema : SchemaOf). schema.url) (map schema_view schemas.items)) }
+    requires urls { IsDistinct bytes_eq (map (λ (schema : SchemaOf). schema.url) (map schema_view schemas.items)) }
+    requires keys { AllByRecursion (λ (schema : SchemaOf). AreColumns schema.key schema.columns) (map schema_view schemas.items) }
     ensures tables { IfOk result (λ tables. HaveTables limit (map file_view files.items) (map schema_view schemas.items) tables.items) }
     ensures fault { IfErr result (λ e. IfSome (load_cause e)
         (IsFirstRefused limit (map file_view files.items) (map schema_view schemas.items))) }

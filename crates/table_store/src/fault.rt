@@ -42,6 +42,16 @@ pub enum LoadFault {
         col: usize,
         fault: CellFault,
     },
+    /// The first row whose key has a null.
+    KeyNull {
+        table: String,
+        row: usize,
+    },
+    /// The first row whose key is that of an earlier row.
+    KeyTwice {
+        table: String,
+        row: usize,
+    },
     /// Memory ran out.
     NoMemory,
 }
@@ -69,6 +79,12 @@ impl LoadFault {
                 col,
                 fault,
             } => cell_text(alloc, table.as_str(), *row, *col, fault.name()),
+            LoadFault::KeyNull { table, row } => {
+                row_text(alloc, table.as_str(), "KeyNull row ", *row)
+            }
+            LoadFault::KeyTwice { table, row } => {
+                row_text(alloc, table.as_str(), "KeyTwice row ", *row)
+            }
             LoadFault::NoMemory => String::from_str(alloc, "NoMemory"),
         }
     }
@@ -136,4 +152,13 @@ fn cell_text(
     cause.push_str(" ")?;
     cause.push_str(name)?;
     file_text(alloc, table, cause.as_str())
+}
+
+/// A table, and what is wrong with the key of a row.
+fn row_text(alloc: Global, table: &str, cause: &str, row: usize) -> Result<String, AllocError>
+    ensures { IfOk result (λ text. string_bytes text ≡ file_text_of table.now (cause.now ++ decimal row)) }
+{
+    let mut text = String::from_str(alloc, cause)?;
+    push_number(&mut text, row)?;
+    file_text(alloc, table, text.as_str())
 }

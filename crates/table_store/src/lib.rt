@@ -3,11 +3,13 @@
 //! functions without a body are laws of the definitions: each is a theorem, and does nothing.
 #![tactic(auto)]
 
-ghost use Rattle.table_store.specs.Laws.{OneMeaning, SchemasOfTables};
+ghost use Rattle.table_store.specs.Laws.{KeysOfTables, OneMeaning, SchemasOfTables};
 
 mod catalog;
+mod cells;
 mod fault;
 mod file;
+mod keys;
 mod loading;
 mod table;
 
@@ -29,3 +31,10 @@ pub fn one_meaning()
 pub fn schemas_of_tables()
     ensures { SchemasOfTables }
 {}
+
+/// In the tables of a folder no two rows have one key, no part of a key is null, and the row with the key of a row is that row.
+pub fn keys_of_tables()
+    ensures { KeysOfTables }
+{
+    cell_types::values_are_ordered();
+}

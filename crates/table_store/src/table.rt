@@ -1,16 +1,19 @@
-//! A table of a folder: its schema, and the values of its cells.
-ghost use Rattle.std.specs.Prelude.{◌≡◌, ◌<◌, Some, None, IfOk, IfErr, IfSome, length, slice_get, option_and_then, option_map, string_bytes};
+//! A table of a folder: its schema, the values of its cells, and its rows by their keys.
+ghost use Rattle.std.specs.Prelude.{◌≡◌, ◌<◌, Some, None, IfOk, IfErr, IfSome, length, map, slice_get, option_and_then, option_map};
 ghost use Rattle.std.specs.List.{AllByRecursion};
 ghost use Rattle.cell_types.specs.Value.{value_view};
 ghost use Rattle.csvw_meta.specs.Schema.{schema_view};
 ghost use Rattle.table_store.specs.Fault.{bad_table, load_cause};
-ghost use Rattle.table_store.specs.Catalog.{HasFile, HasTable, HasTableCause};
-ghost use Rattle.table_store.specs.Loading.{IsRefusedTable, IsTableAt, table_cause};
+ghost use Rattle.table_store.specs.Catalog.{HasTable};
+ghost use Rattle.table_store.specs.Key.{row_of};
+ghost use Rattle.table_store.specs.Keys.{AreColumns, key_cause};
+ghost use Rattle.table_store.specs.Loading.{IsRefusedTable};
+ghost use Rattle.table_store.specs.Table.{keys_of};
 
+use crate::cells::Cells;
 use crate::fault::LoadFault;
-use crate::loading::{BadCell, TableFault, cell_value, read_file};
-use cell_types::{CellFault, Value};
-use csv_index::Index;
+use crate::keys::{KeyFault, Keys};
+use cell_types::Value;
 use csvw_meta::Schema;
 use std::alloc::{AllocError, Global};
 use std::marker::Model;
@@ -18,9 +21,8 @@ use std::marker::Model;
 /// A table, whose values are read from the bytes of its file.
 #[derive(Drop)]
 pub struct Table {
-    schema: Schema,
-    bytes: Vec<u8>,
-    index: Index,
+    cells: Cells,
+    keys: Keys,
 }
 
 impl Model for Table {
@@ -28,11 +30,11 @@ impl Model for Table {
 
     ghost Value = { TableOf };
 
-    ghost use Rattle.table_store.specs.Inside.{table_view, IsWhole};
+    ghost use Rattle.table_store.specs.Inside.{IsKeyed};
 
-    ghost view = { table_view };
+    ghost view = { λ table. table.cells };
 
-    ghost invariant = { IsWhole };
+    ghost invariant = { IsKeyed };
 }
 
 impl Table {
@@ -40,20 +42,20 @@ impl Table {
     pub fn name(&self) -> &str
         ensures { result.now ≡ self.now.schema.name }
     {
-        self.schema.name.as_str()
+        self.schema().name.as_str()
     }
 
     pub fn schema(&self) -> &Schema
         ensures { schema_view result.now ≡ self.now.schema }
     {
-        &self.schema
+        self.cells.schema()
     }
 
     /// How many rows the table has.
     pub fn rows(&self) -> usize
         ensures { result ≡ length self.now.rows }
     {
-        self.index.rows()
+        self.cells.rows()
     }
 
     /// How many columns the table has, and values each row.
@@ -61,7 +63,7 @@ impl Table {
         ensures columns { result ≡ length self.now.schema.columns }
         ensures rows { AllByRecursion (λ values. length values ≡ result) self.now.rows }
     {
-        self.index.width()
+        self.cells.width()
     }
 
     /// The value of a row and a column, both counted from 0.
@@ -71,14 +73,15 @@ impl Table {
         ensures { IfOk result (λ value.
             option_and_then (λ values. slice_get values col) (slice_get self.now.rows row) ≡ Some (value_view value)) }
     {
-        let raw = self.index.cell(self.bytes.as_slice(), row, col);
-        match cell_value(alloc, &self.schema.columns[col], raw) {
-            Ok(value) => Ok(value),
-            Err(fault) => match fault {
-                CellFault::NoMemory => Err(AllocError),
-                _ => unreachable!(),
-            },
-        }
+        self.cells.value(alloc, row, col)
+    }
+
+    /// The row, counted from 0, whose values in the columns of the key are those, in the order of the key (Metadata Vocabulary for
+    /// Tabular Data, section 5.5); none, where no row has them or the table has no key.
+    pub fn find(&self, key: &[Value<'_>]) -> Option<usize>
+        ensures { result ≡ row_of (keys_of self.now) (map value_view key.now) }
+    {
+        self.keys.find(key)
     }
 
     /// The table of a schema, whose file has those bytes, at most so many as the limit; or why it is refused.
@@ -88,61 +91,29 @@ impl Table {
         schema: Schema,
         file: Option<Vec<u8>>,
     ) -> Result<Table, LoadFault>
+        requires { AreColumns (schema_view schema).key (schema_view schema).columns }
         ensures table { IfOk result (HasTable limit (option_map (λ bytes. bytes.items) file) (schema_view schema)) }
         ensures fault { IfErr result (λ e. IfSome (load_cause e)
             (IsRefusedTable limit (option_map (λ bytes. bytes.items) file) (schema_view schema))) }
         ensures memory { IfErr result (λ e. load_cause e ≡ None → e ≡ LoadFault.NoMemory) }
     {
-        match read_table(alloc, limit, &schema, file) {
-            Ok((bytes, index)) => Ok(Table {
-                schema,
-                bytes,
-                index,
-            }),
-            Err(fault) => Err(fault_of(schema.url, fault)),
+        let cells = Cells::read(alloc, limit, schema, file)?;
+        match Keys::of(alloc, &cells) {
+            Ok(keys) => Ok(Table { cells, keys }),
+            Err(fault) => Err(key_fault(cells, fault)),
         }
     }
 }
 
-/// The bytes and the places of a file that is the table of a schema, or why it is none.
-fn read_table(
-    alloc: Global,
-    limit: u32,
-    schema: &Schema,
-    file: Option<Vec<u8>>,
-) -> Result<(Vec<u8>, Index), TableFault>
-    ensures file { IfOk result (λ found. HasFile limit (option_map (λ bytes. bytes.items) file) found.0.items) }
-    ensures read { IfOk result (λ found. IsTableAt (schema_view schema.now).columns found.0.items found.1) }
-    ensures fault { IfErr result (λ e. IfSome (table_cause e)
-        (HasTableCause limit (option_map (λ bytes. bytes.items) file) (schema_view schema.now))) }
-    ensures memory { IfErr result (λ e. table_cause e ≡ None → e ≡ TableFault.NoMemory) }
+/// The error of a folder that the fault of the keys of a table is.
+fn key_fault(cells: Cells, fault: KeyFault) -> LoadFault
+    ensures cause { load_cause result ≡ option_map (bad_table cells.schema.url) (key_cause fault) }
+    ensures memory { load_cause result ≡ None → result ≡ LoadFault.NoMemory }
 {
-    let Some(bytes) = file else {
-        return Err(TableFault::FileMissing);
-    };
-    if bytes.len() > limit as usize {
-        return Err(TableFault::FileTooLarge);
-    }
-    let index = read_file(alloc, schema, bytes.as_slice())?;
-    Ok((bytes, index))
-}
-
-/// The error of a folder that the fault of the table of that url is.
-fn fault_of(table: String, fault: TableFault) -> LoadFault
-    ensures cause { load_cause result ≡ option_map (bad_table (string_bytes table)) (table_cause fault) }
-    ensures memory { fault ≡ TableFault.NoMemory → result ≡ LoadFault.NoMemory }
-{
+    let table = cells.into_url();
     match fault {
-        TableFault::FileMissing => LoadFault::FileMissing { table },
-        TableFault::FileTooLarge => LoadFault::FileTooLarge { table },
-        TableFault::Text(fault) => LoadFault::Text { table, fault },
-        TableFault::Header(col) => LoadFault::Header { table, col },
-        TableFault::Cell(BadCell { row, col, fault }) => LoadFault::Cell {
-            table,
-            row,
-            col,
-            fault,
-        },
-        TableFault::NoMemory => LoadFault::NoMemory,
+        KeyFault::Null(row) => LoadFault::KeyNull { table, row },
+        KeyFault::Twice(row) => LoadFault::KeyTwice { table, row },
+        KeyFault::NoMemory => LoadFault::NoMemory,
     }
 }

@@ -1,5 +1,5 @@
 use Rattle.std.proofs.Common.{◌≡◌, ℕ, true, false, not, ◌∷◌, [], ◌++◌, List, length, map, option_map, sym, ap, subst, ◌∙◌, append_assoc, arith, string_bytes}
-use Rattle.std.specs.List.{IsDistinct}
+use Rattle.std.specs.List.{IsDistinct, AllByRecursion}
 use Rattle.std.specs.Result.{is_ok}
 use Rattle.std.specs.Str.{bytes_eq}
 use Rattle.std.specs.Vec.Iter.{into_iter_items}
@@ -10,6 +10,7 @@ use Rattle.std.proofs.lemmas.Result.{err_from_is_err_and}
 use Rattle.csvw_meta.specs.Schema.{SchemaOf, schema_view}
 use Rattle.table_store.specs.File.{file_view, file_named}
 use Rattle.table_store.specs.Fault.{load_cause}
+use Rattle.table_store.specs.Keys.{AreColumns}
 use Rattle.table_store.specs.Catalog.{HasTable, HaveTables}
 use Rattle.table_store.specs.Loading.{IsRefusedTable, IsFirstRefused}
 use Rattle.table_store.proofs.CatalogLemmas.{HaveFiles, HaveFiles-past, HaveTables-more, first_refused}
@@ -62,6 +63,7 @@ loop-schema-preserved c =
     HaveTables-more c.args.limit files (map schema_view at.yielded) at.tables.items (schema_view x) c.in_ok-table.table at.invariant.tables table in record {
       all = append_assoc at.yielded (x ∷ []) rest ∙ ap (λ items. at.yielded ++ items) (sym steps) ∙ at.invariant.all;
       tables = rw (map-append schema_view at.yielded (x ∷ []), pushes) more;
+      keys = (subst (λ items. AllByRecursion (λ (schema : SchemaOf). AreColumns schema.key schema.columns) (map schema_view items)) steps at.invariant.keys).1;
       distinct = IsDistinct-tail bytes_eq (string_bytes x.url) (map (λ (schema : SchemaOf). schema.url) coming) differ;
       files = HaveFiles-past files now next (string_bytes x.url) coming others (IsDistinct-head bytes_eq (string_bytes x.url) (map (λ (schema : SchemaOf). schema.url) coming) differ) have.1;
       count = let gone = c.in-Some.ensures.steps.1 in
@@ -69,3 +71,9 @@ loop-schema-preserved c =
           let was = at.invariant.count in
           omega arith;
     }
+
+pub load-requires : goal.load-requires
+load-requires c =
+    let at = c.loop-schema in
+    let steps : into_iter_items at.schema-iterator ≡ c.in-Some.schema ∷ into_iter_items c.next.new.self = c.in-Some.ensures.steps.0 in
+    (subst (λ items. AllByRecursion (λ (schema : SchemaOf). AreColumns schema.key schema.columns) (map schema_view items)) steps at.invariant.keys).0

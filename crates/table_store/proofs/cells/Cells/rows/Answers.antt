@@ -1,7 +1,7 @@
 use Rattle.std.proofs.Common.{sym, ap, ◌∙◌, length}
 use Rattle.csvw_meta.specs.Schema.{schema_view}
 use Rattle.table_store.proofs.InsideLemmas.{length-rows_in}
-use Rattle.table_store.proofs.table.Table.rows.Goals as goal
+use Rattle.table_store.proofs.cells.Cells.rows.Goals as goal
 
 pub returns : goal.returns
 returns c =

@@ -1,7 +1,7 @@
 use Rattle.std.proofs.Common.{◌∙◌}
 use Rattle.csvw_meta.specs.Schema.{schema_view}
 use Rattle.table_store.proofs.InsideLemmas.{cell-wide}
-use Rattle.table_store.proofs.table.Table.width.Goals as goal
+use Rattle.table_store.proofs.cells.Cells.width.Goals as goal
 
 pub returns-clause-rows : goal.returns-clause-rows
 returns-clause-rows c =

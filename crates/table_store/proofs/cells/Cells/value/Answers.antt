@@ -8,7 +8,7 @@ use Rattle.csvw_meta.specs.Schema.{schema_view}
 use Rattle.table_store.specs.Inside.{value_or_null}
 use Rattle.table_store.proofs.PlaceLemmas.{slice_get-from_read}
 use Rattle.table_store.proofs.InsideLemmas.{length-rows_in, cell-value, cell-read}
-use Rattle.table_store.proofs.table.Table.value.Goals as goal
+use Rattle.table_store.proofs.cells.Cells.value.Goals as goal
 
 pub cell-raw-requires-clause-row : goal.cell-raw-requires-clause-row
 cell-raw-requires-clause-row c =

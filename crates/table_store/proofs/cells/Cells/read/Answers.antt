@@ -3,7 +3,7 @@ use Rattle.csvw_meta.specs.Schema.{schema_view}
 use Rattle.table_store.specs.Fault.{load_cause}
 use Rattle.table_store.specs.Loading.{table_cause}
 use Rattle.table_store.proofs.CatalogLemmas.{refused-table}
-use Rattle.table_store.proofs.table.Table.load.Goals as goal
+use Rattle.table_store.proofs.cells.Cells.read.Goals as goal
 
 pub returns-in-Err-clause-fault : goal.returns-in-Err-clause-fault
 returns-in-Err-clause-fault c =
