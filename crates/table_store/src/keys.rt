@@ -6,7 +6,7 @@ ghost use Rattle.table_store.specs.Table.{keys_of};
 ghost use Rattle.table_store.specs.Keys.{keys_view, AreColumns, HasKeyFault};
 
 use crate::cells::Cells;
-use cell_types::Value;
+use cell_types::{Datatype, Value};
 use indexmap::IndexSet;
 use std::alloc::{AllocError, Global};
 use std::borrow::CowStr;
@@ -51,10 +51,10 @@ impl Keys {
             Ok(Some(row)) => return Err(KeyFault::Null(row)),
             Err(_) => return Err(KeyFault::NoMemory),
         }
-        if places.len() == 1 {
-            return integer_keys(alloc, cells, places[0]);
+        match places {
+            [place] if has_integers(cells, *place) => integer_keys(alloc, cells, *place),
+            _ => value_keys(alloc, cells),
         }
-        value_keys(alloc, cells)
     }
 
     /// The row that has a key.
@@ -76,6 +76,13 @@ impl Keys {
             }
         }
     }
+}
+
+/// Whether the values of a column that are not null are integers.
+fn has_integers(cells: &Cells, place: usize) -> bool
+    requires { place < length cells.now.schema.columns }
+{
+    matches!(cells.schema().columns[place].datatype, Datatype::Integer)
 }
 
 /// Whether a value is null.
@@ -114,7 +121,7 @@ fn first_null(alloc: Global, cells: &Cells) -> Result<Option<usize>, AllocError>
     Ok(None)
 }
 
-/// The keys of rows whose key is the column at that place: as integers, where they all are.
+/// The keys of rows whose key is the column at that place: as integers, where all are, as they are in a column of integers.
 fn integer_keys(alloc: Global, cells: &Cells, place: usize) -> Result<Keys, KeyFault>
     requires key { cells.now.schema.key ≡ place ∷ [] }
     requires place { place < length cells.now.schema.columns }
@@ -123,7 +130,9 @@ fn integer_keys(alloc: Global, cells: &Cells, place: usize) -> Result<Keys, KeyF
     ensures distinct { OnOk result (repeated_row (keys_of cells.now) ≡ None) }
     ensures fault { IfErr result (HasKeyFault (keys_of cells.now)) }
 {
-    let mut keys = IndexSet::new(alloc);
+    let Ok(mut keys) = IndexSet::with_capacity(alloc, cells.rows()) else {
+        return Err(KeyFault::NoMemory);
+    };
     for row in 0..cells.rows() {
         let Ok(value) = cells.value(alloc, row, place) else {
             return Err(KeyFault::NoMemory);
@@ -150,7 +159,9 @@ fn value_keys(alloc: Global, cells: &Cells) -> Result<Keys, KeyFault>
     ensures fault { IfErr result (HasKeyFault (keys_of cells.now)) }
 {
     cell_types::values_compare_as_their_views();
-    let mut keys = IndexSet::new(alloc);
+    let Ok(mut keys) = IndexSet::with_capacity(alloc, cells.rows()) else {
+        return Err(KeyFault::NoMemory);
+    };
     for row in 0..cells.rows() {
         let Ok(key) = key_at(alloc, cells, row) else {
             return Err(KeyFault::NoMemory);

@@ -14,7 +14,7 @@ returns-in-Ok-false-clause-fault c =
     let fits : FitsSigned w128 c.in-Int.key = search rules in
     let read : to_z w128 (of_z w128 c.in-Int.key) ≡ c.in-Int.key = to_z-of_z w128 c.in-Int.key fits in
     let within : row < length keys = omega (arith, ap length c.requires.key, length-row_keys cells.schema.key cells.rows (omega (arith, ap length c.requires.key))) in
-    let is : int c.in-Int.key ∷ [] ≡ get_or keys row [] = integer-at cells.schema.key cells.rows row c.args.place c.in-Int.key c.requires.key (omega arith) (c.in-Ok.ensures ∙ ap (λ v. Some (value_view v)) c.in-Int.is) in (
+    let is : int c.in-Int.key ∷ [] ≡ get_or keys row [] = integer-at cells.schema.key cells.rows row c.args.place c.in-Int.key c.requires.key (omega arith) (c.in-Ok-value.ensures ∙ ap (λ v. Some (value_view v)) c.in-Int.is) in (
       c.requires.whole,
       repeated_row-here (λ z. int z ∷ []) _ int_eq-view _ c.loop-row.keys.keys keys row within c.loop-row.invariant (ap (λ z. int z ∷ []) read ∙ is)
           (old_key _ _ c.in-Ok-false.ensures.added c.in-Ok-false.field-0-test),
@@ -28,7 +28,7 @@ loop-row-preserved c =
     let fits : FitsSigned w128 c.in-Int.key = search rules in
     let read : to_z w128 (of_z w128 c.in-Int.key) ≡ c.in-Int.key = to_z-of_z w128 c.in-Int.key fits in
     let within : row < length keys = omega (arith, ap length c.requires.key, length-row_keys cells.schema.key cells.rows (omega (arith, ap length c.requires.key))) in
-    let is : int c.in-Int.key ∷ [] ≡ get_or keys row [] = integer-at cells.schema.key cells.rows row c.args.place c.in-Int.key c.requires.key (omega arith) (c.in-Ok.ensures ∙ ap (λ v. Some (value_view v)) c.in-Int.is) in
+    let is : int c.in-Int.key ∷ [] ≡ get_or keys row [] = integer-at cells.schema.key cells.rows row c.args.place c.in-Int.key c.requires.key (omega arith) (c.in-Ok-value.ensures ∙ ap (λ v. Some (value_view v)) c.in-Int.is) in
     rw c.in-Ok-true.ensures.keys
     (AreFirstKeys-more (λ z. int z ∷ []) _ int_eq-view _ c.loop-row.keys.keys keys row within c.loop-row.invariant (ap (λ z. int z ∷ []) read ∙ is)
     (new_key _ _ c.in-Ok-true.ensures.added c.in-Ok-true.field-0-test))
