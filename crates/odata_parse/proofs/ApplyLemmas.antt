@@ -1,5 +1,5 @@
 -- What the parts of `$apply` are by their first tokens.
-use Rattle.std.proofs.Common.{◌≡◌, ◌≢◌, ℕ, List, [], ◌∷◌, Option, Some, None, codes, refl, sym, ap, subst, ◌∙◌}
+use Rattle.std.proofs.Common.{◌≡◌, ◌≢◌, ℕ, List, ◌∷◌, Some, None, codes, refl, sym, subst, ◌∙◌}
 use Rattle.odata_lex.specs.Tokens.{TokenOf}
 use Rattle.odata_lex.specs.declared.token.TokenKind.TheVariants.{Word, Dollar, OpenParenthesis, CloseParenthesis, Comma}
 use Rattle.odata_parse.specs.declared.tree.AggregationMethod.{AggregationMethod}
@@ -52,7 +52,7 @@ column_parts (of_count {t} {before} d l s) none = absurd (none t before refl d)
 word_no_dollar : (t : TokenOf) → t.kind ≡ Word → t.kind ≡ Dollar → ⊥
 word_no_dollar t h e = let k : Word ≡ Dollar = sym h ∙ e in cc
 
-name_no_dollar : {t : TokenOf} {before after : List TokenOf} {text : List ℕ} → ReadsName (t ∷ before) text after → t.kind ≡ Dollar → ⊥
+pub name_no_dollar : {t : TokenOf} {before after : List TokenOf} {text : List ℕ} → ReadsName (t ∷ before) text after → t.kind ≡ Dollar → ⊥
 name_no_dollar {t} (a_word k e) d = word_no_dollar t k d
 
 pub count_parts : {t : TokenOf} {before after : List TokenOf} {x : AggregateItemOf} → ReadsAggregateItem (t ∷ before) x after → t.kind ≡ Dollar → (alias : List ℕ) × (lower t.text ≡ codes "$count") × ReadsAlias before alias after × (counted alias ≡ x)
@@ -74,7 +74,7 @@ names_parts (some_names {o} {c} {before} p r q) = record { opening = o; closing 
 pub aggregate_parts : {old after : List TokenOf} {items : List AggregateItemOf} → ReadsAggregate old items after → (t : TokenOf) × (rest : List TokenOf) × (old ≡ t ∷ rest) × IsKeyword (codes "aggregate") t × ListParts ReadsAggregateItem rest items after
 aggregate_parts (an_aggregate {t} {o} {c} {before} k p r q) = (t, o ∷ before, refl, k, record { opening = o; closing = c; mid = before; begins = refl; opens = p; reads = r; closes = q })
 
-aggregate_keyword : {t : TokenOf} {before after : List TokenOf} {items : List AggregateItemOf} → ReadsAggregate (t ∷ before) items after → IsKeyword (codes "aggregate") t
+pub aggregate_keyword : {t : TokenOf} {before after : List TokenOf} {items : List AggregateItemOf} → ReadsAggregate (t ∷ before) items after → IsKeyword (codes "aggregate") t
 aggregate_keyword (an_aggregate k p r q) = k
 
 pub record FilterParts (old : List TokenOf) (x : TransformationOf) (after : List TokenOf) : Type 0 where

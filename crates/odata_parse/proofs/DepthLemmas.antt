@@ -1,10 +1,8 @@
 -- Counting along tokens.
-use Rattle.std.proofs.Common.{◌≡◌, ◌≢◌, ℕ, zero, suc, ◌+◌, ◌-◌, ◌<◌, ◌≤◌, ◌⊎◌, inl, inr, List, [], ◌∷◌, take, drop, length, refl, sym, ap, ◌∙◌, subst, arith}
+use Rattle.std.proofs.Common.{◌≡◌, ℕ, zero, suc, ◌+◌, ◌-◌, ◌<◌, ◌≤◌, List, [], ◌∷◌, take, drop, sym, subst, arith}
 use Rattle.odata_lex.specs.Tokens.{TokenOf}
-use Rattle.odata_lex.specs.declared.token.TokenKind.{TokenKind}
-use Rattle.odata_lex.specs.declared.token.TokenKind.TheVariants.{Slash}
 use Rattle.odata_parse.specs.declared.tree.UnaryOperator.{UnaryOperator}
-use Rattle.odata_parse.specs.Depth.{OpensTooMany, RepeatsOperators, BeginsWithOperators, no_operators, more_operators, open_behind, open_after, slashes, slash_of}
+use Rattle.odata_parse.specs.Depth.{OpensTooMany, RepeatsOperators, BeginsWithOperators, no_operators, more_operators, open_behind, open_after}
 use Rattle.odata_parse.specs.Expressions.{IsUnaryOperator}
 
 -- at some place from here on, with n open before, more than 32 are open

@@ -4,6 +4,7 @@ pub mod KeywordLemmas
 pub mod ListLemmas
 pub mod LiteralLemmas
 pub mod NumberLemmas
+pub mod OneTreeLemmas
 pub mod OptionLemmas
 pub mod PhraseLemmas
 pub mod PrimaryLemmas

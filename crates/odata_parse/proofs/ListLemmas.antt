@@ -1,5 +1,5 @@
 -- Where a parser of a list is.
-use Rattle.std.proofs.Common.{◌≡◌, ◌≢◌, ℕ, ◌<◌, List, [], ◌∷◌, ◌++◌, length, refl, sym, arith, append-nil, append_assoc, ap, subst, ◌∙◌}
+use Rattle.std.proofs.Common.{◌≡◌, ◌≢◌, ◌<◌, List, [], ◌∷◌, ◌++◌, length, refl, sym, arith, append-nil, append_assoc, ap, subst, ◌∙◌}
 use Rattle.odata_lex.specs.Tokens.{TokenOf}
 use Rattle.odata_lex.specs.declared.token.TokenKind.{TokenKind}
 use Rattle.odata_lex.specs.declared.token.TokenKind.TheVariants.{Text, Date, Number, Word, Dollar, OpenParenthesis, CloseParenthesis, Comma, Slash, Minus, Star, EqualsSign}
@@ -54,9 +54,12 @@ pub record Midway {A : Type 0} (Item : List TokenOf → A → List TokenOf → T
 abbrev pub IsOnlyItem : {A : Type 0} → (List TokenOf → A → List TokenOf → Type 0) → List TokenOf → A → List TokenOf → Type 0
 IsOnlyItem {A} Item old x now = (y : A) (after : List TokenOf) → Item old y after → IsAfterItem after → (x ≡ y) × (now ≡ after)
 
+GoesOn-rest : {A : Type 0} {Item : List TokenOf → A → List TokenOf → Type 0} {sign : TokenKind} {s : TokenOf} {mid after : List TokenOf} {xs : List A} → IsSeparator sign → GoesOn Item sign (s ∷ mid) xs after → s.kind ≡ sign → IsAfterList after → Separated Item sign mid xs after
+GoesOn-rest {sign} h no_more e end = absurd (close_is_none sign h (sym end ∙ e))
+GoesOn-rest h (with_more is r) e end = r
+
 GoesOn-next : {A : Type 0} {Item : List TokenOf → A → List TokenOf → Type 0} {sign : TokenKind} {s : TokenOf} {mid after : List TokenOf} {xs : List A} → IsSeparator sign → GoesOn Item sign (s ∷ mid) xs after → s.kind ≡ sign → IsAfterList after → (x : A) × (ys : List A) × (rest : List TokenOf) × (xs ≡ x ∷ ys) × Item mid x rest × GoesOn Item sign rest ys after
-GoesOn-next {sign} h no_more e end = absurd (close_is_none sign h (sym end ∙ e))
-GoesOn-next h (with_more is r) e end = Separated-split r
+GoesOn-next h g e end = Separated-split (GoesOn-rest h g e end)
 
 pub Midway-init : {A : Type 0} (Item : List TokenOf → A → List TokenOf → Type 0) (sign : TokenKind) (old now : List TokenOf) (x : A) → IsSeparator sign → Item old x now → IsOnlyItem Item old x now → length now < length old → Midway Item sign old now (x ∷ [])
 Midway-init Item sign old now x h i only short = record {
@@ -101,3 +104,23 @@ pub none_next : {A : Type 0} (Item : List TokenOf → A → List TokenOf → Typ
 none_next Item sign old now mid s xs P h m is e none zs after r end =
     let p = m.each zs after r end in
     let q = GoesOn-next h (rw is at p.2) e end in none q.0 q.2 q.4 (GoesOn-ends h q.5 end)
+
+-- of items that can end where they do, one stands first
+abbrev pub HasOnlyItems : {A : Type 0} → (List TokenOf → A → List TokenOf → Type 0) → Type 0
+HasOnlyItems {A} Item = (old now : List TokenOf) (x : A) → Item old x now → IsAfterItem now → IsOnlyItem Item old x now
+
+list_stops : (sign : TokenKind) (now : List TokenOf) → IsSeparator sign → IsAfterList now → (t : TokenOf) (rest : List TokenOf) → now ≡ t ∷ rest → t.kind ≢ sign
+list_stops sign now h end t rest is k = close_is_none sign h (sym (subst IsAfterList is end) ∙ k)
+
+-- so lists of them are one
+pub Separated-only : {A : Type 0} {Item : List TokenOf → A → List TokenOf → Type 0} {sign : TokenKind} {old : List TokenOf} {xs : List A} {now : List TokenOf} → IsSeparator sign → HasOnlyItems Item → Separated Item sign old xs now → IsAfterList now → (zs : List A) (after : List TokenOf) → Separated Item sign old zs after → IsAfterList after → (xs ≡ zs) × (now ≡ after)
+Separated-only {sign} h one (last_item {before} {after = now} {x} i) end zs after s e =
+    let f = Separated-split s in
+    let o = one before now x i (list_item_ends now end) f.0 f.2 f.4 (GoesOn-ends h f.5 e) in
+    let q = GoesOn-stop (rw (← o.1) at f.5) (list_stops sign now h end) in
+    (cc (o.0, q.0, f.3), q.1)
+Separated-only {sign} h one (more_items {before} {mid} {s = t} {x} i is r) end zs after s e =
+    let f = Separated-split s in
+    let o = one before (t ∷ mid) x i (rw is (separator_ends sign h)) f.0 f.2 f.4 (GoesOn-ends h f.5 e) in
+    let q = Separated-only h one r end f.1 after (GoesOn-rest h (rw (← o.1) at f.5) is e) e in
+    (cc (o.0, q.0, f.3), q.1)

@@ -1,16 +1,15 @@
 -- What the items of options are by their first tokens.
-use Rattle.std.proofs.Common.{◌≡◌, ◌≢◌, ℕ, ◌≤◌, ◌<◌, Bool, true, false, List, [], ◌∷◌, codes, refl, sym, ap, ◌∙◌, subst, arith}
+use Rattle.std.proofs.Common.{◌≡◌, ◌≢◌, ℕ, true, false, List, [], ◌∷◌, codes, refl, sym, ap, ◌∙◌, subst}
 use Rattle.odata_lex.specs.Tokens.{TokenOf}
-use Rattle.odata_lex.specs.declared.token.TokenKind.{TokenKind}
-use Rattle.odata_lex.specs.declared.token.TokenKind.TheVariants.{Number, Word, Comma, Star, EqualsSign, Minus, OpenParenthesis}
+use Rattle.odata_lex.specs.declared.token.TokenKind.TheVariants.{Number, Word, Comma, Star, EqualsSign}
 use Rattle.odata_parse.specs.Expressions.{Reads, top}
-use Rattle.odata_parse.specs.Keywords.{IsKeyword, operator_text}
+use Rattle.odata_parse.specs.Keywords.{IsKeyword}
 use Rattle.odata_parse.specs.Lists.{Separated, last_item, more_items}
 use Rattle.odata_parse.specs.Literals.{ReadsLiteral, one_token, negative}
 use Rattle.odata_parse.specs.Options.{ReadsOrderItem, order_alone, order_ascending, order_descending, ReadsSelectItem, select_all, select_name, ReadsKeyPair, key_value, IsKey, key_single, key_named}
 use Rattle.odata_parse.specs.Parsing.{CanEnd, MayFollow, IsAfterItem, IsCloseOrSeparator, HasEqualsSign}
 use Rattle.odata_parse.specs.Trees.{LiteralOf, ExprOf, OrderItemOf, order_item, SelectItemOf, all_columns, selected, KeyPairOf, key_pair, KeyOf, single, named}
-use Rattle.odata_parse.proofs.KeywordLemmas.{Keyword, keyword_text, operator, in_word, asc_word, desc_word}
+use Rattle.odata_parse.proofs.KeywordLemmas.{operator, in_word, asc_word, desc_word}
 use Rattle.odata_parse.proofs.PhraseLemmas.{keyword_unique, word_no_open, item_ends}
 
 -- behind an expression: nothing, `asc` or `desc`
@@ -19,14 +18,14 @@ pub data OrderTail : ExprOf → List TokenOf → OrderItemOf → List TokenOf �
   tail_ascending : {t : TokenOf} {e : ExprOf} {after : List TokenOf} → IsKeyword (codes "asc") t → OrderTail e (t ∷ after) (order_item e false) after
   tail_descending : {t : TokenOf} {e : ExprOf} {after : List TokenOf} → IsKeyword (codes "desc") t → OrderTail e (t ∷ after) (order_item e true) after
 
-asc_follows : (t : TokenOf) → IsKeyword (codes "asc") t → MayFollow 8 t
+pub asc_follows : (t : TokenOf) → IsKeyword (codes "asc") t → MayFollow 8 t
 asc_follows t h = record {
   no_call = word_no_open t h.is_word;
   no_list = λ _ k. let j = keyword_unique asc_word in_word h k in absurd (cc);
   no_operator = λ o k. let j = keyword_unique asc_word (operator o) h k in absurd (cc);
 }
 
-desc_follows : (t : TokenOf) → IsKeyword (codes "desc") t → MayFollow 8 t
+pub desc_follows : (t : TokenOf) → IsKeyword (codes "desc") t → MayFollow 8 t
 desc_follows t h = record {
   no_call = word_no_open t h.is_word;
   no_list = λ _ k. let j = keyword_unique desc_word in_word h k in absurd (cc);
@@ -44,7 +43,7 @@ order_tail only r h = let f = order_front r h in let s = only f.0 f.1 f.2 f.3 in
 pub order_none : {old : List TokenOf} (P : Type 0) → ((e : ExprOf) (rest : List TokenOf) → Reads top old e rest → CanEnd top rest → P) → (x : OrderItemOf) (after : List TokenOf) → ReadsOrderItem old x after → IsAfterItem after → P
 order_none P none x after r h = let f = order_front r h in none f.0 f.1 f.2 f.3
 
-no_word_after : (t : TokenOf) (after : List TokenOf) → t.kind ≡ Word → IsAfterItem (t ∷ after) → ⊥
+pub no_word_after : (t : TokenOf) (after : List TokenOf) → t.kind ≡ Word → IsAfterItem (t ∷ after) → ⊥
 no_word_after t after w h = subst IsCloseOrSeparator w h
 
 pub OrderTail-descending : {v : ExprOf} {t : TokenOf} {now after : List TokenOf} {x : OrderItemOf} → IsKeyword (codes "desc") t → OrderTail v (t ∷ now) x after → IsAfterItem after → (order_item v true ≡ x) × (now ≡ after)
@@ -100,11 +99,11 @@ pair_parts (key_value {t} {s} {before} {v} k e q r) = record {
   is = ap (λ (b : List ℕ). key_pair b v) (sym e);
 }
 
-pairs_have_equals : {tokens after : List TokenOf} {pairs : List KeyPairOf} → Separated ReadsKeyPair Comma tokens pairs after → HasEqualsSign tokens
+pub pairs_have_equals : {tokens after : List TokenOf} {pairs : List KeyPairOf} → Separated ReadsKeyPair Comma tokens pairs after → HasEqualsSign tokens
 pairs_have_equals (last_item (key_value k e q r)) = q
 pairs_have_equals (more_items (key_value k e q r) c s) = q
 
-literal_no_equals : {tokens : List TokenOf} {v : LiteralOf} → ReadsLiteral tokens v [] → HasEqualsSign tokens → ⊥
+pub literal_no_equals : {tokens : List TokenOf} {v : LiteralOf} → ReadsLiteral tokens v [] → HasEqualsSign tokens → ⊥
 literal_no_equals (one_token h) e = e
 literal_no_equals (negative m n p) e = let w : Number ≡ EqualsSign = sym n ∙ e in cc
 

@@ -1,24 +1,18 @@
 -- Phrases from the left: a phrase of the level below, and how it goes on.
-use Rattle.std.proofs.Common.{◌≡◌, ◌≢◌, ℕ, zero, suc, ◌<◌, ◌≤◌, ◌+◌, List, [], ◌∷◌, length, codes, refl, sym, ap, ◌∙◌, subst, arith}
+use Rattle.std.proofs.Common.{◌≡◌, ◌≢◌, ℕ, zero, suc, ◌<◌, ◌≤◌, List, [], ◌∷◌, length, codes, refl, sym, ap, ◌∙◌, subst, arith}
 use Rattle.odata_lex.specs.Tokens.{TokenOf}
 use Rattle.odata_lex.specs.declared.token.TokenKind.{TokenKind}
-use Rattle.odata_lex.specs.declared.token.TokenKind.TheVariants.{Text, Date, Number, Word, Dollar, OpenParenthesis, CloseParenthesis, Comma, Slash, Minus, Star, EqualsSign}
+use Rattle.odata_lex.specs.declared.token.TokenKind.TheVariants.{Word, OpenParenthesis, CloseParenthesis, Comma, Minus}
 use Rattle.odata_parse.specs.declared.tree.LogicOperator.TheVariants.{And, Or}
 use Rattle.odata_parse.specs.declared.tree.ComparisonOperator.TheVariants.{Equal, NotEqual, GreaterThan, GreaterOrEqual, LessThan, LessOrEqual}
 use Rattle.odata_parse.specs.declared.tree.ArithmeticOperator.TheVariants.{Add, Sub, Mul, Div, Mod}
 use Rattle.odata_parse.specs.declared.tree.BinaryOperator.{BinaryOperator}
 use Rattle.odata_parse.specs.declared.tree.BinaryOperator.TheVariants.{Logic, Comparison, Arithmetic}
-use Rattle.odata_parse.specs.declared.tree.UnaryOperator.{UnaryOperator}
-use Rattle.odata_parse.specs.declared.tree.UnaryOperator.TheVariants.{Negate, Not}
-use Rattle.odata_parse.specs.declared.tree.UnaryFunction.{UnaryFunction}
-use Rattle.odata_parse.specs.declared.tree.BinaryFunction.{BinaryFunction}
-use Rattle.odata_parse.specs.Expressions.{Reads, read_group, read_literal, read_name, read_unary_call, read_binary_call, read_in, read_unary, read_binary, read_tighter, IsUnaryOperator, level_of, top}
-use Rattle.odata_parse.specs.Keywords.{IsKeyword, IsName, operator_text, unary_function_text, binary_function_text}
-use Rattle.odata_parse.specs.Literals.{IsLiteral, IsLiteralOfKind, IsWordLiteral, ReadsLiteral}
-use Rattle.odata_parse.specs.Lists.{Separated}
-use Rattle.odata_parse.specs.Parsing.{CanEnd, MayFollow, Calls, calls_unary, calls_binary, IsAfterItem, IsAfterList, IsCloseOrSeparator}
-use Rattle.odata_parse.specs.Trees.{LiteralOf, null, boolean, number, text, date, ExprOf, literal, name, unary, binary, in_list, unary_call, binary_call}
-use Rattle.odata_parse.proofs.KeywordLemmas.{Keyword, keyword_text, one_keyword, operator, unary_function, binary_function, in_word, not_word, true_word, false_word, null_word}
+use Rattle.odata_parse.specs.Expressions.{Reads, read_in, read_unary, read_binary, read_tighter, level_of}
+use Rattle.odata_parse.specs.Keywords.{IsKeyword, operator_text}
+use Rattle.odata_parse.specs.Parsing.{CanEnd, MayFollow, IsAfterItem, IsCloseOrSeparator}
+use Rattle.odata_parse.specs.Trees.{ExprOf, binary}
+use Rattle.odata_parse.proofs.KeywordLemmas.{Keyword, keyword_text, one_keyword, operator, in_word}
 
 -- operators between operands bind more loosely than those before one
 pub level_from_three : (o : BinaryOperator) → 3 ≤ level_of o
@@ -143,26 +137,35 @@ Goes-stop (goes_on {t} {o} {before} k d r g) none = absurd (none t before o refl
 abbrev pub IsOnly : ℕ → List TokenOf → ExprOf → List TokenOf → Type 0
 IsOnly l old left now = (e : ExprOf) (after : List TokenOf) → Reads l old e after → CanEnd l after → (left ≡ e) × (now ≡ after)
 
+-- each phrase of level l + 1 goes on from `left`
+abbrev pub GoesFrom : ℕ → List TokenOf → ExprOf → List TokenOf → Type 0
+GoesFrom l old left now = (e : ExprOf) (after : List TokenOf) → Reads (suc l) old e after → CanEnd (suc l) after → Goes l left now e after
+
+pub front_goes : {l : ℕ} {old now : List TokenOf} {left : ExprOf} → 2 ≤ l → IsOnly l old left now → GoesFrom l old left now
+front_goes h only e after r end = let f = Reads-front h r in let s = only f.0 f.1 f.2 (Goes-ends f.3 end) in rw (s.0, s.1) f.3
+
+pub operand_goes : {l : ℕ} {old before new : List TokenOf} {left right : ExprOf} {t : TokenOf} (o : BinaryOperator) → GoesFrom l old left (t ∷ before) → IsKeyword (operator_text o) t → level_of o ≡ suc l → IsOnly l before right new → GoesFrom l old (binary o left right) new
+operand_goes o goes k d only e after r end =
+    let f = Goes-next o (goes e after r end) k d end in
+    let s = only f.0 f.1 f.2 (Goes-ends f.3 end) in rw (s.0, s.1) f.3
+
 -- `left` is a phrase of level l + 1 so far, and each longer one goes on from it
 pub record Midway (l : ℕ) (old now : List TokenOf) (left : ExprOf) : Type 0 where
   pub found : Reads (suc l) old left now
-  pub each : (e : ExprOf) (after : List TokenOf) → Reads (suc l) old e after → CanEnd (suc l) after → Goes l left now e after
+  pub each : GoesFrom l old left now
   pub shorter : length now < length old
 
 pub Midway-init : (l : ℕ) (old now : List TokenOf) (left : ExprOf) → 2 ≤ l → Reads l old left now → IsOnly l old left now → length now < length old → Midway l old now left
 Midway-init l old now left h r only short = record {
   found = read_tighter r;
-  each = λ e after q end. let f = Reads-front h q in let s = only f.0 f.1 f.2 (Goes-ends f.3 end) in rw (s.0, s.1) f.3;
+  each = front_goes h only;
   shorter = short;
 }
 
 pub Midway-more : (l : ℕ) (old now before new : List TokenOf) (left right : ExprOf) (o : BinaryOperator) (t : TokenOf) → Midway l old now left → now ≡ t ∷ before → IsKeyword (operator_text o) t → level_of o ≡ suc l → Reads l before right new → IsOnly l before right new → length new < length before → Midway l old new (binary o left right)
 Midway-more l old now before new left right o t m is k d r only short = record {
   found = read_binary (rw is at m.found) k d r;
-  each = λ e after q end.
-      let g = rw is at (m.each e after q end) in
-      let f = Goes-next o g k d end in
-      let s = only f.0 f.1 f.2 (Goes-ends f.3 end) in rw (s.0, s.1) f.3;
+  each = operand_goes o (rw is at m.each) k d only;
   shorter = let n : length now ≡ suc (length before) = ap length is in omega (arith, m.shorter);
 }
 

@@ -1,21 +1,20 @@
 -- What a phrase is by its first tokens.
-use Rattle.std.proofs.Common.{◌≡◌, ◌≢◌, ℕ, zero, suc, ◌<◌, ◌≤◌, ◌+◌, List, [], ◌∷◌, Bool, true, false, ◌⊎◌, inl, inr, length, codes, refl, sym, ap, ◌∙◌, subst, arith}
+use Rattle.std.proofs.Common.{◌≡◌, ◌≢◌, ℕ, zero, suc, ◌≤◌, List, ◌∷◌, true, false, ◌⊎◌, inl, inr, codes, refl, sym, ap, ◌∙◌, subst, arith}
 use Rattle.odata_lex.specs.Tokens.{TokenOf}
 use Rattle.odata_lex.specs.declared.token.TokenKind.{TokenKind}
-use Rattle.odata_lex.specs.declared.token.TokenKind.TheVariants.{Text, Date, Number, Word, Dollar, OpenParenthesis, CloseParenthesis, Comma, Slash, Minus, Star, EqualsSign}
-use Rattle.odata_parse.specs.declared.tree.BinaryOperator.{BinaryOperator}
+use Rattle.odata_lex.specs.declared.token.TokenKind.TheVariants.{Word, OpenParenthesis, CloseParenthesis, Comma, Minus}
 use Rattle.odata_parse.specs.declared.tree.UnaryOperator.{UnaryOperator}
 use Rattle.odata_parse.specs.declared.tree.UnaryOperator.TheVariants.{Negate, Not}
 use Rattle.odata_parse.specs.declared.tree.UnaryFunction.{UnaryFunction}
 use Rattle.odata_parse.specs.declared.tree.BinaryFunction.{BinaryFunction}
-use Rattle.odata_parse.specs.Expressions.{Reads, read_group, read_literal, read_name, read_unary_call, read_binary_call, read_in, read_unary, read_binary, read_tighter, IsUnaryOperator, level_of, top}
-use Rattle.odata_parse.specs.Keywords.{IsKeyword, IsName, lower, operator_text, unary_function_text, binary_function_text}
+use Rattle.odata_parse.specs.Expressions.{Reads, read_group, read_literal, read_name, read_unary_call, read_binary_call, read_in, read_unary, read_binary, read_tighter, IsUnaryOperator, top}
+use Rattle.odata_parse.specs.Keywords.{IsKeyword, IsName, lower, unary_function_text, binary_function_text}
 use Rattle.odata_parse.specs.Literals.{IsLiteral, IsLiteralOfKind, IsWordLiteral, ReadsLiteral}
 use Rattle.odata_parse.specs.Lists.{Separated}
-use Rattle.odata_parse.specs.Parsing.{CanEnd, MayFollow, Calls, calls_unary, calls_binary}
-use Rattle.odata_parse.specs.Trees.{LiteralOf, null, boolean, number, text, date, ExprOf, literal, name, unary, binary, in_list, unary_call, binary_call}
-use Rattle.odata_parse.proofs.KeywordLemmas.{Keyword, keyword_text, one_keyword, operator, unary_function, binary_function, in_word, not_word, true_word, false_word, null_word}
-use Rattle.odata_parse.proofs.LiteralLemmas.{IsWordLiteral-unique}
+use Rattle.odata_parse.specs.Parsing.{CanEnd, Calls, calls_unary, calls_binary}
+use Rattle.odata_parse.specs.Trees.{LiteralOf, null, boolean, number, text, date, ExprOf, literal, name, unary, in_list, unary_call, binary_call}
+use Rattle.odata_parse.proofs.KeywordLemmas.{Keyword, keyword_text, one_keyword, unary_function, binary_function, not_word, true_word, false_word, null_word}
+use Rattle.odata_parse.proofs.LiteralLemmas.{IsLiteral-unique}
 use Rattle.odata_parse.proofs.PhraseLemmas.{level_from_three, keyword_unique, word_no_open, word_no_minus, in_follows, CanEnd-pred}
 
 -- a value that is a word is no other keyword
@@ -181,11 +180,7 @@ pub Reads-call : {t o : TokenOf} {before after : List TokenOf} {e : ExprOf} → 
 Reads-call p (calls_unary k r c) = read_unary_call k p r c
 Reads-call p (calls_binary k r m q c) = read_binary_call k p r m q c
 
-call_no_value : {t : TokenOf} {before after : List TokenOf} {e : ExprOf} (v : LiteralOf) → Calls t before e after → IsLiteral t v → ⊥
-call_no_value {t} v (calls_unary {f} k r c) h = no_unary f (literal_word t v (unary_function f) h k)
-call_no_value {t} v (calls_binary {f} k r m q c) h = no_binary f (literal_word t v (binary_function f) h k)
-
-name_no_value : (t : TokenOf) (bytes : List ℕ) (v : LiteralOf) → IsName bytes t → IsWordLiteral t.text v → ⊥
+pub name_no_value : (t : TokenOf) (bytes : List ℕ) (v : LiteralOf) → IsName bytes t → IsWordLiteral t.text v → ⊥
 name_no_value t bytes null n h = n.not_null h
 name_no_value t bytes (boolean true) n h = n.not_true h
 name_no_value t bytes (boolean false) n h = n.not_false h
@@ -199,14 +194,17 @@ value_literal t v h l = subst (λ (kind : TokenKind). IsLiteralOfKind kind t.tex
 value_word : (t : TokenOf) (v : LiteralOf) → t.kind ≡ Word → IsLiteral t v → IsWordLiteral t.text v
 value_word t v h l = subst (λ (kind : TokenKind). IsLiteralOfKind kind t.text v) h l
 
-value_only : {t : TokenOf} {before after : List TokenOf} {e : ExprOf} (v : LiteralOf) → t.kind ≡ Word → IsWordLiteral t.text v → WordPhrase t before e after → (literal v ≡ e) × (before ≡ after)
-value_only {t} v h l (word_value {v = w} q) = (ap literal (IsWordLiteral-unique t.text v w l (value_word t w h q)), refl)
-value_only {t} v h l (word_name {bytes} q) = absurd (name_no_value t bytes v q l)
-value_only {t} v h l (word_call p q) = absurd (call_no_value v q (value_literal t v h l))
+-- a token that is a value, and no word of another kind
+pub literal_only : {t : TokenOf} {before after : List TokenOf} {e : ExprOf} (v : LiteralOf) → IsLiteral t v → Reads zero (t ∷ before) e after → (literal v ≡ e) × (before ≡ after)
+literal_only {t} v h (read_group p r q) = absurd (subst (λ (kind : TokenKind). IsLiteralOfKind kind t.text v) p h)
+literal_only {t} v h (read_literal {v = w} q) = (ap literal (IsLiteral-unique t v w h q), refl)
+literal_only {t} v h (read_name {text = bytes} q) = absurd (name_no_value t bytes v q (value_word t v q.is_word h))
+literal_only {t} v h (read_unary_call {f} k p r q) = absurd (no_unary f (literal_word t v (unary_function f) h k))
+literal_only {t} v h (read_binary_call {f} k p r m q d) = absurd (no_binary f (literal_word t v (binary_function f) h k))
 
 -- a word that is a value
 pub word_is_value : {t : TokenOf} {before after : List TokenOf} {e : ExprOf} (v : LiteralOf) → t.kind ≡ Word → IsWordLiteral t.text v → Reads zero (t ∷ before) e after → (literal v ≡ e) × (before ≡ after)
-word_is_value v h l r = value_only v h l (Reads-word h r)
+word_is_value {t} v h l r = literal_only v (value_literal t v h l) r
 
 pub word_reads_value : (t : TokenOf) (after : List TokenOf) (v : LiteralOf) → t.kind ≡ Word → IsWordLiteral t.text v → Reads zero (t ∷ after) (literal v) after
 word_reads_value t after v h l = read_literal (value_literal t v h l)
@@ -238,6 +236,13 @@ call_only h none p end (word_call q c) = c
 -- a word before `(`
 pub word_is_call : {t o : TokenOf} {before after : List TokenOf} {e : ExprOf} → t.kind ≡ Word → ((v : LiteralOf) → ¬ (IsWordLiteral t.text v)) → o.kind ≡ OpenParenthesis → CanEnd zero after → Reads zero (t ∷ o ∷ before) e after → Calls t before e after
 word_is_call h none p end r = call_only h none p end (Reads-word h r)
+
+-- a function is no value
+pub unary_no_value : {t : TokenOf} (f : UnaryFunction) → IsKeyword (unary_function_text f) t → (v : LiteralOf) → ¬ (IsWordLiteral t.text v)
+unary_no_value {t} f k v h = no_unary f (literal_word t v (unary_function f) (value_literal t v k.is_word h) k)
+
+pub binary_no_value : {t : TokenOf} (f : BinaryFunction) → IsKeyword (binary_function_text f) t → (v : LiteralOf) → ¬ (IsWordLiteral t.text v)
+binary_no_value {t} f k v h = no_binary f (literal_word t v (binary_function f) (value_literal t v k.is_word h) k)
 
 -- the rest of a call by its function
 pub Calls-unary : {t : TokenOf} {before after : List TokenOf} {e : ExprOf} (f : UnaryFunction) → lower t.text ≡ unary_function_text f → Calls t before e after → (a : ExprOf) × (c : TokenOf) × Reads top before a (c ∷ after) × (c.kind ≡ CloseParenthesis) × (unary_call f a ≡ e)

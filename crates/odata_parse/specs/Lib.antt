@@ -13,3 +13,4 @@ pub mod Parsing
 pub mod Format
 pub mod Flag
 pub mod Number
+pub mod Laws

@@ -1,10 +1,8 @@
-use Rattle.std.proofs.Common.{◌≡◌, ◌∷◌, List, ap, sym, refl, ◌∙◌, subst}
-use Rattle.std.proofs.lemmas.Bool.{false≢true}
+use Rattle.std.proofs.Common.{◌∷◌, ap, ◌∙◌}
 use Rattle.std.proofs.lemmas.Result.{err_from_is_err_and}
-use Rattle.odata_lex.specs.Tokens.{TokenOf}
-use Rattle.odata_parse.specs.Apply.{a_word, an_alias, of_column, of_count, an_aggregate, some_names, a_filter, an_aggregation, a_grouping, a_grouping_with}
-use Rattle.odata_parse.specs.Trees.{aggregate, filter_by}
-use Rattle.odata_parse.proofs.ApplyLemmas.{name_parts, name_at, alias_parts, alias_at, method_unique, same_method, column_parts, count_parts, names_parts, aggregate_parts, filter_parts, group_parts, tail_closed, tail_with, only_aggregate}
+use Rattle.odata_parse.specs.Apply.{a_filter}
+use Rattle.odata_parse.specs.Trees.{filter_by}
+use Rattle.odata_parse.proofs.ApplyLemmas.{filter_parts}
 use Rattle.odata_parse.proofs.PhraseLemmas.{close_ends}
 use Rattle.odata_parse.proofs.PrimaryLemmas.{same_rest}
 use Rattle.odata_parse.proofs.apply.filter.Goals as goal

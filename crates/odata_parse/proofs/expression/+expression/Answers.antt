@@ -1,17 +1,11 @@
-use Rattle.std.proofs.Common.{◌≡◌, ◌≢◌, ℕ, suc, ◌-◌, ◌∷◌, List, arith, ap, subst, sym, ◌∙◌, refl}
+use Rattle.std.proofs.Common.{◌≡◌, suc, ◌-◌, ◌∷◌, arith, sym, ◌∙◌}
 use Rattle.std.proofs.lemmas.Bool.{false≢true}
 use Rattle.std.proofs.lemmas.Result.{err_from_is_err_and}
-use Rattle.odata_lex.specs.Tokens.{TokenOf}
-use Rattle.odata_lex.specs.declared.token.TokenKind.TheVariants.{Comma}
-use Rattle.odata_parse.specs.Expressions.{Reads, read_group, read_literal, read_in, read_unary, read_tighter, top}
-use Rattle.odata_parse.specs.Keywords.{IsKeyword}
-use Rattle.odata_parse.specs.Lists.{Separated}
-use Rattle.odata_parse.specs.Literals.{ReadsLiteral}
-use Rattle.odata_parse.specs.Parsing.{calls_unary, calls_binary, CanEnd}
-use Rattle.odata_parse.specs.Trees.{ExprOf}
+use Rattle.odata_parse.specs.Expressions.{read_group, read_literal, read_in, read_unary, read_tighter}
+use Rattle.odata_parse.specs.Parsing.{calls_unary, calls_binary}
 use Rattle.odata_parse.proofs.LiteralLemmas.{IsLiteral-unique}
 use Rattle.odata_parse.proofs.PhraseLemmas.{Midway-init, Midway-more, Midway-only, none_first, none_next, close_ends, comma_ends, CanEnd-pred}
-use Rattle.odata_parse.proofs.PrimaryLemmas.{Reads-sign, Reads-unsigned, member_tail, member_none, Tail-stop, Tail-in, Reads-group, Reads-value, Reads-call, word_is_value, word_reads_value, word_is_name, word_reads_name, word_is_call, Calls-unary, Calls-binary, Calls-none, same_rest}
+use Rattle.odata_parse.proofs.PrimaryLemmas.{Reads-sign, Reads-unsigned, member_tail, Tail-stop, Tail-in, Reads-group, Reads-value, Reads-call, word_is_value, word_reads_value, word_is_name, word_reads_name, word_is_call, Calls-unary, Calls-binary, same_rest}
 use Rattle.odata_parse.proofs.expression.+expression.Goals as goal
 
 -- phrase

@@ -1,7 +1,6 @@
-use Rattle.std.proofs.Common.{◌≡◌, map, refl, arith}
 use Rattle.std.proofs.lemmas.List.{map-append}
 use Rattle.std.proofs.lemmas.Result.{err_from_is_err_and}
-use Rattle.odata_parse.proofs.ListLemmas.{Midway-init, Midway-more, Midway-found, Midway-only, none_first, none_next}
+use Rattle.odata_parse.proofs.ListLemmas.{Midway-init, Midway-more, Midway-found, Midway-only, none_next}
 use Rattle.odata_parse.proofs.list.list.Goals as goal
 
 pub loop-items-init : goal.loop-items-init

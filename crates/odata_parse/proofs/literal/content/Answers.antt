@@ -1,6 +1,6 @@
-use Rattle.std.proofs.Common.{◌≡◌, ◌≢◌, ℕ, ◌+◌, ◌≤◌, ◌<◌, Some, None, length, get_or, arith, string_bytes, ap, subst, sym, refl, List, ◌++◌, ◌-◌, ◌∙◌}
+use Rattle.std.proofs.Common.{◌≡◌, ℕ, ◌+◌, Some, None, get_or, arith, string_bytes, ap, List, ◌++◌, ◌-◌, ◌∙◌}
 use Rattle.std.proofs.lemmas.Str.Pattern.{find_char}
-use Rattle.odata_parse.proofs.LiteralLemmas.{Unquoting-init, Unquoting-more, Unquoting-end, Unquoting-second, text_long, quote_boundary}
+use Rattle.odata_parse.proofs.LiteralLemmas.{Unquoting-more, Unquoting-end, Unquoting-second, text_long, quote_boundary}
 use Rattle.odata_parse.proofs.literal.content.Goals as goal
 
 -- src/literal.rt:41:9

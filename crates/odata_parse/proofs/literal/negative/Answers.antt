@@ -1,4 +1,4 @@
-use Rattle.std.proofs.Common.{◌≡◌, ap, subst}
+use Rattle.std.proofs.Common.{subst}
 use Rattle.odata_lex.specs.Forms.{IsOfKind}
 use Rattle.odata_lex.specs.declared.token.TokenKind.{TokenKind}
 use Rattle.odata_parse.proofs.LiteralLemmas.{number_fits, negated}

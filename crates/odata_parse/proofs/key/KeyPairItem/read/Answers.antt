@@ -1,7 +1,6 @@
-use Rattle.std.proofs.Common.{ap, ◌∙◌, List, ℕ}
+use Rattle.std.proofs.Common.{ap}
 use Rattle.odata_lex.specs.Tokens.{TokenOf}
 use Rattle.odata_parse.specs.Options.{key_value}
-use Rattle.odata_parse.specs.Trees.{key_pair}
 use Rattle.odata_parse.proofs.OptionLemmas.{pair_parts, same_two}
 use Rattle.odata_parse.proofs.key.KeyPairItem.read.Goals as goal
 

@@ -1,6 +1,4 @@
-use Rattle.std.proofs.Common.{◌≡◌, List, ◌∷◌, sym, ◌∙◌, length, arith, ap}
 use Rattle.std.proofs.lemmas.Result.{err_from_is_err_and}
-use Rattle.odata_lex.specs.Tokens.{TokenOf}
 use Rattle.odata_parse.specs.Literals.{one_token}
 use Rattle.odata_parse.proofs.LiteralLemmas.{IsLiteral-unique, ReadsLiteral-one}
 use Rattle.odata_parse.proofs.literal.LiteralItem.read.Goals as goal

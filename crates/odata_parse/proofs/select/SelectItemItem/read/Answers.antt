@@ -1,4 +1,3 @@
-use Rattle.std.proofs.Common.{refl}
 use Rattle.odata_parse.specs.Options.{select_all, select_name}
 use Rattle.odata_parse.proofs.OptionLemmas.{select_star, select_word, select_none}
 use Rattle.odata_parse.proofs.select.SelectItemItem.read.Goals as goal
