@@ -3,7 +3,6 @@ pub mod DepthLemmas
 pub mod KeywordLemmas
 pub mod ListLemmas
 pub mod LiteralLemmas
-pub mod NumberLemmas
 pub mod OneTreeLemmas
 pub mod OptionLemmas
 pub mod PhraseLemmas

@@ -48,12 +48,6 @@ impl<'a> Cursor<'a> {
         }
     }
 
-    pub(crate) fn is_done(&self) -> bool
-        ensures { IsTrue result ↔ (self.now ≡ []) }
-    {
-        self.rest.is_empty()
-    }
-
     /// The next token, which stays.
     pub(crate) fn peek(&self) -> Option<Lexeme<'a>>
         ensures some { IfSome result (λ l. self.now ≡ lexeme_view l ∷ drop 1 self.now) }
@@ -146,7 +140,7 @@ impl<'a> Cursor<'a> {
         ensures err { OnErr result (self.now ≢ []) }
         ensures fault { IfErr result (λ e. e ≡ PhraseFault.Syntax) }
     {
-        if self.is_done() {
+        if self.rest.is_empty() {
             Ok(())
         } else {
             Err(PhraseFault::Syntax)

@@ -2,29 +2,32 @@
 //! is a loop, so the depth of calls does not grow with the number of operators, but with parentheses and operators before an
 //! operand alone.
 
-ghost use Rattle.std.specs.Prelude.{◌≡◌, ◌≢◌, ◌<◌, ◌≤◌, List, ◌∷◌, length, codes, IfOk, IfErr, IfSome, IfNone, OnOk};
+ghost use Rattle.std.specs.Prelude.{◌≡◌, ◌≢◌, ◌<◌, ◌≤◌, ◌↔◌, List, ◌∷◌, length, codes, IfOk, IfErr, IfSome, IfNone, IsErrOf, OnOk};
 ghost use Rattle.odata_lex.specs.Forms.{IsOfKind};
-ghost use Rattle.odata_lex.specs.Tokens.{TokenOf};
+ghost use Rattle.odata_lex.specs.Tokens.{TokenOf, AreTokens, token_views};
 ghost use Rattle.odata_lex.specs.declared.token.TokenKind.TheVariants.{OpenParenthesis, Word};
 ghost use Rattle.odata_parse.specs.declared.tree.BinaryOperator.{BinaryOperator};
 ghost use Rattle.odata_parse.specs.declared.tree.UnaryOperator.{UnaryOperator};
 ghost use Rattle.odata_parse.specs.Cursors.{lexeme_view};
-ghost use Rattle.odata_parse.specs.Expressions.{Reads, IsUnaryOperator, level_of};
+ghost use Rattle.odata_parse.specs.Depth.{IsTooDeep};
+ghost use Rattle.odata_parse.specs.Expressions.{Reads, IsFilter, IsUnaryOperator, level_of};
 ghost use Rattle.odata_parse.specs.Keywords.{IsKeyword, operator_text};
 ghost use Rattle.odata_parse.specs.Literals.{IsLiteral};
 ghost use Rattle.odata_parse.specs.Parsing.{Calls, CanEnd, Gives};
 ghost use Rattle.odata_parse.specs.Trees.{ExprOf, LiteralOf, expr_view, unary, binary};
 
 use crate::cursor::{Cursor, Lexeme};
-use crate::fault::PhraseFault;
+use crate::depth::is_too_deep;
+use crate::fault::{ParseFault, PhraseFault};
 use crate::keyword::{binary_function, binary_operator, spells, unary_function};
-use crate::list::list;
+use crate::list::{Item, list};
 use crate::literal::{literal_of, word_literal};
 use crate::tree::{
     ArithmeticOperator, BinaryOperator, ComparisonOperator, Expr, Literal, LogicOperator,
     UnaryOperator,
 };
-use odata_lex::TokenKind;
+use crate::whole::whole_item;
+use odata_lex::{Token, TokenKind};
 use std::alloc::{AllocError, Global};
 
 /// The level of a whole expression.
@@ -213,4 +216,32 @@ fn call(alloc: Global, tokens: &mut Cursor<'_>, function: Lexeme<'_>) -> Result<
     let right = phrase(alloc, tokens, TOP)?;
     tokens.expect(TokenKind::CloseParenthesis)?;
     Ok(Expr::BinaryCall(function, Box::new(alloc, left)?, Box::new(alloc, right)?))
+}
+
+impl Item for Expr {
+    ghost use Rattle.odata_parse.specs.Expressions.{Reads, top};
+    ghost use Rattle.odata_parse.specs.Trees.{ExprOf, expr_view};
+
+    ghost Tree = { ExprOf };
+
+    ghost tree = { expr_view };
+
+    ghost reads = { Reads top };
+
+    fn read(alloc: Global, tokens: &mut Cursor<'_>) -> Result<Expr, PhraseFault> {
+        Ok(phrase(alloc, tokens, TOP)?)
+    }
+}
+
+/// The expression that all the tokens are.
+pub fn parse_filter(alloc: Global, source: &str, tokens: &[Token]) -> Result<Expr, ParseFault>
+    requires { AreTokens source.now tokens.now }
+    ensures tree { IfOk result (λ e. IsFilter (token_views source.now tokens.now) (expr_view e)) }
+    ensures too_deep { IsErrOf result ParseFault.TooDeep ↔ IsTooDeep (token_views source.now tokens.now) }
+    ensures syntax { IsErrOf result ParseFault.Syntax → (e : ExprOf) → ¬ (IsFilter (token_views source.now tokens.now) e) }
+{
+    if is_too_deep(source, tokens) {
+        return Err(ParseFault::TooDeep);
+    }
+    Ok(whole_item::<Expr>(alloc, source, tokens)?)
 }

@@ -14,7 +14,7 @@ pub enum ParseFault {
 }
 
 /// Why a phrase is not read.
-#[derive(Clone, Copy, Debug, PartialEq, Eq)]
+#[derive(Clone, Copy)]
 pub(crate) enum PhraseFault {
     Syntax,
     NoMemory,

@@ -3,7 +3,7 @@
 ghost use Rattle.std.specs.Prelude.{◌≡◌, None, Some, MatchResult};
 ghost use Rattle.odata_parse.specs.Flag.{flag_of};
 
-use crate::format::is_same_text;
+use crate::keyword::spells;
 use crate::syntax::Syntax;
 
 /// The truth value that a value of `$count` names (OData 4.01 URL Conventions, section 5.1.7): `true` or `false`, in any case of ASCII
@@ -11,9 +11,9 @@ use crate::syntax::Syntax;
 pub fn parse_flag(text: &str) -> Result<bool, Syntax>
     ensures { MatchResult result (λ flag. flag_of text.now ≡ Some flag) (λ _. flag_of text.now ≡ None) }
 {
-    if is_same_text(text, "true") {
+    if spells(text, "true") {
         Ok(true)
-    } else if is_same_text(text, "false") {
+    } else if spells(text, "false") {
         Ok(false)
     } else {
         Err(Syntax)

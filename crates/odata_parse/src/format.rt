@@ -1,7 +1,9 @@
 //! The value of the option `$format`.
-ghost use Rattle.std.specs.Prelude.{◌≡◌, None, Some, MatchResult};
-ghost use Rattle.odata_parse.specs.Format.{format_of, same_text};
 
+ghost use Rattle.std.specs.Prelude.{◌≡◌, None, Some, MatchResult};
+ghost use Rattle.odata_parse.specs.Format.{format_of};
+
+use crate::keyword::spells;
 use crate::syntax::Syntax;
 
 /// The format of a reply.
@@ -13,21 +15,14 @@ pub enum Format {
     Csv,
 }
 
-/// Whether two texts are the same, in any case of ASCII letters.
-pub(crate) fn is_same_text(text: &str, other: &str) -> bool
-    ensures { result ≡ same_text text.now other.now }
-{
-    text.eq_ignore_ascii_case(other)
-}
-
 /// The format that a value of `$format` names (OData 4.01 URL Conventions, section 5.1.10): `json` or `application/json`, or `text/csv`, in any case
 /// of ASCII letters.
 pub fn parse_format(text: &str) -> Result<Format, Syntax>
     ensures { MatchResult result (λ format. format_of text.now ≡ Some format) (λ _. format_of text.now ≡ None) }
 {
-    if is_same_text(text, "json") || is_same_text(text, "application/json") {
+    if spells(text, "json") || spells(text, "application/json") {
         Ok(Format::Json)
-    } else if is_same_text(text, "text/csv") {
+    } else if spells(text, "text/csv") {
         Ok(Format::Csv)
     } else {
         Err(Syntax)

@@ -1,6 +1,7 @@
 //! The keywords of expressions, which are read in any ASCII case.
 
 ghost use Rattle.std.specs.Prelude.{◌≡◌, ◌≢◌, ◌↔◌, IsTrue, IfSome, IfNone};
+ghost use Rattle.odata_parse.specs.Format.{same_text};
 ghost use Rattle.odata_parse.specs.Keywords.{lower, logic_text, comparison_text, arithmetic_text, operator_text, unary_function_text, binary_function_text, method_text};
 ghost use Rattle.odata_parse.specs.declared.tree.LogicOperator.{LogicOperator};
 ghost use Rattle.odata_parse.specs.declared.tree.ComparisonOperator.{ComparisonOperator};
@@ -17,7 +18,8 @@ use crate::tree::{
 
 /// Whether a text is a keyword in any ASCII case.
 pub(crate) fn spells(text: &str, keyword: &str) -> bool
-    ensures { IsTrue result ↔ (lower text.now ≡ lower keyword.now) }
+    ensures is { IsTrue result ↔ (lower text.now ≡ lower keyword.now) }
+    ensures same { result ≡ same_text text.now keyword.now }
 {
     text.eq_ignore_ascii_case(keyword)
 }

@@ -1,9 +1,6 @@
 //! The values of the options `$skip` and `$top`.
 
-ghost use Rattle.std.specs.Prelude.{◌≡◌};
 ghost use Rattle.std.specs.Result.{OkIff};
-ghost use Rattle.std.specs.Char.{is_ascii_digit};
-ghost use Rattle.std.specs.List.{list_all};
 ghost use Rattle.std.specs.Str.Parse.{digits_value};
 ghost use Rattle.odata_parse.specs.Number.{IsNumberText};
 
@@ -15,20 +12,13 @@ pub const MAX_NUMBER: u64 = 9_223_372_036_854_775_807;
 /// A number has at most so many digits.
 pub const MAX_NUMBER_DIGITS: usize = 19;
 
-// Whether each byte is a digit.
-fn are_digits(bytes: &[u8]) -> bool
-    ensures { result ≡ list_all is_ascii_digit bytes.now }
-{
-    bytes.iter().all(|b| b.is_ascii_digit())
-}
-
 /// The number that a value of `$skip` or `$top` writes (OData 4.01 URL Conventions, section 5.1.6): 1 to 19 digits, and at most
 /// [`MAX_NUMBER`].
-#[tactic(auto, using(crate::proofs::NumberLemmas::digits_by_test))]
 pub fn parse_number(text: &str) -> Result<u64, Syntax>
     ensures { OkIff result (IsNumberText text.now) (digits_value 10 text.now) }
 {
-    if text.len() > MAX_NUMBER_DIGITS || !are_digits(text.as_bytes()) {
+    // `parse` would take a leading plus.
+    if text.len() > MAX_NUMBER_DIGITS || text.starts_with('+') {
         return Err(Syntax);
     }
     match text.parse::<u64>() {

@@ -168,7 +168,7 @@ word-returns-in-Some-take-clause-each t c = λ e after r h.
 
 pub word-returns-clause-found : goal.word-returns-clause-found
 word-returns-clause-found t c =
-    rw (c.in_default-take.ensures.none.0) (word_reads_name _ _ _ c.requires c.in_default.ensures.none (λ e. false≢true (sym c.if-spells.false ∙ c.spells.ensures.1 e)) c.in_ok-from_str.ensures.ok)
+    rw (c.in_default-take.ensures.none.0) (word_reads_name _ _ _ c.requires c.in_default.ensures.none (λ e. false≢true (sym c.if-spells.false ∙ c.spells.ensures.is.1 e)) c.in_ok-from_str.ensures.ok)
 
 pub word-returns-clause-each : goal.word-returns-clause-each
 word-returns-clause-each t c = λ e after r h.

@@ -20,7 +20,7 @@ pub returns-then-not-spells-clause-each : goal.returns-then-not-spells-clause-ea
 returns-then-not-spells-clause-each c = λ x after r h.
     let s = c.in-Some.ensures.some in
     let q = count_parts (rw (s.0) at r) s.1 in
-    absurd (false≢true (c.if-not-spells.ensures.1 q.1))
+    absurd (false≢true (c.if-not-spells.ensures.is.1 q.1))
 
 pub returns-in_err-alias-clause-each : goal.returns-in_err-alias-clause-each
 returns-in_err-alias-clause-each c = λ x after r h.
@@ -31,7 +31,7 @@ returns-in_err-alias-clause-each c = λ x after r h.
 
 pub returns-clause-found : goal.returns-clause-found
 returns-clause-found c =
-    let s = c.in-Some.ensures.some in rw (s.0) (of_count s.1 (c.if-not-spells.ensures.0 refl) c.in_ok-alias.ensures.found)
+    let s = c.in-Some.ensures.some in rw (s.0) (of_count s.1 (c.if-not-spells.ensures.is.0 refl) c.in_ok-alias.ensures.found)
 
 pub returns-clause-each : goal.returns-clause-each
 returns-clause-each c = λ x after r h.

@@ -4,7 +4,7 @@ use Rattle.std.proofs.lemmas.Result.{err_from_is_err_and}
 use Rattle.odata_parse.specs.Options.{key_single, key_named}
 use Rattle.odata_parse.specs.Trees.{named, single}
 use Rattle.odata_parse.proofs.OptionLemmas.{key_by_pairs, key_by_value}
-use Rattle.odata_parse.proofs.key.key.Goals as goal
+use Rattle.odata_parse.proofs.options.key.Goals as goal
 
 pub returns-in_err-pairs-clause-each : goal.returns-in_err-pairs-clause-each
 returns-in_err-pairs-clause-each c = λ key r.

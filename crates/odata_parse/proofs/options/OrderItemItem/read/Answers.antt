@@ -2,7 +2,7 @@ use Rattle.std.proofs.Common.{◌∙◌}
 use Rattle.std.proofs.lemmas.Result.{err_from_is_err_and}
 use Rattle.odata_parse.specs.Options.{order_alone, order_ascending, order_descending}
 use Rattle.odata_parse.proofs.OptionLemmas.{order_tail, order_none, OrderTail-descending, OrderTail-ascending, OrderTail-alone}
-use Rattle.odata_parse.proofs.orderby.OrderItemItem.read.Goals as goal
+use Rattle.odata_parse.proofs.options.OrderItemItem.read.Goals as goal
 
 pub returns-in_err-expression-clause-each : goal.returns-in_err-expression-clause-each
 returns-in_err-expression-clause-each c =

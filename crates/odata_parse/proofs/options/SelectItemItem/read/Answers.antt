@@ -1,6 +1,6 @@
 use Rattle.odata_parse.specs.Options.{select_all, select_name}
 use Rattle.odata_parse.proofs.OptionLemmas.{select_star, select_word, select_none}
-use Rattle.odata_parse.proofs.select.SelectItemItem.read.Goals as goal
+use Rattle.odata_parse.proofs.options.SelectItemItem.read.Goals as goal
 
 pub returns-in-Star-clause-found : goal.returns-in-Star-clause-found
 returns-in-Star-clause-found c = rw (c.in-Some.ensures.some) (select_all c.in-Star.is)

@@ -1,0 +1,170 @@
+//! `$orderby`, `$select` and keys (OData 4.01 URL Conventions, sections 5.1.6, 5.1.3 and 4.3.1; OData ABNF Construction Rules,
+//! section 1).
+
+ghost use Rattle.std.specs.Prelude.{◌↔◌, List, IfOk, IsErrOf, IsTrue};
+ghost use Rattle.odata_lex.specs.Tokens.{AreTokens, token_views};
+ghost use Rattle.odata_parse.specs.Depth.{IsTooDeep};
+ghost use Rattle.odata_parse.specs.Options.{IsOrder, IsSelection, IsKey};
+ghost use Rattle.odata_parse.specs.Parsing.{GivesWhole, HasEqualsSign, item_trees};
+ghost use Rattle.odata_parse.specs.Trees.{OrderItemOf, order_item_view, SelectItemOf, select_item_view, KeyOf, key_view};
+
+use crate::cursor::Cursor;
+use crate::depth::is_too_deep;
+use crate::expression::{TOP, phrase};
+use crate::fault::{ParseFault, PhraseFault};
+use crate::list::Item;
+use crate::tree::{Key, KeyPair, Literal, OrderItem, SelectItem};
+use crate::whole::{whole_item, whole_list};
+use odata_lex::{Token, TokenKind};
+use std::alloc::Global;
+
+impl Item for OrderItem {
+    ghost use Rattle.odata_parse.specs.Options.{ReadsOrderItem};
+    ghost use Rattle.odata_parse.specs.Trees.{OrderItemOf, order_item_view};
+
+    ghost Tree = { OrderItemOf };
+
+    ghost tree = { order_item_view };
+
+    ghost reads = { ReadsOrderItem };
+
+    fn read(alloc: Global, tokens: &mut Cursor<'_>) -> Result<OrderItem, PhraseFault> {
+        let expression = phrase(alloc, tokens, TOP)?;
+        if let Some(_) = tokens.take_keyword("desc") {
+            return Ok(OrderItem {
+                expression,
+                descending: true,
+            });
+        }
+        if let Some(_) = tokens.take_keyword("asc") {
+            return Ok(OrderItem {
+                expression,
+                descending: false,
+            });
+        }
+        Ok(OrderItem {
+            expression,
+            descending: false,
+        })
+    }
+}
+
+/// The items by which rows are ordered, at least one.
+pub fn parse_orderby(
+    alloc: Global,
+    source: &str,
+    tokens: &[Token],
+) -> Result<Vec<OrderItem>, ParseFault>
+    requires { AreTokens source.now tokens.now }
+    ensures tree { IfOk result (λ items. IsOrder (token_views source.now tokens.now) (item_trees order_item_view items)) }
+    ensures too_deep { IsErrOf result ParseFault.TooDeep ↔ IsTooDeep (token_views source.now tokens.now) }
+    ensures syntax { IsErrOf result ParseFault.Syntax → (items : List OrderItemOf) → ¬ (IsOrder (token_views source.now tokens.now) items) }
+{
+    if is_too_deep(source, tokens) {
+        return Err(ParseFault::TooDeep);
+    }
+    Ok(whole_list::<OrderItem>(alloc, source, tokens, TokenKind::Comma)?)
+}
+
+impl Item for SelectItem {
+    ghost use Rattle.odata_parse.specs.Options.{ReadsSelectItem};
+    ghost use Rattle.odata_parse.specs.Trees.{SelectItemOf, select_item_view};
+
+    ghost Tree = { SelectItemOf };
+
+    ghost tree = { select_item_view };
+
+    ghost reads = { ReadsSelectItem };
+
+    fn read(alloc: Global, tokens: &mut Cursor<'_>) -> Result<SelectItem, PhraseFault> {
+        let Some(first) = tokens.next() else {
+            return Err(PhraseFault::Syntax);
+        };
+        match first.kind {
+            TokenKind::Star => Ok(SelectItem::All),
+            TokenKind::Word => Ok(SelectItem::Name(String::from_str(alloc, first.text)?)),
+            _ => Err(PhraseFault::Syntax),
+        }
+    }
+}
+
+/// The columns that are selected, at least one item.
+pub fn parse_select(
+    alloc: Global,
+    source: &str,
+    tokens: &[Token],
+) -> Result<Vec<SelectItem>, ParseFault>
+    requires { AreTokens source.now tokens.now }
+    ensures tree { IfOk result (λ items. IsSelection (token_views source.now tokens.now) (item_trees select_item_view items)) }
+    ensures too_deep { IsErrOf result ParseFault.TooDeep ↔ IsTooDeep (token_views source.now tokens.now) }
+    ensures syntax { IsErrOf result ParseFault.Syntax → (items : List SelectItemOf) → ¬ (IsSelection (token_views source.now tokens.now) items) }
+{
+    if is_too_deep(source, tokens) {
+        return Err(ParseFault::TooDeep);
+    }
+    Ok(whole_list::<SelectItem>(alloc, source, tokens, TokenKind::Comma)?)
+}
+
+impl Item for KeyPair {
+    ghost use Rattle.odata_parse.specs.Options.{ReadsKeyPair};
+    ghost use Rattle.odata_parse.specs.Trees.{KeyPairOf, key_pair_view};
+
+    ghost Tree = { KeyPairOf };
+
+    ghost tree = { key_pair_view };
+
+    ghost reads = { ReadsKeyPair };
+
+    fn read(alloc: Global, tokens: &mut Cursor<'_>) -> Result<KeyPair, PhraseFault> {
+        let name = tokens.expect(TokenKind::Word)?;
+        tokens.expect(TokenKind::EqualsSign)?;
+        let value = Literal::read(alloc, tokens)?;
+        Ok(KeyPair {
+            name: String::from_str(alloc, name.text)?,
+            value,
+        })
+    }
+}
+
+/// Whether the second token is `=`.
+fn names_columns(source: &str, tokens: &[Token]) -> bool
+    requires { AreTokens source.now tokens.now }
+    ensures { IsTrue result ↔ HasEqualsSign (token_views source.now tokens.now) }
+{
+    let mut rest = Cursor::new(source, tokens);
+    rest.skip();
+    match rest.next() {
+        Some(second) => match second.kind {
+            TokenKind::EqualsSign => true,
+            _ => false,
+        },
+        None => false,
+    }
+}
+
+/// A value alone, or columns and their values.
+fn key(alloc: Global, source: &str, tokens: &[Token]) -> Result<Key, PhraseFault>
+    requires { AreTokens source.now tokens.now }
+    ensures found { IfOk result (λ key. IsKey (token_views source.now tokens.now) (key_view key)) }
+    ensures each { (key : KeyOf) → IsKey (token_views source.now tokens.now) key → GivesWhole key_view key result }
+{
+    if names_columns(source, tokens) {
+        let pairs = whole_list::<KeyPair>(alloc, source, tokens, TokenKind::Comma)?;
+        return Ok(Key::Named(pairs));
+    }
+    let value = whole_item::<Literal>(alloc, source, tokens)?;
+    Ok(Key::Single(value))
+}
+
+/// The key that all the tokens are.
+pub fn parse_key(alloc: Global, source: &str, tokens: &[Token]) -> Result<Key, ParseFault>
+    requires { AreTokens source.now tokens.now }
+    ensures tree { IfOk result (λ key. IsKey (token_views source.now tokens.now) (key_view key)) }
+    ensures too_deep { IsErrOf result ParseFault.TooDeep ↔ IsTooDeep (token_views source.now tokens.now) }
+    ensures syntax { IsErrOf result ParseFault.Syntax → (key : KeyOf) → ¬ (IsKey (token_views source.now tokens.now) key) }
+{
+    if is_too_deep(source, tokens) {
+        return Err(ParseFault::TooDeep);
+    }
+    Ok(key(alloc, source, tokens)?)
+}
