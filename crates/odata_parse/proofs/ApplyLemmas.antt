@@ -3,10 +3,10 @@ use Rattle.std.proofs.Common.{◌≡◌, ◌≢◌, ℕ, List, ◌∷◌, Some, 
 use Rattle.odata_lex.specs.Tokens.{TokenOf}
 use Rattle.odata_lex.specs.declared.token.TokenKind.TheVariants.{Word, Dollar, OpenParenthesis, CloseParenthesis, Comma}
 use Rattle.odata_parse.specs.declared.tree.AggregationMethod.{AggregationMethod}
-use Rattle.odata_parse.specs.Apply.{ReadsName, a_word, ReadsAlias, an_alias, ReadsAggregateItem, of_column, of_count, ReadsAggregate, an_aggregate, ReadsNames, some_names, ReadsTransformation, a_filter, an_aggregation, a_grouping, a_grouping_with}
+use Rattle.odata_parse.specs.Apply.{ReadsName, a_word, ReadsAlias, an_alias, ReadsAggregateItem, of_column, of_count, ReadsAggregate, an_aggregate, ReadsNames, ReadsTransformation, a_filter, an_aggregation, a_grouping, a_grouping_with}
 use Rattle.odata_parse.specs.Expressions.{Reads, top}
 use Rattle.odata_parse.specs.Keywords.{IsKeyword, lower, method_text}
-use Rattle.odata_parse.specs.Lists.{Separated}
+use Rattle.odata_parse.specs.Lists.{Enclosed}
 use Rattle.odata_parse.specs.Trees.{ExprOf, AggregateItemOf, aggregated, counted, TransformationOf, filter_by, aggregate, group_by}
 use Rattle.odata_parse.proofs.KeywordLemmas.{method, filter_word, aggregate_word, groupby_word}
 use Rattle.odata_parse.proofs.PhraseLemmas.{keyword_unique}
@@ -59,23 +59,14 @@ pub count_parts : {t : TokenOf} {before after : List TokenOf} {x : AggregateItem
 count_parts (of_column r p q s) d = absurd (name_no_dollar r d)
 count_parts (of_count {alias} k l s) d = (alias, l, s, refl)
 
-pub record ListParts {A : Type 0} (Item : List TokenOf → A → List TokenOf → Type 0) (old : List TokenOf) (items : List A) (after : List TokenOf) : Type 0 where
-  pub opening : TokenOf
-  pub closing : TokenOf
-  pub mid : List TokenOf
-  pub begins : old ≡ opening ∷ mid
-  pub opens : opening.kind ≡ OpenParenthesis
-  pub reads : Separated Item Comma mid items (closing ∷ after)
-  pub closes : closing.kind ≡ CloseParenthesis
+pub aggregate_parts : {old after : List TokenOf} {items : List AggregateItemOf} → ReadsAggregate old items after → (t : TokenOf) × (rest : List TokenOf) × (old ≡ t ∷ rest) × IsKeyword (codes "aggregate") t × Enclosed ReadsAggregateItem Comma rest items after
+aggregate_parts (an_aggregate {t} {before} k r) = (t, before, refl, k, r)
 
-pub names_parts : {old after : List TokenOf} {names : List (List ℕ)} → ReadsNames old names after → ListParts ReadsName old names after
-names_parts (some_names {o} {c} {before} p r q) = record { opening = o; closing = c; mid = before; begins = refl; opens = p; reads = r; closes = q }
-
-pub aggregate_parts : {old after : List TokenOf} {items : List AggregateItemOf} → ReadsAggregate old items after → (t : TokenOf) × (rest : List TokenOf) × (old ≡ t ∷ rest) × IsKeyword (codes "aggregate") t × ListParts ReadsAggregateItem rest items after
-aggregate_parts (an_aggregate {t} {o} {c} {before} k p r q) = (t, o ∷ before, refl, k, record { opening = o; closing = c; mid = before; begins = refl; opens = p; reads = r; closes = q })
+pub aggregate_at : {t : TokenOf} {now after : List TokenOf} {items : List AggregateItemOf} → ReadsAggregate (t ∷ now) items after → Enclosed ReadsAggregateItem Comma now items after
+aggregate_at (an_aggregate k r) = r
 
 pub aggregate_keyword : {t : TokenOf} {before after : List TokenOf} {items : List AggregateItemOf} → ReadsAggregate (t ∷ before) items after → IsKeyword (codes "aggregate") t
-aggregate_keyword (an_aggregate k p r q) = k
+aggregate_keyword (an_aggregate k r) = k
 
 pub record FilterParts (old : List TokenOf) (x : TransformationOf) (after : List TokenOf) : Type 0 where
   pub opening : TokenOf

@@ -3,7 +3,7 @@ use Rattle.std.proofs.Common.{◌≡◌, ◌≢◌, ◌<◌, List, [], ◌∷◌
 use Rattle.odata_lex.specs.Tokens.{TokenOf}
 use Rattle.odata_lex.specs.declared.token.TokenKind.{TokenKind}
 use Rattle.odata_lex.specs.declared.token.TokenKind.TheVariants.{Text, Date, Number, Word, Dollar, OpenParenthesis, CloseParenthesis, Comma, Slash, Minus, Star, EqualsSign}
-use Rattle.odata_parse.specs.Lists.{Separated, last_item, more_items}
+use Rattle.odata_parse.specs.Lists.{Separated, last_item, more_items, Enclosed, enclosed}
 use Rattle.odata_parse.specs.Parsing.{IsSeparator, IsCloseOrSeparator, IsAfterItem, IsAfterList}
 
 -- after an item the tokens go on with these items
@@ -124,3 +124,19 @@ Separated-only {sign} h one (more_items {before} {mid} {s = t} {x} i is r) end z
     let o = one before (t ∷ mid) x i (rw is (separator_ends sign h)) f.0 f.2 f.4 (GoesOn-ends h f.5 e) in
     let q = Separated-only h one r end f.1 after (GoesOn-rest h (rw (← o.1) at f.5) is e) e in
     (cc (o.0, q.0, f.3), q.1)
+
+pub Enclosed-only : {A : Type 0} {Item : List TokenOf → A → List TokenOf → Type 0} {sign : TokenKind} {old : List TokenOf} {xs : List A} {now : List TokenOf} → IsSeparator sign → HasOnlyItems Item → Enclosed Item sign old xs now → (zs : List A) (after : List TokenOf) → Enclosed Item sign old zs after → (xs ≡ zs) × (now ≡ after)
+Enclosed-only {now} h one (enclosed {c} p r q) zs after (enclosed {c = d} o s e) =
+    let u = Separated-only h one r q zs (d ∷ after) s e in (u.0, let k : c ∷ now ≡ d ∷ after = u.1 in cc)
+
+pub record EnclosedParts {A : Type 0} (Item : List TokenOf → A → List TokenOf → Type 0) (sign : TokenKind) (old : List TokenOf) (items : List A) (after : List TokenOf) : Type 0 where
+  pub opening : TokenOf
+  pub closing : TokenOf
+  pub mid : List TokenOf
+  pub begins : old ≡ opening ∷ mid
+  pub opens : opening.kind ≡ OpenParenthesis
+  pub reads : Separated Item sign mid items (closing ∷ after)
+  pub closes : closing.kind ≡ CloseParenthesis
+
+pub enclosed_parts : {A : Type 0} {Item : List TokenOf → A → List TokenOf → Type 0} {sign : TokenKind} {old after : List TokenOf} {items : List A} → Enclosed Item sign old items after → EnclosedParts Item sign old items after
+enclosed_parts (enclosed {o} {c} {before} p r q) = record { opening = o; closing = c; mid = before; begins = refl; opens = p; reads = r; closes = q }

@@ -6,17 +6,17 @@ use Rattle.odata_lex.specs.declared.token.TokenKind.TheVariants.{Minus, OpenPare
 use Rattle.odata_parse.specs.declared.tree.UnaryOperator.{UnaryOperator}
 use Rattle.odata_parse.specs.declared.tree.UnaryFunction.{UnaryFunction}
 use Rattle.odata_parse.specs.declared.tree.BinaryFunction.{BinaryFunction}
-use Rattle.odata_parse.specs.Apply.{ReadsName, a_word, ReadsAlias, an_alias, ReadsAggregateItem, of_column, of_count, ReadsAggregate, an_aggregate, ReadsNames, some_names, ReadsTransformation, a_filter, an_aggregation, a_grouping, a_grouping_with}
+use Rattle.odata_parse.specs.Apply.{ReadsName, a_word, ReadsAlias, an_alias, ReadsAggregateItem, of_column, of_count, ReadsAggregate, an_aggregate, ReadsNames, ReadsTransformation, a_filter, an_aggregation, a_grouping, a_grouping_with}
 use Rattle.odata_parse.specs.Expressions.{Reads, read_group, read_literal, read_name, read_unary_call, read_binary_call, read_in, read_unary, read_binary, read_tighter, IsUnaryOperator, top}
 use Rattle.odata_parse.specs.Keywords.{IsKeyword, IsName, unary_function_text, binary_function_text}
-use Rattle.odata_parse.specs.Lists.{Separated}
+use Rattle.odata_parse.specs.Lists.{Separated, Enclosed}
 use Rattle.odata_parse.specs.Literals.{ReadsLiteral, one_token, negative, IsLiteral, IsLiteralOfKind}
 use Rattle.odata_parse.specs.Options.{ReadsOrderItem, order_alone, order_ascending, order_descending, ReadsSelectItem, select_all, select_name, ReadsKeyPair, key_value, IsKey, key_single, key_named}
 use Rattle.odata_parse.specs.Parsing.{CanEnd, IsAfterItem}
 use Rattle.odata_parse.specs.Trees.{LiteralOf, ExprOf, name, unary, in_list, unary_call, binary_call, OrderItemOf, SelectItemOf, selected, KeyPairOf, KeyOf, single, named, AggregateItemOf, counted, TransformationOf, filter_by, aggregate, group_by}
 use Rattle.odata_parse.proofs.ApplyLemmas.{name_no_dollar, method_unique, aggregate_keyword, filter_parts, GroupTail, group_alone, group_with, group_parts, tail_with, only_aggregate}
 use Rattle.odata_parse.proofs.KeywordLemmas.{filter_word, aggregate_word, groupby_word}
-use Rattle.odata_parse.proofs.ListLemmas.{HasOnlyItems, Separated-only}
+use Rattle.odata_parse.proofs.ListLemmas.{HasOnlyItems, Separated-only, Enclosed-only}
 use Rattle.odata_parse.proofs.LiteralLemmas.{IsLiteral-unique, ReadsLiteral-one}
 use Rattle.odata_parse.proofs.OptionLemmas.{asc_follows, desc_follows, order_tail, no_word_after, OrderTail-alone, OrderTail-ascending, OrderTail-descending, select_star, select_word, pairs_have_equals, literal_no_equals}
 use Rattle.odata_parse.proofs.PhraseLemmas.{level_from_three, keyword_unique, in_follows, operator_follows, CanEnd-pred, item_ends, close_ends, comma_ends, IsOnly, GoesFrom, front_goes, operand_goes, Goes-stop}
@@ -57,11 +57,10 @@ binary_call_only f k p only other e after s h =
     (rw (u.0, w.0) r.is, same_rest refl w.1)
 
 -- levels
-in_only : {t o c : TokenOf} {before mid now : List TokenOf} {e : ExprOf} {vs : List LiteralOf} → IsKeyword (codes "in") t → Separated ReadsLiteral Comma mid vs (c ∷ now) → c.kind ≡ CloseParenthesis → IsOnly zero before e (t ∷ o ∷ mid) → IsOnly (suc zero) before (in_list e vs) now
-in_only k q d only e after s h =
+in_only : {t : TokenOf} {before mid now : List TokenOf} {e : ExprOf} {vs : List LiteralOf} → IsKeyword (codes "in") t → Enclosed ReadsLiteral Comma mid vs now → IsOnly zero before e (t ∷ mid) → IsOnly (suc zero) before (in_list e vs) now
+in_only k p only e after s h =
     let i = Tail-in (member_tail only s h) k h in
-    let u = Separated-only tt values_only q d i.items (i.closing ∷ after) (rw (← same_rest refl i.begins) at i.reads) i.closes in
-    (cc (u.0, i.is), same_rest refl u.1)
+    let u = Enclosed-only tt values_only p i.0 after i.1 in (cc (u.0, i.2), u.1)
 
 unary_only : {t : TokenOf} {before now : List TokenOf} {e : ExprOf} (o : UnaryOperator) → IsUnaryOperator o t → IsOnly (suc (suc zero)) before e now → IsOnly (suc (suc zero)) (t ∷ before) (unary o e) now
 unary_only o k only e after s h = let q = Reads-sign o k s in let u = only q.0 after q.1 h in (ap (unary o) u.0 ∙ sym q.2, u.1)
@@ -85,14 +84,14 @@ mutual
   Reads-only (read_name n) end = name_only n end
   Reads-only (read_unary_call {c} {after} {f} k p r q) end = unary_call_only f k p (Reads-only r (close_ends 8 c after q))
   Reads-only (read_binary_call {s} {c} {mid} {after} {f} k p r m q d) end = binary_call_only f k p (Reads-only r (comma_ends 8 s mid m)) (Reads-only q (close_ends 8 c after d))
-  Reads-only (read_in r k p q d) end = in_only k q d (Reads-only r (in_follows k))
+  Reads-only (read_in r k p) end = in_only k p (Reads-only r (in_follows k))
   Reads-only (read_unary {o} k r) end = unary_only o k (Reads-only r end)
   Reads-only (read_binary {l} {after} {o} r k d q) end = Goes-only end (operand_goes o (Reads-goes (omega (arith, d, level_from_three o)) r (operator_follows l o k d)) k d (Reads-only q (CanEnd-pred l after end)))
   Reads-only (read_tighter {l} {after} r) end = tighter_only l r end (Reads-only r (CanEnd-pred l after end))
 
   -- and where it may go on with an operator of its level, each longer one goes on from it
   Reads-goes : {l : ℕ} {old : List TokenOf} {e : ExprOf} {now : List TokenOf} → 2 ≤ l → Reads (suc l) old e now → CanEnd l now → GoesFrom l old e now
-  Reads-goes h (read_in r k p q d) end = absurd (omega arith)
+  Reads-goes h (read_in r k p) end = absurd (omega arith)
   Reads-goes h (read_unary k r) end = absurd (omega arith)
   Reads-goes h (read_binary {l} {o} r k d q) end = operand_goes o (Reads-goes h r (operator_follows l o k d)) k d (Reads-only q end)
   Reads-goes h (read_tighter r) end = front_goes h (Reads-only r end)
@@ -142,10 +141,10 @@ aggregate_items_only : HasOnlyItems ReadsAggregateItem
 aggregate_items_only old now x r end y after s h = aggregate_item_only r s
 
 aggregate_only : {old now after : List TokenOf} {xs ys : List AggregateItemOf} → ReadsAggregate old xs now → ReadsAggregate old ys after → (xs ≡ ys) × (now ≡ after)
-aggregate_only (an_aggregate k p r q) (an_aggregate j o s d) = let u = Separated-only tt aggregate_items_only r q _ _ s d in (u.0, same_rest refl u.1)
+aggregate_only (an_aggregate k r) (an_aggregate j s) = Enclosed-only tt aggregate_items_only r _ _ s
 
 names_only : {old now after : List TokenOf} {xs ys : List (List ℕ)} → ReadsNames old xs now → ReadsNames old ys after → (xs ≡ ys) × (now ≡ after)
-names_only (some_names p r q) (some_names o s d) = let u = Separated-only tt words_only r q _ _ s d in (u.0, same_rest refl u.1)
+names_only r s = Enclosed-only tt words_only r _ _ s
 
 tail_alone : {names : List (List ℕ)} {c : TokenOf} {now after : List TokenOf} {y : TransformationOf} → GroupTail names (c ∷ now) y after → c.kind ≡ CloseParenthesis → (group_by names None ≡ y) × (now ≡ after)
 tail_alone (group_alone q) h = (refl, refl)

@@ -112,7 +112,7 @@ Goes-snoc (goes_on j d q g) k e r = goes_on j d q (Goes-snoc g k e r)
 
 -- a phrase from its left
 pub Reads-front : {l : ℕ} {before after : List TokenOf} {e : ExprOf} → 2 ≤ l → Reads (suc l) before e after → (a : ExprOf) × (mid : List TokenOf) × Reads l before a mid × Goes l a mid e after
-Reads-front h (read_in r k o s c) = absurd (omega arith)
+Reads-front h (read_in r k s) = absurd (omega arith)
 Reads-front h (read_unary k r) = absurd (omega arith)
 Reads-front {after} {e} h (read_tighter r) = (e, after, r, goes_end)
 Reads-front h (read_binary r k d s) = let f = Reads-front h r in (f.0, f.1, f.2, Goes-snoc f.3 k d s)

@@ -10,7 +10,7 @@ use Rattle.odata_parse.specs.declared.tree.BinaryFunction.{BinaryFunction}
 use Rattle.odata_parse.specs.Expressions.{Reads, read_group, read_literal, read_name, read_unary_call, read_binary_call, read_in, read_unary, read_binary, read_tighter, IsUnaryOperator, top}
 use Rattle.odata_parse.specs.Keywords.{IsKeyword, IsName, lower, unary_function_text, binary_function_text}
 use Rattle.odata_parse.specs.Literals.{IsLiteral, IsLiteralOfKind, IsWordLiteral, ReadsLiteral}
-use Rattle.odata_parse.specs.Lists.{Separated}
+use Rattle.odata_parse.specs.Lists.{Enclosed}
 use Rattle.odata_parse.specs.Parsing.{CanEnd, Calls, calls_unary, calls_binary}
 use Rattle.odata_parse.specs.Trees.{LiteralOf, null, boolean, number, text, date, ExprOf, literal, name, unary, in_list, unary_call, binary_call}
 use Rattle.odata_parse.proofs.KeywordLemmas.{Keyword, keyword_text, one_keyword, unary_function, binary_function, not_word, true_word, false_word, null_word}
@@ -75,7 +75,7 @@ no_sign {t} o h s (read_literal {v} q) = sign_no_literal o t v h q
 no_sign {t} o h s (read_name {text = bytes} q) = sign_no_name o t bytes h q
 no_sign {t} o h s (read_unary_call {f} k p r c) = sign_no_keyword o t (unary_function f) (λ e. cc) h k
 no_sign {t} o h s (read_binary_call {f} k p r m q c) = sign_no_keyword o t (binary_function f) (λ e. cc) h k
-no_sign o h s (read_in r k p q c) = no_sign o h (omega arith) r
+no_sign o h s (read_in r k p) = no_sign o h (omega arith) r
 no_sign o h s (read_unary k r) = absurd (omega arith)
 no_sign o h s (read_binary {o = p} r k d q) = absurd (omega (arith, level_from_three p))
 no_sign o h s (read_tighter r) = no_sign o h (omega arith) r
@@ -101,10 +101,10 @@ Reads-unsigned (read_tighter r) none = r
 -- behind a primary: nothing, or `in` and a list
 pub data Tail : ExprOf → List TokenOf → ExprOf → List TokenOf → Type 0 where
   tail_none : {v : ExprOf} {after : List TokenOf} → Tail v after v after
-  tail_in : {t o c : TokenOf} {mid after : List TokenOf} {v : ExprOf} {vs : List LiteralOf} → IsKeyword (codes "in") t → o.kind ≡ OpenParenthesis → Separated ReadsLiteral Comma mid vs (c ∷ after) → c.kind ≡ CloseParenthesis → Tail v (t ∷ o ∷ mid) (in_list v vs) after
+  tail_in : {t : TokenOf} {mid after : List TokenOf} {v : ExprOf} {vs : List LiteralOf} → IsKeyword (codes "in") t → Enclosed ReadsLiteral Comma mid vs after → Tail v (t ∷ mid) (in_list v vs) after
 
 Reads-member : {before after : List TokenOf} {e : ExprOf} → Reads (suc zero) before e after → CanEnd (suc zero) after → (v : ExprOf) × (mid : List TokenOf) × Reads zero before v mid × CanEnd zero mid × Tail v mid e after
-Reads-member (read_in {t} {o} {mid} {e} r k p q c) h = (e, t ∷ o ∷ mid, r, in_follows k, tail_in k p q c)
+Reads-member (read_in {t} {mid} {e} r k p) h = (e, t ∷ mid, r, in_follows k, tail_in k p)
 Reads-member {after} {e} (read_tighter r) h = (e, after, r, CanEnd-pred zero after h, tail_none)
 Reads-member (read_binary {o = p} r k d q) h = absurd (omega (arith, level_from_three p))
 
@@ -120,32 +120,11 @@ member_none P none e after r h = let f = Reads-member r h in none f.0 f.1 f.2 f.
 
 pub Tail-stop : {v e : ExprOf} {now after : List TokenOf} → Tail v now e after → ((t : TokenOf) (rest : List TokenOf) → now ≡ t ∷ rest → ¬ (IsKeyword (codes "in") t)) → (v ≡ e) × (now ≡ after)
 Tail-stop tail_none none = (refl, refl)
-Tail-stop (tail_in {t} {o} {mid} k p q c) none = absurd (none t (o ∷ mid) refl k)
+Tail-stop (tail_in {t} {mid} k p) none = absurd (none t mid refl k)
 
-pub record InList (v : ExprOf) (now : List TokenOf) (e : ExprOf) (after : List TokenOf) : Type 0 where
-  pub opening : TokenOf
-  pub mid : List TokenOf
-  pub items : List LiteralOf
-  pub closing : TokenOf
-  pub begins : now ≡ opening ∷ mid
-  pub opens : opening.kind ≡ OpenParenthesis
-  pub reads : Separated ReadsLiteral Comma mid items (closing ∷ after)
-  pub closes : closing.kind ≡ CloseParenthesis
-  pub is : e ≡ in_list v items
-
-pub Tail-in : {v e : ExprOf} {t : TokenOf} {now after : List TokenOf} → Tail v (t ∷ now) e after → IsKeyword (codes "in") t → CanEnd (suc zero) after → InList v now e after
+pub Tail-in : {v e : ExprOf} {t : TokenOf} {now after : List TokenOf} → Tail v (t ∷ now) e after → IsKeyword (codes "in") t → CanEnd (suc zero) after → (items : List LiteralOf) × Enclosed ReadsLiteral Comma now items after × (e ≡ in_list v items)
 Tail-in tail_none k h = absurd (h.no_list (omega arith) k)
-Tail-in (tail_in {t} {o} {c} {mid} {vs} j p q d) k h = record {
-  opening = o;
-  mid = mid;
-  items = vs;
-  closing = c;
-  begins = refl;
-  opens = p;
-  reads = q;
-  closes = d;
-  is = refl;
-}
+Tail-in (tail_in {vs} j p) k h = (vs, p, refl)
 
 -- a primary that begins with `(`
 pub Reads-group : {t : TokenOf} {before after : List TokenOf} {e : ExprOf} → t.kind ≡ OpenParenthesis → Reads zero (t ∷ before) e after → (c : TokenOf) × Reads top before e (c ∷ after) × (c.kind ≡ CloseParenthesis)

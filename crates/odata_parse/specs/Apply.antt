@@ -5,7 +5,7 @@ use Rattle.odata_lex.specs.declared.token.TokenKind.TheVariants.{Word, Dollar, O
 use Rattle.odata_parse.specs.declared.tree.AggregationMethod.{AggregationMethod}
 use Rattle.odata_parse.specs.Expressions.{Reads, top}
 use Rattle.odata_parse.specs.Keywords.{IsKeyword, lower, method_text}
-use Rattle.odata_parse.specs.Lists.{Separated}
+use Rattle.odata_parse.specs.Lists.{Separated, Enclosed}
 use Rattle.odata_parse.specs.Trees.{ExprOf, AggregateItemOf, aggregated, counted, TransformationOf, filter_by, aggregate, group_by}
 
 -- a word
@@ -23,11 +23,11 @@ pub data ReadsAggregateItem : List TokenOf → AggregateItemOf → List TokenOf 
 
 -- `aggregate` and its items in parentheses (section 3.2.1)
 pub data ReadsAggregate : List TokenOf → List AggregateItemOf → List TokenOf → Type 0 where
-  an_aggregate : {t o c : TokenOf} {items : List AggregateItemOf} {before after : List TokenOf} → IsKeyword (codes "aggregate") t → o.kind ≡ OpenParenthesis → Separated ReadsAggregateItem Comma before items (c ∷ after) → c.kind ≡ CloseParenthesis → ReadsAggregate (t ∷ o ∷ before) items after
+  an_aggregate : {t : TokenOf} {items : List AggregateItemOf} {before after : List TokenOf} → IsKeyword (codes "aggregate") t → Enclosed ReadsAggregateItem Comma before items after → ReadsAggregate (t ∷ before) items after
 
 -- names in parentheses
-pub data ReadsNames : List TokenOf → List (List ℕ) → List TokenOf → Type 0 where
-  some_names : {o c : TokenOf} {names : List (List ℕ)} {before after : List TokenOf} → o.kind ≡ OpenParenthesis → Separated ReadsName Comma before names (c ∷ after) → c.kind ≡ CloseParenthesis → ReadsNames (o ∷ before) names after
+abbrev pub ReadsNames : List TokenOf → List (List ℕ) → List TokenOf → Type 0
+ReadsNames before names after = Enclosed ReadsName Comma before names after
 
 -- a transformation (sections 3.2.1 and 3.2.3, and `filter`)
 pub data ReadsTransformation : List TokenOf → TransformationOf → List TokenOf → Type 0 where

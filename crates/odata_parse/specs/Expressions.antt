@@ -16,7 +16,7 @@ use Rattle.odata_parse.specs.declared.tree.UnaryOperator.TheVariants.{Negate, No
 use Rattle.odata_parse.specs.declared.tree.UnaryFunction.{UnaryFunction}
 use Rattle.odata_parse.specs.declared.tree.BinaryFunction.{BinaryFunction}
 use Rattle.odata_parse.specs.Keywords.{IsKeyword, IsName, operator_text, unary_function_text, binary_function_text}
-use Rattle.odata_parse.specs.Lists.{Separated}
+use Rattle.odata_parse.specs.Lists.{Enclosed}
 use Rattle.odata_parse.specs.Literals.{IsLiteral, ReadsLiteral}
 use Rattle.odata_parse.specs.Trees.{LiteralOf, ExprOf, literal, name, unary, binary, in_list, unary_call, binary_call}
 
@@ -63,7 +63,7 @@ pub data Reads : ℕ → List TokenOf → ExprOf → List TokenOf → Type 0 whe
   read_name : {t : TokenOf} {after : List TokenOf} {text : List ℕ} → IsName text t → Reads zero (t ∷ after) (name text) after
   read_unary_call : {t o c : TokenOf} {before after : List TokenOf} {f : UnaryFunction} {e : ExprOf} → IsKeyword (unary_function_text f) t → o.kind ≡ OpenParenthesis → Reads top before e (c ∷ after) → c.kind ≡ CloseParenthesis → Reads zero (t ∷ o ∷ before) (unary_call f e) after
   read_binary_call : {t o s c : TokenOf} {before mid after : List TokenOf} {f : BinaryFunction} {a b : ExprOf} → IsKeyword (binary_function_text f) t → o.kind ≡ OpenParenthesis → Reads top before a (s ∷ mid) → s.kind ≡ Comma → Reads top mid b (c ∷ after) → c.kind ≡ CloseParenthesis → Reads zero (t ∷ o ∷ before) (binary_call f a b) after
-  read_in : {t o c : TokenOf} {before mid after : List TokenOf} {e : ExprOf} {vs : List LiteralOf} → Reads zero before e (t ∷ o ∷ mid) → IsKeyword (codes "in") t → o.kind ≡ OpenParenthesis → Separated ReadsLiteral Comma mid vs (c ∷ after) → c.kind ≡ CloseParenthesis → Reads (suc zero) before (in_list e vs) after
+  read_in : {t : TokenOf} {before mid after : List TokenOf} {e : ExprOf} {vs : List LiteralOf} → Reads zero before e (t ∷ mid) → IsKeyword (codes "in") t → Enclosed ReadsLiteral Comma mid vs after → Reads (suc zero) before (in_list e vs) after
   read_unary : {t : TokenOf} {before after : List TokenOf} {o : UnaryOperator} {e : ExprOf} → IsUnaryOperator o t → Reads (suc (suc zero)) before e after → Reads (suc (suc zero)) (t ∷ before) (unary o e) after
   read_binary : {l : ℕ} {t : TokenOf} {before mid after : List TokenOf} {o : BinaryOperator} {a b : ExprOf} → Reads (suc l) before a (t ∷ mid) → IsKeyword (operator_text o) t → level_of o ≡ suc l → Reads l mid b after → Reads (suc l) before (binary o a b) after
   read_tighter : {l : ℕ} {before after : List TokenOf} {e : ExprOf} → Reads l before e after → Reads (suc l) before e after

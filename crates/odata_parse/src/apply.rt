@@ -4,7 +4,7 @@ ghost use Rattle.std.specs.Prelude.{◌≡◌, ◌≢◌, ◌<◌, ◌≤◌, �
 ghost use Rattle.odata_lex.specs.Tokens.{TokenOf, AreTokens, token_views};
 ghost use Rattle.odata_lex.specs.declared.token.TokenKind.TheVariants.{Dollar};
 ghost use Rattle.odata_parse.specs.declared.tree.AggregationMethod.{AggregationMethod};
-ghost use Rattle.odata_parse.specs.Apply.{ReadsName, ReadsAlias, ReadsAggregateItem, ReadsAggregate, ReadsNames, ReadsTransformation, IsApply};
+ghost use Rattle.odata_parse.specs.Apply.{ReadsName, ReadsAlias, ReadsAggregateItem, ReadsAggregate, ReadsTransformation, IsApply};
 ghost use Rattle.odata_parse.specs.Depth.{IsTooDeepForApply};
 ghost use Rattle.odata_parse.specs.Keywords.{IsKeyword, method_text};
 ghost use Rattle.odata_parse.specs.Parsing.{Gives, item_trees};
@@ -15,7 +15,7 @@ use crate::depth::{has_slashes, is_too_deep};
 use crate::expression::{TOP, phrase};
 use crate::fault::{ParseFault, PhraseFault};
 use crate::keyword::{aggregation_method, spells};
-use crate::list::{Item, list};
+use crate::list::{Item, enclosed};
 use crate::tree::{AggregateItem, AggregationMethod, Transformation};
 use crate::whole::whole_list;
 use odata_lex::{Token, TokenKind};
@@ -114,22 +114,7 @@ fn aggregate(alloc: Global, tokens: &mut Cursor<'_>) -> Result<Vec<AggregateItem
     ensures shorter { OnOk result (length tokens.new < length tokens.old) }
 {
     tokens.expect_keyword("aggregate")?;
-    tokens.expect(TokenKind::OpenParenthesis)?;
-    let items = list::<AggregateItem>(alloc, tokens, TokenKind::Comma)?;
-    tokens.expect(TokenKind::CloseParenthesis)?;
-    Ok(items)
-}
-
-/// Names in parentheses.
-fn names(alloc: Global, tokens: &mut Cursor<'_>) -> Result<Vec<String>, PhraseFault>
-    ensures found { IfOk result (λ names. ReadsNames tokens.old (item_trees string_bytes names) tokens.new) }
-    ensures each { (names : List (List ℕ)) (after : List TokenOf) → ReadsNames tokens.old names after → Gives (item_trees string_bytes) names after result tokens.new }
-    ensures shorter { OnOk result (length tokens.new < length tokens.old) }
-{
-    tokens.expect(TokenKind::OpenParenthesis)?;
-    let names = list::<String>(alloc, tokens, TokenKind::Comma)?;
-    tokens.expect(TokenKind::CloseParenthesis)?;
-    Ok(names)
+    Ok(enclosed::<AggregateItem>(alloc, tokens, TokenKind::Comma)?)
 }
 
 /// What stands behind `filter`.
@@ -151,7 +136,7 @@ fn group(alloc: Global, tokens: &mut Cursor<'_>) -> Result<Transformation, Phras
     ensures shorter { OnOk result (length tokens.new < length tokens.old) }
 {
     tokens.expect(TokenKind::OpenParenthesis)?;
-    let names = names(alloc, tokens)?;
+    let names = enclosed::<String>(alloc, tokens, TokenKind::Comma)?;
     if let Some(_) = tokens.take(TokenKind::Comma) {
         let items = aggregate(alloc, tokens)?;
         tokens.expect(TokenKind::CloseParenthesis)?;

@@ -20,7 +20,7 @@ use crate::cursor::{Cursor, Lexeme};
 use crate::depth::is_too_deep;
 use crate::fault::{ParseFault, PhraseFault};
 use crate::keyword::{binary_function, binary_operator, spells, unary_function};
-use crate::list::{Item, list};
+use crate::list::{Item, enclosed};
 use crate::literal::{literal_of, word_literal};
 use crate::tree::{
     ArithmeticOperator, BinaryOperator, ComparisonOperator, Expr, Literal, LogicOperator,
@@ -148,9 +148,7 @@ fn member(alloc: Global, tokens: &mut Cursor<'_>) -> Result<Expr, PhraseFault>
     let Some(_) = tokens.take_keyword("in") else {
         return Ok(value);
     };
-    tokens.expect(TokenKind::OpenParenthesis)?;
-    let items = list::<Literal>(alloc, tokens, TokenKind::Comma)?;
-    tokens.expect(TokenKind::CloseParenthesis)?;
+    let items = enclosed::<Literal>(alloc, tokens, TokenKind::Comma)?;
     Ok(Expr::In(Box::new(alloc, value)?, items))
 }
 

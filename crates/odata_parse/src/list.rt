@@ -2,7 +2,7 @@
 
 ghost use Rattle.std.specs.Prelude.{◌<◌, List, length, map, IfOk, OnOk, vec_len};
 ghost use Rattle.odata_lex.specs.Tokens.{TokenOf};
-ghost use Rattle.odata_parse.specs.Lists.{Separated};
+ghost use Rattle.odata_parse.specs.Lists.{Separated, Enclosed};
 ghost use Rattle.odata_parse.specs.Parsing.{IsSeparator, IsAfterItem, IsAfterList, Gives, item_trees};
 
 use crate::cursor::Cursor;
@@ -41,5 +41,22 @@ pub(crate) fn list<T: Item + Drop>(
     while let Some(_) = tokens.take(separator) {
         items.push(T::read(alloc, tokens)?)?;
     }
+    Ok(items)
+}
+
+/// Reads such items in parentheses.
+pub(crate) fn enclosed<T: Item + Drop>(
+    alloc: Global,
+    tokens: &mut Cursor<'_>,
+    separator: TokenKind,
+) -> Result<Vec<T>, PhraseFault>
+    requires { IsSeparator separator }
+    ensures found { IfOk result (λ items. Enclosed T.reads separator tokens.old (map T.tree items.items) tokens.new) }
+    ensures each { (xs : List T.Tree) (after : List TokenOf) → Enclosed T.reads separator tokens.old xs after → Gives (item_trees T.tree) xs after result tokens.new }
+    ensures shorter { OnOk result (length tokens.new < length tokens.old) }
+{
+    tokens.expect(TokenKind::OpenParenthesis)?;
+    let items = list::<T>(alloc, tokens, separator)?;
+    tokens.expect(TokenKind::CloseParenthesis)?;
     Ok(items)
 }

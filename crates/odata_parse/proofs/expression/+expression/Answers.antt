@@ -75,40 +75,24 @@ pub member-returns-in_default-clause-each : goal.member-returns-in_default-claus
 member-returns-in_default-clause-each t c = λ e after r h.
     let s = Tail-stop (member_tail c.in_ok-value.ensures.each r h) c.in_default.ensures.none.1 in (s.0, c.in_default.ensures.none.0 ∙ s.1)
 
-pub member-returns-in_err-expect-clause-each : goal.member-returns-in_err-expect-clause-each
-member-returns-in_err-expect-clause-each t c = λ e after r h.
-    let s = c.in-Some.ensures.some in
-    let q = Tail-in (rw (s.0) at (member_tail c.in_ok-value.ensures.each r h)) s.1 h in
-    absurd (c.in_err-expect.ensures.err q.opening q.mid q.begins q.opens)
-
 pub member-returns-in_err-items-clause-each : goal.member-returns-in_err-items-clause-each
 member-returns-in_err-items-clause-each t c = λ e after r h.
     let p = err_from_is_err_and c.from_residual-in_err-items.result c.from_residual-in_err-items.ensures.1 in
     let s = c.in-Some.ensures.some in
     let q = Tail-in (rw (s.0) at (member_tail c.in_ok-value.ensures.each r h)) s.1 h in
-    let m = same_rest q.begins c.in_ok-expect.ensures.ok.0 in
-    rw (p.1, p.2) (c.in_err-items.ensures.each q.items (q.closing ∷ after) (rw m at q.reads) q.closes)
-
-pub member-returns-in_err-expect-2-clause-each : goal.member-returns-in_err-expect-2-clause-each
-member-returns-in_err-expect-2-clause-each t c = λ e after r h.
-    let s = c.in-Some.ensures.some in
-    let q = Tail-in (rw (s.0) at (member_tail c.in_ok-value.ensures.each r h)) s.1 h in
-    let m = same_rest q.begins c.in_ok-expect.ensures.ok.0 in
-    let i = c.in_ok-items.ensures.each q.items (q.closing ∷ after) (rw m at q.reads) q.closes in
-    absurd (c.in_err-expect-2.ensures.err q.closing after i.1 q.closes)
+    rw (p.1, p.2) (c.in_err-items.ensures.each q.0 after q.1)
 
 pub member-returns-clause-found : goal.member-returns-clause-found
 member-returns-clause-found t c =
     let s = c.in-Some.ensures.some in
-    rw (c.in_ok-new.ensures.ok) (read_in (rw (s.0, c.in_ok-expect.ensures.ok.0) at c.in_ok-value.ensures.found) s.1 c.in_ok-expect.ensures.ok.1 (rw (c.in_ok-expect-2.ensures.ok.0) at c.in_ok-items.ensures.found) c.in_ok-expect-2.ensures.ok.1)
+    rw (c.in_ok-new.ensures.ok) (read_in (rw (s.0) at c.in_ok-value.ensures.found) s.1 c.in_ok-items.ensures.found)
 
 pub member-returns-clause-each : goal.member-returns-clause-each
 member-returns-clause-each t c = λ e after r h.
     let s = c.in-Some.ensures.some in
     let q = Tail-in (rw (s.0) at (member_tail c.in_ok-value.ensures.each r h)) s.1 h in
-    let m = same_rest q.begins c.in_ok-expect.ensures.ok.0 in
-    let i = c.in_ok-items.ensures.each q.items (q.closing ∷ after) (rw m at q.reads) q.closes in
-    (cc (q.is, i.0, c.in_ok-new.ensures.ok), same_rest c.in_ok-expect-2.ensures.ok.0 i.1)
+    let i = c.in_ok-items.ensures.each q.0 after q.1 in
+    (cc (q.2, i.0, c.in_ok-new.ensures.ok), i.1)
 
 -- primary
 pub primary-returns-in_err-expect-in-OpenParenthesis-clause-each : goal.primary-returns-in_err-expect-in-OpenParenthesis-clause-each
