@@ -1,5 +1,5 @@
 -- Phrases that begin alike, and can end where they do, are one.
-use Rattle.std.proofs.Common.{◌≡◌, ◌≢◌, ℕ, zero, suc, ◌≤◌, List, [], ◌∷◌, None, codes, refl, sym, ap, ◌∙◌, subst, arith}
+use Rattle.std.proofs.Common.{◌≡◌, ◌≢◌, ℕ, zero, suc, ◌≤◌, List, [], ◌∷◌, None, Some, codes, refl, sym, ap, ◌∙◌, subst, arith}
 use Rattle.odata_lex.specs.Tokens.{TokenOf}
 use Rattle.odata_lex.specs.declared.token.TokenKind.{TokenKind}
 use Rattle.odata_lex.specs.declared.token.TokenKind.TheVariants.{Minus, OpenParenthesis, CloseParenthesis, Comma, Slash}
@@ -14,8 +14,8 @@ use Rattle.odata_parse.specs.Literals.{ReadsLiteral, one_token, negative, IsLite
 use Rattle.odata_parse.specs.Options.{ReadsOrderItem, order_alone, order_ascending, order_descending, ReadsSelectItem, select_all, select_name, ReadsKeyPair, key_value, IsKey, key_single, key_named}
 use Rattle.odata_parse.specs.Parsing.{CanEnd, IsAfterItem}
 use Rattle.odata_parse.specs.Trees.{LiteralOf, ExprOf, name, unary, in_list, unary_call, binary_call, OrderItemOf, SelectItemOf, selected, KeyPairOf, KeyOf, single, named, AggregateItemOf, counted, TransformationOf, filter_by, aggregate, group_by}
-use Rattle.odata_parse.proofs.ApplyLemmas.{name_no_dollar, method_unique, aggregate_keyword, filter_parts, GroupTail, group_alone, group_with, group_parts, tail_with, only_aggregate}
-use Rattle.odata_parse.proofs.KeywordLemmas.{filter_word, aggregate_word, groupby_word}
+use Rattle.odata_parse.proofs.ApplyLemmas.{name_no_dollar, method_unique, aggregate_keyword, filter_parts, GroupTail, group_alone, group_with, group_parts, only_aggregate}
+use Rattle.odata_parse.proofs.KeywordLemmas.{Keyword, keyword_text, filter_word, aggregate_word, groupby_word}
 use Rattle.odata_parse.proofs.ListLemmas.{HasOnlyItems, Separated-only, Enclosed-only}
 use Rattle.odata_parse.proofs.LiteralLemmas.{IsLiteral-unique, ReadsLiteral-one}
 use Rattle.odata_parse.proofs.OptionLemmas.{asc_follows, desc_follows, order_tail, no_word_after, OrderTail-alone, OrderTail-ascending, OrderTail-descending, select_star, select_word, pairs_have_equals, literal_no_equals}
@@ -150,24 +150,30 @@ tail_alone : {names : List (List ℕ)} {c : TokenOf} {now after : List TokenOf} 
 tail_alone (group_alone q) h = (refl, refl)
 tail_alone (group_with m a q) h = absurd (let k : CloseParenthesis ≡ Comma = sym h ∙ m in cc)
 
+tail_aggregate : {names : List (List ℕ)} {s c : TokenOf} {mid now after : List TokenOf} {items : List AggregateItemOf} {y : TransformationOf} → GroupTail names (s ∷ mid) y after → s.kind ≡ Comma → ReadsAggregate mid items (c ∷ now) → (group_by names (Some items) ≡ y) × (now ≡ after)
+tail_aggregate (group_alone q) h a = absurd (let k : Comma ≡ CloseParenthesis = sym h ∙ q in cc)
+tail_aggregate {names} (group_with m b q) h a = let u = aggregate_only a b in (ap (λ (items : List AggregateItemOf). group_by names (Some items)) u.0, same_rest refl u.1)
+
+aggregate_first : {old now : List TokenOf} {items : List AggregateItemOf} (k : Keyword) → k ≢ aggregate_word → ReadsAggregate old items now → (t : TokenOf) (rest : List TokenOf) → old ≡ t ∷ rest → ¬ (IsKeyword (keyword_text k) t)
+aggregate_first k other r t rest is h = other (keyword_unique k aggregate_word h (aggregate_keyword (rw is at r)))
+
+aggregation_only : {old now after : List TokenOf} {xs : List AggregateItemOf} {y : TransformationOf} → ReadsAggregate old xs now → (ys : List AggregateItemOf) × ReadsAggregate old ys after × (aggregate ys ≡ y) → (aggregate xs ≡ y) × (now ≡ after)
+aggregation_only r (ys, s, e) = let u = aggregate_only r s in (ap aggregate u.0 ∙ e, u.1)
+
 transformation_only : HasOnlyItems ReadsTransformation
 transformation_only old now x (a_filter {c} k p r q) end y after s h =
     let f = filter_parts s k in
     let u = Reads-only r (close_ends 8 c now q) f.expr (f.closing ∷ after) (rw (← same_rest refl f.begins) at f.reads) (close_ends 8 f.closing after f.closes) in
     (ap filter_by u.0 ∙ f.is, same_rest refl u.1)
-transformation_only old now x (an_aggregation r) end y after s h =
-    let q = only_aggregate s (λ t rest is k. absurd (let j = keyword_unique filter_word aggregate_word k (aggregate_keyword (rw is at r)) in cc)) (λ t rest is k. absurd (let j = keyword_unique groupby_word aggregate_word k (aggregate_keyword (rw is at r)) in cc)) in
-    let u = aggregate_only r q.1 in (ap aggregate u.0 ∙ q.2, u.1)
+transformation_only old now x (an_aggregation r) end y after s h = aggregation_only r (only_aggregate s (aggregate_first filter_word (λ e. cc) r) (aggregate_first groupby_word (λ e. cc) r))
 transformation_only old now x (a_grouping {names} k p r q) end y after s h =
     let g = group_parts s k in
     let u = names_only r (rw (← same_rest refl g.begins) at g.reads) in
     tail_alone (rw (← u.0, ← u.1) at g.tail) q
-transformation_only old now x (a_grouping_with {c} k p r m a q) end y after s h =
+transformation_only old now x (a_grouping_with k p r m a q) end y after s h =
     let g = group_parts s k in
     let u = names_only r (rw (← same_rest refl g.begins) at g.reads) in
-    let w = tail_with (rw (← u.0, ← u.1) at g.tail) m in
-    let v = aggregate_only a w.2 in
-    (rw (v.0) w.4, same_rest refl v.1)
+    tail_aggregate (rw (← u.0, ← u.1) at g.tail) m a
 
 -- trees of all tokens
 pub filter_tree : (tokens : List TokenOf) (x y : ExprOf) → Reads top tokens x [] → Reads top tokens y [] → x ≡ y

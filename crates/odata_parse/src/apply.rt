@@ -62,10 +62,7 @@ fn method(tokens: &mut Cursor<'_>) -> Result<AggregationMethod, PhraseFault>
     ensures none { OnErr result ((t : TokenOf) (rest : List TokenOf) (m : AggregationMethod) → tokens.old ≡ t ∷ rest → ¬ (IsKeyword (method_text m) t)) }
 {
     let word = tokens.expect(TokenKind::Word)?;
-    match aggregation_method(word.text) {
-        Some(method) => Ok(method),
-        None => Err(PhraseFault::Syntax),
-    }
+    aggregation_method(word.text).ok_or(PhraseFault::Syntax)
 }
 
 /// A column with its method and alias.

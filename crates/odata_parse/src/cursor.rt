@@ -116,10 +116,7 @@ impl<'a> Cursor<'a> {
         ensures err { OnErr result ((t : TokenOf) (rest : List TokenOf) → self.old ≡ t ∷ rest → t.kind ≢ kind) }
         ensures fault { IfErr result (λ e. e ≡ PhraseFault.Syntax) }
     {
-        match self.take(kind) {
-            Some(lexeme) => Ok(lexeme),
-            None => Err(PhraseFault::Syntax),
-        }
+        self.take(kind).ok_or(PhraseFault::Syntax)
     }
 
     /// Takes the next token, which has to be a keyword.
@@ -128,10 +125,7 @@ impl<'a> Cursor<'a> {
         ensures err { OnErr result ((t : TokenOf) (rest : List TokenOf) → self.old ≡ t ∷ rest → ¬ (IsKeyword (lower keyword.now) t)) }
         ensures fault { IfErr result (λ e. e ≡ PhraseFault.Syntax) }
     {
-        match self.take_keyword(keyword) {
-            Some(lexeme) => Ok(lexeme),
-            None => Err(PhraseFault::Syntax),
-        }
+        self.take_keyword(keyword).ok_or(PhraseFault::Syntax)
     }
 
     /// Nothing may be left.

@@ -60,17 +60,15 @@ fn take_operator(tokens: &mut Cursor<'_>, wanted: usize) -> Option<BinaryOperato
     ensures none { IfNone result ((tokens.new ≡ tokens.old) × ((t : TokenOf) (rest : List TokenOf) (o : BinaryOperator) → tokens.old ≡ t ∷ rest → IsKeyword (operator_text o) t → level_of o ≢ wanted)) }
 {
     let first = tokens.peek()?;
-    match first.kind {
-        TokenKind::Word => {
-            let operator = binary_operator(first.text)?;
-            if level(operator) != wanted {
-                return None;
-            }
-            tokens.skip();
-            Some(operator)
-        }
-        _ => None,
+    if first.kind != TokenKind::Word {
+        return None;
     }
+    let operator = binary_operator(first.text)?;
+    if level(operator) != wanted {
+        return None;
+    }
+    tokens.skip();
+    Some(operator)
 }
 
 /// Takes the next token if it is an operator before its operand.

@@ -1,4 +1,4 @@
-//! Why tokens have no tree.
+//! Why tokens have no tree, and texts no value.
 
 use std::alloc::{AllocError, AllocFailed};
 
@@ -12,6 +12,10 @@ pub enum ParseFault {
     /// Memory ran out.
     NoMemory,
 }
+
+/// The text of a value is not of the form that was asked for.
+#[derive(Clone, Copy, Debug, PartialEq, Eq)]
+pub struct Syntax;
 
 /// Why a phrase is not read.
 #[derive(Clone, Copy)]

@@ -3,8 +3,8 @@
 ghost use Rattle.std.specs.Prelude.{◌≡◌, None, Some, MatchResult};
 ghost use Rattle.odata_parse.specs.Flag.{flag_of};
 
+use crate::fault::Syntax;
 use crate::keyword::spells;
-use crate::syntax::Syntax;
 
 /// The truth value that a value of `$count` names (OData 4.01 URL Conventions, section 5.1.7): `true` or `false`, in any case of ASCII
 /// letters.

@@ -3,8 +3,8 @@
 ghost use Rattle.std.specs.Prelude.{◌≡◌, None, Some, MatchResult};
 ghost use Rattle.odata_parse.specs.Format.{format_of};
 
+use crate::fault::Syntax;
 use crate::keyword::spells;
-use crate::syntax::Syntax;
 
 /// The format of a reply.
 #[derive(Clone, Copy, Debug, PartialEq, Eq)]

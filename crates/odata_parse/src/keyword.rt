@@ -91,10 +91,7 @@ pub(crate) fn binary_operator(text: &str) -> Option<BinaryOperator>
     if let Some(operator) = comparison_operator(text) {
         return Some(BinaryOperator::Comparison(operator));
     }
-    match arithmetic_operator(text) {
-        Some(operator) => Some(BinaryOperator::Arithmetic(operator)),
-        None => None,
-    }
+    Some(BinaryOperator::Arithmetic(arithmetic_operator(text)?))
 }
 
 /// The function of one argument that a text is.

@@ -16,17 +16,15 @@ mod list;
 mod literal;
 mod number;
 mod options;
-mod syntax;
 pub mod tree;
 mod whole;
 
 pub use apply::parse_apply;
 pub use depth::{MAX_OPEN, MAX_OPERATORS};
 pub use expression::parse_filter;
-pub use fault::ParseFault;
+pub use fault::{ParseFault, Syntax};
 pub use flag::parse_flag;
 pub use format::{Format, parse_format};
 pub use law::one_tree;
 pub use number::{MAX_NUMBER, MAX_NUMBER_DIGITS, parse_number};
 pub use options::{parse_key, parse_orderby, parse_select};
-pub use syntax::Syntax;

@@ -76,10 +76,7 @@ pub(crate) fn literal_of(alloc: Global, lexeme: Lexeme<'_>) -> Result<Literal, P
         TokenKind::Number => Ok(Literal::Number(number(lexeme.text))),
         TokenKind::Date => Ok(date(lexeme.text)),
         TokenKind::Text => Ok(Literal::Text(content(alloc, lexeme.text)?)),
-        TokenKind::Word => match word_literal(lexeme.text) {
-            Some(literal) => Ok(literal),
-            None => Err(PhraseFault::Syntax),
-        },
+        TokenKind::Word => word_literal(lexeme.text).ok_or(PhraseFault::Syntax),
         _ => Err(PhraseFault::Syntax),
     }
 }

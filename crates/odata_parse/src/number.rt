@@ -4,7 +4,7 @@ ghost use Rattle.std.specs.Result.{OkIff};
 ghost use Rattle.std.specs.Str.Parse.{digits_value};
 ghost use Rattle.odata_parse.specs.Number.{IsNumberText};
 
-use crate::syntax::Syntax;
+use crate::fault::Syntax;
 
 /// The greatest number, the greatest value of an `Edm.Int64`.
 pub const MAX_NUMBER: u64 = 9_223_372_036_854_775_807;

@@ -133,13 +133,7 @@ fn names_columns(source: &str, tokens: &[Token]) -> bool
 {
     let mut rest = Cursor::new(source, tokens);
     rest.skip();
-    match rest.next() {
-        Some(second) => match second.kind {
-            TokenKind::EqualsSign => true,
-            _ => false,
-        },
-        None => false,
-    }
+    rest.take(TokenKind::EqualsSign).is_some()
 }
 
 /// A value alone, or columns and their values.
