@@ -6,8 +6,10 @@ mod body;
 mod code;
 mod csv;
 mod json;
+mod laws;
 mod value;
 
 pub use body::{error_body, json_body, service_body};
 pub use code::Code;
 pub use csv::csv_body;
+pub use laws::csv_reads_back;

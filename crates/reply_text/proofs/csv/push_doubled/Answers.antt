@@ -1,4 +1,4 @@
-use Rattle.std.proofs.Common.{get_or, refl}
+use Rattle.std.proofs.Common.{get_or}
 use Rattle.reply_text.specs.Csv.{doubled_byte}
 use Rattle.reply_text.proofs.CsvLemmas.{flat_more, byte_again}
 use Rattle.reply_text.proofs.csv.push_doubled.Goals as goal

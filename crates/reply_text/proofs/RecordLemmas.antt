@@ -1,0 +1,256 @@
+-- The lines of rows are lines of the grammar.
+use Rattle.std.proofs.Common.{◌≡◌, ℕ, zero, suc, ◌+◌, ◌<◌, ◌≤◌, ◌/◌, ◌%◌, Bool, true, false, cond, eqb, ltb, ℤ, pos, negsuc, List, [], ◌∷◌, ◌++◌, length, map, None, refl, sym, ap, ap₂, ◌∙◌, append-nil, arith, tests}
+use Rattle.std.specs.Prelude.{IsTrue, ◌||◌, not, ◌==◌}
+use Rattle.std.proofs.lemmas.Bool.{false≢true}
+use Rattle.std.specs.List.{flat_map, join_with_byte, list_any, AllByRecursion}
+use Rattle.std.specs.Fmt.{digit_glyph, digits_onto, digits, decimal, signed_decimal}
+use Rattle.csv_grammar.specs.Bytes.{comma, carriage_return, line_feed}
+use Rattle.csv_grammar.specs.Records.{Field, unquoted, quoted, crlf, Line, is_plain, doubled, content, print_field, print_record, print_line, IsField, IsRecord, AreRecords}
+use Rattle.cell_types.specs.Value.{CellValue, null, int, text, bool, date}
+use Rattle.query_exec.specs.Rows.{RowsOf}
+use Rattle.jiff_fmt.specs.Text.{year_text, pad2}
+use Rattle.reply_text.specs.Value.{bool_text, day_text}
+use Rattle.reply_text.specs.Csv.{is_quoted_byte, needs_quotes, doubled_byte, csv_value, csv_line, row_line, csv_text}
+use Rattle.reply_text.specs.Laws.{value_text, value_is_quoted, is_quoted, IsPlainName, AreLines, SaysRows}
+
+-- ---- texts of numbers
+
+-- bytes above the comma
+abbrev AreAbove : List ℕ → Type 0
+AreAbove bytes = AllByRecursion (λ b. 45 ≤ b) bytes
+
+above_append : (front back : List ℕ) → AreAbove front → AreAbove back → AreAbove (front ++ back)
+above_append [] back f b = b
+above_append (x ∷ front) back f b = (f.0, above_append front back f.1 b)
+
+glyph_above : (d : ℕ) → 45 ≤ digit_glyph false d
+glyph_above d = by (ltb d 10)
+  where
+    by : (t : Bool) → 45 ≤ cond t (48 + d) (87 + d)
+    by true = omega arith
+    by false = omega arith
+
+onto_above : (k n : ℕ) (acc : List ℕ) → AreAbove acc → AreAbove (digits_onto k 10 false n acc)
+onto_above zero n acc above = above
+onto_above (suc k) n acc above =
+    either (eqb (n / 10) 0) _ _ (glyph_above (n % 10), above) (onto_above k (n / 10) (digit_glyph false (n % 10) ∷ acc) (glyph_above (n % 10), above))
+  where
+    either : (t : Bool) (xs ys : List ℕ) → AreAbove xs → AreAbove ys → AreAbove (cond t xs ys)
+    either true xs ys p q = p
+    either false xs ys p q = q
+
+decimal_above : (n : ℕ) → AreAbove (decimal n)
+unfolding digits
+decimal_above n = onto_above 64 n [] tt
+
+signed_above : (z : ℤ) → AreAbove (signed_decimal z)
+signed_above (pos n) = decimal_above n
+signed_above (negsuc n) = (omega arith, decimal_above (suc n))
+
+pad2_above : (n : ℕ) → AreAbove (pad2 n)
+pad2_above n = (omega arith, (omega arith, tt))
+
+year_above : (year : ℤ) → AreAbove (year_text year)
+year_above (pos n) = above_append (pad2 (n / 100)) (pad2 (n % 100)) (pad2_above (n / 100)) (pad2_above (n % 100))
+year_above (negsuc n) =
+    let digits = above_append (pad2 (suc n / 100)) (pad2 (suc n % 100)) (pad2_above (suc n / 100)) (pad2_above (suc n % 100)) in
+    (omega arith, (omega arith, (omega arith, digits)))
+
+day_above : (year : ℤ) (month day : ℕ) → AreAbove (day_text year month day)
+day_above year month day =
+    let hyphen : AreAbove (45 ∷ []) = (omega arith, tt) in
+    let to_month = above_append (year_text year ++ 45 ∷ []) (pad2 month) (above_append (year_text year) (45 ∷ []) (year_above year) hyphen) (pad2_above month) in
+    above_append (year_text year ++ 45 ∷ [] ++ pad2 month ++ 45 ∷ []) (pad2 day)
+    (above_append (year_text year ++ 45 ∷ [] ++ pad2 month) (45 ∷ []) to_month hyphen) (pad2_above day)
+
+-- ---- bytes that need no double quotes
+
+plain_above : (b : ℕ) → 45 ≤ b → IsTrue (is_plain b)
+plain_above b above = grind (arith, tests)
+
+pub plain-from_above : (bytes : List ℕ) → AreAbove bytes → AllByRecursion (λ b. IsTrue (is_plain b)) bytes
+plain-from_above [] above = tt
+plain-from_above (b ∷ bytes) above = (plain_above b above.0, plain-from_above bytes above.1)
+
+plain_bool : (truth : Bool) → AllByRecursion (λ b. IsTrue (is_plain b)) (bool_text truth)
+plain_bool true = (refl, (refl, (refl, (refl, tt))))
+plain_bool false = (refl, (refl, (refl, (refl, (refl, tt)))))
+
+-- a text that needs none
+plain_text : (bytes : List ℕ) → list_any is_quoted_byte bytes ≡ false → AllByRecursion (λ b. IsTrue (is_plain b)) bytes
+plain_text [] none = tt
+plain_text (b ∷ bytes) none = by (is_quoted_byte b) refl none (plain_text bytes)
+  where
+    by : (t : Bool) → is_quoted_byte b ≡ t → (t || list_any is_quoted_byte bytes) ≡ false
+        → (list_any is_quoted_byte bytes ≡ false → AllByRecursion (λ b. IsTrue (is_plain b)) bytes) → AllByRecursion (λ b. IsTrue (is_plain b)) (b ∷ bytes)
+    by true e n rest = absurd (false≢true (sym n))
+    by false e n rest = (ap not e, rest n)
+
+-- the second of two tests that both fail
+no_byte : (s t : Bool) → (s || t) ≡ false → t ≡ false
+no_byte true t e = absurd (false≢true (sym e))
+no_byte false t e = e
+
+-- ---- the field of a value
+
+-- a text's, by whether it needs double quotes
+abbrev text_field : Bool → List ℕ → Field
+text_field true bytes = quoted bytes
+text_field false bytes = unquoted bytes
+
+abbrev pub field_of : CellValue → Field
+field_of null = unquoted []
+field_of (int number) = unquoted (signed_decimal number)
+field_of (text bytes) = text_field (needs_quotes bytes) bytes
+field_of (bool truth) = unquoted (bool_text truth)
+field_of (date year month day) = unquoted (day_text year month day)
+
+doubled_same : (bytes : List ℕ) → flat_map doubled_byte bytes ≡ doubled bytes
+doubled_same [] = refl
+doubled_same (b ∷ bytes) = by (eqb b 34) (doubled_same bytes)
+  where
+    by : (t : Bool) → flat_map doubled_byte bytes ≡ doubled bytes
+        → cond t (34 ∷ 34 ∷ []) (b ∷ []) ++ flat_map doubled_byte bytes ≡ cond t (34 ∷ 34 ∷ doubled bytes) (b ∷ doubled bytes)
+    by true same = ap (λ w. 34 ∷ 34 ∷ w) same
+    by false same = ap (λ w. b ∷ w) same
+
+-- it is a field of the grammar
+field_is : (value : CellValue) → IsField (field_of value)
+field_is null = tt
+field_is (int number) = plain-from_above (signed_decimal number) (signed_above number)
+field_is (text bytes) = by (needs_quotes bytes) refl
+  where
+    by : (t : Bool) → needs_quotes bytes ≡ t → IsField (text_field t bytes)
+    by true e = tt
+    by false e = plain_text bytes (no_byte (length bytes == 0) (list_any is_quoted_byte bytes) e)
+field_is (bool truth) = plain_bool truth
+field_is (date year month day) = plain-from_above (day_text year month day) (day_above year month day)
+
+-- and what is written of the value
+field_printed : (value : CellValue) → print_field (field_of value) ≡ csv_value value
+field_printed null = refl
+field_printed (int number) = refl
+field_printed (text bytes) = by (needs_quotes bytes)
+  where
+    by : (t : Bool) → print_field (text_field t bytes) ≡ cond t (34 ∷ flat_map doubled_byte bytes ++ 34 ∷ []) bytes
+    by true = ap (λ w. 34 ∷ w ++ 34 ∷ []) (sym (doubled_same bytes))
+    by false = refl
+field_printed (bool truth) = refl
+field_printed (date year month day) = refl
+
+-- it says the value
+field_content : (value : CellValue) → content (field_of value) ≡ value_text value
+field_content null = refl
+field_content (int number) = refl
+field_content (text bytes) = by (needs_quotes bytes)
+  where
+    by : (t : Bool) → content (text_field t bytes) ≡ bytes
+    by true = refl
+    by false = refl
+field_content (bool truth) = refl
+field_content (date year month day) = refl
+
+field_quoted : (value : CellValue) → is_quoted (field_of value) ≡ value_is_quoted value
+field_quoted null = refl
+field_quoted (int number) = refl
+field_quoted (text bytes) = by (needs_quotes bytes)
+  where
+    by : (t : Bool) → is_quoted (text_field t bytes) ≡ t
+    by true = refl
+    by false = refl
+field_quoted (bool truth) = refl
+field_quoted (date year month day) = refl
+
+-- ---- records
+
+-- things that are seen alike one by one
+map_same : {X Y Z : Type 0} (f : Y → Z) (g : X → Y) (h : X → Z) → ((x : X) → f (g x) ≡ h x) → (xs : List X) → map f (map g xs) ≡ map h xs
+map_same f g h same [] = refl
+map_same f g h same (x ∷ xs) = ap₂ (λ z zs. z ∷ zs) (same x) (map_same f g h same xs)
+
+-- the bytes of fields are their texts with commas between
+record_printed : {X : Type 0} (f : X → Field) (g : X → List ℕ) → ((x : X) → print_field (f x) ≡ g x) → (xs : List X)
+    → print_record (map f xs) ≡ join_with_byte comma (map g xs)
+record_printed f g same [] = refl
+record_printed f g same (x ∷ []) = same x
+record_printed f g same (x ∷ y ∷ xs) = ap₂ (λ a b. a ++ comma ∷ b) (same x) (record_printed f g same (y ∷ xs))
+
+-- the record of a row
+abbrev row_fields : List CellValue → List Field
+row_fields values = map field_of values
+
+fields_are : (values : List CellValue) → AllByRecursion IsField (row_fields values)
+fields_are [] = tt
+fields_are (value ∷ values) = (field_is value, fields_are values)
+
+names_are : (names : List (List ℕ)) → AllByRecursion IsPlainName names → AllByRecursion IsField (map unquoted names)
+names_are [] plain = tt
+names_are (name ∷ names) plain = (plain.0, names_are names plain.1)
+
+-- ---- the text
+
+abbrev line_of : List Field → Line
+line_of fields = record { fields = fields; end = crlf }
+
+abbrev lines_of : RowsOf → List Line
+lines_of rows = line_of (map unquoted rows.names) ∷ map (λ row. line_of (row_fields row)) rows.rows
+
+abbrev pub records_of_rows : RowsOf → List (List Field)
+records_of_rows rows = map unquoted rows.names ∷ map row_fields rows.rows
+
+row_printed : (values : List CellValue) → print_line (line_of (row_fields values)) ≡ row_line values
+row_printed values = ap (λ w. w ++ carriage_return ∷ line_feed ∷ []) (record_printed field_of csv_value field_printed values)
+
+names_printed : (names : List (List ℕ)) → print_line (line_of (map unquoted names)) ≡ csv_line names
+names_printed names =
+    ap (λ w. w ++ carriage_return ∷ line_feed ∷ [])
+    (record_printed unquoted (λ name. name) (λ name. refl) names ∙ ap (join_with_byte comma) (map_itself names))
+  where
+    map_itself : (names : List (List ℕ)) → map (λ name. name) names ≡ names
+    map_itself [] = refl
+    map_itself (name ∷ names) = ap (λ w. name ∷ w) (map_itself names)
+
+rows_printed : (rows : List (List CellValue)) → flat_map print_line (map (λ row. line_of (row_fields row)) rows) ≡ flat_map row_line rows
+rows_printed [] = refl
+rows_printed (row ∷ rows) = ap₂ (λ a b. a ++ b) (row_printed row) (rows_printed rows)
+
+rows_are : (rows : List (List CellValue)) → AllByRecursion (λ row. 0 < length row) rows
+    → AllByRecursion (λ line. IsRecord line.fields) (map (λ row. line_of (row_fields row)) rows)
+rows_are [] some = tt
+rows_are (row ∷ rows) some = ((some_field row some.0, fields_are row), rows_are rows some.1)
+  where
+    some_field : (row : List CellValue) → 0 < length row → 0 < length (row_fields row)
+    some_field [] h = h
+    some_field (value ∷ row) h = omega arith
+
+names_record : (names : List (List ℕ)) → 0 < length names → AllByRecursion IsPlainName names → IsRecord (map unquoted names)
+names_record names some plain = (some_field names some, names_are names plain)
+  where
+    some_field : (names : List (List ℕ)) → 0 < length names → 0 < length (map unquoted names)
+    some_field [] h = h
+    some_field (name ∷ names) h = omega arith
+
+fields_of_lines : (rows : List (List CellValue)) → map (λ (line : Line). line.fields) (map (λ row. line_of (row_fields row)) rows) ≡ map row_fields rows
+fields_of_lines [] = refl
+fields_of_lines (row ∷ rows) = ap (λ w. row_fields row ∷ w) (fields_of_lines rows)
+
+-- the body of rows has the records of the rows
+pub rows_read : (rows : RowsOf) → AreLines rows → AreRecords (csv_text rows) (records_of_rows rows)
+rows_read rows lines = record {
+  tree = record { lines = lines_of rows; last = None };
+  valid = record { lines = (names_record rows.names lines.some lines.names, rows_are rows.rows lines.values); last = tt };
+  printed = sym (append-nil _ ∙ ap₂ (λ a b. a ++ b) (names_printed rows.names) (rows_printed rows.rows));
+  are = sym (append-nil _ ∙ ap (λ w. map unquoted rows.names ∷ w) (fields_of_lines rows.rows));
+}
+
+-- which say what the rows do
+pub rows_said : (rows : RowsOf) → SaysRows rows (records_of_rows rows)
+rows_said rows = record {
+  contents = ap₂ (λ a b. a ∷ b) (names_said rows.names) (map_same (map content) row_fields (map value_text) (map_same content field_of value_text field_content) rows.rows);
+  quotes = ap₂ (λ a b. a ∷ b) (map_same is_quoted unquoted (λ name. false) (λ name. refl) rows.names)
+      (map_same (map is_quoted) row_fields (map value_is_quoted) (map_same is_quoted field_of value_is_quoted field_quoted) rows.rows);
+}
+  where
+    names_said : (names : List (List ℕ)) → map content (map unquoted names) ≡ names
+    names_said [] = refl
+    names_said (name ∷ names) = ap (λ w. name ∷ w) (names_said names)

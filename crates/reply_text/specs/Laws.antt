@@ -1,0 +1,51 @@
+-- What holds of the bodies.
+use Rattle.std.specs.Prelude.{◌≡◌, ℕ, ◌<◌, Bool, false, true, List, [], ◌∷◌, length, map, IsTrue}
+use Rattle.std.specs.List.{AllByRecursion}
+use Rattle.std.specs.Fmt.{signed_decimal}
+use Rattle.csv_grammar.specs.Records.{Field, unquoted, quoted, content, is_plain, AreRecords}
+use Rattle.cell_types.specs.Value.{CellValue, null, int, text, bool, date}
+use Rattle.query_exec.specs.Rows.{RowsOf}
+use Rattle.reply_text.specs.Value.{bool_text, day_text}
+use Rattle.reply_text.specs.Csv.{needs_quotes, csv_text}
+
+-- the text of a value; null has the empty one
+abbrev pub value_text : CellValue → List ℕ
+value_text null = []
+value_text (int number) = signed_decimal number
+value_text (text bytes) = bytes
+value_text (bool truth) = bool_text truth
+value_text (date year month day) = day_text year month day
+
+-- whether a value stands in double quotes: a text that is empty or has a double quote, a comma, a CR or an LF, and nothing else
+abbrev pub value_is_quoted : CellValue → Bool
+value_is_quoted null = false
+value_is_quoted (int number) = false
+value_is_quoted (text bytes) = needs_quotes bytes
+value_is_quoted (bool truth) = false
+value_is_quoted (date year month day) = false
+
+-- whether a field stands in double quotes
+abbrev pub is_quoted : Field → Bool
+is_quoted (unquoted bytes) = false
+is_quoted (quoted inside) = true
+
+-- a name that needs no double quotes
+abbrev pub IsPlainName : List ℕ → Type 0
+IsPlainName name = AllByRecursion (λ b. IsTrue (is_plain b)) name
+
+-- rows that lines can be written of: at least one name, none that needs double quotes, and a value or more in each row
+pub record AreLines (rows : RowsOf) : Type 0 where
+  pub some : 0 < length rows.names
+  pub names : AllByRecursion IsPlainName rows.names
+  pub values : AllByRecursion (λ row. 0 < length row) rows.rows
+
+-- the records say what the rows do: the first has the names, those behind it the texts of the values, row by row; and the double
+-- quotes tell an empty text from null
+pub record SaysRows (rows : RowsOf) (records : List (List Field)) : Type 0 where
+  pub contents : map (map content) records ≡ rows.names ∷ map (map value_text) rows.rows
+  pub quotes : map (map is_quoted) records ≡ map (λ name. false) rows.names ∷ map (map value_is_quoted) rows.rows
+
+-- what we publish, our own grammar reads: the body of rows has records, and they say what the rows do
+pub record CsvReadsBack : Type 0 where
+  pub some : (rows : RowsOf) → AreLines rows → (records : List (List Field)) × AreRecords (csv_text rows) records
+  pub each : (rows : RowsOf) (records : List (List Field)) → AreLines rows → AreRecords (csv_text rows) records → SaysRows rows records
