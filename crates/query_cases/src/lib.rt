@@ -2,8 +2,12 @@
 #![tactic(auto)]
 
 #[cfg(test)]
+mod made_trees;
+#[cfg(test)]
 mod target_cases;
 #[cfg(test)]
 mod token_cases;
 #[cfg(test)]
 mod tree_cases;
+#[cfg(test)]
+mod tree_text;
