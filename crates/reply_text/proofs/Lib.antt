@@ -1,3 +1,4 @@
 pub mod JsonLemmas
 pub mod CsvLemmas
 pub mod RecordLemmas
+pub mod TableLemmas

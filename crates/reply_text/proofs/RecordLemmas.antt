@@ -11,12 +11,12 @@ use Rattle.query_exec.specs.Rows.{RowsOf}
 use Rattle.jiff_fmt.specs.Text.{year_text, pad2}
 use Rattle.reply_text.specs.Value.{bool_text, day_text}
 use Rattle.reply_text.specs.Csv.{is_quoted_byte, needs_quotes, doubled_byte, csv_value, csv_line, row_line, csv_text}
-use Rattle.reply_text.specs.Laws.{value_text, value_is_quoted, is_quoted, IsPlainName, AreLines, SaysRows}
+use Rattle.reply_text.specs.Laws.{value_text, value_is_quoted, is_quoted, IsPlainName, FitCsv, SaysRows}
 
 -- ---- texts of numbers
 
 -- bytes above the comma
-abbrev AreAbove : List ℕ → Type 0
+abbrev pub AreAbove : List ℕ → Type 0
 AreAbove bytes = AllByRecursion (λ b. 45 ≤ b) bytes
 
 above_append : (front back : List ℕ) → AreAbove front → AreAbove back → AreAbove (front ++ back)
@@ -235,7 +235,7 @@ fields_of_lines [] = refl
 fields_of_lines (row ∷ rows) = ap (λ w. row_fields row ∷ w) (fields_of_lines rows)
 
 -- the body of rows has the records of the rows
-pub rows_read : (rows : RowsOf) → AreLines rows → AreRecords (csv_text rows) (records_of_rows rows)
+pub rows_read : (rows : RowsOf) → FitCsv rows → AreRecords (csv_text rows) (records_of_rows rows)
 rows_read rows lines = record {
   tree = record { lines = lines_of rows; last = None };
   valid = record { lines = (names_record rows.names lines.some lines.names, rows_are rows.rows lines.values); last = tt };

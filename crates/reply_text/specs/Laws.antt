@@ -1,10 +1,11 @@
 -- What holds of the bodies.
-use Rattle.std.specs.Prelude.{◌≡◌, ℕ, ◌<◌, Bool, false, true, List, [], ◌∷◌, length, map, IsTrue}
-use Rattle.std.specs.List.{AllByRecursion}
+use Rattle.std.specs.Prelude.{◌≡◌, ℕ, ◌<◌, ◌≤◌, Bool, false, true, List, [], ◌∷◌, length, map, IsTrue}
+use Rattle.std.specs.List.{All, AllByRecursion}
 use Rattle.std.specs.Fmt.{signed_decimal}
 use Rattle.csv_grammar.specs.Records.{Field, unquoted, quoted, content, is_plain, AreRecords}
 use Rattle.cell_types.specs.Value.{CellValue, null, int, text, bool, date}
-use Rattle.query_exec.specs.Rows.{RowsOf}
+use Rattle.table_store.specs.Catalog.{FolderOf, CatalogOf, Means}
+use Rattle.query_exec.specs.Rows.{RowsOf, rows_of_table}
 use Rattle.reply_text.specs.Value.{bool_text, day_text}
 use Rattle.reply_text.specs.Csv.{needs_quotes, csv_text}
 
@@ -33,8 +34,8 @@ is_quoted (quoted inside) = true
 abbrev pub IsPlainName : List ℕ → Type 0
 IsPlainName name = AllByRecursion (λ b. IsTrue (is_plain b)) name
 
--- rows that lines can be written of: at least one name, none that needs double quotes, and a value or more in each row
-pub record AreLines (rows : RowsOf) : Type 0 where
+-- rows that CSV can say: at least one name, none that needs double quotes, and a value or more in each row
+pub record FitCsv (rows : RowsOf) : Type 0 where
   pub some : 0 < length rows.names
   pub names : AllByRecursion IsPlainName rows.names
   pub values : AllByRecursion (λ row. 0 < length row) rows.rows
@@ -47,5 +48,10 @@ pub record SaysRows (rows : RowsOf) (records : List (List Field)) : Type 0 where
 
 -- what we publish, our own grammar reads: the body of rows has records, and they say what the rows do
 pub record CsvReadsBack : Type 0 where
-  pub some : (rows : RowsOf) → AreLines rows → (records : List (List Field)) × AreRecords (csv_text rows) records
-  pub each : (rows : RowsOf) (records : List (List Field)) → AreLines rows → AreRecords (csv_text rows) records → SaysRows rows records
+  pub some : (rows : RowsOf) → FitCsv rows → (records : List (List Field)) × AreRecords (csv_text rows) records
+  pub each : (rows : RowsOf) (records : List (List Field)) → FitCsv rows → AreRecords (csv_text rows) records → SaysRows rows records
+
+-- such are the rows of every table of a folder, where it may have a table
+abbrev pub TablesFitCsv : Type 0
+TablesFitCsv = (folder : FolderOf) (catalog : CatalogOf) → 1 ≤ folder.limits.tables → Means folder catalog
+    → All (λ table. FitCsv (rows_of_table table)) catalog.tables

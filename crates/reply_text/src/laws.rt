@@ -1,12 +1,20 @@
 //! The laws of the bodies: each function is a theorem, and does nothing.
-ghost use Rattle.reply_text.specs.Laws.{CsvReadsBack};
+ghost use Rattle.reply_text.specs.Laws.{CsvReadsBack, TablesFitCsv};
 
 use csv_grammar::one_list_of_records;
+use csvw_meta::accepted_schemas;
 
-/// What we publish, our own grammar reads: the records of a CSV body are the names and the texts of the values, and their double quotes
+/// What we publish, our own grammar reads: the records of a body of rows that CSV can say are the names and the texts of the values, and their double quotes
 /// tell an empty text from null.
 pub fn csv_reads_back()
     ensures { CsvReadsBack }
 {
     one_list_of_records();
+}
+
+/// The rows of every table of a folder are rows that CSV can say: no name of a column needs double quotes.
+pub fn tables_fit_csv()
+    ensures { TablesFitCsv }
+{
+    accepted_schemas();
 }

@@ -12,4 +12,4 @@ mod value;
 pub use body::{error_body, json_body, service_body};
 pub use code::Code;
 pub use csv::csv_body;
-pub use laws::csv_reads_back;
+pub use laws::{csv_reads_back, tables_fit_csv};
