@@ -4,8 +4,8 @@ ghost use Rattle.reply_text.specs.Laws.{CsvReadsBack, TablesFitCsv};
 use csv_grammar::one_list_of_records;
 use csvw_meta::accepted_schemas;
 
-/// What we publish, our own grammar reads: the records of a body of rows that CSV can say are the names and the texts of the values, and their double quotes
-/// tell an empty text from null.
+/// What we publish, our own grammar reads: the records of a body of rows that CSV can say are the names and the texts of the values,
+/// and their double quotes tell an empty text from null.
 pub fn csv_reads_back()
     ensures { CsvReadsBack }
 {
