@@ -1,5 +1,5 @@
 -- How the answers to heads join, and what they are of the stream that the heads were cut off.
-use Rattle.std.proofs.Common.{◌≡◌, ◌+◌, ◌≤◌, ◌<◌, ℕ, true, false, List, [], ◌∷◌, ◌++◌, length, take, drop, map, get_or, Err, refl, sym, ap, ◌∙◌, subst, append-nil, append_assoc, drop-cons, add-one, suc}
+use Rattle.std.proofs.Common.{◌≡◌, ◌+◌, ◌≤◌, ◌<◌, ℕ, true, false, List, [], ◌∷◌, ◌++◌, length, take, drop, map, get_or, Err, refl, sym, ap, ◌∙◌, append-nil, drop-cons, add-one, suc}
 use Rattle.std.proofs.lemmas.List.{take-append-le, take-append-drop, map-append, map_more}
 use Rattle.std.proofs.Math.Seq.{take-append-add}
 use Rattle.odata_http.specs.declared.answer.AnswerFault.{AnswerFault}

@@ -1,5 +1,5 @@
 -- What answering heads adds to an output, and what it is of the stream that the heads were cut off.
-use Rattle.std.proofs.Common.{◌≡◌, ℕ, true, false, List, [], ◌++◌, Result, Ok, Err, refl, sym, ap, ◌∙◌, subst, append_assoc, append-nil}
+use Rattle.std.proofs.Common.{◌≡◌, ℕ, List, ◌++◌, Result, Ok, Err, sym, subst, append_assoc}
 use Rattle.std.specs.declared.alloc.AllocError.{AllocError}
 use Rattle.odata_http.specs.declared.answer.Flow.{Flow}
 use Rattle.odata_http.specs.declared.answer.Flow.TheVariants.{Open, Closed}

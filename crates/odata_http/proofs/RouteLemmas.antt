@@ -1,9 +1,9 @@
 -- Searches among options and segments, on what the code keeps and on what contracts see of it.
-use Rattle.std.proofs.Common.{◌≡◌, Bool, true, false, List, [], ◌∷◌, map, Option, Some, None, option_map, find, cond, refl, Bor, ℕ, ◌+◌, ◌≢◌, length, get_or, String, string_bytes, sym, ap, arith}
+use Rattle.std.proofs.Common.{◌≡◌, Bool, true, false, List, [], ◌∷◌, map, Option, Some, None, option_map, find, cond, refl, Bor, length, get_or, String, string_bytes, sym, ap, arith}
 use Rattle.std.specs.Global.{Global}
 use Rattle.table_store.specs.Table.{TableOf}
 use Rattle.odata_url.specs.Target.{QueryOption}
-use Rattle.odata_http.specs.Route.{one_route, two_route, other_route, path_route}
+use Rattle.odata_http.specs.Route.{one_route, path_route}
 
 found_or : {X Y : Type 0} (h : X → Y) (x : X) (others : Option X) (all : Option Y) (test : Bool) → option_map h others ≡ all
     → option_map h (cond test (Some x) others) ≡ cond test (Some (h x)) all
@@ -18,24 +18,9 @@ pub option_map-map : {X Y : Type 0} (h : X → Y) (o : Option (Bor X)) → optio
 option_map-map h None = refl
 option_map-map h (Some x) = refl
 
--- a path by how many segments it has
+-- a path of one segment
 pub path_one : (tables : List TableOf) (options : List QueryOption) (segments : List (String Global)) (segment : String Global) → length segments ≡ 1
     → segment ≡ get_or segments 0 segment → path_route tables options (map string_bytes segments) ≡ one_route tables options (string_bytes segment)
 path_one tables options [] segment one at = absurd (omega (arith, one))
 path_one tables options (s ∷ []) segment one at = ap (λ x. one_route tables options (string_bytes x)) (sym at)
 path_one tables options (s ∷ t ∷ segments) segment one at = absurd (omega (arith, one))
-
-pub path_two : (tables : List TableOf) (options : List QueryOption) (segments : List (String Global)) (first second : String Global) → length segments ≡ 2
-    → first ≡ get_or segments 0 first → second ≡ get_or segments 1 second
-    → path_route tables options (map string_bytes segments) ≡ two_route tables (string_bytes first) (string_bytes second)
-path_two tables options [] first second two at behind = absurd (omega (arith, two))
-path_two tables options (s ∷ []) first second two at behind = absurd (omega (arith, two))
-path_two tables options (s ∷ t ∷ []) first second two at behind = rw (at, behind) refl
-path_two tables options (s ∷ t ∷ u ∷ segments) first second two at behind = absurd (omega (arith, two))
-
-pub path_other : (tables : List TableOf) (options : List QueryOption) (segments : List (String Global)) → length segments ≢ 1 → length segments ≢ 2
-    → path_route tables options (map string_bytes segments) ≡ other_route (map string_bytes segments)
-path_other tables options [] not_one not_two = refl
-path_other tables options (s ∷ []) not_one not_two = absurd (not_one refl)
-path_other tables options (s ∷ t ∷ []) not_one not_two = absurd (not_two refl)
-path_other tables options (s ∷ t ∷ u ∷ segments) not_one not_two = refl

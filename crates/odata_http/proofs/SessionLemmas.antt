@@ -1,11 +1,11 @@
--- What a piece makes of a session that is live and open.
-use Rattle.std.proofs.Common.{◌≡◌, ℕ, Bool, true, false, List, [], ◌++◌, MatchBool, refl, sym, ap}
+-- What a piece, and the end, make of a session that is live and open.
+use Rattle.std.proofs.Common.{◌≡◌, ℕ, Bool, true, false, List, [], ◌++◌, MatchBool, refl}
 use Rattle.odata_http.specs.declared.session.State.{State}
-use Rattle.odata_http.specs.declared.session.State.TheVariants.{Live}
+use Rattle.odata_http.specs.declared.session.State.TheVariants.{Live, Failed}
 use Rattle.odata_http.specs.Head.{HeadOf}
 use Rattle.odata_http.specs.Reply.{ReplyOf}
-use Rattle.odata_http.specs.Stream.{IsCertain}
-use Rattle.odata_http.specs.Session.{SessionOf, IsLive, TakesIn}
+use Rattle.odata_http.specs.Stream.{AreFirstReplies, IsCertain}
+use Rattle.odata_http.specs.Session.{SessionOf, IsLive, TakesIn, FailsIn, HasFailed}
 use Rattle.odata_http.specs.States.{has_ended, has_failed}
 
 -- a session by its parts
@@ -33,3 +33,19 @@ fed_closed reply piece rest output kept after certain closed state live stays is
   (refl, refl),
   record { certain = certain; rest = []; closed = true; is = is; new_is = refl },
 )
+
+-- memory ran out
+pub fed_failed : (reply : HeadOf → ReplyOf) (piece rest output kept after wrote : List ℕ) (closed : Bool) (state : State) → state ≡ Live → closed ≡ false
+    → AreFirstReplies reply (rest ++ piece) wrote → after ≡ output ++ wrote
+    → IsLive (session rest output closed state) × (closed ≡ false)
+    × FailsIn reply (rest ++ piece) (session rest output closed state) (session kept after closed Failed)
+fed_failed reply piece rest output kept after wrote closed state live stays first added = rw (live, stays, added) (
+  (refl, refl),
+  refl,
+  record { wrote = wrote; first = first; failed = (kept, refl) },
+)
+
+-- memory ran out at the end
+pub end_failed : (rest output kept after : List ℕ) (closed : Bool) (state : State) → state ≡ Live → closed ≡ false → after ≡ output
+    → IsLive (session rest output closed state) × (closed ≡ false) × HasFailed (session kept after closed Failed) output
+end_failed rest output kept after closed state live stays same = rw (live, stays, same) ((refl, refl), refl, (kept, refl))

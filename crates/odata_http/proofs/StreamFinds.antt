@@ -1,5 +1,5 @@
 -- Each stream has a cut, and one list of replies.
-use Rattle.std.proofs.Common.{◌<◌, ◌≤◌, ◌⊎◌, ℕ, zero, suc, Bool, true, false, List, [], ◌∷◌, length, refl, subst, arith, inl, inr, ◌+◌, ◌++◌, ◌≡◌, ap, ap₂, sym, ◌∙◌}
+use Rattle.std.proofs.Common.{◌<◌, ◌≤◌, ◌⊎◌, ℕ, zero, suc, Bool, true, false, List, [], ◌∷◌, length, refl, subst, arith, inl, inr, ◌+◌, ◌++◌, ap, ap₂, sym, ◌∙◌}
 use Rattle.std.proofs.lemmas.Bool.{cases_Bool, cases_lt}
 use Rattle.httparse.specs.Grammar.{RequestHead, print_request}
 use Rattle.httparse.proofs.GrammarLemmas.{request_unique, request_pieces, request_from_pieces, request_head, request_tree}

@@ -1,5 +1,5 @@
 -- The fields of a head that decide how it is answered (RFC 9110, sections 5 and 7; RFC 9112, sections 3.2, 6 and 9.3).
-use Rattle.std.specs.Prelude.{ℕ, Bool, ◌&&◌, ◌||◌, not, ◌==◌, nat_le, List, [], ◌∷◌, length, map, codes, if◌then◌else◌}
+use Rattle.std.specs.Prelude.{ℕ, Bool, ◌&&◌, ◌||◌, not, ◌==◌, List, [], ◌∷◌, length, map, codes, if◌then◌else◌}
 use Rattle.std.specs.List.{list_any, list_all, count_by, slice_split}
 use Rattle.std.specs.Str.{bytes_eq}
 use Rattle.std.specs.Char.{to_ascii_lowercase}

@@ -5,13 +5,14 @@ use Rattle.std.specs.Fmt.{decimal}
 use Rattle.http.specs.StatusCode.{reason_phrase}
 use Rattle.table_store.specs.Table.{TableOf}
 use Rattle.query_exec.specs.Rows.{RowsOf, rows_of_table}
-use Rattle.reply_text.specs.declared.code.Code.TheVariants.{BadRequest}
+use Rattle.reply_text.specs.declared.code.Code.TheVariants.{BadRequest, MethodNotAllowed}
 use Rattle.reply_text.specs.Body.{rows_text, service_text, error_text}
 use Rattle.reply_text.specs.Csv.{csv_text}
 use Rattle.odata_parse.specs.declared.format.Format.{Format}
 use Rattle.odata_parse.specs.declared.format.Format.TheVariants.{Json, Csv}
 use Rattle.reply_text.specs.Code.{status_of}
 use Rattle.odata_http.specs.declared.reply.Reply.{Reply}
+use Rattle.odata_http.specs.declared.reply.TheConstants.{OK}
 use Rattle.odata_http.specs.Head.{HeadOf}
 use Rattle.odata_http.specs.Route.{RouteOf, refused, service, rows, route_of, closes_after}
 
@@ -36,7 +37,7 @@ field_line name value = name ++ codes ": " ++ value ++ line_end
 
 -- the methods that are served, where another was refused (RFC 9110, section 15.5.6)
 abbrev pub allow_line : ℕ → List ℕ
-allow_line status = if status == 405 then field_line (codes "Allow") (codes "GET, HEAD") else []
+allow_line status = if status == status_of MethodNotAllowed then field_line (codes "Allow") (codes "GET, HEAD") else []
 
 abbrev pub closing_line : Bool → List ℕ
 closing_line closes = if closes then field_line (codes "Connection") (codes "close") else []
@@ -75,8 +76,8 @@ reply_with method status format body closes = record {
 
 abbrev pub route_status : RouteOf → ℕ
 route_status (refused code) = status_of code
-route_status service = 200
-route_status (rows table format) = 200
+route_status service = OK
+route_status (rows table format) = OK
 
 abbrev pub route_format : RouteOf → Format
 route_format (refused code) = Json

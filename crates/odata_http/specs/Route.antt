@@ -1,17 +1,16 @@
 -- What a head asks for, or the code under which it is refused (RFC 9110, section 9; RFC 9112, sections 3 and 6; OData 4.01 Part 2, URL
 -- Conventions, sections 4 and 5).
-use Rattle.std.specs.Prelude.{ℕ, Bool, true, ◌&&◌, ◌||◌, not, ◌==◌, nat_eq, List, [], ◌∷◌, length, codes, if◌then◌else◌, Option, None, Some, Result, Ok, Err, find, position, is_none, take}
+use Rattle.std.specs.Prelude.{ℕ, Bool, ◌&&◌, ◌||◌, not, ◌==◌, nat_eq, List, [], ◌∷◌, length, codes, if◌then◌else◌, Option, None, Some, Result, Ok, Err, find, position, is_none, take}
 use Rattle.std.specs.List.{list_any, ends_with}
 use Rattle.std.specs.Str.{bytes_eq}
 use Rattle.table_store.specs.Table.{TableOf}
 use Rattle.odata_url.specs.declared.fault.UrlFault.{UrlFault}
 use Rattle.odata_url.specs.declared.fault.UrlFault.TheVariants as url
-use Rattle.odata_url.specs.declared.option_name.OptionName.{OptionName}
 use Rattle.odata_url.specs.declared.option_name.OptionName.TheVariants.{Format}
 use Rattle.odata_url.specs.OptionName.{begins_with, dollar_sign, option_text}
 use Rattle.odata_url.specs.Target.{TargetOf, QueryOption, target_of}
 use Rattle.odata_parse.specs.declared.format.Format.{Format as FormatName}
-use Rattle.odata_parse.specs.declared.format.Format.TheVariants.{Json, Csv}
+use Rattle.odata_parse.specs.declared.format.Format.TheVariants.{Json}
 use Rattle.odata_parse.specs.Format.{format_of}
 use Rattle.reply_text.specs.declared.code.Code.{Code}
 use Rattle.reply_text.specs.declared.code.Code.TheVariants.{BadRequest, BadHost, BadLength, NotServed, MethodNotAllowed, BadTarget, BadEscape, BadUtf8, UnknownOption, OptionTwice, NotFound, UnknownSet, OptionNotAllowed, NotAcceptable}

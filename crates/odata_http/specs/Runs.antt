@@ -1,5 +1,5 @@
 -- What a run over devices read and wrote, by how it ended.
-use Rattle.std.specs.Prelude.{◌≡◌, ◌↔◌, ℕ, ◌+◌, ◌<◌, ◌≤◌, Bool, true, false, List, Option, Some, Result, Ok, Err, ⊤, OnOk, MatchBool}
+use Rattle.std.specs.Prelude.{◌≡◌, ◌↔◌, ℕ, ◌+◌, ◌<◌, ◌≤◌, Bool, true, false, List, Some, Result, Err, ⊤, OnOk, MatchBool}
 use Rattle.std.specs.Io.KnownBytes.{Appends, Consumes, IsAtEnd}
 use Rattle.odata_http.specs.declared.runs.RunFault.{RunFault}
 use Rattle.odata_http.specs.declared.runs.RunFault.TheVariants.{NoMemory, Read, Write, TooManyReads}

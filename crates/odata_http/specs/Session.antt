@@ -30,13 +30,15 @@ pub record TakesIn (reply : HeadOf → ReplyOf) (piece : List ℕ) (old new : Se
   pub is : IsCertain reply (old.rest ++ piece) certain rest closed
   pub new_is : new ≡ record { rest = rest; output = old.output ++ certain; closed = closed; ended = false; failed = false }
 
+-- the session failed with this output; what rest it keeps is not said, since nothing reads it any more
+abbrev pub HasFailed : SessionOf → List ℕ → Type 0
+HasFailed new output = (rest : List ℕ) × (new ≡ record { rest = rest; output = output; closed = false; ended = false; failed = true })
+
 -- some first replies were added, each of them whole, and the session failed
 pub record FailsIn (reply : HeadOf → ReplyOf) (stream : List ℕ) (old new : SessionOf) : Type 0 where
   pub wrote : List ℕ
   pub first : AreFirstReplies reply stream wrote
-  pub output : new.output ≡ old.output ++ wrote
-  pub failed : new.failed ≡ true
-  pub stays_open : new.closed ≡ false
+  pub failed : HasFailed new (old.output ++ wrote)
 
 -- what feeding a piece makes of a session: nothing, once a reply closed
 abbrev pub IsFed : (HeadOf → ReplyOf) → List ℕ → SessionOf → SessionOf → Result ⊤ SessionFault → Type 0
@@ -54,10 +56,10 @@ abbrev pub IsEnded : SessionOf → SessionOf → Result ⊤ SessionFault → Typ
 IsEnded old new (Ok u) = IsLive old × IsOver old new
 IsEnded old new (Err Failed) = (old.failed ≡ true) × (new ≡ old)
 IsEnded old new (Err Ended) = (old.failed ≡ false) × (old.ended ≡ true) × (new ≡ old)
-IsEnded old new (Err NoMemory) = IsLive old × (old.closed ≡ false) × (new.output ≡ old.output) × (new.failed ≡ true)
+IsEnded old new (Err NoMemory) = IsLive old × (old.closed ≡ false) × HasFailed new old.output
 
--- the first bytes of the output, as many as wait or fit, were moved into the front of a buffer
+-- the first bytes of the output, as many as wait or fit, were moved into the front of a buffer, and the rest of that stays
 pub record Takes (old new : SessionOf) (count : ℕ) (buf buf_after : List ℕ) : Type 0 where
   pub count_is : count ≡ min (length old.output) (length buf)
-  pub bytes : take count buf_after ≡ take count old.output
+  pub bytes : buf_after ≡ take count old.output ++ drop count buf
   pub new_is : new ≡ record old { output = drop count old.output }

@@ -14,7 +14,7 @@ use std::alloc::{AllocError, Global};
 use table_store::Catalog;
 
 /// Whether a stream goes on.
-#[derive(Clone, Copy, Debug, PartialEq, Eq)]
+#[derive(Clone, Copy)]
 pub enum Flow {
     /// More heads may follow.
     Open,
@@ -23,7 +23,7 @@ pub enum Flow {
 }
 
 /// Why not all replies were written.
-#[derive(Clone, Copy, Debug, PartialEq, Eq)]
+#[derive(Clone, Copy)]
 pub enum AnswerFault {
     /// Memory ran out.
     NoMemory,

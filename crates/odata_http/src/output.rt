@@ -59,7 +59,7 @@ impl Output {
     /// Moves the first bytes into the front of a buffer, as many as wait or fit.
     pub(crate) fn take(&mut self, buf: &mut [u8]) -> usize
         ensures count { result ≡ min (length self.old) (length buf.old) }
-        ensures bytes { take result buf.new ≡ take result self.old }
+        ensures bytes { buf.new ≡ take result self.old ++ drop result buf.old }
         ensures left { self.new ≡ drop result self.old }
     {
         let waiting = &self.bytes[self.at..];

@@ -16,8 +16,8 @@ use reply_text::{Code, csv_body, error_body, json_body, service_body};
 use std::alloc::{AllocError, Global};
 use table_store::{Catalog, Table};
 
-/// The status of a refused method.
-const METHOD_NOT_ALLOWED: u16 = 405;
+/// The status of a reply that has what was asked for (RFC 9110, section 15.3.1).
+pub const OK: u16 = 200;
 
 /// A reply (RFC 9112, section 4), in two parts so that the body is not copied.
 #[derive(Debug, Drop)]
@@ -73,7 +73,7 @@ fn push_field(out: &mut Vec<u8>, name: &[u8], value: &[u8]) -> Result<(), AllocE
 fn push_allow(out: &mut Vec<u8>, status: u16) -> Result<(), AllocError>
     ensures { OnOk result (out.new.items ≡ out.old.items ++ allow_line status) }
 {
-    if status == METHOD_NOT_ALLOWED {
+    if status == Code::MethodNotAllowed.status() {
         push_field(out, b"Allow", b"GET, HEAD")
     } else {
         Ok(())
@@ -178,7 +178,7 @@ fn route_status(route: Route<'_>) -> u16
 {
     match route {
         Route::Refused(code) => code.status(),
-        Route::Service | Route::Rows(_, _) => 200,
+        Route::Service | Route::Rows(_, _) => OK,
     }
 }
 

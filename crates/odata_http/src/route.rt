@@ -6,7 +6,7 @@ ghost use Rattle.std.specs.Str.{bytes_eq};
 ghost use Rattle.odata_url.specs.OptionName.{begins_with, dollar_sign};
 ghost use Rattle.odata_url.specs.Target.{option_view, target_of};
 ghost use Rattle.odata_http.specs.Head.{head_view};
-ghost use Rattle.odata_http.specs.Route.{closes_after, first_code, format_in, head_checks, is_count_path, is_other_option, is_parenthesis, is_served_method, one_route, other_route, path_route, route_of, route_view, rows_route, segment_route, service_route, table_of, target_route, two_route, unserved_route, url_code};
+ghost use Rattle.odata_http.specs.Route.{closes_after, first_code, format_in, head_checks, is_count_path, is_other_option, is_parenthesis, is_served_method, one_route, other_route, path_route, route_of, route_view, rows_route, segment_route, service_route, table_of, target_route, unserved_route, url_code};
 
 use crate::fields::{has_host, is_coded, is_last, is_without_length};
 use crate::head::Head;
@@ -84,10 +84,7 @@ fn table_of<'a>(catalog: &'a Catalog, name: &[u8]) -> Option<&'a Table>
 fn is_other_option(option: &(OptionName, String)) -> bool
     ensures { result ≡ is_other_option (option_view option.now) }
 {
-    match option.0 {
-        OptionName::Format => false,
-        _ => true,
-    }
+    !matches!(option.0, OptionName::Format)
 }
 
 /// Whether one of these is.
@@ -180,10 +177,7 @@ fn segment_route<'a>(
 fn is_reserved(segment: &[u8]) -> bool
     ensures { result ≡ begins_with dollar_sign segment.now }
 {
-    match segment.first() {
-        Some(byte) => *byte == b'$',
-        None => false,
-    }
+    matches!(segment.first(), Some(b'$'))
 }
 
 /// Whether one of these is.
@@ -230,19 +224,6 @@ fn one_route<'a>(
     }
 }
 
-/// Where a path of two segments leads.
-fn two_route<'a>(catalog: &'a Catalog, segment: &[u8], count: &[u8]) -> Route<'a>
-    ensures { route_view result ≡ two_route catalog.now.tables segment.now count.now }
-{
-    if is_count_path(segment, count) {
-        unserved_route(catalog, segment)
-    } else if is_reserved(segment) || is_reserved(count) {
-        Route::Refused(Code::NotServed)
-    } else {
-        Route::Refused(Code::NotFound)
-    }
-}
-
 /// Where a path leads.
 fn path_route<'a>(
     catalog: &'a Catalog,
@@ -255,8 +236,8 @@ fn path_route<'a>(
     if count == 1 {
         return one_route(catalog, options, segments[0].as_bytes());
     }
-    if count == 2 {
-        return two_route(catalog, segments[0].as_bytes(), segments[1].as_bytes());
+    if count == 2 && is_count_path(segments[0].as_bytes(), segments[1].as_bytes()) {
+        return unserved_route(catalog, segments[0].as_bytes());
     }
     other_route(segments)
 }

@@ -1,7 +1,5 @@
-use Rattle.std.proofs.Common.{ap, sym, ◌∙◌, map, length, ◌≤◌}
-use Rattle.std.proofs.lemmas.List.{take_all}
+use Rattle.std.proofs.Common.{ap, sym, ◌∙◌}
 use Rattle.std.proofs.lemmas.Result.{err_from_is_err_and}
-use Rattle.odata_http.specs.Head.{head_view}
 use Rattle.odata_http.specs.Reply.{reply_of}
 use Rattle.odata_http.specs.Answer.{has_closed}
 use Rattle.odata_http.proofs.StreamLemmas.{replies_to-snoc}

@@ -1,6 +1,6 @@
-use Rattle.std.proofs.Common.{◌+◌, ◌<◌, ◌≤◌, ◌∷◌, [], ◌∙◌, ap, arith, drop, length, map, sym, subst, List, ℕ}
+use Rattle.std.proofs.Common.{◌+◌, ◌<◌, ◌≤◌, arith, length}
 use Rattle.std.proofs.lemmas.List.{map_push, drop-drop}
-use Rattle.odata_http.specs.Head.{BeginsWith, BeginsWithAll, head_view}
+use Rattle.odata_http.specs.Head.{head_view}
 use Rattle.odata_http.proofs.HeadLemmas.{all-snoc, head_places, whole_rest}
 use Rattle.odata_http.proofs.head.cut_heads.Goals as goal
 

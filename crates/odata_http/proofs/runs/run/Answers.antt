@@ -1,4 +1,4 @@
-use Rattle.std.proofs.Common.{rules, ◌<◌, ◌∙◌, ap, length, Ok, Err, arith, refl, map}
+use Rattle.std.proofs.Common.{rules, ◌<◌, ◌∙◌, ap, length, Ok, arith, refl, map}
 use Rattle.std.proofs.lemmas.Result.{err_from_is_err_and}
 use Rattle.odata_http.specs.Head.{head_view}
 use Rattle.odata_http.proofs.RunLemmas.{running_starts, running_stops, running_fails, running_reads, running_ends, answered_open, answered_closed, answered_fault, piece_fault, rest_answered_all, rest_fault}
