@@ -4,7 +4,7 @@ use csvw_meta::{Limits, Schemas};
 use std::alloc::{AllocError, Global};
 use std::process::Abort;
 use std::test::Fail;
-use table_store::{Catalog, NamedFile, Table};
+use table_store::{Catalog, LoadFault, NamedFile, Table};
 
 /// Texts, each with what it is answered with.
 pub(crate) type Cases = &'static [(&'static str, &'static str)];
@@ -107,6 +107,17 @@ fn push_table(alloc: Global, text: &mut String, table: &Table) -> Result<(), All
     text.push('\n')
 }
 
+/// The tables of a folder, or why it is refused.
+fn load(
+    alloc: Global,
+    limits: Limits,
+    meta: &str,
+    files: &[(&str, &str)],
+) -> Result<Result<Catalog, LoadFault>, AllocError> {
+    let meta = Vec::from_slice(alloc, meta.as_bytes())?;
+    Ok(Catalog::load(alloc, limits, meta, named_files(alloc, files)?))
+}
+
 /// The lines of all tables of a folder; or the file that is refused, and why.
 fn folder_answer(
     alloc: Global,
@@ -114,8 +125,7 @@ fn folder_answer(
     meta: &str,
     files: &[(&str, &str)],
 ) -> Result<String, AllocError> {
-    let meta = Vec::from_slice(alloc, meta.as_bytes())?;
-    match Catalog::load(alloc, limits, meta, named_files(alloc, files)?) {
+    match load(alloc, limits, meta, files)? {
         Ok(catalog) => {
             let mut text = String::new(alloc);
             for table in catalog.tables() {
@@ -137,5 +147,19 @@ pub(crate) fn check_folder(
 ) -> Result<(), AllocError> {
     let found = folder_answer(rt.alloc(), limits, meta, files)?;
     assert!(rt; found.as_str() == answer, "{files:?} under {meta}: {found}");
+    Ok(())
+}
+
+/// Checks which row of the first table of a folder has a key.
+pub(crate) fn check_find(
+    rt: &(impl Abort + AllocGlobal),
+    meta: &str,
+    files: &[(&str, &str)],
+    key: &[Value<'_>],
+    row: Option<usize>,
+) -> Result<(), Fail> {
+    let catalog = load(rt.alloc(), Limits::greatest(), meta, files)?.or(Err("a refused folder"))?;
+    let table = catalog.tables().first().ok_or("no table")?;
+    assert!(rt; table.find(key) == row, "{key:?} in {files:?}");
     Ok(())
 }

@@ -1,6 +1,8 @@
 //! Folders: their tables, or the one cause why they are refused (Model for Tabular Data and Metadata on the Web, section 6).
-use crate::fixture::{Cases, check_folder};
+use crate::fixture::{Cases, check_find, check_folder};
+use cell_types::Value;
 use csvw_meta::Limits;
+use std::borrow::CowStr;
 use std::test::Fail;
 
 /// The metadata of three tables.
@@ -19,6 +21,18 @@ const CITIES: (&str, &str) = (
 const BAD_CITIES: (&str, &str) = (
     "cities.csv",
     "Id,Name,Pop,Open,Since\n1,Oslo,700000,true,1048-01-01\n2,\"Foo, \"\"Bar\"\"\",,false,\n3,,5,,2024-02-29\n1,x,z,,\n",
+);
+
+/// A fourth city without a key.
+const NULL_CITIES: (&str, &str) = (
+    "cities.csv",
+    "Id,Name,Pop,Open,Since\n1,Oslo,700000,true,1048-01-01\n2,\"Foo, \"\"Bar\"\"\",,false,\n3,,5,,2024-02-29\n,x,,,\n",
+);
+
+/// A fourth city with the key of the first.
+const TWICE_CITIES: (&str, &str) = (
+    "cities.csv",
+    "Id,Name,Pop,Open,Since\n1,Oslo,700000,true,1048-01-01\n2,\"Foo, \"\"Bar\"\"\",,false,\n3,,5,,2024-02-29\n1,x,,,\n",
 );
 
 const PEOPLE: (&str, &str) = ("people.csv", "Full name,Age\nO'Hara,41\n");
@@ -46,6 +60,8 @@ const FILES: &[(Cases, &str)] = &[
         &[BAD_CITIES, CODES],
         "cities.csv: Cell row 3 col 2 NotInteger",
     ),
+    (&[NULL_CITIES, CODES], "cities.csv: KeyNull row 3"),
+    (&[TWICE_CITIES, CODES], "cities.csv: KeyTwice row 3"),
 ];
 
 /// The metadata of one table of two columns.
@@ -106,6 +122,36 @@ const FILES_OF_TITLES: Cases = &[
     ("\n", "a.csv: Header col 0"),
 ];
 
+/// The metadata of a table with a key of one column.
+const KEY: &str =
+    r#"{"url":"a.csv","tableSchema":{"columns":[{"name":"Id","datatype":"integer"},{"name":"Pop","datatype":"integer"}],"primaryKey":"Id"}}"#;
+
+/// Keys are looked at once all cells have values: a null first, then the first row equal to an earlier one. They are equal as values.
+const FILES_OF_KEY: Cases = &[
+    (
+        "Id,Pop\n1,\n2,\n",
+        "a 2 2; integer 1; null; integer 2; null\n",
+    ),
+    ("Id,Pop\n+7,\n8,\n 7 ,\n", "a.csv: KeyTwice row 2"),
+    ("Id,Pop\n7,\n007,\n", "a.csv: KeyTwice row 1"),
+    ("Id,Pop\n1,\n1,\n,\n", "a.csv: KeyNull row 2"),
+    ("Id,Pop\n,\n,z\n", "a.csv: Cell row 1 col 1 NotInteger"),
+    ("Id,Pop\n1,\n2,\n2,\n1,\n", "a.csv: KeyTwice row 2"),
+];
+
+/// The metadata of a table with a key of two columns.
+const KEYS: &str =
+    r#"{"url":"a.csv","tableSchema":{"columns":[{"name":"A"},{"name":"B"}],"primaryKey":["B","A"]}}"#;
+
+const FILES_OF_KEYS: Cases = &[
+    (
+        "A,B\n1,x\n1,y\n2,x\n",
+        "a 3 2; string 1; string x; string 1; string y; string 2; string x\n",
+    ),
+    ("A,B\n1,x\n1,\n1,x\n", "a.csv: KeyNull row 1"),
+    ("A,B\n1,x\n2,x\n1,x\n", "a.csv: KeyTwice row 2"),
+];
+
 /// Metadata that is refused is told before any file.
 const REFUSED: Cases = &[
     (
@@ -132,6 +178,8 @@ fn files(rt: HostRuntime) -> Result<(), Fail> {
         (TWO, FILES_OF_TWO),
         (REQUIRED, FILES_OF_REQUIRED),
         (TITLES, FILES_OF_TITLES),
+        (KEY, FILES_OF_KEY),
+        (KEYS, FILES_OF_KEYS),
     ] {
         for (file, answer) in cases {
             check_folder(&rt, Limits::greatest(), meta, &[("a.csv", *file)], answer)?;
@@ -156,4 +204,27 @@ fn file_limit(rt: HostRuntime) -> Result<(), Fail> {
         check_folder(&rt, limits, TWO, &[("a.csv", file)], answer)?;
     }
     Ok(())
+}
+
+/// The row of a key is found by its values; none is, where no row has it or the table has no key.
+#[test]
+fn keys(rt: HostRuntime) -> Result<(), Fail> {
+    let cities = [CITIES, PEOPLE, CODES];
+    check_find(&rt, BASE, &cities, &[Value::Int(2)], Some(1))?;
+    check_find(&rt, BASE, &cities, &[Value::Int(9)], None)?;
+    check_find(&rt, BASE, &cities, &[Value::Null], None)?;
+    check_find(&rt, BASE, &cities, &[], None)?;
+    let pairs = [("a.csv", "A,B\n1,x\n1,y\n")];
+    let key = [
+        Value::Text(CowStr::Borrowed("y")),
+        Value::Text(CowStr::Borrowed("1")),
+    ];
+    check_find(&rt, KEYS, &pairs, &key, Some(1))?;
+    check_find(
+        &rt,
+        TWO,
+        &[("a.csv", "Id,Since\n7,\n")],
+        &[Value::Int(7)],
+        None,
+    )
 }
