@@ -127,16 +127,16 @@ field_is (bool truth) = plain_bool truth
 field_is (date year month day) = plain-from_above (day_text year month day) (day_above year month day)
 
 -- and what is written of the value
-field_printed : (value : CellValue) → print_field (field_of value) ≡ csv_value value
-field_printed null = refl
-field_printed (int number) = refl
-field_printed (text bytes) = by (needs_quotes bytes)
+print_field_of : (value : CellValue) → print_field (field_of value) ≡ csv_value value
+print_field_of null = refl
+print_field_of (int number) = refl
+print_field_of (text bytes) = by (needs_quotes bytes)
   where
     by : (t : Bool) → print_field (text_field t bytes) ≡ cond t (34 ∷ flat_map doubled_byte bytes ++ 34 ∷ []) bytes
     by true = ap (λ w. 34 ∷ w ++ 34 ∷ []) (sym (doubled_same bytes))
     by false = refl
-field_printed (bool truth) = refl
-field_printed (date year month day) = refl
+print_field_of (bool truth) = refl
+print_field_of (date year month day) = refl
 
 -- it says the value
 field_content : (value : CellValue) → content (field_of value) ≡ value_text value
@@ -150,16 +150,16 @@ field_content (text bytes) = by (needs_quotes bytes)
 field_content (bool truth) = refl
 field_content (date year month day) = refl
 
-field_quoted : (value : CellValue) → is_quoted (field_of value) ≡ value_is_quoted value
-field_quoted null = refl
-field_quoted (int number) = refl
-field_quoted (text bytes) = by (needs_quotes bytes)
+field_is_quoted : (value : CellValue) → is_quoted (field_of value) ≡ value_is_quoted value
+field_is_quoted null = refl
+field_is_quoted (int number) = refl
+field_is_quoted (text bytes) = by (needs_quotes bytes)
   where
     by : (t : Bool) → is_quoted (text_field t bytes) ≡ t
     by true = refl
     by false = refl
-field_quoted (bool truth) = refl
-field_quoted (date year month day) = refl
+field_is_quoted (bool truth) = refl
+field_is_quoted (date year month day) = refl
 
 -- ---- records
 
@@ -169,11 +169,11 @@ map_same f g h same [] = refl
 map_same f g h same (x ∷ xs) = ap₂ (λ z zs. z ∷ zs) (same x) (map_same f g h same xs)
 
 -- the bytes of fields are their texts with commas between
-record_printed : {X : Type 0} (f : X → Field) (g : X → List ℕ) → ((x : X) → print_field (f x) ≡ g x) → (xs : List X)
+print_record_of : {X : Type 0} (f : X → Field) (g : X → List ℕ) → ((x : X) → print_field (f x) ≡ g x) → (xs : List X)
     → print_record (map f xs) ≡ join_with_byte comma (map g xs)
-record_printed f g same [] = refl
-record_printed f g same (x ∷ []) = same x
-record_printed f g same (x ∷ y ∷ xs) = ap₂ (λ a b. a ++ comma ∷ b) (same x) (record_printed f g same (y ∷ xs))
+print_record_of f g same [] = refl
+print_record_of f g same (x ∷ []) = same x
+print_record_of f g same (x ∷ y ∷ xs) = ap₂ (λ a b. a ++ comma ∷ b) (same x) (print_record_of f g same (y ∷ xs))
 
 -- the record of a row
 abbrev row_fields : List CellValue → List Field
@@ -198,21 +198,21 @@ lines_of rows = line_of (map unquoted rows.names) ∷ map (λ row. line_of (row_
 abbrev pub records_of_rows : RowsOf → List (List Field)
 records_of_rows rows = map unquoted rows.names ∷ map row_fields rows.rows
 
-row_printed : (values : List CellValue) → print_line (line_of (row_fields values)) ≡ row_line values
-row_printed values = ap (λ w. w ++ carriage_return ∷ line_feed ∷ []) (record_printed field_of csv_value field_printed values)
+print_row : (values : List CellValue) → print_line (line_of (row_fields values)) ≡ row_line values
+print_row values = ap (λ w. w ++ carriage_return ∷ line_feed ∷ []) (print_record_of field_of csv_value print_field_of values)
 
-names_printed : (names : List (List ℕ)) → print_line (line_of (map unquoted names)) ≡ csv_line names
-names_printed names =
+print_names : (names : List (List ℕ)) → print_line (line_of (map unquoted names)) ≡ csv_line names
+print_names names =
     ap (λ w. w ++ carriage_return ∷ line_feed ∷ [])
-    (record_printed unquoted (λ name. name) (λ name. refl) names ∙ ap (join_with_byte comma) (map_itself names))
+    (print_record_of unquoted (λ name. name) (λ name. refl) names ∙ ap (join_with_byte comma) (map_itself names))
   where
     map_itself : (names : List (List ℕ)) → map (λ name. name) names ≡ names
     map_itself [] = refl
     map_itself (name ∷ names) = ap (λ w. name ∷ w) (map_itself names)
 
-rows_printed : (rows : List (List CellValue)) → flat_map print_line (map (λ row. line_of (row_fields row)) rows) ≡ flat_map row_line rows
-rows_printed [] = refl
-rows_printed (row ∷ rows) = ap₂ (λ a b. a ++ b) (row_printed row) (rows_printed rows)
+print_rows : (rows : List (List CellValue)) → flat_map print_line (map (λ row. line_of (row_fields row)) rows) ≡ flat_map row_line rows
+print_rows [] = refl
+print_rows (row ∷ rows) = ap₂ (λ a b. a ++ b) (print_row row) (print_rows rows)
 
 rows_are : (rows : List (List CellValue)) → AllByRecursion (λ row. 0 < length row) rows
     → AllByRecursion (λ line. IsRecord line.fields) (map (λ row. line_of (row_fields row)) rows)
@@ -235,22 +235,22 @@ fields_of_lines [] = refl
 fields_of_lines (row ∷ rows) = ap (λ w. row_fields row ∷ w) (fields_of_lines rows)
 
 -- the body of rows has the records of the rows
-pub rows_read : (rows : RowsOf) → FitCsv rows → AreRecords (csv_text rows) (records_of_rows rows)
-rows_read rows lines = record {
+pub rows_are_records : (rows : RowsOf) → FitCsv rows → AreRecords (csv_text rows) (records_of_rows rows)
+rows_are_records rows lines = record {
   tree = record { lines = lines_of rows; last = None };
   valid = record { lines = (names_record rows.names lines.some lines.names, rows_are rows.rows lines.values); last = tt };
-  printed = sym (append-nil _ ∙ ap₂ (λ a b. a ++ b) (names_printed rows.names) (rows_printed rows.rows));
+  printed = sym (append-nil _ ∙ ap₂ (λ a b. a ++ b) (print_names rows.names) (print_rows rows.rows));
   are = sym (append-nil _ ∙ ap (λ w. map unquoted rows.names ∷ w) (fields_of_lines rows.rows));
 }
 
 -- which say what the rows do
-pub rows_said : (rows : RowsOf) → SaysRows rows (records_of_rows rows)
-rows_said rows = record {
-  contents = ap₂ (λ a b. a ∷ b) (names_said rows.names) (map_same (map content) row_fields (map value_text) (map_same content field_of value_text field_content) rows.rows);
+pub records_say_rows : (rows : RowsOf) → SaysRows rows (records_of_rows rows)
+records_say_rows rows = record {
+  contents = ap₂ (λ a b. a ∷ b) (names_content rows.names) (map_same (map content) row_fields (map value_text) (map_same content field_of value_text field_content) rows.rows);
   quotes = ap₂ (λ a b. a ∷ b) (map_same is_quoted unquoted (λ name. false) (λ name. refl) rows.names)
-      (map_same (map is_quoted) row_fields (map value_is_quoted) (map_same is_quoted field_of value_is_quoted field_quoted) rows.rows);
+      (map_same (map is_quoted) row_fields (map value_is_quoted) (map_same is_quoted field_of value_is_quoted field_is_quoted) rows.rows);
 }
   where
-    names_said : (names : List (List ℕ)) → map content (map unquoted names) ≡ names
-    names_said [] = refl
-    names_said (name ∷ names) = ap (λ w. name ∷ w) (names_said names)
+    names_content : (names : List (List ℕ)) → map content (map unquoted names) ≡ names
+    names_content [] = refl
+    names_content (name ∷ names) = ap (λ w. name ∷ w) (names_content names)

@@ -127,14 +127,14 @@ tables_fit limits limit files (schema ∷ schemas) (table ∷ tables) accepted h
     (table_fits limits limit (file_named schema.url files) schema table accepted.0 have.0, tables_fit limits limit files schemas tables accepted.1 have.1)
 
 -- metadata that was read is there
-meta_read : (limits : LimitsOf) (meta : Option (List ℕ)) (schemas : List SchemaOf) → option_map (schemas_of limits) meta ≡ Some (Ok schemas)
+meta_is : (limits : LimitsOf) (meta : Option (List ℕ)) (schemas : List SchemaOf) → option_map (schemas_of limits) meta ≡ Some (Ok schemas)
     → (bytes : List ℕ) × (schemas_of limits bytes ≡ Ok schemas)
-meta_read limits None schemas e = let no : ⊥ = cc in absurd no
-meta_read limits (Some bytes) schemas e = (bytes, cc)
+meta_is limits None schemas e = let no : ⊥ = cc in absurd no
+meta_is limits (Some bytes) schemas e = (bytes, cc)
 
 pub tables_of_folder : AcceptedSchemas → TablesFitCsv
 tables_of_folder laws folder catalog some means =
-    let read = meta_read folder.limits folder.meta means.schemas means.read in
+    let read = meta_is folder.limits folder.meta means.schemas means.read in
     let accepted = laws folder.limits read.0 means.schemas some read.1 in
     All-from_recursion _ catalog.tables
     (tables_fit folder.limits folder.limits.file folder.files means.schemas catalog.tables
