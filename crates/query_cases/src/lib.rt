@@ -2,7 +2,7 @@
 #![tactic(auto)]
 
 #[cfg(test)]
-mod made_trees;
+mod random_trees;
 #[cfg(test)]
 mod target_cases;
 #[cfg(test)]

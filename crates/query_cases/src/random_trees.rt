@@ -26,7 +26,7 @@ impl Chance {
 }
 
 /// A number, a text or another value without a sign.
-fn made_value(alloc: Global, chance: &mut Chance) -> Result<Literal, AllocError> {
+fn any_value(alloc: Global, chance: &mut Chance) -> Result<Literal, AllocError> {
     Ok(match chance.next() % 8 {
         0 => Literal::Null,
         1 => Literal::Boolean(chance.next() % 2 == 0),
@@ -34,12 +34,12 @@ fn made_value(alloc: Global, chance: &mut Chance) -> Result<Literal, AllocError>
         3 => Literal::Number(i128::from(chance.next()) * 1_000_000_000_000_000_000),
         4 => Literal::Text(String::from_str(alloc, "O'Hara, ''(\"é\") eq not")?),
         5 => Literal::Text(String::new(alloc)),
-        6 => made_date("2024-02-29"),
-        _ => made_date("0001-12-31"),
+        6 => date_value("2024-02-29"),
+        _ => date_value("0001-12-31"),
     })
 }
 
-fn made_date(text: &str) -> Literal {
+fn date_value(text: &str) -> Literal {
     match date_in(text.as_bytes()) {
         Some(date) => Literal::Date(date),
         None => Literal::Null,
@@ -47,7 +47,7 @@ fn made_date(text: &str) -> Literal {
 }
 
 /// A name, among them words that are operators or functions.
-fn made_name(alloc: Global, chance: &mut Chance) -> Result<String, AllocError> {
+fn any_name(alloc: Global, chance: &mut Chance) -> Result<String, AllocError> {
     String::from_str(
         alloc,
         match chance.next() % 8 {
@@ -63,32 +63,32 @@ fn made_name(alloc: Global, chance: &mut Chance) -> Result<String, AllocError> {
     )
 }
 
-fn made_leaf(alloc: Global, chance: &mut Chance) -> Result<Expr, AllocError> {
+fn any_leaf(alloc: Global, chance: &mut Chance) -> Result<Expr, AllocError> {
     if chance.next() % 2 == 0 {
-        Ok(Expr::Name(made_name(alloc, chance)?))
+        Ok(Expr::Name(any_name(alloc, chance)?))
     } else {
-        Ok(Expr::Literal(made_value(alloc, chance)?))
+        Ok(Expr::Literal(any_value(alloc, chance)?))
     }
 }
 
 /// One to three values, among them negative numbers.
-fn made_list(alloc: Global, chance: &mut Chance) -> Result<Vec<Literal>, AllocError> {
+fn any_list(alloc: Global, chance: &mut Chance) -> Result<Vec<Literal>, AllocError> {
     let mut items = Vec::new(alloc);
     for _ in 0..chance.next() % 3 + 1 {
         items.push(if chance.next() % 2 == 0 {
             Literal::Number(-i128::from(chance.next() % 1000))
         } else {
-            made_value(alloc, chance)?
+            any_value(alloc, chance)?
         })?;
     }
     Ok(items)
 }
 
 /// A tree over one.
-fn made_over(alloc: Global, chance: &mut Chance, operand: Expr) -> Result<Expr, AllocError> {
+fn any_over(alloc: Global, chance: &mut Chance, operand: Expr) -> Result<Expr, AllocError> {
     let choice = chance.next() % 7;
     if choice == 0 {
-        let items = made_list(alloc, chance)?;
+        let items = any_list(alloc, chance)?;
         return Ok(Expr::In(Box::new(alloc, operand)?, items));
     }
     let operand = Box::new(alloc, operand)?;
@@ -102,7 +102,7 @@ fn made_over(alloc: Global, chance: &mut Chance, operand: Expr) -> Result<Expr, 
     })
 }
 
-fn made_operator(chance: &mut Chance) -> BinaryOperator {
+fn any_operator(chance: &mut Chance) -> BinaryOperator {
     match chance.next() % 13 {
         0 => BinaryOperator::Logic(LogicOperator::And),
         1 => BinaryOperator::Logic(LogicOperator::Or),
@@ -121,12 +121,7 @@ fn made_operator(chance: &mut Chance) -> BinaryOperator {
 }
 
 /// A tree over two.
-fn made_of(
-    alloc: Global,
-    chance: &mut Chance,
-    left: Expr,
-    right: Expr,
-) -> Result<Expr, AllocError> {
+fn any_of(alloc: Global, chance: &mut Chance, left: Expr, right: Expr) -> Result<Expr, AllocError> {
     let (left, right) = (Box::new(alloc, left)?, Box::new(alloc, right)?);
     Ok(match chance.next() % 10 {
         0 => Expr::BinaryCall(BinaryFunction::Contains, left, right),
@@ -134,44 +129,44 @@ fn made_of(
         2 => Expr::BinaryCall(BinaryFunction::EndsWith, left, right),
         3 => Expr::BinaryCall(BinaryFunction::IndexOf, left, right),
         4 => Expr::BinaryCall(BinaryFunction::Concat, left, right),
-        _ => Expr::Binary(made_operator(chance), left, right),
+        _ => Expr::Binary(any_operator(chance), left, right),
     })
 }
 
 /// A tree of up to 25 nodes. It is built from its leaves, on a stack, so no path in it is longer than its nodes are many.
-fn made_tree(alloc: Global, chance: &mut Chance) -> Result<Expr, AllocError> {
-    let mut tree = made_leaf(alloc, chance)?;
+fn any_tree(alloc: Global, chance: &mut Chance) -> Result<Expr, AllocError> {
+    let mut tree = any_leaf(alloc, chance)?;
     let mut others = Vec::new(alloc);
     for _ in 0..chance.next() % 13 {
         match chance.next() % 3 {
             0 => {
                 others.push(tree)?;
-                tree = made_leaf(alloc, chance)?;
+                tree = any_leaf(alloc, chance)?;
             }
-            1 => tree = made_over(alloc, chance, tree)?,
+            1 => tree = any_over(alloc, chance, tree)?,
             _ => {
                 let left = match others.pop() {
                     Some(other) => other,
-                    None => made_leaf(alloc, chance)?,
+                    None => any_leaf(alloc, chance)?,
                 };
-                tree = made_of(alloc, chance, left, tree)?;
+                tree = any_of(alloc, chance, left, tree)?;
             }
         }
     }
     for left in others {
-        tree = made_of(alloc, chance, left, tree)?;
+        tree = any_of(alloc, chance, left, tree)?;
     }
     Ok(tree)
 }
 
 /// 10,000 trees.
 #[test]
-fn made_trees_read_back(rt: HostRuntime) -> Result<(), Fail> {
+fn random_trees_read_back(rt: HostRuntime) -> Result<(), Fail> {
     let mut chance = Chance {
         state: 0x9E37_79B9_7F4A_7C15,
     };
     for _ in 0..10_000 {
-        let tree = made_tree(rt.alloc(), &mut chance)?;
+        let tree = any_tree(rt.alloc(), &mut chance)?;
         let mut text = String::new(rt.alloc());
         print(rt.alloc(), &mut text, &tree)?;
         let tokens = lex(rt.alloc(), text.as_str())?;
