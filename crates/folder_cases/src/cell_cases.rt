@@ -5,7 +5,8 @@ use std::test::Fail;
 /// What a column says beside its name, and what texts are in it.
 type Column = (&'static str, Cases);
 
-/// An optional sign and digits, of 64 signed bits: the first and the last, and their neighbours.
+/// An optional sign and digits, of 64 signed bits: the first and the last, and their neighbours; what is no integer, and white space
+/// around one.
 const INTEGERS: &[Column] = &[(
     r#""datatype":"integer""#,
     &[
@@ -20,13 +21,6 @@ const INTEGERS: &[Column] = &[(
         ("+7", "integer 7"),
         ("007", "integer 7"),
         ("-0", "integer 0"),
-    ],
-)];
-
-/// What is no integer, and white space around one.
-const TEXTS_OF_INTEGERS: &[Column] = &[(
-    r#""datatype":"integer""#,
-    &[
         ("+", "NotInteger"),
         ("-", "NotInteger"),
         ("--1", "NotInteger"),
@@ -78,7 +72,7 @@ const BOOLEANS_WITH_A_FORMAT: &[Column] = &[
     ),
 ];
 
-/// The days of the Gregorian calendar in the years 1 to 9999.
+/// The days of the Gregorian calendar in the years 1 to 9999. Each part has just its digits, and nothing follows.
 const DATES: &[Column] = &[(
     r#""datatype":"date""#,
     &[
@@ -96,13 +90,6 @@ const DATES: &[Column] = &[(
         ("9999-12-31", "date 9999-12-31"),
         ("10000-01-01", "NotDate"),
         ("-0001-01-01", "NotDate"),
-    ],
-)];
-
-/// Each part has just its digits, and nothing follows.
-const TEXTS_OF_DATES: &[Column] = &[(
-    r#""datatype":"date""#,
-    &[
         ("2024-1-02", "NotDate"),
         ("24-01-02", "NotDate"),
         ("2024/01/02", "NotDate"),
@@ -275,16 +262,14 @@ const INHERITED_MEMBERS: &[Column] = &[
     ),
 ];
 
-/// What each text is in a column.
+/// What each text is in a column, and in the first column of metadata.
 #[test]
 fn cells(rt: HostRuntime) -> Result<(), Fail> {
     for columns in [
         INTEGERS,
-        TEXTS_OF_INTEGERS,
         BOOLEANS,
         BOOLEANS_WITH_A_FORMAT,
         DATES,
-        TEXTS_OF_DATES,
         DATES_WITH_A_FORMAT,
         STRINGS,
         TEXTS_OF_NULL,
@@ -298,12 +283,6 @@ fn cells(rt: HostRuntime) -> Result<(), Fail> {
             check_cells(&rt, meta.as_str(), cases)?;
         }
     }
-    Ok(())
-}
-
-/// What each text is in the first column of metadata.
-#[test]
-fn levels(rt: HostRuntime) -> Result<(), Fail> {
     for levels in [NEAREST_LEVELS, INHERITED_MEMBERS] {
         for (meta, cases) in levels {
             check_cells(&rt, meta, cases)?;

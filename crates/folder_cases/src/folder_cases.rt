@@ -161,6 +161,12 @@ const REFUSED: Cases = &[
     ("{}", "csv-metadata.json: NoTables"),
 ];
 
+/// A file has at most as many bytes as the limit, before anything in it is looked at.
+const FILES_AT_THE_LIMIT: Cases = &[
+    ("Id,Since\n", "a 0 2\n"),
+    ("Id,Since\n\"", "a.csv: FileTooLarge"),
+];
+
 #[test]
 fn folders(rt: HostRuntime) -> Result<(), Fail> {
     for (files, answer) in FILES {
@@ -174,34 +180,24 @@ fn folders(rt: HostRuntime) -> Result<(), Fail> {
 
 #[test]
 fn files(rt: HostRuntime) -> Result<(), Fail> {
-    for (meta, cases) in [
-        (TWO, FILES_OF_TWO),
-        (REQUIRED, FILES_OF_REQUIRED),
-        (TITLES, FILES_OF_TITLES),
-        (KEY, FILES_OF_KEY),
-        (KEYS, FILES_OF_KEYS),
-    ] {
-        for (file, answer) in cases {
-            check_folder(&rt, Limits::greatest(), meta, &[("a.csv", *file)], answer)?;
-        }
-    }
-    Ok(())
-}
-
-/// A file has at most as many bytes as the limit, before anything in it is looked at.
-#[test]
-fn file_limit(rt: HostRuntime) -> Result<(), Fail> {
-    let limits = Limits {
+    let greatest = Limits::greatest();
+    let nine_bytes = Limits {
         file: 9,
         tables: 1,
         columns: 2,
         transformations: 1,
     };
-    for (file, answer) in [
-        ("Id,Since\n", "a 0 2\n"),
-        ("Id,Since\n\"", "a.csv: FileTooLarge"),
+    for (limits, meta, cases) in [
+        (greatest, TWO, FILES_OF_TWO),
+        (greatest, REQUIRED, FILES_OF_REQUIRED),
+        (greatest, TITLES, FILES_OF_TITLES),
+        (greatest, KEY, FILES_OF_KEY),
+        (greatest, KEYS, FILES_OF_KEYS),
+        (nine_bytes, TWO, FILES_AT_THE_LIMIT),
     ] {
-        check_folder(&rt, limits, TWO, &[("a.csv", file)], answer)?;
+        for (file, answer) in cases {
+            check_folder(&rt, limits, meta, &[("a.csv", *file)], answer)?;
+        }
     }
     Ok(())
 }
