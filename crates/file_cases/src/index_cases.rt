@@ -81,80 +81,59 @@ fn counts_records(rt: HostRuntime) -> Result<(), Fail> {
     Ok(())
 }
 
+/// The fault of the same file behind a byte order mark: places count its three bytes, and rows do not.
+fn behind_mark(fault: TextFault) -> TextFault {
+    match fault {
+        TextFault::NotUtf8 { at } => TextFault::NotUtf8 {
+            at: at.saturating_add(3),
+        },
+        TextFault::BareCr { at } => TextFault::BareCr {
+            at: at.saturating_add(3),
+        },
+        TextFault::StrayQuote { at } => TextFault::StrayQuote {
+            at: at.saturating_add(3),
+        },
+        TextFault::AfterQuote { at } => TextFault::AfterQuote {
+            at: at.saturating_add(3),
+        },
+        TextFault::Unfinished { at } => TextFault::Unfinished {
+            at: at.saturating_add(3),
+        },
+        TextFault::NoHeader | TextFault::Width { .. } | TextFault::NoMemory => fault,
+    }
+}
+
+/// Whether that is first wrong with the file, and with the file behind a byte order mark.
+fn has_fault(alloc: Global, file: &[u8], fault: TextFault) -> Result<bool, Fail> {
+    let marked = marked(alloc, file)?;
+    Ok(build(alloc, file) == Err(fault) && build(alloc, &marked) == Err(behind_mark(fault)))
+}
+
 #[test]
 fn tells_the_first_fault(rt: HostRuntime) -> Result<(), Fail> {
-    let alloc = rt.alloc();
-    let none: [&[u8]; 2] = [b"", b"\""];
-    let [bare, quoted] = none;
-    let cases = [
-        (
-            behind_x(alloc, b"a\"b", 0, bare)?,
-            TextFault::StrayQuote { at: 1 },
-            TextFault::StrayQuote { at: 4 },
-        ),
-        (
-            behind_x(alloc, b"\"a\"b", 0, bare)?,
-            TextFault::AfterQuote { at: 3 },
-            TextFault::AfterQuote { at: 6 },
-        ),
-        (
-            behind_x(alloc, b"a\r", 0, bare)?,
-            TextFault::Unfinished { at: 2 },
-            TextFault::Unfinished { at: 5 },
-        ),
-        (
-            behind_x(alloc, b"a\rb", 0, bare)?,
-            TextFault::BareCr { at: 2 },
-            TextFault::BareCr { at: 5 },
-        ),
-        (
-            behind_x(alloc, b"a\r\"", 0, bare)?,
-            TextFault::BareCr { at: 2 },
-            TextFault::BareCr { at: 5 },
-        ),
-        (
-            behind_x(alloc, b"\"a", 0, bare)?,
-            TextFault::Unfinished { at: 2 },
-            TextFault::Unfinished { at: 5 },
-        ),
-        (
-            behind_x(alloc, b"a,b\nc", 0, bare)?,
-            TextFault::Width { row: 0 },
-            TextFault::Width { row: 0 },
-        ),
-        (
-            behind_x(alloc, b"\xFF", 0, bare)?,
-            TextFault::NotUtf8 { at: 0 },
-            TextFault::NotUtf8 { at: 3 },
-        ),
-        (
-            behind_x(alloc, bare, 63, b"\"")?,
-            TextFault::StrayQuote { at: 63 },
-            TextFault::StrayQuote { at: 66 },
-        ),
-        (
-            behind_x(alloc, quoted, 62, b"\"b")?,
-            TextFault::AfterQuote { at: 64 },
-            TextFault::AfterQuote { at: 67 },
-        ),
-        (
-            behind_x(alloc, bare, 63, b"\rb")?,
-            TextFault::BareCr { at: 64 },
-            TextFault::BareCr { at: 67 },
-        ),
-        (
-            behind_x(alloc, quoted, 63, bare)?,
-            TextFault::Unfinished { at: 64 },
-            TextFault::Unfinished { at: 67 },
-        ),
+    let short = [
+        ("a\"b", TextFault::StrayQuote { at: 1 }),
+        ("\"a\"b", TextFault::AfterQuote { at: 3 }),
+        ("a\r", TextFault::Unfinished { at: 2 }),
+        ("a\rb", TextFault::BareCr { at: 2 }),
+        ("a\r\"", TextFault::BareCr { at: 2 }),
+        ("\"a", TextFault::Unfinished { at: 2 }),
+        ("a,b\nc", TextFault::Width { row: 0 }),
     ];
-    for (file, fault, behind_mark) in &cases {
-        assert_eq!(rt; build(rt.alloc(), file), Err(*fault));
-        assert_eq!(rt;
-            build(rt.alloc(), &marked(rt.alloc(), file)?),
-            Err(*behind_mark)
-        );
+    for (file, fault) in short {
+        assert!(rt; has_fault(rt.alloc(), file.as_bytes(), fault)?);
     }
+    let over_a_block = [
+        ("", 63, "\"", TextFault::StrayQuote { at: 63 }),
+        ("\"", 62, "\"b", TextFault::AfterQuote { at: 64 }),
+        ("", 63, "\rb", TextFault::BareCr { at: 64 }),
+        ("\"", 63, "", TextFault::Unfinished { at: 64 }),
+    ];
+    for (front, count, behind, fault) in over_a_block {
+        let file = behind_x(rt.alloc(), front.as_bytes(), count, behind.as_bytes())?;
+        assert!(rt; has_fault(rt.alloc(), &file, fault)?);
+    }
+    assert!(rt; has_fault(rt.alloc(), b"\xFF", TextFault::NotUtf8 { at: 0 })?);
     Ok(())
 }
 
