@@ -1,3 +1,6 @@
 pub mod Disks
+pub mod LineLemmas
 pub mod Numbers
 pub mod Readings
+pub mod WalkRows
+pub mod TakenWords

@@ -1,4 +1,6 @@
 pub mod Folders
 pub mod Program
+pub mod Check
+pub mod Serve
 pub mod FaultLine
 pub mod Words

@@ -77,10 +77,10 @@ Says words (Some (name, rows)) = SubcommandSays words name rows
 abbrev pub SaysNothing : Option (Text × List Row) → Type 0
 SaysNothing reading = (words : Words) → Says words reading → ⊥
 
+-- `clap` takes the texts
+abbrev pub IsTaken : List Text → Type 0
+IsTaken line = fault_of program_app line ≡ []
+
 -- `clap` takes the texts, and what it reads asks for these words
 abbrev pub AreWords : List Text → Words → Type 0
-AreWords line words = (fault_of program_app line ≡ []) × Says words (subcommand_of program_app line)
-
--- the texts are no command of the program
-abbrev pub NoWords : List Text → Type 0
-NoWords line = (words : Words) → AreWords line words → ⊥
+AreWords line words = IsTaken line × Says words (subcommand_of program_app line)

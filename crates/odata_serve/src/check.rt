@@ -1,6 +1,7 @@
 //! What a folder has: a line for each table.
-ghost use Rattle.std.specs.Prelude.{◌≡◌, ◌++◌, ◌<◌, ◌^◌, IfOk, OnOk};
-ghost use Rattle.odata_serve.specs.Program.{IsCheck, table_line, table_lines};
+ghost use Rattle.std.specs.Prelude.{◌≡◌, ◌<◌, ◌^◌, IfOk, string_bytes};
+ghost use Rattle.odata_serve.specs.Check.{AreListed, IsCheck, table_line};
+ghost use Rattle.odata_serve.specs.Program.{loading};
 
 use crate::folders::Folders;
 use crate::program::ProgramFault;
@@ -8,26 +9,31 @@ use odata_http::{Sink, send};
 use std::alloc::{AllocError, Global};
 use table_store::Table;
 
-/// Appends the line of a table.
-fn push_line(alloc: Global, lines: &mut Vec<u8>, table: &Table) -> Result<(), AllocError>
-    ensures { OnOk result (lines.new.items ≡ lines.old.items ++ table_line table.now) }
+/// The line of a table.
+fn line_of(alloc: Global, table: &Table) -> Result<String, AllocError>
+    ensures { IfOk result (λ line. string_bytes line ≡ table_line table.now) }
 {
     let name = table.name();
     let rows = table.rows();
     let width = table.width();
     let line = format!(in alloc; "{name} {rows} {width}\n")?;
-    lines.extend_from_slice(line.as_bytes())
+    Ok(line)
 }
 
-/// The lines of tables, in order.
-fn lines_of(alloc: Global, tables: &[Table]) -> Result<Vec<u8>, AllocError>
-    ensures { IfOk result (λ lines. lines.items ≡ table_lines tables.now) }
+/// Writes the lines of tables in order, each as it goes.
+fn write_lines<W: Sink>(alloc: Global, tables: &[Table], out: &mut W) -> Result<(), ProgramFault>
+    ensures { AreListed tables.now (W.sink out.old) (W.sink out.new) result }
 {
-    let mut lines = Vec::new(alloc);
     for table in tables {
-        push_line(alloc, &mut lines, table)?;
+        let Ok(line) = line_of(alloc, table) else {
+            return Err(ProgramFault::NoMemory);
+        };
+        match send(out, line.as_bytes()) {
+            Ok(()) => {}
+            Err(_) => return Err(ProgramFault::Device),
+        }
     }
-    Ok(lines)
+    Ok(())
 }
 
 /// Loads the folder of that name, and writes a line for each table: its name, its number of rows and its number of columns.
@@ -38,17 +44,10 @@ pub fn check_folder<F: Folders, W: Sink>(
     out: &mut W,
 ) -> Result<(), ProgramFault>
     requires failed_writes { (W.sink out.old).failed_writes < 2 ^ 63 }
-    ensures { IsCheck name.now (F.folders folders.old) (F.folders folders.new) (W.sink out.old) (W.sink out.new) result }
+    ensures { IsCheck (loading name.now (F.folders folders.old) (F.folders folders.new)) (W.sink out.old) (W.sink out.new) result }
 {
-    let catalog = match folders.load(alloc, name) {
-        Ok(catalog) => catalog,
-        Err(fault) => return Err(ProgramFault::Folder(fault)),
-    };
-    let Ok(lines) = lines_of(alloc, catalog.tables()) else {
-        return Err(ProgramFault::NoMemory);
-    };
-    match send(out, lines.as_slice()) {
-        Ok(()) => Ok(()),
-        Err(_) => Err(ProgramFault::Device),
+    match folders.load(alloc, name) {
+        Ok(catalog) => write_lines(alloc, catalog.tables(), out),
+        Err(fault) => Err(ProgramFault::Folder(fault)),
     }
 }

@@ -16,7 +16,7 @@ use disk::Disk;
 use fault_line::{DEVICE, MEMORY, SCRIPT, fault_line};
 use folders::{BuiltIn, Folders, NOTES};
 use odata_http::Counted;
-use program::{ProgramFault, answer};
+use program::{ProgramFault, answer, request_to};
 use std::io::ErrorKind;
 use std::net::{Ipv4Addr, TcpListener};
 use std::process::ExitCode;
@@ -74,10 +74,7 @@ fn check_tables(rt: &HostRuntime, folder: &str) -> u8 {
 
 /// Answers one GET of a target over a folder.
 fn query(rt: &HostRuntime, folder: &str, target: &str) -> u8 {
-    let request = format!(in rt.alloc();
-        "GET {target} HTTP/1.1\r\nHost: localhost\r\nConnection: close\r\n\r\n"
-    );
-    let Ok(request) = request else {
+    let Ok(request) = request_to(rt.alloc(), target) else {
         return MEMORY;
     };
     let mut input = Counted::new(request.as_bytes());
@@ -107,7 +104,7 @@ fn serve_folder(rt: &HostRuntime, folder: &str, port: u16, connections: u32) -> 
     };
     match TcpListener::bind(rt, (Ipv4Addr::LOCALHOST, port)) {
         Ok(listener) => {
-            let mut out = io::writer(rt);
+            let mut out = Counted::new(io::writer(rt));
             let end = serve::serve(rt.alloc(), &catalog, &listener, connections, &mut out);
             end_status(rt, end)
         }

@@ -1,11 +1,11 @@
-//! The answer to a stream over a folder, and what a folder has.
-ghost use Rattle.std.specs.Prelude.{◌^◌, ◌<◌};
+//! The answer to a stream over a folder.
+ghost use Rattle.std.specs.Prelude.{◌≡◌, ◌^◌, ◌<◌, IfOk, string_bytes};
 ghost use Rattle.odata_http.specs.Runs.{course};
-ghost use Rattle.odata_serve.specs.Program.{IsAnswer};
+ghost use Rattle.odata_serve.specs.Program.{IsAnswer, loading, request_to};
 
 use crate::folders::{FolderFault, Folders};
 use odata_http::{RunFault, Sink, Source, run};
-use std::alloc::Global;
+use std::alloc::{AllocError, Global};
 
 /// The most reads of one stream.
 pub const MAX_READS: u32 = 1_048_576;
@@ -37,7 +37,7 @@ pub fn answer<F: Folders, R: Source, W: Sink>(
     requires ends { (R.source input.old).ends < 2 ^ 63 }
     requires failed_reads { (R.source input.old).failed_reads < 2 ^ 63 }
     requires failed_writes { (W.sink out.old).failed_writes < 2 ^ 63 }
-    ensures { IsAnswer name.now (F.folders folders.old) (F.folders folders.new)
+    ensures { IsAnswer (loading name.now (F.folders folders.old) (F.folders folders.new))
         (course (R.source input.old) (R.source input.new) (W.sink out.old) (W.sink out.new)) result }
 {
     let catalog = match folders.load(alloc, name) {
@@ -48,4 +48,14 @@ pub fn answer<F: Folders, R: Source, W: Sink>(
         Ok(()) => Ok(()),
         Err(fault) => Err(ProgramFault::Run(fault)),
     }
+}
+
+/// The stream of one GET of a target, behind which the connection closes.
+pub fn request_to(alloc: Global, target: &str) -> Result<String, AllocError>
+    ensures { IfOk result (λ request. string_bytes request ≡ request_to target.now) }
+{
+    let request = format!(in alloc;
+        "GET {target} HTTP/1.1\r\nHost: localhost\r\nConnection: close\r\n\r\n"
+    )?;
+    Ok(request)
 }

@@ -1,8 +1,10 @@
 //! Connections over TCP, one after another in one thread. Each is a stream of requests, answered as any other stream is.
+ghost use Rattle.std.specs.Prelude.{◌≡◌, IfErr};
+ghost use Rattle.odata_serve.specs.Serve.{IsServed};
+
 use crate::program::{MAX_READS, ProgramFault};
-use odata_http::{Counted, RunFault, run};
+use odata_http::{Counted, RunFault, Sink, run, send};
 use std::alloc::Global;
-use std::io::Write;
 use std::net::{TcpListener, TcpStream};
 use table_store::Catalog;
 
@@ -11,7 +13,9 @@ fn serve_connection(
     alloc: Global,
     catalog: &Catalog,
     stream: &TcpStream,
-) -> Result<(), ProgramFault> {
+) -> Result<(), ProgramFault>
+    ensures { IfErr result (λ fault. fault ≡ ProgramFault.NoMemory) }
+{
     // a head and a body are two writes: without this the second waits for the peer
     let _ = stream.set_nodelay(true);
     let mut input = Counted::new(stream);
@@ -23,11 +27,13 @@ fn serve_connection(
 }
 
 /// Writes the line that tells the listener's port.
-fn write_port<W: Write>(
+fn write_port<W: Sink>(
     alloc: Global,
     listener: &TcpListener,
     out: &mut W,
-) -> Result<(), ProgramFault> {
+) -> Result<(), ProgramFault>
+    ensures { IsServed (W.sink out.old) (W.sink out.new) result }
+{
     let Ok(address) = listener.local_addr() else {
         return Err(ProgramFault::Device);
     };
@@ -35,20 +41,22 @@ fn write_port<W: Write>(
     let Ok(line) = format!(in alloc; "listening 127.0.0.1:{port}\n") else {
         return Err(ProgramFault::NoMemory);
     };
-    match out.write_all(line.as_bytes()) {
+    match send(out, line.as_bytes()) {
         Ok(()) => Ok(()),
         Err(_) => Err(ProgramFault::Device),
     }
 }
 
-/// Tells the port, then answers so many connections in turn from the catalog.
-pub fn serve<W: Write>(
+/// Tells the port, then answers so many connections in turn from the catalog. Want of memory ends it, as does a connection that cannot be taken.
+pub fn serve<W: Sink>(
     alloc: Global,
     catalog: &Catalog,
     listener: &TcpListener,
     connections: u32,
     out: &mut W,
-) -> Result<(), ProgramFault> {
+) -> Result<(), ProgramFault>
+    ensures { IsServed (W.sink out.old) (W.sink out.new) result }
+{
     write_port(alloc, listener, out)?;
     for _turn in 0..connections {
         match listener.accept() {

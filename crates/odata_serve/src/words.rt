@@ -3,7 +3,7 @@
 ghost use Rattle.std.specs.Prelude.{◌≡◌, IfOk, IfErr, IfNone, IfSome, codes, option_map, false, ℕ, Some};
 ghost use Rattle.clap.specs.Words.{app_of, first_of, found_of, one_of, rows_of, rule_of, subcommand_rows_of};
 ghost use Rattle.clap.specs.declared.Command.TheViews.{out-Command};
-ghost use Rattle.odata_serve.specs.Words.{AreWords, IsNumberOf, NoWords, Says, SaysNothing, connections_rule, folder_app, folder_and_app, port_rule, program_app, required_rule, serve_app, texts};
+ghost use Rattle.odata_serve.specs.Words.{AreWords, IsNumberOf, IsTaken, Says, SaysNothing, connections_rule, folder_app, folder_and_app, port_rule, program_app, required_rule, serve_app, texts};
 
 use clap::error::ErrorKind;
 use clap::{Arg, ArgMatches, Command, value_parser};
@@ -196,11 +196,11 @@ fn matches_words<'a>(matches: &ArgMatches<'a>) -> Option<Words<'a>>
     }
 }
 
-/// What the words of the command line ask for, of which the first is the program's own name. Words that `clap` refuses, and words that ask for its help,
-/// are `Usage`.
+/// What the words of the command line ask for, of which the first is the program's own name. They are `Usage` exactly where `clap` does not take them;
+/// it does not take words that ask for its help.
 pub fn read_words<'a>(alloc: Global, words: &'a [&'a str]) -> Result<Words<'a>, WordsFault>
     ensures words { IfOk result (AreWords (texts words.now)) }
-    ensures usage { IfErr result (λ e. e ≡ WordsFault.Usage → NoWords (texts words.now)) }
+    ensures usage { IfErr result (λ e. e ≡ WordsFault.Usage → ¬ (IsTaken (texts words.now))) }
 {
     let command = program_command(alloc)?;
     match command.try_get_matches_from(words) {

@@ -3,6 +3,7 @@ use Rattle.clap.specs.Words.{Row, Text, app_of}
 use Rattle.std.proofs.Common.{List, Option}
 use Rattle.odata_serve.specs.Words.{Says, texts}
 use Rattle.odata_serve.proofs.Readings.{fault_at, free_at, reading_at, simple_at, some_kind}
+use Rattle.odata_serve.proofs.TakenWords.{taken_asks}
 use Rattle.odata_serve.proofs.words.read_words.Goals as goal
 
 pub returns-in-Some-clause-words : goal.returns-in-Some-clause-words
@@ -16,12 +17,13 @@ returns-in-Some-clause-words c =
     )
 
 pub returns-in-Ok-clause-usage : goal.returns-in-Ok-clause-usage
-returns-in-Ok-clause-usage c = λ _ words h.
+returns-in-Ok-clause-usage c = λ _ taken.
     let e = c.in_ok-command.ensures.app in
     let whole = app_of c.in_ok-command.command in
     let line = texts c.args.words.now in
-    let Read : Option (Text × List Row) → Type 0 = λ o. Says words o in
-    c.in-None.ensures.none words (subst Read (sym ((c.in-Ok.ensures.matches (simple_at whole e)).1 ∙ reading_at whole line e)) h.1)
+    let asks = taken_asks line taken in
+    let Read : Option (Text × List Row) → Type 0 = λ o. Says asks.0 o in
+    c.in-None.ensures.none asks.0 (subst Read (sym ((c.in-Ok.ensures.matches (simple_at whole e)).1 ∙ reading_at whole line e)) asks.1)
 
 pub returns : goal.returns
 returns c =
@@ -30,6 +32,6 @@ returns c =
     let line = texts c.args.words.now in
     record {
       words = tt;
-      usage = λ _ words h. some_kind c.kind.ensures c.in_default.not-OutOfMemory
-          (c.in-Err.ensures.kinds (free_at whole e)) (fault_at whole line e ∙ h.0);
+      usage = λ _ taken. some_kind c.kind.ensures c.in_default.not-OutOfMemory
+          (c.in-Err.ensures.kinds (free_at whole e)) (fault_at whole line e ∙ taken);
     }
