@@ -1,6 +1,6 @@
 //! The tables of a folder of CSV files (Model for Tabular Data and Metadata on the Web, section 4). [`Catalog::load`] gives the annotated
-//! tables that the metadata and the files mean, or the one cause why the folder is refused; [`Table::value`] then gives a cell. The
-//! functions without a body are laws of the definitions: each is a theorem, and does nothing.
+//! tables that the metadata and the files mean, or the one cause why the folder is refused; [`Table::value`] then gives a cell, and
+//! [`Table::find`] the row with a key. The functions without a body are laws of the definitions: each is a theorem, and does nothing.
 #![tactic(auto)]
 
 ghost use Rattle.table_store.specs.Laws.{KeysOfTables, OneMeaning, SchemasOfTables};
