@@ -1,4 +1,4 @@
-use Rattle.std.proofs.Common.{◌≡◌, ◌∙◌, subst, sym}
+use Rattle.std.proofs.Common.{◌∙◌, subst, sym}
 use Rattle.clap.specs.Words.{Row, Text, app_of}
 use Rattle.std.proofs.Common.{List, Option}
 use Rattle.odata_serve.specs.Words.{Says, texts}

@@ -1,4 +1,3 @@
-use Rattle.csvw_meta.specs.Limits.{limits_view}
 use Rattle.table_store.specs.Catalog.{folder_view}
 use Rattle.table_store.specs.Fault.{load_cause}
 use Rattle.odata_serve.proofs.Disks.{refused_untold, empty_untold}
