@@ -1,4 +1,5 @@
 pub mod Disks
+pub mod FolderLemmas
 pub mod LineLemmas
 pub mod Numbers
 pub mod Readings
