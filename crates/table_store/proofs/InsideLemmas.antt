@@ -1,8 +1,8 @@
 -- What a table keeps: how many rows, how wide they are, and the value of each cell.
-use Rattle.std.proofs.Common.{◌≡◌, ℕ, zero, suc, ◌+◌, ◌*◌, ◌<◌, ◌≤◌, List, length, take, drop, map, Some, Ok, slice_get, option_map, option_and_then, ap, ◌∙◌, arith}
+use Rattle.std.proofs.Common.{◌≡◌, ℕ, zero, suc, ◌+◌, ◌*◌, ◌<◌, ◌≤◌, List, [], ◌∷◌, ◌++◌, length, take, drop, map, Some, Ok, slice_get, option_map, option_and_then, ap, ◌∙◌, arith}
 use Rattle.std.specs.List.{zip, AllByRecursion}
-use Rattle.std.proofs.lemmas.List.{length-map, length-take, length-drop}
-use Rattle.std.proofs.lemmas.Option.{slice_get-map}
+use Rattle.std.proofs.lemmas.List.{length-map, length-take, length-drop, take_more}
+use Rattle.std.proofs.lemmas.Option.{get_or_from_slice_get, slice_get-map, slice_get_within}
 use Rattle.std.proofs.lemmas.Slice.Zip.{length-zip}
 use Rattle.csv_index.specs.Raws.{RawField, raw_content}
 use Rattle.csv_index.specs.Places.{Places, FitsFile, raws}
@@ -53,3 +53,19 @@ cell-wide columns places bytes fits w =
     let count : length places.ends ≡ places.rows * places.width + places.width = omega (arith, fits.count) in
     rows-wide columns places.rows places.width (drop places.width (raws places bytes)) w
     (omega (arith, length-drop places.width (raws places bytes), length-raws places bytes))
+
+-- the rows before one, and that row
+pub rows_in-more : (columns : List ColumnOf) (places : Places) (bytes : List ℕ) (row : ℕ) → row < places.rows
+    → take (row + 1) (rows_in columns places bytes) ≡ take row (rows_in columns places bytes) ++ values_in columns (record_of places bytes row) ∷ []
+rows_in-more columns places bytes row h =
+    let rows = rows_in columns places bytes in
+    let values = values_in columns (record_of places bytes row) in
+    let at : slice_get rows row ≡ Some values =
+    slice_get-map (values_in columns) (records_of places bytes) row ∙ ap (option_map (values_in columns)) (slice_get-records_of places bytes row h) in
+    take_more rows row values (slice_get_within rows row values at) ∙ ap (λ v. take row rows ++ v ∷ []) (get_or_from_slice_get rows row values values at)
+
+-- a row of enough fields has a value for each column
+pub length-values_in : (columns : List ColumnOf) (fields : List RawField) → length columns ≤ length fields → length (values_in columns fields) ≡ length columns
+length-values_in columns fields h =
+    let pairs : length (zip columns fields) ≡ length columns = omega (arith, length-zip columns fields) in
+    length-map (zip columns fields) (λ pair. value_or_null (value_in pair)) ∙ pairs

@@ -1,14 +1,16 @@
--- The first row with a null in its key, the first with the key of an earlier row, and the row that has a key.
-use Rattle.std.proofs.Common.{◌≡◌, ◌≢◌, ℕ, ℤ, pos, zero, suc, ◌+◌, ◌<◌, ◌≤◌, Bool, true, false, not, cond, ◌||◌, ◌&&◌, nat_lt, List, [], ◌∷◌, ◌++◌, length, take, map, get_or, Option, Some, None, slice_get, option_and_then, position, find, refl, sym, ap, ◌∙◌, inl, inr, arith}
+-- The first row with a null in its key, the first with the key of an earlier row, and the row that has a key; and each of one key more.
+use Rattle.std.proofs.Common.{◌≡◌, ◌≢◌, ℕ, ℤ, pos, zero, suc, ◌+◌, ◌<◌, ◌≤◌, Bool, true, false, not, cond, ◌||◌, ◌&&◌, nat_lt, List, [], ◌∷◌, ◌++◌, length, take, map, get_or, Option, Some, None, position, find, refl, sym, ap, ◌∙◌, inl, inr, arith}
 use Rattle.std.specs.Cmp.Lexicographic.{pointwise}
 use Rattle.std.specs.List.{list_any, range_with_len, position_or_len}
+use Rattle.std.specs.Option.{option_or}
 use Rattle.std.specs.Ordering.{int_eq}
+use Rattle.std.proofs.Math.Seq.{get_or-append_seam, take-append_seam}
 use Rattle.std.proofs.lemmas.Bool.{cases_order}
 use Rattle.std.proofs.lemmas.Bool.Decides.{nat_tests}
-use Rattle.std.proofs.lemmas.List.{take_more, take_all, get_or-map, length-map, map-append}
+use Rattle.std.proofs.lemmas.List.{take_more, take-append-le, get_or-map, get_or_append_left, length-map, length-append, map-append}
 use Rattle.std.proofs.lemmas.List.Folds.{list_any-append, list_any_at}
-use Rattle.std.proofs.lemmas.List.Sums.{position_or_len_is}
-use Rattle.std.proofs.lemmas.Option.{get_or_from_slice_get}
+use Rattle.std.proofs.lemmas.List.Quantifiers.{position-Some}
+use Rattle.std.proofs.lemmas.List.Sums.{position_or_len_is, fails_before_first}
 use Rattle.indexmap.specs.IndexSet.{insert_key}
 use Rattle.cell_types.specs.Value.{CellValue, null, int, text, bool, date, value_eq, value_view}
 use Rattle.cell_types.specs.declared.value.Value.{Value}
@@ -16,21 +18,6 @@ use Rattle.cell_types.specs.declared.value.Value.TheVariants as V
 use Rattle.table_store.specs.Key.{row_key, row_keys, key_eq, has_null, null_row, is_repeated, repeated_row, row_of}
 
 -- ---- the first number of a range
-pub find-here : (p : ℕ → Bool) (a n k : ℕ) → a ≤ k → k < a + n → p k ≡ true → ((i : ℕ) → a ≤ i → i < k → p i ≡ false) → find p (range_with_len a n) ≡ Some k
-find-here p a zero k l h does lacks = absurd (omega arith)
-find-here p a (suc n) k l h does lacks =
-    elim (cases_order a k) [
-      | inl same ↦ let here : p a ≡ true = ap p same ∙ does in rw here (ap (λ x. Some x) same)
-      | inr (inl less) ↦ let past : p a ≡ false = lacks a (omega arith) less in rw past (find-here p (a + 1) n k (omega arith) (omega arith) does (λ i from to. lacks i (omega arith) to))
-      | inr (inr more) ↦ absurd (omega arith)
-    ]
-
-pub find-nowhere : (p : ℕ → Bool) (a n : ℕ) → ((i : ℕ) → a ≤ i → i < a + n → p i ≡ false) → find p (range_with_len a n) ≡ None
-find-nowhere p a zero lacks = refl
-find-nowhere p a (suc n) lacks =
-    let past : p a ≡ false = lacks a (omega arith) (omega arith) in
-    rw past (find-nowhere p (a + 1) n (λ i from to. lacks i (omega arith) (omega arith)))
-
 pub cond_none : {X : Type 0} (b : Bool) (x : X) (rest : Option X) → cond b (Some x) rest ≡ None → (b ≡ false) × (rest ≡ None)
 cond_none true x rest e = cc
 cond_none false x rest e = (refl, e)
@@ -45,6 +32,21 @@ find-none p a (suc n) i e l h =
       | inr (inr more) ↦ absurd (omega arith)
     ]
 
+-- one more number
+or_first : {X : Type 0} (b : Bool) (x : X) (rest now more : Option X) → rest ≡ option_or now more → cond b (Some x) rest ≡ option_or (cond b (Some x) now) more
+or_first true x rest now more e = refl
+or_first false x rest now more e = e
+
+find-more : (p q : ℕ → Bool) (a n : ℕ) → ((i : ℕ) → a ≤ i → i < a + n → q i ≡ p i)
+    → find q (range_with_len a (suc n)) ≡ option_or (find p (range_with_len a n)) (cond (q (a + n)) (Some (a + n)) None)
+find-more p q a zero same = let e : a + 0 ≡ a = omega arith in rw e refl
+find-more p q a (suc n) same =
+    let e : a + suc n ≡ (a + 1) + n = omega arith in
+    let here : q a ≡ p a = same a (omega arith) (omega arith) in
+    rw (here, e)
+    (or_first (p a) a (find q (range_with_len (a + 1) (suc n))) (find p (range_with_len (a + 1) n)) (cond (q ((a + 1) + n)) (Some ((a + 1) + n)) None)
+    (find-more p q (a + 1) n (λ i from to. same i (omega arith) (omega arith))))
+
 -- ---- the first place in a list
 pub position-here : {X : Type 0} (p : X → Bool) (xs : List X) (i : ℕ) (d : X) → i < length xs → p (get_or xs i d) ≡ true → ((k : ℕ) → k < i → p (get_or xs k d) ≡ false) → position p xs ≡ Some i
 position-here p xs i d within does lacks =
@@ -57,6 +59,32 @@ position-nowhere p xs d lacks =
     let at : position_or_len p xs ≡ length xs = position_or_len_is p xs (length xs) d (omega arith) lacks (λ h. absurd (omega arith)) in
     let outside : nat_lt (length xs) (length xs) ≡ false = grind (arith, nat_tests) in
     rw (at, outside) refl
+
+pub position-none : {X : Type 0} (p : X → Bool) (xs : List X) (k : ℕ) (d : X) → position p xs ≡ None → k < length xs → p (get_or xs k d) ≡ false
+position-none p xs k d e within =
+    let outside : nat_lt (position_or_len p xs) (length xs) ≡ false = (cond_none (nat_lt (position_or_len p xs) (length xs)) (position_or_len p xs) None e).0 in
+    let past : length xs ≤ position_or_len p xs = grind (arith, nat_tests) in
+    fails_before_first p xs k d (omega arith)
+
+-- one more item
+position-at : {X : Type 0} (p : X → Bool) (xs : List X) (x : X) (first : Option ℕ) (b : Bool) → position p xs ≡ first → p x ≡ b
+    → position p (xs ++ x ∷ []) ≡ option_or first (cond b (Some (length xs)) None)
+position-at p xs x (Some i) b e h =
+    let is = position-Some p xs i x e in
+    position-here p (xs ++ x ∷ []) i x (omega (arith, is.0, length-append xs (x ∷ [])))
+    (ap p (get_or_append_left xs (x ∷ []) x i is.0) ∙ is.1)
+    (λ k less. ap p (get_or_append_left xs (x ∷ []) x k (omega (arith, is.0))) ∙ is.2 k less)
+position-at p xs x None true e h =
+    position-here p (xs ++ x ∷ []) (length xs) x (omega (arith, length-append xs (x ∷ [])))
+    (ap p (get_or-append_seam xs x [] x) ∙ h)
+    (λ k less. ap p (get_or_append_left xs (x ∷ []) x k less) ∙ position-none p xs k x e less)
+position-at p xs x None false e h =
+    position-nowhere p (xs ++ x ∷ []) x
+    (λ k less. elim (cases_order k (length xs)) [
+      | inl same ↦ ap (λ i. p (get_or (xs ++ x ∷ []) i x)) same ∙ ap p (get_or-append_seam xs x [] x) ∙ h
+      | inr (inl before) ↦ ap p (get_or_append_left xs (x ∷ []) x k before) ∙ position-none p xs k x e before
+      | inr (inr behind) ↦ absurd (omega (arith, length-append xs (x ∷ [])))
+    ])
 
 -- ---- lists
 or_none : (a b : Bool) → (a || b) ≡ false → (a ≡ false) × (b ≡ false)
@@ -82,25 +110,15 @@ position-map p f xs = rw (position_or_len-map p f xs, length-map xs f) refl
 list_any-some : {X : Type 0} (p : X → Bool) (xs : List X) (i : ℕ) (d : X) → i < length xs → p (get_or xs i d) ≡ true → list_any p xs ≡ true
 list_any-some p xs i d h e = list_any_at p xs i d h e
 
--- ---- the keys that a set has
--- these are the keys of the rows before that one, and none is that of an earlier row
-pub record AreFirstKeys {K : Type 0} (view : K → List CellValue) (ks : List K) (keys : List (List CellValue)) (row : ℕ) : Type 0 where
-  pub are : map view ks ≡ take row keys
-  pub once : (k : ℕ) → k < row → is_repeated keys k ≡ false
-
 cond_false : {X : Type 0} (b : Bool) (x y : X) → b ≡ false → cond b x y ≡ y
 cond_false true x y e = cc
 cond_false false x y e = refl
 
--- whether a set took a key
-pub new_key : (added among : Bool) → added ≡ not among → added ≡ true → among ≡ false
-new_key added true e f = cc
-new_key added false e f = refl
+pub was_false : (b : Bool) → not b ≡ true → b ≡ false
+was_false true e = cc
+was_false false e = refl
 
-pub old_key : (added among : Bool) → added ≡ not among → added ≡ false → among ≡ true
-old_key added true e f = refl
-old_key added false e f = cc
-
+-- ---- a key among others
 module _ {K : Type 0} (view : K → List CellValue) (eq : K → K → Bool) (eq_is : (x y : K) → eq x y ≡ key_eq (view x) (view y)) where
   -- a key is among others just where its values are
   list_any-view : (k : K) (ks : List K) → list_any (eq k) ks ≡ list_any (key_eq (view k)) (map view ks)
@@ -109,58 +127,53 @@ module _ {K : Type 0} (view : K → List CellValue) (eq : K → K → Bool) (eq_
   pub position-view : (k : K) (ks : List K) → position (eq k) ks ≡ row_of (map view ks) (view k)
   position-view k ks = ap (λ t. position t ks) (λ j x. eq_is k x j) ∙ sym (position-map (key_eq (view k)) view ks)
 
-  -- a key is among those of the rows before its own just where its row repeats one
-  among : (k : K) (ks : List K) (keys : List (List CellValue)) (row : ℕ) → AreFirstKeys view ks keys row → view k ≡ get_or keys row [] → list_any (eq k) ks ≡ is_repeated keys row
-  among k ks keys row so is =
-      list_any-view k ks ∙ ap (list_any (key_eq (view k))) so.are ∙ ap (λ t. list_any (key_eq t) (take row keys)) is
+  -- a key that is put among others is new just where it is none of them
+  pub inserted-new : (k : K) (ks : List K) (new : Bool) → new ≡ not (list_any (eq k) ks) → new ≡ not (list_any (key_eq (view k)) (map view ks))
+  inserted-new k ks new e = e ∙ ap not (list_any-view k ks)
 
-  -- one more key, which is none of them
-  pub AreFirstKeys-more : (k : K) (ks : List K) (keys : List (List CellValue)) (row : ℕ) → row < length keys → AreFirstKeys view ks keys row → view k ≡ get_or keys row []
-      → list_any (eq k) ks ≡ false → AreFirstKeys view (insert_key eq ks k) keys (row + 1)
-  AreFirstKeys-more k ks keys row within so is new = record {
-    are = ap (map view) (cond_false (list_any (eq k) ks) ks (ks ++ k ∷ []) new) ∙ map-append view ks (k ∷ []) ∙ ap (λ xs. xs ++ view k ∷ []) so.are
-        ∙ ap (λ x. take row keys ++ x ∷ []) is ∙ sym (take_more keys row [] within);
-    once = λ i less. elim (cases_order i row) [
-      | inl same ↦ ap (is_repeated keys) same ∙ sym (among k ks keys row so is) ∙ new
-      | inr (inl before) ↦ so.once i before
-      | inr (inr behind) ↦ absurd (omega arith)
-    ];
-  }
+  -- and then it is the last
+  pub inserted-last : (k : K) (ks : List K) (new : Bool) → new ≡ not (list_any (eq k) ks) → new ≡ true → map view (insert_key eq ks k) ≡ map view ks ++ view k ∷ []
+  inserted-last k ks new e is =
+      ap (map view) (cond_false (list_any (eq k) ks) ks (ks ++ k ∷ []) (was_false (list_any (eq k) ks) (sym e ∙ is))) ∙ map-append view ks (k ∷ [])
 
-  -- and one that is
-  pub repeated_row-here : (k : K) (ks : List K) (keys : List (List CellValue)) (row : ℕ) → row < length keys → AreFirstKeys view ks keys row → view k ≡ get_or keys row []
-      → list_any (eq k) ks ≡ true → repeated_row keys ≡ Some row
-  repeated_row-here k ks keys row within so is old =
-      find-here (is_repeated keys) 0 (length keys) row (omega arith) (omega arith) (sym (among k ks keys row so is) ∙ old) (λ i _ less. so.once i less)
+-- ---- one more key
+pub null_row-more : (keys : List (List CellValue)) (key : List CellValue) → null_row (keys ++ key ∷ []) ≡ option_or (null_row keys) (cond (has_null key) (Some (length keys)) None)
+null_row-more keys key = position-at has_null keys key (null_row keys) (has_null key) refl refl
 
--- past the last row
-pub AreFirstKeys-all : {K : Type 0} (view : K → List CellValue) (ks : List K) (keys : List (List CellValue)) (row : ℕ) → length keys ≤ row → AreFirstKeys view ks keys row
-    → (map view ks ≡ keys) × (repeated_row keys ≡ None)
-AreFirstKeys-all view ks keys row past so =
-    (so.are ∙ take_all row keys past, find-nowhere (is_repeated keys) 0 (length keys) (λ i _ less. so.once i (omega arith)))
+is_repeated-kept : (keys : List (List CellValue)) (key : List CellValue) (row : ℕ) → row < length keys → is_repeated (keys ++ key ∷ []) row ≡ is_repeated keys row
+is_repeated-kept keys key row less =
+    ap (λ k. list_any (key_eq k) (take row (keys ++ key ∷ []))) (get_or_append_left keys (key ∷ []) [] row less)
+    ∙ ap (list_any (key_eq (get_or keys row []))) (take-append-le row keys (key ∷ []) (omega arith))
+
+is_repeated-last : (keys : List (List CellValue)) (key : List CellValue) → is_repeated (keys ++ key ∷ []) (length keys) ≡ list_any (key_eq key) keys
+is_repeated-last keys key =
+    ap (λ k. list_any (key_eq k) (take (length keys) (keys ++ key ∷ []))) (get_or-append_seam keys key [] [])
+    ∙ ap (list_any (key_eq key)) (take-append_seam keys (key ∷ []))
+
+pub repeated_row-more : (keys : List (List CellValue)) (key : List CellValue)
+    → repeated_row (keys ++ key ∷ []) ≡ option_or (repeated_row keys) (cond (list_any (key_eq key) keys) (Some (length keys)) None)
+repeated_row-more keys key =
+    let size : length (keys ++ key ∷ []) ≡ suc (length keys) = omega (arith, length-append keys (key ∷ [])) in
+    let last : 0 + length keys ≡ length keys = omega arith in
+    ap (λ n. find (is_repeated (keys ++ key ∷ [])) (range_with_len 0 n)) size
+    ∙ find-more (is_repeated keys) (is_repeated (keys ++ key ∷ [])) 0 (length keys) (λ i _ less. is_repeated-kept keys key i (omega arith))
+    ∙ ap (λ n. option_or (repeated_row keys) (cond (is_repeated (keys ++ key ∷ []) n) (Some n) None)) last
+    ∙ ap (λ b. option_or (repeated_row keys) (cond b (Some (length keys)) None)) (is_repeated-last keys key)
 
 -- ---- the key of a row
-pub value-at : (rows : List (List CellValue)) (row col : ℕ) (v : CellValue) → option_and_then (λ values. slice_get values col) (slice_get rows row) ≡ Some v
-    → get_or (get_or rows row []) col null ≡ v
-value-at [] row col v e = absurd (let n : None ≡ Some v = e in cc)
-value-at (values ∷ rows) zero col v e = get_or_from_slice_get values col v null e
-value-at (values ∷ rows) (suc row) col v e = value-at rows row col v e
-
 pub row_keys-some : (places : List ℕ) (rows : List (List CellValue)) → 0 < length places → row_keys places rows ≡ map (row_key places) rows
 row_keys-some [] rows h = absurd (omega arith)
 row_keys-some (place ∷ places) rows h = refl
 
-pub row_keys-at : (places : List ℕ) (rows : List (List CellValue)) (row : ℕ) → 0 < length places → row < length rows → get_or (row_keys places rows) row [] ≡ row_key places (get_or rows row [])
-row_keys-at places rows row h within = ap (λ keys. get_or keys row []) (row_keys-some places rows h) ∙ get_or-map (row_key places) rows row [] [] within
-
 pub length-row_keys : (places : List ℕ) (rows : List (List CellValue)) → 0 < length places → length (row_keys places rows) ≡ length rows
 length-row_keys places rows h = ap length (row_keys-some places rows h) ∙ length-map rows (row_key places)
 
--- of one integer
-pub integer-at : (places : List ℕ) (rows : List (List CellValue)) (row place : ℕ) (z : ℤ) → places ≡ place ∷ [] → row < length rows
-    → option_and_then (λ values. slice_get values place) (slice_get rows row) ≡ Some (int z) → int z ∷ [] ≡ get_or (row_keys places rows) row []
-integer-at places rows row place z one within e =
-    ap (λ v. v ∷ []) (sym (value-at rows row place (int z) e)) ∙ sym (get_or-map (row_key (place ∷ [])) rows row [] [] within) ∙ ap (λ ps. get_or (row_keys ps rows) row []) (sym one)
+-- of one row more
+pub row_keys-more : (places : List ℕ) (rows : List (List CellValue)) (values : List CellValue) → 0 < length places
+    → row_keys places (rows ++ values ∷ []) ≡ row_keys places rows ++ row_key places values ∷ []
+row_keys-more places rows values h =
+    row_keys-some places (rows ++ values ∷ []) h ∙ map-append (row_key places) rows (values ∷ [])
+    ∙ ap (λ keys. keys ++ row_key places values ∷ []) (sym (row_keys-some places rows h))
 
 -- one more value of a key
 pub row_key-more : (places : List ℕ) (values : List CellValue) (i : ℕ) → i < length places
@@ -180,21 +193,6 @@ pub has_null-past : (places : List ℕ) (values : List CellValue) (i : ℕ) → 
 has_null-past places values i within e before =
     ap has_null (row_key-more places values i within) ∙ list_any-append (value_eq null) (row_key (take i places) values) (get_or values (get_or places i 0) null ∷ [])
     ∙ rw (before, e) refl
-
--- the first row of which that is so, or none
-pub null_row-here : (places : List ℕ) (rows : List (List CellValue)) (row : ℕ) → row < length rows → has_null (row_key places (get_or rows row [])) ≡ true
-    → ((k : ℕ) → k < row → has_null (row_key places (get_or rows k [])) ≡ false) → null_row (map (row_key places) rows) ≡ Some row
-null_row-here places rows row within does lacks =
-    position-here has_null (map (row_key places) rows) row [] (omega (arith, length-map rows (row_key places)))
-    (ap has_null (get_or-map (row_key places) rows row [] [] within) ∙ does)
-    (λ k less. ap has_null (get_or-map (row_key places) rows k [] [] (omega arith)) ∙ lacks k less)
-
-pub null_row-nowhere : (places : List ℕ) (rows : List (List CellValue)) (row : ℕ) → length rows ≤ row
-    → ((k : ℕ) → k < row → has_null (row_key places (get_or rows k [])) ≡ false) → null_row (map (row_key places) rows) ≡ None
-null_row-nowhere places rows row past lacks =
-    position-nowhere has_null (map (row_key places) rows) []
-    (λ k less. let within : k < length rows = omega (arith, length-map rows (row_key places)) in
-    ap has_null (get_or-map (row_key places) rows k [] [] within) ∙ lacks k (omega arith))
 
 -- ---- equality of keys
 module _ {V : Type 0} (view : V → CellValue) (eq : V → V → Bool) (eq_is : (v w : V) → eq v w ≡ value_eq (view v) (view w)) where

@@ -1,11 +1,8 @@
 -- The keys of an annotated table are different, have no null, and find their rows.
-use Rattle.std.proofs.Common.{◌≡◌, ◌≢◌, ◌↔◌, ℕ, zero, suc, ◌<◌, ◌≤◌, Bool, true, false, true≢false, nat_lt, List, [], ◌∷◌, length, take, get_or, Some, None, IsTrue, All, slice_get, position, refl, sym, ap, ◌∙◌, inl, inr, arith}
+use Rattle.std.proofs.Common.{◌≡◌, ◌≢◌, ◌↔◌, ℕ, zero, suc, ◌<◌, Bool, true, false, true≢false, List, [], ◌∷◌, length, take, get_or, Some, None, IsTrue, All, slice_get, refl, sym, ap, ◌∙◌, inl, inr, arith}
 use Rattle.std.specs.Cmp.Lexicographic.{pointwise_decides}
-use Rattle.std.specs.List.{position_or_len}
 use Rattle.std.proofs.lemmas.Bool.{cases_order}
-use Rattle.std.proofs.lemmas.Bool.Decides.{nat_tests}
 use Rattle.std.proofs.lemmas.List.{length-take, get_or-take}
-use Rattle.std.proofs.lemmas.List.Sums.{fails_before_first}
 use Rattle.std.proofs.lemmas.List.Quantifiers.{position-Some}
 use Rattle.std.proofs.lemmas.Option.{slice_get-get_or, get_or_from_slice_get, slice_get_within}
 use Rattle.cell_types.specs.Value.{CellValue, null, value_eq}
@@ -15,13 +12,7 @@ use Rattle.table_store.specs.Key.{key_eq, has_null, null_row, is_repeated, repea
 use Rattle.table_store.specs.Table.{TableOf, keys_of}
 use Rattle.table_store.specs.Catalog.{HaveTables}
 use Rattle.table_store.specs.Laws.{AreKeys}
-use Rattle.table_store.proofs.KeyLemmas.{cond_none, find-none, list_any-none, position-here}
-
-position-none : {X : Type 0} (p : X → Bool) (xs : List X) (k : ℕ) (d : X) → position p xs ≡ None → k < length xs → p (get_or xs k d) ≡ false
-position-none p xs k d e within =
-    let outside : nat_lt (position_or_len p xs) (length xs) ≡ false = (cond_none (nat_lt (position_or_len p xs) (length xs)) (position_or_len p xs) None e).0 in
-    let past : length xs ≤ position_or_len p xs = grind (arith, nat_tests) in
-    fails_before_first p xs k d (omega arith)
+use Rattle.table_store.proofs.KeyLemmas.{find-none, list_any-none, position-here, position-none}
 
 not_true : (b : Bool) → (b ≡ true → ⊥) → b ≡ false
 not_true true h = absurd (h refl)

@@ -6,6 +6,7 @@ pub mod InsideLemmas
 pub mod LoadingLemmas
 pub mod FileLemmas
 pub mod KeyLemmas
+pub mod KeysLemmas
 pub mod CatalogLemmas
 pub mod OneMeaning
 pub mod SomeMeaning

@@ -1,6 +1,9 @@
 -- The values of rows of fields, one cell after another.
-use Rattle.std.proofs.Common.{◌≡◌, ℕ, zero, suc, ◌+◌, ◌≤◌, List, [], ◌∷◌, length, drop, map, Option, Some, None, Result, Ok, Err, slice_get, refl, ap, ◌∙◌}
-use Rattle.std.proofs.lemmas.List.{drop_all}
+use Rattle.std.proofs.Common.{◌≡◌, ℕ, zero, suc, ◌+◌, ◌≤◌, List, [], ◌∷◌, ◌++◌, length, take, drop, map, Option, Some, None, option_map, Result, Ok, Err, slice_get, refl, ap, ◌∙◌, arith}
+use Rattle.std.specs.List.{zip}
+use Rattle.std.proofs.lemmas.List.{drop_all, length-map, take_all, take_more}
+use Rattle.std.proofs.lemmas.Option.{get_or_from_slice_get, slice_get-map, slice_get_within}
+use Rattle.std.proofs.lemmas.Slice.Zip.{length-zip}
 use Rattle.std.specs.Result.{result_err}
 use Rattle.csv_index.specs.Raws.{RawField, raw_content}
 use Rattle.cell_types.specs.Value.{CellValue}
@@ -9,7 +12,7 @@ use Rattle.cell_types.specs.Column.{ColumnOf, column_view}
 use Rattle.cell_types.specs.Cell.{value_of}
 use Rattle.cell_types.specs.declared.column.Column.{Column}
 use Rattle.table_store.specs.Table.{values_from, value_then, rows_from, row_then}
-use Rattle.table_store.specs.Inside.{value_or_null, values_in, HaveValues, AllHaveValues}
+use Rattle.table_store.specs.Inside.{value_or_null, value_in, values_in, HaveValues, AllHaveValues}
 use Rattle.table_store.specs.Loading.{field_of}
 use Rattle.table_store.proofs.PlaceLemmas.{drop-from_slice_get}
 
@@ -102,6 +105,25 @@ pub wrong_from-here : (columns : List Column) (fields : List RawField) (col : �
     → wrong_from col columns fields ≡ Some (col, why)
 wrong_from-here columns fields col column raw why e f value =
     wrong_from-step columns fields col column raw e f ∙ rw value refl
+
+pub wrong_from-end : (columns : List Column) (fields : List RawField) (col : ℕ) → length columns ≤ col → wrong_from col columns fields ≡ None
+wrong_from-end columns fields col h = rw (drop_all col columns h) refl
+
+-- one more value of a row
+pub values_in-more : (columns : List Column) (fields : List RawField) (col : ℕ) (column : Column) (raw : RawField) (value : CellValue)
+    → slice_get columns col ≡ Some column → slice_get fields col ≡ Some raw → value_of (column_view column) (raw_content raw) ≡ Ok value
+    → take (col + 1) (values_in (map column_view columns) fields) ≡ take col (values_in (map column_view columns) fields) ++ value ∷ []
+values_in-more columns fields col column raw value e f is =
+    let values = values_in (map column_view columns) fields in
+    let at_column : slice_get (map column_view columns) col ≡ Some (column_view column) = slice_get-map column_view columns col ∙ ap (option_map column_view) e in
+    let at : slice_get values col ≡ Some value = slice_get-values_in (map column_view columns) fields col (column_view column) raw at_column f ∙ ap (λ r. Some (value_or_null r)) is in
+    take_more values col value (slice_get_within values col value at) ∙ ap (λ v. take col values ++ v ∷ []) (get_or_from_slice_get values col value value at)
+
+pub values_in-all : (columns : List Column) (fields : List RawField) (col : ℕ) → length columns ≤ col → take col (values_in (map column_view columns) fields) ≡ values_in (map column_view columns) fields
+values_in-all columns fields col h =
+    let pairs = zip (map column_view columns) fields in
+    let size : length (values_in (map column_view columns) fields) ≡ length pairs = length-map pairs (λ pair. value_or_null (value_in pair)) in
+    take_all col (values_in (map column_view columns) fields) (omega (arith, size, length-zip (map column_view columns) fields, length-map columns column_view))
 
 -- ---- rows
 pub row_then-none : (row : ℕ) (values : Result (List CellValue) (ℕ × CellFault)) (rest : Result (List (List CellValue)) (ℕ × ℕ × CellFault))

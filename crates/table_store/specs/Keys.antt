@@ -1,11 +1,12 @@
--- What the keys that a table keeps stand for, and why rows have none.
-use Rattle.std.specs.Prelude.{◌≡◌, ◌<◌, ℕ, List, [], ◌∷◌, length, map, Option, None, Some, All, ⊤}
+-- What the keys that a table keeps stand for, what is known of them while rows are read, and why rows have none.
+use Rattle.std.specs.Prelude.{◌≡◌, ◌<◌, ◌⊎◌, ℕ, ℤ, List, [], ◌∷◌, length, map, None, Some, All}
 use Rattle.cell_types.specs.Column.{ColumnOf}
-use Rattle.cell_types.specs.Value.{CellValue, int, value_view}
+use Rattle.cell_types.specs.Value.{CellValue, null, int, value_view}
 use Rattle.table_store.specs.declared.keys.Keys.{Keys}
 use Rattle.table_store.specs.declared.keys.Keys.TheVariants.{Absent, Integers, Values}
 use Rattle.table_store.specs.declared.keys.KeyFault.{KeyFault}
-use Rattle.table_store.specs.declared.keys.KeyFault.TheVariants.{Null, Twice, NoMemory}
+use Rattle.table_store.specs.declared.keys.KeyFault.TheVariants.{Null, Twice}
+use Rattle.table_store.specs.declared.keys.KeyReader.{KeyReader}
 use Rattle.table_store.specs.Fault.{TableCause, key_null, key_twice}
 use Rattle.table_store.specs.Key.{null_row, repeated_row}
 
@@ -19,14 +20,34 @@ keys_view (Values keys) = map (λ key. map value_view key.items) keys.keys
 abbrev pub AreColumns : List ℕ → List ColumnOf → Type 0
 AreColumns places columns = All (λ place. place < length columns) places
 
+-- a value is null or an integer
+abbrev pub IsInteger : CellValue → Type 0
+IsInteger value = (value ≡ null) ⊎ ((z : ℤ) × (value ≡ int z))
+
+-- a key may come to those that are kept: where they are integers it is one integer, or null
+abbrev pub Suits : Keys → List CellValue → Type 0
+Suits Absent key = key ≡ []
+Suits (Integers keys) key = (value : CellValue) × IsInteger value × (key ≡ value ∷ [])
+Suits (Values keys) key = Unit {0}
+
+-- those are the keys of the rows: none has a null, and no row has that of an earlier one
+pub record AreKeysOf (keys : Keys) (of : List (List CellValue)) : Type 0 where
+  pub are : keys_view keys ≡ of
+  pub whole : null_row of ≡ None
+  pub distinct : repeated_row of ≡ None
+
+-- those keys were read: the first with a null is known, the first that stands twice where there is no null, and all where nothing is wrong
+pub record HasRead (reader : KeyReader) (keys : List (List CellValue)) : Type 0 where
+  pub null : reader.null ≡ null_row keys
+  pub repeated : reader.null ≡ None → reader.repeated ≡ repeated_row keys
+  pub kept : reader.null ≡ None → reader.repeated ≡ None → keys_view reader.keys ≡ keys
+
 -- this is the first thing wrong with the keys
 abbrev pub HasKeyFault : List (List CellValue) → KeyFault → Type 0
 HasKeyFault keys (Null row) = null_row keys ≡ Some row
 HasKeyFault keys (Twice row) = (null_row keys ≡ None) × (repeated_row keys ≡ Some row)
-HasKeyFault keys NoMemory = ⊤
 
--- the cause that a fault is; none, where memory ran out
-abbrev pub key_cause : KeyFault → Option TableCause
-key_cause (Null row) = Some (key_null row)
-key_cause (Twice row) = Some (key_twice row)
-key_cause NoMemory = None
+-- the cause that a fault is
+abbrev pub key_cause : KeyFault → TableCause
+key_cause (Null row) = key_null row
+key_cause (Twice row) = key_twice row

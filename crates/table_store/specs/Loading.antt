@@ -1,17 +1,22 @@
 -- What the steps of loading a table find.
-use Rattle.std.specs.Prelude.{◌≡◌, ℕ, ◌+◌, ◌*◌, List, length, take, drop, Option, None, Some, Ok, option_map}
+use Rattle.std.specs.Prelude.{◌≡◌, ℕ, ◌+◌, ◌*◌, List, length, take, drop, map, Option, None, Some, Ok, option_map}
+use Rattle.std.specs.Result.{result_err}
 use Rattle.csv_grammar.specs.Records.{Field, unquoted}
 use Rattle.csv_grammar.specs.Files.{IsTable, IsFileFault}
 use Rattle.csv_index.specs.Raws.{RawField, raw_content}
 use Rattle.csv_index.specs.Places.{Places, raws, FitsFile}
 use Rattle.csv_index.specs.Fault.{text_cause}
+use Rattle.cell_types.specs.declared.cell.CellFault.{CellFault}
+use Rattle.cell_types.specs.Value.{CellValue}
 use Rattle.cell_types.specs.Column.{ColumnOf}
 use Rattle.csvw_meta.specs.Schema.{SchemaOf}
 use Rattle.table_store.specs.declared.loading.TableFault.{TableFault}
-use Rattle.table_store.specs.declared.loading.TableFault.TheVariants.{FileMissing, FileTooLarge, Text, Header, Cell, NoMemory}
+use Rattle.table_store.specs.declared.loading.TableFault.TheVariants.{FileMissing, FileTooLarge, Text, Header, Cell, Key, NoMemory}
 use Rattle.table_store.specs.Table.{TableOf, mismatch_from, rows_from, HasCells, HasOtherHeader, HasBadCell, HasNullKey, HasKeyTwice}
 use Rattle.table_store.specs.Fault.{TableCause, file_missing, file_too_large, bad_text, bad_header, bad_cell, key_null, key_twice, cell_cause, LoadCause, no_metadata, bad_meta, bad_table}
 use Rattle.table_store.specs.File.{FileOf}
+use Rattle.table_store.specs.Key.{row_keys, null_row, repeated_row}
+use Rattle.table_store.specs.Keys.{key_cause}
 use Rattle.table_store.specs.Catalog.{HasFile, HasTableCause, IsFirstBadTable}
 use Rattle.table_store.specs.Inside.{rows_of_fields, rows_in, AllHaveValues}
 
@@ -49,7 +54,24 @@ table_cause FileTooLarge = Some file_too_large
 table_cause (Text fault) = option_map bad_text (text_cause fault)
 table_cause (Header col) = Some (bad_header col)
 table_cause (Cell bad) = option_map (bad_cell bad.row bad.col) (cell_cause bad.fault)
+table_cause (Key fault) = Some (key_cause fault)
 table_cause NoMemory = None
+
+-- the keys of the rows behind the header
+abbrev pub keys_at : SchemaOf → Places → List ℕ → List (List CellValue)
+keys_at schema places bytes = row_keys schema.key (rows_in schema.columns places bytes)
+
+-- the first cell of the rows behind the header that has no value, and why
+abbrev pub bad_cell_of : SchemaOf → Places → List ℕ → Option (ℕ × ℕ × CellFault)
+bad_cell_of schema places bytes = result_err (rows_from 0 schema.columns (map (map field_of) (records_of places bytes)))
+
+-- this is the first thing wrong with the rows behind the header: all cells come before the keys
+abbrev pub HasRowsCause : SchemaOf → Places → List ℕ → TableCause → Type 0
+HasRowsCause schema places bytes (bad_cell row col fault) = bad_cell_of schema places bytes ≡ Some (row, col, fault)
+HasRowsCause schema places bytes (key_null row) = (bad_cell_of schema places bytes ≡ None) × (null_row (keys_at schema places bytes) ≡ Some row)
+HasRowsCause schema places bytes (key_twice row) =
+    (bad_cell_of schema places bytes ≡ None) × (null_row (keys_at schema places bytes) ≡ None) × (repeated_row (keys_at schema places bytes) ≡ Some row)
+HasRowsCause schema places bytes cause = ⊥
 
 -- this is the first thing wrong with the bytes of the schema's file
 abbrev pub HasFileCause : SchemaOf → List ℕ → TableCause → Type 0

@@ -1,13 +1,16 @@
-//! The cells of a table: its schema, and the values that its file has by row and column. Its keys are not looked at.
+//! The cells of a table: its schema, and the values that its file has by row and column.
 ghost use Rattle.std.specs.Prelude.{◌≡◌, ◌<◌, Some, None, IfOk, IfErr, IfSome, length, slice_get, option_and_then, option_map, string_bytes};
 ghost use Rattle.std.specs.List.{AllByRecursion};
 ghost use Rattle.cell_types.specs.Value.{value_view};
 ghost use Rattle.csvw_meta.specs.Schema.{schema_view};
 ghost use Rattle.table_store.specs.Fault.{bad_table, load_cause};
 ghost use Rattle.table_store.specs.Catalog.{HasFile, HasTableCause};
-ghost use Rattle.table_store.specs.Loading.{HasFileCells, IsRefusedTable, IsTableAt, table_cause};
+ghost use Rattle.table_store.specs.Keys.{AreColumns, AreKeysOf};
+ghost use Rattle.table_store.specs.Loading.{keys_at, HasFileCells, IsRefusedTable, IsTableAt, table_cause};
+ghost use Rattle.table_store.specs.Table.{keys_of};
 
 use crate::fault::LoadFault;
+use crate::keys::{KeyFault, Keys};
 use crate::loading::{BadCell, TableFault, cell_value, read_file};
 use cell_types::{CellFault, Value};
 use csv_index::Index;
@@ -74,45 +77,46 @@ impl Cells {
         }
     }
 
-    /// The url of the table.
-    pub fn into_url(self) -> String
-        ensures { string_bytes result ≡ self.schema.url }
-    {
-        self.schema.url
-    }
-
-    /// The cells of the table of a schema, whose file has those bytes, at most so many as the limit; or why it is refused.
+    /// The cells of the table of a schema, whose file has those bytes, at most so many as the limit, and the keys of its rows; or why it is
+    /// refused.
     pub fn read(
         alloc: Global,
         limit: u32,
         schema: Schema,
         file: Option<Vec<u8>>,
-    ) -> Result<Cells, LoadFault>
-        ensures cells { IfOk result (HasFileCells limit (option_map (λ bytes. bytes.items) file) (schema_view schema)) }
+    ) -> Result<(Cells, Keys), LoadFault>
+        requires { AreColumns (schema_view schema).key (schema_view schema).columns }
+        ensures cells { IfOk result (λ found. HasFileCells limit (option_map (λ bytes. bytes.items) file) (schema_view schema) found.0) }
+        ensures keys { IfOk result (λ found. AreKeysOf found.1 (keys_of found.0)) }
         ensures fault { IfErr result (λ e. IfSome (load_cause e)
             (IsRefusedTable limit (option_map (λ bytes. bytes.items) file) (schema_view schema))) }
         ensures memory { IfErr result (λ e. load_cause e ≡ None → e ≡ LoadFault.NoMemory) }
     {
         match read_table(alloc, limit, &schema, file) {
-            Ok((bytes, index)) => Ok(Cells {
-                schema,
-                bytes,
-                index,
-            }),
+            Ok((bytes, index, keys)) => {
+                let cells = Cells {
+                    schema,
+                    bytes,
+                    index,
+                };
+                Ok((cells, keys))
+            }
             Err(fault) => Err(fault_of(schema.url, fault)),
         }
     }
 }
 
-/// The bytes and the places of a file that is the table of a schema, or why it is none.
+/// The bytes and the places of a file that is the table of a schema, and the keys of its rows; or why it is none.
 fn read_table(
     alloc: Global,
     limit: u32,
     schema: &Schema,
     file: Option<Vec<u8>>,
-) -> Result<(Vec<u8>, Index), TableFault>
+) -> Result<(Vec<u8>, Index, Keys), TableFault>
+    requires { AreColumns (schema_view schema.now).key (schema_view schema.now).columns }
     ensures file { IfOk result (λ found. HasFile limit (option_map (λ bytes. bytes.items) file) found.0.items) }
     ensures read { IfOk result (λ found. IsTableAt (schema_view schema.now).columns found.0.items found.1) }
+    ensures keys { IfOk result (λ found. AreKeysOf found.2 (keys_at (schema_view schema.now) found.1 found.0.items)) }
     ensures fault { IfErr result (λ e. IfSome (table_cause e)
         (HasTableCause limit (option_map (λ bytes. bytes.items) file) (schema_view schema.now))) }
     ensures memory { IfErr result (λ e. table_cause e ≡ None → e ≡ TableFault.NoMemory) }
@@ -123,8 +127,8 @@ fn read_table(
     if bytes.len() > limit as usize {
         return Err(TableFault::FileTooLarge);
     }
-    let index = read_file(alloc, schema, bytes.as_slice())?;
-    Ok((bytes, index))
+    let (index, keys) = read_file(alloc, schema, bytes.as_slice())?;
+    Ok((bytes, index, keys))
 }
 
 /// The error of a folder that the fault of the table of that url is.
@@ -143,6 +147,8 @@ fn fault_of(table: String, fault: TableFault) -> LoadFault
             col,
             fault,
         },
+        TableFault::Key(KeyFault::Null(row)) => LoadFault::KeyNull { table, row },
+        TableFault::Key(KeyFault::Twice(row)) => LoadFault::KeyTwice { table, row },
         TableFault::NoMemory => LoadFault::NoMemory,
     }
 }

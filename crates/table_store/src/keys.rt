@@ -1,12 +1,17 @@
 //! The keys of a table's rows.
-ghost use Rattle.std.specs.Prelude.{◌≡◌, ◌<◌, [], ◌∷◌, None, IfOk, IfErr, OnOk, get_or, length, map};
-ghost use Rattle.cell_types.specs.Value.{null, value_eq, value_view};
-ghost use Rattle.table_store.specs.Key.{row_key, has_null as has_null_in, null_row, repeated_row, row_of};
-ghost use Rattle.table_store.specs.Table.{keys_of};
-ghost use Rattle.table_store.specs.Keys.{keys_view, AreColumns, HasKeyFault};
+ghost use Rattle.std.specs.Prelude.{◌≡◌, ◌<◌, false, true, not, [], ◌∷◌, ◌++◌, List, Some, IfOk, IfErr, length, map, slice_get, option_map, All};
+ghost use Rattle.std.specs.List.{list_any};
+ghost use Rattle.cell_types.specs.Column.{ColumnOf};
+ghost use Rattle.cell_types.specs.Datatype.{integer};
+ghost use Rattle.cell_types.specs.Value.{CellValue, null, value_eq, value_view};
+ghost use Rattle.csv_index.specs.Raws.{RawField};
+ghost use Rattle.csvw_meta.specs.Schema.{schema_view};
+ghost use Rattle.table_store.specs.Key.{row_key, row_keys, key_eq, has_null as has_null_in, row_of};
+ghost use Rattle.table_store.specs.Inside.{values_in};
+ghost use Rattle.table_store.specs.Keys.{keys_view, AreColumns, AreKeysOf, HasKeyFault, HasRead, Suits};
 
-use crate::cells::Cells;
 use cell_types::{Datatype, Value};
+use csvw_meta::Schema;
 use indexmap::IndexSet;
 use std::alloc::{AllocError, Global};
 use std::borrow::CowStr;
@@ -29,34 +34,84 @@ pub enum KeyFault {
     Null(usize),
     /// The first row whose key is that of an earlier row.
     Twice(usize),
-    /// Memory ran out.
-    NoMemory,
+}
+
+/// The keys of the rows so far, which are read one row after another.
+#[derive(Drop)]
+pub struct KeyReader {
+    /// Those before the first row that is wrong.
+    keys: Keys,
+    /// The first row whose key has a null.
+    null: Option<usize>,
+    /// The first row whose key is that of an earlier row, where no null came before it.
+    repeated: Option<usize>,
+}
+
+impl KeyReader {
+    /// A reader of the keys of so many rows, none of which is read.
+    pub fn new(alloc: Global, schema: &Schema, rows: usize) -> Result<KeyReader, AllocError>
+        requires { AreColumns (schema_view schema.now).key (schema_view schema.now).columns }
+        ensures read { IfOk result (λ reader. HasRead reader []) }
+        ensures suits { IfOk result (λ reader. (fields : List RawField)
+            → Suits reader.keys (row_key (schema_view schema.now).key (values_in (schema_view schema.now).columns fields))) }
+    {
+        let keys = match schema.key.as_slice() {
+            [] => Keys::Absent,
+            [place] if has_integers(schema, *place) => {
+                Keys::Integers(IndexSet::with_capacity(alloc, rows)?)
+            }
+            _ => Keys::Values(IndexSet::with_capacity(alloc, rows)?),
+        };
+        Ok(KeyReader {
+            keys,
+            null: None,
+            repeated: None,
+        })
+    }
+
+    /// Reads the key of the next row, by the values of that row and the places of the key's columns. Behind a row that is wrong no key is kept.
+    pub fn read(
+        &mut self,
+        alloc: Global,
+        places: &[usize],
+        row: usize,
+        values: &[Value<'_>],
+    ) -> Result<(), AllocError>
+        requires places { All (λ place. place < length values.now) places.now }
+        requires suits { Suits self.old.keys (row_key places.now (map value_view values.now)) }
+        ensures read { IfOk result (λ _. (rows : List (List CellValue)) → row ≡ length rows → HasRead self.old (row_keys places.now rows)
+            → HasRead self.new (row_keys places.now (rows ++ map value_view values.now ∷ []))) }
+        ensures suits { (key : List CellValue) → Suits self.old.keys key → Suits self.new.keys key }
+    {
+        if places.is_empty() || self.null.is_some() {
+            return Ok(());
+        }
+        if has_null(places, values) {
+            self.null = Some(row);
+            return Ok(());
+        }
+        if self.repeated.is_none() && !self.keys.insert(alloc, places, values)? {
+            self.repeated = Some(row);
+        }
+        Ok(())
+    }
+
+    /// The keys of the rows that were read, or why they have none: a null in any of them comes before a key that stands twice.
+    pub fn finish(self) -> Result<Keys, KeyFault>
+        ensures keys { IfOk result (λ keys. (of : List (List CellValue)) → HasRead self of → AreKeysOf keys of) }
+        ensures fault { IfErr result (λ e. (of : List (List CellValue)) → HasRead self of → HasKeyFault of e) }
+    {
+        match self.null {
+            Some(row) => Err(KeyFault::Null(row)),
+            None => match self.repeated {
+                Some(row) => Err(KeyFault::Twice(row)),
+                None => Ok(self.keys),
+            },
+        }
+    }
 }
 
 impl Keys {
-    /// The keys of the rows that some cells are, or why they have none: a null in any of them comes before a key that stands twice.
-    pub fn of(alloc: Global, cells: &Cells) -> Result<Keys, KeyFault>
-        requires { AreColumns cells.now.schema.key cells.now.schema.columns }
-        ensures keys { IfOk result (λ keys. keys_view keys ≡ keys_of cells.now) }
-        ensures whole { OnOk result (null_row (keys_of cells.now) ≡ None) }
-        ensures distinct { OnOk result (repeated_row (keys_of cells.now) ≡ None) }
-        ensures fault { IfErr result (HasKeyFault (keys_of cells.now)) }
-    {
-        let places = cells.schema().key.as_slice();
-        if places.is_empty() {
-            return Ok(Keys::Absent);
-        }
-        match first_null(alloc, cells) {
-            Ok(None) => {}
-            Ok(Some(row)) => return Err(KeyFault::Null(row)),
-            Err(_) => return Err(KeyFault::NoMemory),
-        }
-        match places {
-            [place] if has_integers(cells, *place) => integer_keys(alloc, cells, *place),
-            _ => value_keys(alloc, cells),
-        }
-    }
-
     /// The row that has a key.
     pub fn find(&self, key: &[Value<'_>]) -> Option<usize>
         ensures { result ≡ row_of (keys_view self.now) (map value_view key.now) }
@@ -76,13 +131,44 @@ impl Keys {
             }
         }
     }
+
+    /// Puts the key of a row, which has no null, behind the others. Whether it is none of them.
+    fn insert(
+        &mut self,
+        alloc: Global,
+        places: &[usize],
+        values: &[Value<'_>],
+    ) -> Result<bool, AllocError>
+        requires some { 0 < length places.now }
+        requires places { All (λ place. place < length values.now) places.now }
+        requires suits { Suits self.old (row_key places.now (map value_view values.now)) }
+        requires whole { has_null_in (row_key places.now (map value_view values.now)) ≡ false }
+        ensures new { IfOk result (λ is. is ≡ not (list_any (key_eq (row_key places.now (map value_view values.now))) (keys_view self.old))) }
+        ensures keys { IfOk result (λ is. is ≡ true
+            → keys_view self.new ≡ keys_view self.old ++ row_key places.now (map value_view values.now) ∷ []) }
+        ensures suits { (key : List CellValue) → Suits self.old key → Suits self.new key }
+    {
+        match self {
+            Keys::Absent => unreachable!(),
+            Keys::Integers(keys) => match &values[places[0]] {
+                Value::Int(number) => Ok(keys.insert(*number)?),
+                _ => unreachable!(),
+            },
+            Keys::Values(keys) => {
+                cell_types::values_compare_as_their_views();
+                let key = key_of(alloc, places, values)?;
+                Ok(keys.insert(key)?)
+            }
+        }
+    }
 }
 
 /// Whether the values of a column that are not null are integers.
-fn has_integers(cells: &Cells, place: usize) -> bool
-    requires { place < length cells.now.schema.columns }
+fn has_integers(schema: &Schema, place: usize) -> bool
+    requires { place < length (schema_view schema.now).columns }
+    ensures { result ≡ true → option_map (λ (column : ColumnOf). column.datatype) (slice_get (schema_view schema.now).columns place) ≡ Some integer }
 {
-    matches!(cells.schema().columns[place].datatype, Datatype::Integer)
+    matches!(schema.columns[place].datatype, Datatype::Integer)
 }
 
 /// Whether a value is null.
@@ -94,111 +180,46 @@ fn is_null(value: &Value<'_>) -> bool
 }
 
 /// Whether the key of a row has a null.
-fn has_null(alloc: Global, cells: &Cells, row: usize) -> Result<bool, AllocError>
-    requires columns { AreColumns cells.now.schema.key cells.now.schema.columns }
-    requires row { row < length cells.now.rows }
-    ensures { IfOk result (λ is. is ≡ has_null_in (row_key cells.now.schema.key (get_or cells.now.rows row []))) }
+fn has_null(places: &[usize], values: &[Value<'_>]) -> bool
+    requires { All (λ place. place < length values.now) places.now }
+    ensures { result ≡ has_null_in (row_key places.now (map value_view values.now)) }
 {
-    for place in cells.schema().key.as_slice() {
-        let value = cells.value(alloc, row, *place)?;
-        if is_null(&value) {
-            return Ok(true);
+    for place in places {
+        if is_null(&values[*place]) {
+            return true;
         }
     }
-    Ok(false)
-}
-
-/// The first row whose key has a null.
-fn first_null(alloc: Global, cells: &Cells) -> Result<Option<usize>, AllocError>
-    requires { AreColumns cells.now.schema.key cells.now.schema.columns }
-    ensures { IfOk result (λ row. row ≡ null_row (map (row_key cells.now.schema.key) cells.now.rows)) }
-{
-    for row in 0..cells.rows() {
-        if has_null(alloc, cells, row)? {
-            return Ok(Some(row));
-        }
-    }
-    Ok(None)
-}
-
-/// The keys of rows whose key is the column at that place: as integers, where all are, as they are in a column of integers.
-fn integer_keys(alloc: Global, cells: &Cells, place: usize) -> Result<Keys, KeyFault>
-    requires key { cells.now.schema.key ≡ place ∷ [] }
-    requires place { place < length cells.now.schema.columns }
-    requires whole { null_row (keys_of cells.now) ≡ None }
-    ensures keys { IfOk result (λ keys. keys_view keys ≡ keys_of cells.now) }
-    ensures distinct { OnOk result (repeated_row (keys_of cells.now) ≡ None) }
-    ensures fault { IfErr result (HasKeyFault (keys_of cells.now)) }
-{
-    let Ok(mut keys) = IndexSet::with_capacity(alloc, cells.rows()) else {
-        return Err(KeyFault::NoMemory);
-    };
-    for row in 0..cells.rows() {
-        let Ok(value) = cells.value(alloc, row, place) else {
-            return Err(KeyFault::NoMemory);
-        };
-        let Value::Int(key) = value else {
-            return value_keys(alloc, cells);
-        };
-        match keys.insert(key) {
-            Ok(true) => {}
-            Ok(false) => return Err(KeyFault::Twice(row)),
-            Err(_) => return Err(KeyFault::NoMemory),
-        }
-    }
-    Ok(Keys::Integers(keys))
-}
-
-/// The keys of rows as lists of values.
-fn value_keys(alloc: Global, cells: &Cells) -> Result<Keys, KeyFault>
-    requires columns { AreColumns cells.now.schema.key cells.now.schema.columns }
-    requires some { 0 < length cells.now.schema.key }
-    requires whole { null_row (keys_of cells.now) ≡ None }
-    ensures keys { IfOk result (λ keys. keys_view keys ≡ keys_of cells.now) }
-    ensures distinct { OnOk result (repeated_row (keys_of cells.now) ≡ None) }
-    ensures fault { IfErr result (HasKeyFault (keys_of cells.now)) }
-{
-    cell_types::values_compare_as_their_views();
-    let Ok(mut keys) = IndexSet::with_capacity(alloc, cells.rows()) else {
-        return Err(KeyFault::NoMemory);
-    };
-    for row in 0..cells.rows() {
-        let Ok(key) = key_at(alloc, cells, row) else {
-            return Err(KeyFault::NoMemory);
-        };
-        match keys.insert(key) {
-            Ok(true) => {}
-            Ok(false) => return Err(KeyFault::Twice(row)),
-            Err(_) => return Err(KeyFault::NoMemory),
-        }
-    }
-    Ok(Keys::Values(keys))
+    false
 }
 
 /// The key of a row.
-fn key_at(alloc: Global, cells: &Cells, row: usize) -> Result<Vec<Value<'static>>, AllocError>
-    requires columns { AreColumns cells.now.schema.key cells.now.schema.columns }
-    requires row { row < length cells.now.rows }
-    ensures { IfOk result (λ key. map value_view key.items ≡ row_key cells.now.schema.key (get_or cells.now.rows row [])) }
+fn key_of(
+    alloc: Global,
+    places: &[usize],
+    values: &[Value<'_>],
+) -> Result<Vec<Value<'static>>, AllocError>
+    requires { All (λ place. place < length values.now) places.now }
+    ensures { IfOk result (λ key. map value_view key.items ≡ row_key places.now (map value_view values.now)) }
 {
-    let places = cells.schema().key.as_slice();
     let mut key = Vec::with_capacity(alloc, places.len())?;
     for place in places {
-        let value = cells.value(alloc, row, *place)?;
-        key.push(owned_value(alloc, value)?)?;
+        key.push(owned_value(alloc, &values[*place])?)?;
     }
     Ok(key)
 }
 
 /// A value that owns its text.
-fn owned_value(alloc: Global, value: Value<'_>) -> Result<Value<'static>, AllocError>
-    ensures { IfOk result (λ owned. value_view owned ≡ value_view value.entry) }
+fn owned_value(alloc: Global, value: &Value<'_>) -> Result<Value<'static>, AllocError>
+    ensures { IfOk result (λ owned. value_view owned ≡ value_view value.now) }
 {
     match value {
         Value::Null => Ok(Value::Null),
-        Value::Int(number) => Ok(Value::Int(number)),
-        Value::Text(text) => Ok(Value::Text(CowStr::Owned(text.into_owned(alloc)?))),
-        Value::Bool(truth) => Ok(Value::Bool(truth)),
-        Value::Date(day) => Ok(Value::Date(day)),
+        Value::Int(number) => Ok(Value::Int(*number)),
+        Value::Text(text) => {
+            let copy = String::from_str(alloc, text.as_str())?;
+            Ok(Value::Text(CowStr::Owned(copy)))
+        }
+        Value::Bool(truth) => Ok(Value::Bool(*truth)),
+        Value::Date(day) => Ok(Value::Date(*day)),
     }
 }

@@ -9,10 +9,12 @@ ghost use Rattle.cell_types.specs.Cell.{value_of};
 ghost use Rattle.csv_index.specs.Places.{FitsFile};
 ghost use Rattle.csv_index.specs.Raws.{raw_content};
 ghost use Rattle.csvw_meta.specs.Schema.{schema_view};
-ghost use Rattle.table_store.specs.Table.{is_called as is_called_by, mismatch_from, values_from, rows_from};
+ghost use Rattle.table_store.specs.Table.{is_called as is_called_by, mismatch_from, values_from};
 ghost use Rattle.table_store.specs.Fault.{bad_cell, cell_cause};
-ghost use Rattle.table_store.specs.Loading.{field_of, header_of, records_of, IsTableAt, table_cause, HasFileCause};
+ghost use Rattle.table_store.specs.Keys.{AreColumns, AreKeysOf};
+ghost use Rattle.table_store.specs.Loading.{field_of, header_of, keys_at, bad_cell_of, IsTableAt, table_cause, HasFileCause, HasRowsCause};
 
+use crate::keys::{KeyFault, KeyReader, Keys};
 use cell_types::{CellFault, Column, Value, read_text};
 use csv_index::{Fields, Index, Raw, TextFault};
 use csvw_meta::Schema;
@@ -39,6 +41,8 @@ pub enum TableFault {
     Header(usize),
     /// The first cell that has no value.
     Cell(BadCell),
+    /// What is wrong with the keys.
+    Key(KeyFault),
     /// Memory ran out.
     NoMemory,
 }
@@ -97,56 +101,78 @@ pub fn cell_value<'a>(alloc: Global, column: &Column, raw: Raw<'a>) -> Result<Va
     }
 }
 
-/// Why a field has no value in a column, where it has none.
-fn cell_fault(alloc: Global, column: &Column, raw: Raw<'_>) -> Option<CellFault>
-    ensures value { IfNone result (result_err (value_of (column_view column.now)
-        (raw_content (record { bytes = raw.entry.bytes.now; quoted = raw.entry.quoted }))) ≡ None) }
-    ensures fault { IfSome result (λ e. (e ≡ CellFault.NoMemory) ⊎ (value_of (column_view column.now)
-        (raw_content (record { bytes = raw.entry.bytes.now; quoted = raw.entry.quoted })) ≡ Err e)) }
-{
-    cell_value(alloc, column, raw).err()
-}
-
-/// Whether each cell of a row has a value, or the first that has none. The row's fields are the next of those that are left.
-fn check_row(
+/// The values of a row, or the first cell that has none. The row's fields are the next of those that are left.
+fn read_row<'a>(
     alloc: Global,
     columns: &[Column],
-    fields: &mut Fields<'_, '_>,
+    fields: &mut Fields<'_, 'a>,
     row: usize,
+    values: &mut Vec<Value<'a>>,
 ) -> Result<(), BadCell>
     requires width { length columns.now ≤ length fields.old }
     ensures passed { IfOk result (λ _. fields.new ≡ drop (length columns.now) fields.old) }
-    ensures values { IfOk result (λ _. result_err (values_from 0 (map column_view columns.now)
-        (map field_of (take (length columns.now) fields.old))) ≡ None) }
+    ensures values { IfOk result (λ _. values_from 0 (map column_view columns.now)
+        (map field_of (take (length columns.now) fields.old)) ≡ Ok (map value_view values.new.items)) }
     ensures row { IfErr result (λ bad. bad.row ≡ row) }
     ensures fault { IfErr result (λ bad. (bad.fault ≡ CellFault.NoMemory) ⊎ (result_err (values_from 0 (map column_view columns.now)
         (map field_of (take (length columns.now) fields.old))) ≡ Some (bad.col, bad.fault))) }
 {
+    values.clear();
     for (col, column) in columns.iter().enumerate() {
         let Some(raw) = fields.next_field() else {
             unreachable!();
         };
-        if let Some(fault) = cell_fault(alloc, column, raw) {
-            return Err(BadCell { row, col, fault });
+        let value = match cell_value(alloc, column, raw) {
+            Ok(value) => value,
+            Err(fault) => return Err(BadCell { row, col, fault }),
+        };
+        if values.push(value).is_err() {
+            return Err(BadCell {
+                row,
+                col,
+                fault: CellFault::NoMemory,
+            });
         }
     }
     Ok(())
 }
 
-/// Whether each cell has a value, or the first, row by row, that has none.
-fn check_rows(alloc: Global, columns: &[Column], index: &Index, bytes: &[u8]) -> Result<(), BadCell>
+/// The keys of the rows, each of whose cells has a value; or the first cell, row by row, that has none, and else why the rows have no keys.
+/// Each cell is read once.
+fn read_rows(
+    alloc: Global,
+    schema: &Schema,
+    index: &Index,
+    bytes: &[u8],
+) -> Result<Keys, TableFault>
     requires bytes { FitsFile index.now bytes.now }
-    requires width { length columns.now ≡ index.now.width }
-    ensures values { IfOk result (λ _. result_err (rows_from 0 (map column_view columns.now)
-        (map (map field_of) (records_of index.now bytes.now))) ≡ None) }
-    ensures fault { IfErr result (λ bad. (bad.fault ≡ CellFault.NoMemory) ⊎ (result_err (rows_from 0 (map column_view columns.now)
-        (map (map field_of) (records_of index.now bytes.now))) ≡ Some (bad.row, bad.col, bad.fault))) }
+    requires width { length (schema_view schema.now).columns ≡ index.now.width }
+    requires key { AreColumns (schema_view schema.now).key (schema_view schema.now).columns }
+    ensures values { IfOk result (λ _. bad_cell_of (schema_view schema.now) index.now bytes.now ≡ None) }
+    ensures keys { IfOk result (λ keys. AreKeysOf keys (keys_at (schema_view schema.now) index.now bytes.now)) }
+    ensures fault { IfErr result (λ e. IfSome (table_cause e) (HasRowsCause (schema_view schema.now) index.now bytes.now)) }
+    ensures memory { IfErr result (λ e. table_cause e ≡ None → e ≡ TableFault.NoMemory) }
 {
+    let columns = schema.columns.as_slice();
+    let places = schema.key.as_slice();
+    let Ok(mut keys) = KeyReader::new(alloc, schema, index.rows()) else {
+        return Err(TableFault::NoMemory);
+    };
+    let mut values = Vec::new(alloc);
     let mut fields = index.fields(bytes, 0);
     for row in 0..index.rows() {
-        check_row(alloc, columns, &mut fields, row)?;
+        match read_row(alloc, columns, &mut fields, row, &mut values) {
+            Ok(()) => {}
+            Err(bad) => return Err(fault_of(bad)),
+        }
+        let Ok(()) = keys.read(alloc, places, row, values.as_slice()) else {
+            return Err(TableFault::NoMemory);
+        };
     }
-    Ok(())
+    match keys.finish() {
+        Ok(keys) => Ok(keys),
+        Err(fault) => Err(TableFault::Key(fault)),
+    }
 }
 
 /// The fault of a table with that cell.
@@ -160,25 +186,24 @@ fn fault_of(bad: BadCell) -> TableFault
     }
 }
 
-/// The places of a file that is the table of a schema, or the first thing that is wrong with it.
-pub fn read_file(alloc: Global, schema: &Schema, bytes: &[u8]) -> Result<Index, TableFault>
-    ensures read { IfOk result (λ index. IsTableAt (schema_view schema.now).columns bytes.now index) }
+/// The places of a file that is the table of a schema, and the keys of its rows; or the first thing that is wrong with it.
+pub fn read_file(alloc: Global, schema: &Schema, bytes: &[u8]) -> Result<(Index, Keys), TableFault>
+    requires { AreColumns (schema_view schema.now).key (schema_view schema.now).columns }
+    ensures read { IfOk result (λ found. IsTableAt (schema_view schema.now).columns bytes.now found.0) }
+    ensures keys { IfOk result (λ found. AreKeysOf found.1 (keys_at (schema_view schema.now) found.0 bytes.now)) }
     ensures fault { IfErr result (λ e. IfSome (table_cause e) (HasFileCause (schema_view schema.now) bytes.now)) }
     ensures memory { IfErr result (λ e. table_cause e ≡ None → e ≡ TableFault.NoMemory) }
 {
-    let columns = schema.columns.as_slice();
     let index = match Index::build(alloc, bytes) {
         Ok(index) => index,
         Err(TextFault::NoMemory) => return Err(TableFault::NoMemory),
         Err(fault) => return Err(TableFault::Text(fault)),
     };
-    match first_mismatch(alloc, columns, &index, bytes) {
+    match first_mismatch(alloc, schema.columns.as_slice(), &index, bytes) {
         Ok(None) => {}
         Ok(Some(col)) => return Err(TableFault::Header(col)),
         Err(_) => return Err(TableFault::NoMemory),
     }
-    match check_rows(alloc, columns, &index, bytes) {
-        Ok(()) => Ok(index),
-        Err(bad) => Err(fault_of(bad)),
-    }
+    let keys = read_rows(alloc, schema, &index, bytes)?;
+    Ok((index, keys))
 }

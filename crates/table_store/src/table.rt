@@ -3,16 +3,16 @@ ghost use Rattle.std.specs.Prelude.{◌≡◌, ◌<◌, Some, None, IfOk, IfErr,
 ghost use Rattle.std.specs.List.{AllByRecursion};
 ghost use Rattle.cell_types.specs.Value.{value_view};
 ghost use Rattle.csvw_meta.specs.Schema.{schema_view};
-ghost use Rattle.table_store.specs.Fault.{bad_table, load_cause};
+ghost use Rattle.table_store.specs.Fault.{load_cause};
 ghost use Rattle.table_store.specs.Catalog.{HasTable};
 ghost use Rattle.table_store.specs.Key.{row_of};
-ghost use Rattle.table_store.specs.Keys.{AreColumns, key_cause};
+ghost use Rattle.table_store.specs.Keys.{AreColumns};
 ghost use Rattle.table_store.specs.Loading.{IsRefusedTable};
 ghost use Rattle.table_store.specs.Table.{keys_of};
 
 use crate::cells::Cells;
 use crate::fault::LoadFault;
-use crate::keys::{KeyFault, Keys};
+use crate::keys::Keys;
 use cell_types::Value;
 use csvw_meta::Schema;
 use std::alloc::{AllocError, Global};
@@ -97,23 +97,7 @@ impl Table {
             (IsRefusedTable limit (option_map (λ bytes. bytes.items) file) (schema_view schema))) }
         ensures memory { IfErr result (λ e. load_cause e ≡ None → e ≡ LoadFault.NoMemory) }
     {
-        let cells = Cells::read(alloc, limit, schema, file)?;
-        match Keys::of(alloc, &cells) {
-            Ok(keys) => Ok(Table { cells, keys }),
-            Err(fault) => Err(key_fault(cells, fault)),
-        }
-    }
-}
-
-/// The error of a folder that the fault of the keys of a table is.
-fn key_fault(cells: Cells, fault: KeyFault) -> LoadFault
-    ensures cause { load_cause result ≡ option_map (bad_table cells.schema.url) (key_cause fault) }
-    ensures memory { load_cause result ≡ None → result ≡ LoadFault.NoMemory }
-{
-    let table = cells.into_url();
-    match fault {
-        KeyFault::Null(row) => LoadFault::KeyNull { table, row },
-        KeyFault::Twice(row) => LoadFault::KeyTwice { table, row },
-        KeyFault::NoMemory => LoadFault::NoMemory,
+        let (cells, keys) = Cells::read(alloc, limit, schema, file)?;
+        Ok(Table { cells, keys })
     }
 }

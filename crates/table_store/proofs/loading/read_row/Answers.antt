@@ -1,0 +1,68 @@
+use Rattle.std.proofs.Common.{◌≡◌, ◌+◌, ◌≤◌, true, not, [], ◌∷◌, ◌++◌, Some, Ok, length, map, take, drop, slice_get, ap, sym, ◌∙◌, arith, inl, inr}
+use Rattle.std.proofs.lemmas.List.{length-drop, map-append}
+use Rattle.std.specs.Result.{is_ok, result_err}
+use Rattle.cell_types.specs.Column.{column_view}
+use Rattle.cell_types.specs.Value.{value_view}
+use Rattle.csv_index.specs.Raws.{RawField}
+use Rattle.csv_index.specs.declared.raw.Raw.{Raw}
+use Rattle.table_store.proofs.PlaceLemmas.{drop-first, slice_get-from_read, slice_get-take}
+use Rattle.table_store.proofs.RowLemmas.{values_from-none, values_in-more, values_in-all, wrong_from-here, wrong_from-past, wrong_from-end}
+use Rattle.table_store.proofs.loading.read_row.Goals.{In-Some}
+use Rattle.table_store.proofs.loading.read_row.Goals as goal
+
+abbrev as_it_stands : Raw → RawField
+as_it_stands raw = record { bytes = raw.bytes.now; quoted = raw.quoted }
+
+-- the field that is read is the column's, and those behind it are left
+next_field : (c : In-Some) → (slice_get (take (length c.args.columns.now) c.args.fields.now) c.loop-col.col ≡ Some (as_it_stands c.in-Some.raw))
+    × (drop (c.loop-col.col + 1) c.args.fields.now ≡ c.next_field.new.self)
+next_field c =
+    let next = drop-first c.args.fields.now c.loop-col.col (as_it_stands c.in-Some.raw) c.next_field.new.self (sym c.loop-col.invariant.passed ∙ c.in-Some.ensures) in
+    (slice_get-take (length c.args.columns.now) c.args.fields.now c.loop-col.col c.loop-col-test.true ∙ next.0, next.1)
+
+pub unreachable-requires : goal.unreachable-requires
+unreachable-requires c =
+    let none : drop c.loop-col.col c.args.fields.now ≡ [] = sym c.loop-col.invariant.passed ∙ c.in_default.ensures.0 in
+    let size : length (drop c.loop-col.col c.args.fields.now) ≡ 0 = ap length none in
+    omega (arith, size, length-drop c.loop-col.col c.args.fields.now, c.requires.width, c.loop-col-test.true)
+
+pub returns-in-Err-clause-fault : goal.returns-in-Err-clause-fault
+returns-in-Err-clause-fault c =
+    let col = c.loop-col.col in
+    let fields = take (length c.args.columns.now) c.args.fields.now in
+    let at_column = slice_get-from_read c.args.columns.now col c.index-columns-col.result c.loop-col-test.true c.index-columns-col.is in
+    let at_field = (next_field (goal.at.returns-in-Err-clause-fault c).In-Some).0 in
+    elim c.in-Err.ensures.fault [
+      | inl memory ↦ inl memory
+      | inr e ↦
+          inr (sym c.loop-col.invariant.right
+          ∙ wrong_from-here c.args.columns.now fields col c.index-columns-col.result (as_it_stands c.in-Some.raw) c.in-Err.fault at_column at_field e)
+    ]
+
+pub loop-col-preserved : goal.loop-col-preserved
+loop-col-preserved c =
+    let col = c.loop-col.col in
+    let columns = c.args.columns.now in
+    let column = c.index-columns-col.result in
+    let value = c.in-Ok.value in
+    let fields = take (length columns) c.args.fields.now in
+    let at_column = slice_get-from_read columns col column c.loop-col-test.true c.index-columns-col.is in
+    let next = next_field (goal.at.loop-col-preserved c).In-Some in
+    let fits : is_ok c.push.result ≡ true = c.is_err.ensures.negation ∙ ap not c.if-is_err.false in
+    let pushes : c.push.new.self.items ≡ c.loop-col.values.items ++ value ∷ [] = rw fits at c.push.ensures.items in
+    let more = values_in-more columns fields col column (as_it_stands c.in-Some.raw) (value_view value) at_column next.0 c.in-Ok.ensures.value in
+    record {
+      right = sym (wrong_from-past columns fields col column (as_it_stands c.in-Some.raw) at_column next.0 (ap result_err c.in-Ok.ensures.value))
+          ∙ c.loop-col.invariant.right;
+      passed = sym next.1;
+      values = ap (map value_view) pushes ∙ map-append value_view c.loop-col.values.items (value ∷ [])
+          ∙ ap (λ xs. xs ++ value_view value ∷ []) c.loop-col.invariant.values ∙ sym more;
+    }
+
+pub returns-clause-values : goal.returns-clause-values
+returns-clause-values c =
+    let columns = c.args.columns.now in
+    let fields = take (length columns) c.args.fields.now in
+    let past : length columns ≤ c.loop-col.col = c.loop-col-test.false in
+    (values_from-none 0 (map column_view columns) fields (sym c.loop-col.invariant.right ∙ wrong_from-end columns fields c.loop-col.col past)).1
+    ∙ ap (λ values. Ok values) (sym (c.loop-col.invariant.values ∙ values_in-all columns fields c.loop-col.col past))
