@@ -1,18 +1,16 @@
 -- What is known of keys while rows are read, where one more is read; and the keys of a column of integers.
-use Rattle.std.proofs.Common.{◌≡◌, ℕ, ℤ, zero, suc, ◌<◌, Bool, true, false, not, cond, List, [], ◌∷◌, ◌++◌, length, get_or, Option, Some, None, slice_get, option_map, Result, Ok, Err, refl, sym, ap, ◌∙◌, inl, inr, arith}
+use Rattle.std.proofs.Common.{◌≡◌, ℕ, ℤ, zero, suc, ◌<◌, Bool, true, false, not, cond, List, [], ◌∷◌, ◌++◌, length, get_or, Option, Some, None, slice_get, option_map, Result, Ok, Err, refl, sym, ap, subst, ◌∙◌, inl, inr, arith}
 use Rattle.std.specs.List.{list_any}
 use Rattle.std.specs.Option.{option_or, is_some}
-use Rattle.std.specs.Str.Parse.{signed_digits_value}
 use Rattle.csv_index.specs.Raws.{RawField, raw_content}
 use Rattle.cell_types.specs.declared.cell.CellFault.{CellFault}
-use Rattle.cell_types.specs.declared.cell.CellFault.TheVariants.{NotInteger, OutOfRange, Missing}
 use Rattle.cell_types.specs.declared.value.Value.{Value}
 use Rattle.cell_types.specs.declared.value.Value.TheVariants as V
-use Rattle.cell_types.specs.Value.{CellValue, null, int, value_eq, value_view}
+use Rattle.cell_types.specs.Value.{CellValue, null, int, text, bool, date, value_eq, value_view}
 use Rattle.cell_types.specs.Column.{ColumnOf}
-use Rattle.cell_types.specs.Datatype.{DatatypeOf, integer}
-use Rattle.cell_types.specs.Integer.{is_integer, fits_64_bits, integer_of}
-use Rattle.cell_types.specs.Cell.{content_of, text_or_default, is_null_text, typed_value, null_reading, value_of}
+use Rattle.cell_types.specs.Datatype.{integer}
+use Rattle.cell_types.specs.Cell.{value_of}
+use Rattle.cell_types.specs.Laws.{IsOfColumn, IsOfDatatype, ValuesFitColumns}
 use Rattle.table_store.specs.declared.keys.Keys.{Keys}
 use Rattle.table_store.specs.declared.keys.KeyReader.{KeyReader}
 use Rattle.table_store.specs.Inside.{value_or_null, values_in}
@@ -21,43 +19,35 @@ use Rattle.table_store.specs.Keys.{keys_view, IsInteger, HasRead}
 use Rattle.table_store.proofs.KeyLemmas.{null_row-more, repeated_row-more, was_false}
 
 -- ---- integers
-integer_either : (b : Bool) (x y : Result CellValue CellFault) → IsInteger (value_or_null x) → IsInteger (value_or_null y) → IsInteger (value_or_null (cond b x y))
-integer_either true x y h k = h
-integer_either false x y h k = k
-
-integer_of-integer : (bytes : List ℕ) → IsInteger (value_or_null (integer_of bytes))
-unfolding integer_of
-integer_of-integer bytes =
-    let number = signed_digits_value 10 bytes in
-    integer_either (is_integer bytes) (cond (fits_64_bits number) (Ok (int number)) (Err OutOfRange)) (Err NotInteger)
-    (integer_either (fits_64_bits number) (Ok (int number)) (Err OutOfRange) (inr (number, refl)) (inl refl)) (inl refl)
-
-typed_value-integer : (datatype : DatatypeOf) (bytes : List ℕ) → datatype ≡ integer → IsInteger (value_or_null (typed_value datatype bytes))
-typed_value-integer datatype bytes e = rw e (integer_of-integer bytes)
-
 -- a column of integers has no other values
-value_of-integer : (column : ColumnOf) (bytes : List ℕ) → column.datatype ≡ integer → IsInteger (value_or_null (value_of column bytes))
-value_of-integer column bytes e =
-    let content = text_or_default column (content_of column.datatype bytes) in
-    integer_either (is_null_text column content) (null_reading column) (typed_value column.datatype content)
-    (integer_either column.required (Err Missing) (Ok null) (inl refl) (inl refl))
-    (typed_value-integer column.datatype content e)
+fits_integer : (column : ColumnOf) (value : CellValue) → column.datatype ≡ integer → IsOfColumn column value → IsInteger value
+fits_integer column null e fits = inl refl
+fits_integer column (int z) e fits = inr (z, refl)
+fits_integer column (text t) e fits = absurd (subst (λ datatype. IsOfDatatype datatype (text t)) e fits)
+fits_integer column (bool b) e fits = absurd (subst (λ datatype. IsOfDatatype datatype (bool b)) e fits)
+fits_integer column (date y m d) e fits = absurd (subst (λ datatype. IsOfDatatype datatype (date y m d)) e fits)
 
-values_in-integer : (columns : List ColumnOf) (fields : List RawField) (place : ℕ) → option_map (λ (column : ColumnOf). column.datatype) (slice_get columns place) ≡ Some integer
-    → IsInteger (get_or (values_in columns fields) place null)
-values_in-integer [] fields place e = absurd (let n : None ≡ Some integer = e in cc)
-values_in-integer (column ∷ columns) [] place e = inl refl
-values_in-integer (column ∷ columns) (field ∷ fields) zero e =
-    let same : Some column.datatype ≡ Some integer = e in
-    value_of-integer column (raw_content field) cc
-values_in-integer (column ∷ columns) (field ∷ fields) (suc place) e = values_in-integer columns fields place e
+read_integer : (column : ColumnOf) (reading : Result CellValue CellFault) → column.datatype ≡ integer → ((value : CellValue) → reading ≡ Ok value → IsOfColumn column value)
+    → IsInteger (value_or_null reading)
+read_integer column (Ok value) e fit = fits_integer column value e (fit value refl)
+read_integer column (Err fault) e fit = inl refl
+
+values_in-integer : ValuesFitColumns → (columns : List ColumnOf) (fields : List RawField) (place : ℕ)
+    → option_map (λ (column : ColumnOf). column.datatype) (slice_get columns place) ≡ Some integer → IsInteger (get_or (values_in columns fields) place null)
+values_in-integer fit [] fields place e = absurd (let n : None ≡ Some integer = e in cc)
+values_in-integer fit (column ∷ columns) [] place e = inl refl
+values_in-integer fit (column ∷ columns) (field ∷ fields) zero e =
+    let some : Some column.datatype ≡ Some integer = e in
+    let same : column.datatype ≡ integer = cc in
+    read_integer column (value_of column (raw_content field)) same (fit column (raw_content field))
+values_in-integer fit (column ∷ columns) (field ∷ fields) (suc place) e = values_in-integer fit columns fields place e
 
 -- so the key that is that column suits
-pub integer_suits : (columns : List ColumnOf) (places : List ℕ) (place : ℕ) (fields : List RawField) → places ≡ place ∷ []
+pub integer_suits : ValuesFitColumns → (columns : List ColumnOf) (places : List ℕ) (place : ℕ) (fields : List RawField) → places ≡ place ∷ []
     → option_map (λ (column : ColumnOf). column.datatype) (slice_get columns place) ≡ Some integer
     → (value : CellValue) × IsInteger value × (row_key places (values_in columns fields) ≡ value ∷ [])
-integer_suits columns places place fields one e =
-    (get_or (values_in columns fields) place null, values_in-integer columns fields place e, ap (λ ps. row_key ps (values_in columns fields)) one)
+integer_suits fit columns places place fields one e =
+    (get_or (values_in columns fields) place null, values_in-integer fit columns fields place e, ap (λ ps. row_key ps (values_in columns fields)) one)
 
 pub no_key_suits : (places : List ℕ) (values : List CellValue) → length places ≡ 0 → row_key places values ≡ []
 no_key_suits [] values e = refl

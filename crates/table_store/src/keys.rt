@@ -55,6 +55,7 @@ impl KeyReader {
         ensures suits { IfOk result (λ reader. (fields : List RawField)
             → Suits reader.keys (row_key (schema_view schema.now).key (values_in (schema_view schema.now).columns fields))) }
     {
+        cell_types::values_fit_columns();
         let keys = match schema.key.as_slice() {
             [] => Keys::Absent,
             [place] if has_integers(schema, *place) => {

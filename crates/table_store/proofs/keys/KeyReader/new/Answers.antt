@@ -16,7 +16,7 @@ returns-clause-suits c fields =
       | in-empty w ↦ subst (λ keys. Suits keys key) (sym w.keys-is)
           (no_key_suits schema.key (values_in schema.columns fields) (omega (arith, w.in-empty.len_below, ap length c.as_slice.ensures.value)))
       | in-len1+in_ok-with_capacity-in-len1 w ↦ subst (λ keys. Suits keys key) (sym w.keys-is)
-          (integer_suits schema.columns schema.key (get_or c.as_slice.result.now 0 0) fields
+          (integer_suits c.values_fit_columns.ensures schema.columns schema.key (get_or c.as_slice.result.now 0 0) fields
           (sym c.as_slice.ensures.value ∙ one_item c.as_slice.result.now 0 (omega (arith, w.in-len1.len_at_least, w.in-len1.len_below)))
           (w.has_integers.ensures w.if-has_integers.true))
       | else-as_slice-lt1+in_default+in_ok-with_capacity-in_default w ↦ subst (λ keys. Suits keys key) (sym w.keys-is) tt
