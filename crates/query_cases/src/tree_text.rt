@@ -66,7 +66,7 @@ fn print_literal(alloc: Global, out: &mut String, literal: &Literal) -> Result<(
 }
 
 /// Writes an expression with all parentheses.
-pub fn print(alloc: Global, out: &mut String, expr: &Expr) -> Result<(), Fail> {
+pub(crate) fn print(alloc: Global, out: &mut String, expr: &Expr) -> Result<(), Fail> {
     match expr {
         Expr::Literal(literal) => print_literal(alloc, out, literal)?,
         Expr::Name(name) => out.push_str(name.as_str())?,
