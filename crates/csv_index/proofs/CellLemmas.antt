@@ -2,14 +2,14 @@
 use Rattle.std.proofs.Common.{◌≡◌, ℕ, suc, zero, ◌+◌, ◌*◌, ◌<◌, ◌≤◌, List, [], ◌∷◌, ◌++◌, length, map, drop, subst, Some, add-one, refl, ap, ◌∙◌, sym, arith, true}
 use Rattle.std.proofs.Math.Seq.{drop-append-add}
 use Rattle.std.proofs.Math.Nat.{mul-le-mul}
-use Rattle.std.specs.List.{slice_get, slice_range, flat_map, AllByRecursion}
+use Rattle.std.specs.List.{slice_get, slice_index, slice_range, flat_map, AllByRecursion}
 use Rattle.std.specs.Option.{option_map, option_and_then}
 use Rattle.std.proofs.lemmas.Option.{slice_get-map}
 use Rattle.std.specs.Str.{is_utf8}
 use Rattle.csv_grammar.specs.Records.{Field}
 use Rattle.csv_grammar.specs.Files.{HasWidth}
-use Rattle.csv_index.specs.Raws.{RawField, raw_of, raw_between}
-use Rattle.csv_index.specs.Places.{Places, cut, raws, start_at, Rise, FitsFile, IsIndexOf, cell_at}
+use Rattle.csv_index.specs.Raw.{RawField, raw_of, raw_between}
+use Rattle.csv_index.specs.Index.{Places, cut, raws, start_at, Rise, AreAscii, FitsFile, IsIndexOf, cell_at}
 
 -- what is in a list behind a front
 pub slice_get-behind : {A : Type 0} (xs ys : List A) (n k : ℕ) → n ≡ length xs + k → slice_get (xs ++ ys) n ≡ slice_get ys k
@@ -153,6 +153,7 @@ cell_from_raws places bytes row col raw header rows h e index =
 pub record FieldsBehind (places : Places) (bytes : List ℕ) (row start : ℕ) (ends : List ℕ) : Type 0 where
   pub rise : Rise start ends (length bytes)
   pub text : AllByRecursion (λ raw. is_utf8 raw.bytes ≡ true) (map raw_between (cut start ends bytes))
+  pub ascii : AreAscii bytes ends
   pub are : map raw_between (cut start ends bytes) ≡ drop ((row + 1) * places.width) (raws places bytes)
 
 pub fields_behind : (places : Places) (bytes : List ℕ) (row before end : ℕ) (ends : List ℕ) → FitsFile places bytes → (row + 1) * places.width ≡ before + 1
@@ -165,5 +166,6 @@ fields_behind places bytes row before end ends fits n e is =
     ∙ map-drop raw_between (suc before) (cut places.start places.ends bytes) in record {
       rise = subst (λ l. Rise (end + 1) l (length bytes)) (sym these) (rise_behind places.start (length bytes) places.ends before end fits.rise e);
       text = subst (AllByRecursion (λ raw. is_utf8 raw.bytes ≡ true)) (sym pieces) (all_drop (λ raw. is_utf8 raw.bytes ≡ true) (suc before) (raws places bytes) fits.text);
+      ascii = subst (AreAscii bytes) (sym these) (all_drop (λ end. slice_index bytes end < 128) (suc before) places.ends fits.ascii);
       are = pieces ∙ ap (λ k. drop k (raws places bytes)) (sym (n ∙ add-one before));
     }

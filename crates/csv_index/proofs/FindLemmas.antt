@@ -5,7 +5,7 @@ use Rattle.std.specs.Prelude.{slice_get, option_to_list}
 use Rattle.std.specs.Int.{bit_at, bit_not}
 use Rattle.std.proofs.Math.Seq.{drop-append-add}
 use Rattle.std.proofs.lemmas.Nat.Bits.{bit_at-lt, bit_at_and, bit_at-zero, bit_at_mask_below, bit_at_mask_inside, bit_at_clear_same, bit_at_clear_other, ones_shl}
-use Rattle.csv_index.specs.Places.{Rise}
+use Rattle.csv_index.specs.Index.{Rise}
 use Rattle.csv_index.specs.Blocks.{set_places, block_ends, block_places, Stands}
 use Rattle.csv_index.specs.Structure.{ends_of}
 use Rattle.csv_index.specs.declared.blocks.Block.{Block}

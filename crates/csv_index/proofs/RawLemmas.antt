@@ -1,11 +1,13 @@
 -- Pairs of double quotes: what halving makes of a text, piece by piece.
-use Rattle.std.proofs.Common.{◌≡◌, ◌≢◌, ℕ, suc, ◌<◌, ◌≤◌, List, [], ◌∷◌, ◌++◌, length, length-append, take, drop, true, false, Bool, None, append_assoc, refl, ap, ◌∙◌, sym, arith}
+use Rattle.std.proofs.Common.{◌≡◌, ◌≢◌, ℕ, suc, ◌<◌, ◌≤◌, List, [], ◌∷◌, ◌++◌, length, length-append, take, drop, true, false, Bool, None, subst, ◌==◌, ◌||◌, append_assoc, refl, ap, ◌∙◌, sym, arith}
 use Rattle.std.proofs.lemmas.Bool.Decides.{nat_tests}
 use Rattle.std.proofs.lemmas.List.{take-append-drop, length-take}
 use Rattle.std.specs.Bool.{MatchBool}
+use Rattle.std.specs.List.{list_any}
 use Rattle.std.specs.Str.Pattern.{LacksTextAt, FindsText, SplitsAroundMatch, HasMatch}
+use Rattle.csv_grammar.specs.Bytes.{double_quote}
 use Rattle.csv_grammar.specs.Records.{Field, unquoted, quoted, content, doubled}
-use Rattle.csv_index.specs.Raws.{RawField, raw_of, raw_content, halved}
+use Rattle.csv_index.specs.Raw.{RawField, raw_of, raw_content, halved}
 
 -- a double quote as it is written inside a quoted field
 abbrev pub pair : List ℕ
@@ -82,6 +84,17 @@ halved-differs bytes (i, j, found, le, fits) =
 pub pair_changes : (bytes : List ℕ) (b : Bool) → MatchBool b (HasMatch (FindsText pair) bytes) (FindsText pair bytes None) → MatchBool b (halved bytes ≢ bytes) (halved bytes ≡ bytes)
 pair_changes bytes true found = halved-differs bytes found
 pair_changes bytes false lacks = halved-whole bytes lacks
+
+neither : (s t : Bool) → s || t ≡ false → (s ≡ false) × (t ≡ false)
+neither true t h = absurd (cc)
+neither false t h = (refl, h)
+
+-- nor does a text with no double quote
+pub halved-no_quote : (bytes : List ℕ) → list_any (λ byte. byte == double_quote) bytes ≡ false → halved bytes ≡ bytes
+halved-no_quote [] none = refl
+halved-no_quote (b ∷ bytes) none =
+    let parts = neither (b == double_quote) (list_any (λ byte. byte == double_quote) bytes) none in
+    halved-other b bytes (λ e. let same : (34 == double_quote) ≡ false = subst (λ k. (k == double_quote) ≡ false) e parts.0 in absurd (cc)) ∙ ap (λ rest. b ∷ rest) (halved-no_quote bytes parts.1)
 
 -- the content of a field is that of how it stands
 pub content-from_raw : (field : Field) (raw : RawField) → raw_of field ≡ raw → raw_content raw ≡ content field

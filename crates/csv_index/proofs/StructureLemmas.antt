@@ -445,6 +445,8 @@ reads_as laws file mark n carry blocks widths before was utf8 within boundary re
           raws = pieces.are;
           rise = pieces.rise;
           text = tree_texts tree (subst IsUtf8 are.printed (IsUtf8-drop file mark utf8 boundary));
+          boundary = boundary;
+          ascii = pieces.ascii;
         });
         count = ap (λ (w : Widths). w.records) counts ∙ c.count;
         widths = subst (λ (w : Widths). CountsWidths w.width w.uneven (records_of tree)) (sym counts) c.widths;

@@ -7,8 +7,8 @@ use Rattle.std.proofs.lemmas.List.{length-map}
 use Rattle.csv_grammar.specs.Records.{Field, Line, IsRecord, IsLast, AreRecords}
 use Rattle.csv_grammar.specs.Faults.{HasFault}
 use Rattle.csv_grammar.specs.Files.{IsFileFault, mark_len, text_of, HasWidth}
-use Rattle.csv_index.specs.Raws.{raw_of, raw_between}
-use Rattle.csv_index.specs.Places.{Places, cut, Rise, IsIndexOf}
+use Rattle.csv_index.specs.Raw.{raw_of, raw_between}
+use Rattle.csv_index.specs.Index.{Places, cut, Rise, IsIndexOf}
 use Rattle.csv_index.specs.declared.blocks.Block.{Block}
 use Rattle.csv_index.specs.declared.widths.Widths.{Widths}
 use Rattle.csv_index.specs.Fault.{text_cause}
@@ -61,6 +61,8 @@ index_in file header rows blocks last w utf8 read even =
         count = rw (more, widths.0) count;
         rise = read.cuts.rise;
         text = subst (AllByRecursion (λ raw. is_utf8 raw.bytes ≡ true)) (sym read.cuts.raws) read.cuts.text;
+        boundary = read.cuts.boundary;
+        ascii = read.cuts.ascii;
       };
     }
 

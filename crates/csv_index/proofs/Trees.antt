@@ -1,6 +1,6 @@
 -- The structural places of a tree part its bytes into its fields.
 use Rattle.std.proofs.Common.{◌≡◌, ℕ, ◌+◌, ◌-◌, ◌<◌, ◌≤◌, List, [], ◌∷◌, ◌++◌, length, length-append, length-drop, append_assoc, append-nil, get_or, take, drop, map, true, Option, Some, None, refl, sym, ap, ◌∙◌, subst, arith}
-use Rattle.std.specs.Prelude.{IsUtf8, slice_range, option_to_list, IfSome}
+use Rattle.std.specs.Prelude.{IsUtf8, slice_index, slice_range, option_to_list, IfSome}
 use Rattle.std.specs.List.{AllByRecursion, flat_map}
 use Rattle.std.specs.Str.{is_utf8}
 use Rattle.std.proofs.lemmas.List.{take_at, drop_at, get_or_at, drop-drop, length-map, map-append}
@@ -9,9 +9,10 @@ use Rattle.std.proofs.lemmas.Str.{IsUtf8-drop, is_utf8-from_IsUtf8, IsCharBounda
 use Rattle.csv_grammar.specs.Bytes.{comma, carriage_return, line_feed}
 use Rattle.csv_grammar.specs.Records.{Field, print_field, IsField, print_record, IsRecord, IsLast, LineBreak, crlf, lf, Line, print_break, print_line, CsvText, print_last, print_text, IsText, records_of}
 use Rattle.csv_grammar.specs.Structure.{Role, separator, inner, field_roles, record_roles, break_roles, line_roles, last_roles, text_roles}
-use Rattle.csv_index.specs.Raws.{RawField, raw_of, raw_between}
-use Rattle.csv_index.specs.Places.{cut, Rise}
+use Rattle.csv_index.specs.Raw.{RawField, raw_of, raw_between}
+use Rattle.csv_index.specs.Index.{cut, Rise, AreAscii}
 use Rattle.csv_index.specs.Structure.{all_fields}
+use Rattle.csv_index.proofs.Boundaries.{ascii_at, ascii_end}
 use Rattle.csv_index.proofs.Bits.{role_places, role_places-append}
 use Rattle.csv_index.proofs.FieldBytes.{raw_between_field, raw_between_return, utf8_before, utf8_behind, utf8_field}
 
@@ -19,6 +20,7 @@ use Rattle.csv_index.proofs.FieldBytes.{raw_between_field, raw_between_return, u
 pub record Pieces (file : List ℕ) (at : ℕ) (ends : List ℕ) (raws : List RawField) : Type 0 where
   pub are : map raw_between (cut at ends file) ≡ raws
   pub rise : Rise at ends (length file)
+  pub ascii : AreAscii file ends
 
 piece : (file bytes rest : List ℕ) (at end : ℕ) → drop at file ≡ bytes ++ rest → end ≡ at + length bytes → slice_range file at end ≡ bytes
 piece file bytes rest at end e h = ap (take (end - at)) e ∙ take_at bytes rest (end - at) (omega arith)
@@ -33,11 +35,12 @@ behind file bytes b rest at to e h =
 
 -- one piece more
 first_piece : (file bytes rest : List ℕ) (at end : ℕ) (ends : List ℕ) (raw : RawField) (raws : List RawField) → at ≤ length file → drop at file ≡ bytes ++ rest
-    → end ≡ at + length bytes → raw_between bytes ≡ raw → Pieces file (end + 1) ends raws → Pieces file at (end ∷ ends) (raw ∷ raws)
-first_piece file bytes rest at end ends raw raws within e h is more =
+    → end ≡ at + length bytes → slice_index file end < 128 → raw_between bytes ≡ raw → Pieces file (end + 1) ends raws → Pieces file at (end ∷ ends) (raw ∷ raws)
+first_piece file bytes rest at end ends raw raws within e h small is more =
     let size = piece_end file bytes rest at within e in record {
       are = ap (λ r. r ∷ map raw_between (cut (end + 1) ends file)) (ap raw_between (piece file bytes rest at end e h) ∙ is) ∙ ap (λ rs. raw ∷ rs) more.are;
       rise = (omega arith, omega arith, more.rise);
+      ascii = (small, more.ascii);
     }
 
 -- ---- the places of a record
@@ -59,13 +62,13 @@ no_return field valid = ap raw_between (append-nil (print_field field)) ∙ raw_
 
 record_pieces : (file ret rest : List ℕ) (at end : ℕ) (fields : List Field) (more : List ℕ) (raws : List RawField) → IsReturn ret → AllByRecursion IsField fields
     → 0 < length fields → at ≤ length file → drop at file ≡ print_record fields ++ (ret ++ rest) → end ≡ at + length (print_record fields) + length ret
-    → Pieces file (end + 1) more raws → Pieces file at (role_places at (record_roles fields) ++ end ∷ more) (map raw_of fields ++ raws)
-record_pieces file ret rest at end [] more raws is valid some within e h pieces = absurd (omega arith)
-record_pieces file ret rest at end (field ∷ []) more raws is valid some within e h pieces =
+    → slice_index file end < 128 → Pieces file (end + 1) more raws → Pieces file at (role_places at (record_roles fields) ++ end ∷ more) (map raw_of fields ++ raws)
+record_pieces file ret rest at end [] more raws is valid some within e h small pieces = absurd (omega arith)
+record_pieces file ret rest at end (field ∷ []) more raws is valid some within e h small pieces =
     subst (λ l. Pieces file at (l ++ end ∷ more) (raw_of field ∷ raws)) (sym (no_places at (print_field field)))
     (first_piece file (print_field field ++ ret) rest at end more (raw_of field) raws within (e ∙ sym (append_assoc (print_field field) ret rest))
-    (omega (arith, length-append (print_field field) ret)) (is field valid.0) pieces)
-record_pieces file ret rest at end (field ∷ next ∷ fields) more raws is valid some within e h pieces =
+    (omega (arith, length-append (print_field field) ret)) small (is field valid.0) pieces)
+record_pieces file ret rest at end (field ∷ next ∷ fields) more raws is valid some within e h small pieces =
     let behind_comma : List ℕ = print_record (next ∷ fields) ++ (ret ++ rest) in
     let whole : drop at file ≡ print_field field ++ comma ∷ behind_comma = e ∙ append_assoc (print_field field) (comma ∷ print_record (next ∷ fields)) (ret ++ rest) in
     let size = piece_end file (print_field field) (comma ∷ behind_comma) at within whole in
@@ -74,9 +77,10 @@ record_pieces file ret rest at end (field ∷ next ∷ fields) more raws is vali
     subst (λ l. Pieces file at (l ++ end ∷ more) (raw_of field ∷ map raw_of (next ∷ fields) ++ raws))
     (sym (inner_places at place (print_field field) (separator ∷ record_roles (next ∷ fields)) refl))
     (first_piece file (print_field field) (comma ∷ behind_comma) at place (role_places (place + 1) (record_roles (next ∷ fields)) ++ end ∷ more) (raw_of field) _ within whole refl
+    (ascii_at file (print_field field) comma behind_comma at place whole refl (omega arith))
     (raw_between_field field valid.0)
     (record_pieces file ret rest (place + 1) end (next ∷ fields) more raws is valid.1 (omega arith) (omega arith)
-    (behind file (print_field field) comma behind_comma at (place + 1) whole refl) (omega arith) pieces))
+    (behind file (print_field field) comma behind_comma at (place + 1) whole refl) (omega arith) small pieces))
 
 pub length-record_roles : (fields : List Field) → length (record_roles fields) ≡ length (print_record fields)
 length-record_roles [] = refl
@@ -147,7 +151,8 @@ lines_pieces file rest at to (line ∷ lines) roles more raws valid within e h p
     let parts = length-append (print_record line.fields) (return_of line.end) in
     let next = lines_pieces file rest (end + 1) to lines roles more raws valid.1 (omega arith)
     (behind file (print_record line.fields ++ return_of line.end) line_feed others at (end + 1) whole_line (omega arith)) (omega (arith, line_length line)) pieces in
-    let these = record_pieces file (return_of line.end) (line_feed ∷ others) at end line.fields _ _ (is_return line.end) valid.0.1 valid.0.0 within whole refl next in
+    let these = record_pieces file (return_of line.end) (line_feed ∷ others) at end line.fields _ _ (is_return line.end) valid.0.1 valid.0.0 within whole refl
+    (ascii_at file (print_record line.fields ++ return_of line.end) line_feed others at end whole_line (omega arith) (omega arith)) next in
     subst (λ l. Pieces file at l (map raw_of (lines_fields (line ∷ lines)) ++ raws))
     (sym (append_assoc (role_places at (record_roles line.fields)) (end ∷ role_places (end + 1) (flat_map line_roles lines ++ roles)) more)
     ∙ ap (λ l. l ++ more) (sym (line_places at end line (flat_map line_roles lines ++ roles) refl) ∙ ap (role_places at) (sym (append_assoc (line_roles line) (flat_map line_roles lines) roles))))
@@ -162,11 +167,11 @@ last_end size (Some fields) = Some size
 
 last_pieces : (file : List ℕ) (to : ℕ) (last : Option (List Field)) → IfSome last IsLast → to ≤ length file → drop to file ≡ print_last last
     → Pieces file to (role_places to (last_roles last) ++ option_to_list (last_end (length file) last)) (map raw_of (all_fields (option_to_list last)))
-last_pieces file to None valid within e = record { are = refl; rise = tt }
+last_pieces file to None valid within e = record { are = refl; rise = tt; ascii = tt }
 last_pieces file to (Some fields) valid within e =
     subst (Pieces file to (role_places to (record_roles fields) ++ length file ∷ [])) (append-nil (map raw_of fields) ∙ ap (map raw_of) (sym (append-nil fields)))
     (record_pieces file [] [] to (length file) fields [] [] no_return valid.0.1 valid.0.0 within (e ∙ sym (append-nil (print_record fields)))
-    (omega (arith, length-drop to file, ap length e)) (record { are = refl; rise = tt }))
+    (omega (arith, length-drop to file, ap length e)) (ascii_end file (length file) refl) (record { are = refl; rise = tt; ascii = tt }))
 
 pub tree_pieces : (file : List ℕ) (mark : ℕ) (tree : CsvText) → IsText tree → mark ≤ length file → drop mark file ≡ print_text tree
     → Pieces file mark (role_places mark (text_roles tree) ++ option_to_list (last_end (length file) tree.last)) (map raw_of (all_fields (records_of tree)))

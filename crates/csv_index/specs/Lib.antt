@@ -1,5 +1,5 @@
-pub mod Raws
-pub mod Places
+pub mod Raw
+pub mod Index
 pub mod Fault
 pub mod Blocks
 pub mod Widths

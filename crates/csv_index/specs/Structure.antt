@@ -1,12 +1,12 @@
 -- What a reading of a whole file says, in the words of the grammar.
 use Rattle.std.specs.Prelude.{◌≡◌, ◌⊎◌, ℕ, ◌+◌, ◌*◌, ◌^◌, ◌<◌, true, List, ◌++◌, length, map, drop, Option, Some, option_to_list}
 use Rattle.std.specs.List.{flat_map, AllByRecursion}
-use Rattle.std.specs.Str.{is_utf8}
+use Rattle.std.specs.Str.{is_utf8, IsCharBoundary}
 use Rattle.csv_grammar.specs.Records.{Field, AreRecords}
 use Rattle.csv_grammar.specs.Faults.{Cause, HasFault}
 use Rattle.csv_grammar.specs.Files.{malformed}
-use Rattle.csv_index.specs.Raws.{raw_of, raw_between}
-use Rattle.csv_index.specs.Places.{cut, Rise}
+use Rattle.csv_index.specs.Raw.{raw_of, raw_between}
+use Rattle.csv_index.specs.Index.{cut, Rise, AreAscii}
 use Rattle.csv_index.specs.Blocks.{block_places, AreRanked}
 use Rattle.csv_index.specs.Widths.{CountsWidths}
 use Rattle.csv_index.specs.Fault.{text_cause}
@@ -19,11 +19,13 @@ use Rattle.csv_index.specs.declared.fault.TextFault.TheVariants.{NoMemory}
 abbrev pub all_fields : List (List Field) → List Field
 all_fields records = flat_map (λ fields. fields) records
 
--- the places are those behind these fields, and each field is text
+-- the places are those behind these fields, each field is text, and no character is cut
 pub record Cuts (file : List ℕ) (mark : ℕ) (ends : List ℕ) (fields : List Field) : Type 0 where
   pub raws : map raw_between (cut mark ends file) ≡ map raw_of fields
   pub rise : Rise mark ends (length file)
   pub text : AllByRecursion (λ raw. is_utf8 raw.bytes ≡ true) (map raw_of fields)
+  pub boundary : IsCharBoundary file mark
+  pub ascii : AreAscii file ends
 
 -- the places behind the fields: those of the blocks, and the end of a last record with no line break
 abbrev pub ends_of : ℕ → List Block → Option ℕ → List ℕ

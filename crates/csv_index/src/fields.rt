@@ -11,26 +11,29 @@ pub struct Fields<'i, 'a> {
     /// The places behind them.
     pub(crate) ends: Ends<'i>,
     /// The file.
-    pub(crate) bytes: &'a [u8],
+    pub(crate) bytes: &'a str,
     /// Where the next one begins.
     pub(crate) start: usize,
 }
 
 impl<'i, 'a> Model for Fields<'i, 'a> {
-    ghost use Rattle.std.specs.Prelude.{◌≡◌, List, map, length, true};
+    ghost use Rattle.std.specs.Prelude.{◌≡◌, ◌<◌, List, map, length, true, IsUtf8};
     ghost use Rattle.std.specs.List.{AllByRecursion};
-    ghost use Rattle.std.specs.Str.{is_utf8};
-    ghost use Rattle.csv_index.specs.Raws.{RawField, raw_between};
+    ghost use Rattle.std.specs.Str.{is_utf8, IsCharBoundary};
+    ghost use Rattle.csv_index.specs.Raw.{RawField, raw_between};
 
     ghost Value = { List RawField };
 
-    ghost use Rattle.csv_index.specs.Places.{cut, Rise};
+    ghost use Rattle.csv_index.specs.Index.{cut, Rise, AreAscii};
 
     ghost view = { λ f. map raw_between (cut f.start f.ends f.bytes.now) };
 
     ghost invariant = { λ f. record {
       rise : Rise f.start f.ends (length f.bytes.now);
       text : AllByRecursion (λ raw. is_utf8 raw.bytes ≡ true) (map raw_between (cut f.start f.ends f.bytes.now));
+      utf8 : IsUtf8 f.bytes.now;
+      boundary : 0 < length f.ends → IsCharBoundary f.bytes.now f.start;
+      ascii : AreAscii f.bytes.now f.ends;
     } };
 }
 

@@ -1,10 +1,11 @@
 //! The places of a file's fields.
 ghost use Rattle.std.specs.Prelude.{◌≡◌, ◌≤◌, ◌<◌, ◌+◌, ◌*◌, List, Some, IfOk, IfErr, IfSome, IsUtf8, slice_get, slice_range, length, drop, map};
 ghost use Rattle.std.specs.List.{flat_map};
+ghost use Rattle.std.specs.Str.{IsCharBoundary};
 ghost use Rattle.csv_grammar.specs.Records.{Field};
 ghost use Rattle.csv_grammar.specs.Files.{IsFileFault};
-ghost use Rattle.csv_index.specs.Raws.{raw_of};
-ghost use Rattle.csv_index.specs.Places.{FitsFile, IsIndexOf, raws, header_at, cell_at, start_at};
+ghost use Rattle.csv_index.specs.Raw.{raw_of};
+ghost use Rattle.csv_index.specs.Index.{FitsFile, IsIndexOf, raws, header_at, cell_at, start_at};
 ghost use Rattle.csv_index.specs.Fault.{text_cause};
 
 use crate::blocks::{Block, find};
@@ -30,12 +31,12 @@ pub struct Index {
 }
 
 impl Model for Index {
-    ghost use Rattle.csv_index.specs.Places.{Places};
+    ghost use Rattle.csv_index.specs.Index.{Places};
 
     ghost Value = { Places };
 
     ghost use Rattle.std.specs.Prelude.{◌+◌, ◌*◌, ◌^◌, ◌<◌, length};
-    ghost use Rattle.csv_index.specs.Places.{Rise};
+    ghost use Rattle.csv_index.specs.Index.{Rise};
     ghost use Rattle.csv_index.specs.Blocks.{AreRanked};
     ghost use Rattle.csv_index.specs.Structure.{ends_of};
 
@@ -60,6 +61,23 @@ impl Index {
         ensures fault { IfErr result (λ e. IfSome (text_cause e) (IsFileFault bytes.now)) }
     {
         check_text(bytes)?;
+        Index::read(alloc, bytes)
+    }
+
+    /// [`Index::build`] of bytes that are known to be UTF-8.
+    pub fn of_text(alloc: Global, bytes: &str) -> Result<Index, TextFault>
+        ensures table { IfOk result (λ index. (header : List Field) × (rows : List (List Field)) × IsIndexOf index bytes.now header rows) }
+        ensures fault { IfErr result (λ e. IfSome (text_cause e) (IsFileFault bytes.now)) }
+    {
+        Index::read(alloc, bytes.as_bytes())
+    }
+
+    /// The same, where the bytes are UTF-8.
+    fn read(alloc: Global, bytes: &[u8]) -> Result<Index, TextFault>
+        requires { IsUtf8 bytes.now }
+        ensures table { IfOk result (λ index. (header : List Field) × (rows : List (List Field)) × IsIndexOf index bytes.now header rows) }
+        ensures fault { IfErr result (λ e. IfSome (text_cause e) (IsFileFault bytes.now)) }
+    {
         let start = mark_len(bytes);
         let structure = Structure::of(alloc, bytes, start)?;
         let widths = structure.widths;
@@ -93,7 +111,7 @@ impl Index {
     }
 
     /// The header's field of a column, counted from 0. The bytes are those of `build`.
-    pub fn header<'a>(&self, bytes: &'a [u8], col: usize) -> Raw<'a>
+    pub fn header<'a>(&self, bytes: &'a str, col: usize) -> Raw<'a>
         requires bytes { FitsFile self.now bytes.now }
         requires col { col < self.now.width }
         ensures raw { slice_get (raws self.now bytes.now) col ≡ Some (record { bytes = result.bytes.now; quoted = result.quoted }) }
@@ -104,7 +122,7 @@ impl Index {
     }
 
     /// The field of a row and a column, both counted from 0. The bytes are those of `build`.
-    pub fn cell<'a>(&self, bytes: &'a [u8], row: usize, col: usize) -> Raw<'a>
+    pub fn cell<'a>(&self, bytes: &'a str, row: usize, col: usize) -> Raw<'a>
         requires bytes { FitsFile self.now bytes.now }
         requires row { row < self.now.rows }
         requires col { col < self.now.width }
@@ -119,7 +137,7 @@ impl Index {
 
     /// The fields from a row on, record after record, as [`Index::cell`] gives them one by one. The bytes are those of `build`. Each
     /// field is found from the one before it, with no search. It takes no memory.
-    pub fn fields<'i, 'a>(&'i self, bytes: &'a [u8], row: usize) -> Fields<'i, 'a>
+    pub fn fields<'i, 'a>(&'i self, bytes: &'a str, row: usize) -> Fields<'i, 'a>
         requires bytes { FitsFile self.now bytes.now }
         requires row { row ≤ self.now.rows }
         ensures raws { result ≡ drop ((row + 1) * self.now.width) (raws self.now bytes.now) }
@@ -135,7 +153,7 @@ impl Index {
     }
 
     /// The field of that number, the header's first and then record after record.
-    fn field<'a>(&self, bytes: &'a [u8], n: usize) -> Raw<'a>
+    fn field<'a>(&self, bytes: &'a str, n: usize) -> Raw<'a>
         requires bytes { FitsFile self.now bytes.now }
         requires n { n < length self.now.ends }
         ensures { slice_get (raws self.now bytes.now) n ≡ Some (record { bytes = result.bytes.now; quoted = result.quoted }) }
@@ -189,10 +207,12 @@ impl Index {
     }
 }
 
-/// The bytes from a place up to another.
-fn piece(bytes: &[u8], start: usize, end: usize) -> &[u8]
+/// The text from a place up to another.
+#[inline(always)]
+fn piece(bytes: &str, start: usize, end: usize) -> &str
     requires order { start ≤ end }
-    requires within { end ≤ length bytes.now }
+    requires start { IsCharBoundary bytes.now start }
+    requires end { IsCharBoundary bytes.now end }
     ensures { result.now ≡ slice_range bytes.now start end }
 {
     &bytes[start..end]

@@ -1,28 +1,30 @@
 //! A field as it stands in its file.
-ghost use Rattle.std.specs.Prelude.{◌≡◌, ◌≢◌, IfOk, IsOkAnd, string_bytes, true};
+ghost use Rattle.std.specs.Prelude.{◌≡◌, ◌≢◌, ◌==◌, IfOk, IsOkAnd, string_bytes, true};
 ghost use Rattle.std.specs.Bool.{MatchBool};
+ghost use Rattle.std.specs.List.{list_any};
 ghost use Rattle.std.specs.Str.{is_utf8};
 ghost use Rattle.std.specs.Cow.{cow_str_bytes, IsBorrowedStr};
-ghost use Rattle.csv_index.specs.Raws.{halved, without_return};
+ghost use Rattle.csv_grammar.specs.Bytes.{double_quote};
+ghost use Rattle.csv_index.specs.Raw.{halved, without_return};
 
 use std::alloc::{AllocError, Global};
 use std::borrow::CowStr;
 
-/// The bytes of a field without its enclosing double quotes, always UTF-8.
+/// The bytes of a field without its enclosing double quotes.
 #[derive(Clone, Copy, Debug)]
 pub struct Raw<'a> {
-    pub bytes: &'a [u8],
+    pub bytes: &'a str,
     /// Whether double quotes enclose the field, and each double quote in `bytes` is written as two.
     pub quoted: bool,
-    ghost utf8: { is_utf8 bytes.now ≡ true },
 }
 
 impl<'a> Raw<'a> {
-    ghost use Rattle.csv_index.specs.Raws.{raw_content, raw_of, raw_between};
+    ghost use Rattle.csv_index.specs.Raw.{raw_content, raw_of, raw_between};
     ghost use Rattle.csv_grammar.specs.Records.{Field, content};
 
     /// What the field says: each pair of double quotes inside a quoted field is one (RFC 4180, section 2, rule 7). It copies only
     /// where such a pair stands; an error is want of memory for that copy.
+    #[inline(always)]
     pub fn text(self, alloc: Global) -> Result<CowStr<'a>, AllocError>
         ensures content { IfOk result (λ text. cow_str_bytes text
             ≡ raw_content (record { bytes = self.entry.bytes.now; quoted = self.entry.quoted })) }
@@ -31,25 +33,26 @@ impl<'a> Raw<'a> {
         ensures borrowed { raw_content (record { bytes = self.entry.bytes.now; quoted = self.entry.quoted }) ≡ self.entry.bytes.now
             → IsOkAnd result (λ text. IsBorrowedStr text) }
     {
-        let text = utf8(self.bytes);
-        if self.quoted && has_pair(text) {
-            Ok(CowStr::Owned(halved(alloc, text)?))
+        if self.quoted && has_pair(self.bytes) {
+            Ok(CowStr::Owned(halved(alloc, self.bytes)?))
         } else {
-            Ok(CowStr::Borrowed(text))
+            Ok(CowStr::Borrowed(self.bytes))
         }
     }
 
-    /// The field that the bytes between two structural places are.
-    pub(crate) fn between(bytes: &'a [u8]) -> Raw<'a>
-        requires { is_utf8 (raw_between bytes.now).bytes ≡ true }
-        ensures { raw_between bytes.now ≡ record { bytes = result.bytes.now; quoted = result.quoted } }
+    /// The field that the text between two structural places is.
+    #[inline(always)]
+    pub(crate) fn between(piece: &'a str) -> Raw<'a>
+        requires { is_utf8 (raw_between piece.now).bytes ≡ true }
+        ensures { raw_between piece.now ≡ record { bytes = result.bytes.now; quoted = result.quoted } }
     {
-        match without_return(bytes) {
+        let field = without_return(piece);
+        match field.as_bytes() {
             [b'"', inner @ ..] => Raw {
-                bytes: &inner[..inner.len().saturating_sub(1)],
+                bytes: &field[1..inner.len().max(1)],
                 quoted: true,
             },
-            field => Raw {
+            _ => Raw {
                 bytes: field,
                 quoted: false,
             },
@@ -60,24 +63,14 @@ impl<'a> Raw<'a> {
 /// A double quote inside a quoted field is written as two.
 const PAIR: &str = "\"\"";
 
-/// The bytes without a CR at their end, which belongs to the line break.
-fn without_return(bytes: &[u8]) -> &[u8]
-    ensures { result.now ≡ without_return bytes.now }
+/// The text without a CR at its end, which belongs to the line break.
+#[inline(always)]
+fn without_return(text: &str) -> &str
+    ensures { result.now ≡ without_return text.now }
 {
-    match bytes {
-        [front @ .., b'\r'] => front,
-        _ => bytes,
-    }
-}
-
-/// The bytes as a text, which they are.
-fn utf8(bytes: &[u8]) -> &str
-    requires { is_utf8 bytes.now ≡ true }
-    ensures { result.now ≡ bytes.now }
-{
-    match std::str::from_utf8(bytes) {
-        Ok(text) => text,
-        Err(_) => unreachable!(),
+    match text.as_bytes() {
+        [front @ .., b'\r'] => &text[..front.len()],
+        _ => text,
     }
 }
 
@@ -85,7 +78,15 @@ fn utf8(bytes: &[u8]) -> &str
 fn has_pair(text: &str) -> bool
     ensures { MatchBool result (halved text.now ≢ text.now) (halved text.now ≡ text.now) }
 {
-    text.contains(PAIR)
+    has_quote(text) && text.contains(PAIR)
+}
+
+/// Whether a double quote stands in the text.
+#[inline(always)]
+fn has_quote(text: &str) -> bool
+    ensures { result ≡ list_any (λ byte. byte == double_quote) text.now }
+{
+    text.as_bytes().iter().any(|byte| *byte == b'"')
 }
 
 /// A copy of the text with each pair of double quotes made one, in one pass.

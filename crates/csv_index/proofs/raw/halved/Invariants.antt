@@ -2,7 +2,7 @@
 use Rattle.std.proofs.Common.{◌≡◌, ◌++◌, string_bytes, length}
 use denote.Text.{Utf8}
 use denote.Shadow.{shadow}
-use Rattle.csv_index.specs.Raws.{halved}
+use Rattle.csv_index.specs.Raw.{halved}
 use Rattle.csv_index.proofs.raw.halved.Given as goal
 
 abbrev pub invariant-loop-front : goal.invariant-loop-front

@@ -3,8 +3,9 @@ use Rattle.std.proofs.Common.{◌≡◌, Some, length, ap, ◌∙◌, sym}
 use Rattle.std.specs.List.{slice_get, slice_range}
 use Rattle.std.specs.Option.{option_map}
 use Rattle.std.proofs.lemmas.Option.{slice_get-map}
-use Rattle.csv_index.specs.Raws.{raw_between}
-use Rattle.csv_index.specs.Places.{cut}
+use Rattle.csv_index.specs.Raw.{raw_between}
+use Rattle.csv_index.specs.Index.{cut}
+use Rattle.csv_index.proofs.Boundaries.{start_boundary, end_boundary}
 use Rattle.csv_index.proofs.CellLemmas.{raw_is_text, cut_at, start_before}
 use Rattle.csv_index.proofs.index.Index.field.Goals as goal
 
@@ -12,9 +13,15 @@ pub piece-requires-clause-order : goal.piece-requires-clause-order
 piece-requires-clause-order c =
     rw c.start_of.ensures ((start_before c.args.self.now.start (length c.args.bytes.now) c.args.self.now.ends c.args.n c.end_of.result c.requires.bytes.rise c.end_of.ensures).0)
 
-pub piece-requires-clause-within : goal.piece-requires-clause-within
-piece-requires-clause-within c =
-    (start_before c.args.self.now.start (length c.args.bytes.now) c.args.self.now.ends c.args.n c.end_of.result c.requires.bytes.rise c.end_of.ensures).1
+pub piece-requires-clause-start : goal.piece-requires-clause-start
+piece-requires-clause-start c =
+    rw c.start_of.ensures
+    (start_boundary c.args.self.now.start c.args.self.now.ends c.args.bytes.now c.args.n c.end_of.result c.utf8.bytes c.requires.bytes.boundary c.requires.bytes.rise
+    c.requires.bytes.ascii c.end_of.ensures)
+
+pub piece-requires-clause-end : goal.piece-requires-clause-end
+piece-requires-clause-end c =
+    end_boundary c.args.self.now.start c.args.self.now.ends c.args.bytes.now c.args.n c.end_of.result c.requires.bytes.rise c.requires.bytes.ascii c.end_of.ensures
 
 pub between-requires : goal.between-requires
 between-requires c =

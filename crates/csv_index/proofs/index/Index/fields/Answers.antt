@@ -1,6 +1,7 @@
 -- The fields behind the last of the row above.
-use Rattle.std.proofs.Common.{◌≡◌, ◌+◌, ◌-◌, ◌*◌, ◌≤◌, length, arith, sym, ap, ◌∙◌}
-use Rattle.csv_index.specs.Places.{Places}
+use Rattle.std.proofs.Common.{◌≡◌, ℕ, ◌+◌, ◌-◌, ◌*◌, ◌≤◌, ◌<◌, length, drop, add-one, subst, arith, sym, ap, ◌∙◌}
+use Rattle.csv_index.specs.Index.{Places}
+use Rattle.csv_index.proofs.Boundaries.{boundary_next}
 use Rattle.csv_index.proofs.CellLemmas.{cell_fits, start_before, fields_behind, fields_from}
 use Rattle.csv_index.proofs.index.Index.fields.Goals as goal
 
@@ -25,7 +26,14 @@ invariant_of-result c =
     let same : (c.args.row + 1) * c.args.self.now.width ≡ (c.args.row + 1) * c.self.inside.width = ap (λ (p : Places). (c.args.row + 1) * p.width) (sym c.self.view_is) in
     let number : (c.args.row + 1) * c.args.self.now.width ≡ (c.args.row + 1) * c.self.inside.width - 1 + 1 = omega (arith, f.0, same) in
     let b = fields_behind c.args.self.now c.args.bytes.now c.args.row ((c.args.row + 1) * c.self.inside.width - 1) c.end_of.result c.ends_behind.result c.requires.bytes number c.end_of.ensures c.ends_behind.ensures in
-    record { rise = b.rise; text = b.text }
+    let before : ℕ = (c.args.row + 1) * c.self.inside.width - 1 in record {
+      rise = b.rise;
+      text = b.text;
+      utf8 = c.utf8.bytes;
+      boundary = λ some. boundary_next c.args.self.now.start c.args.self.now.ends c.args.bytes.now before c.end_of.result c.utf8.bytes c.requires.bytes.rise
+          c.requires.bytes.ascii c.end_of.ensures (subst (λ l. 0 < length l) (c.ends_behind.ensures ∙ ap (λ k. drop k c.args.self.now.ends) (add-one before)) some);
+      ascii = b.ascii;
+    }
 
 pub returns-clause-raws : goal.returns-clause-raws
 returns-clause-raws c =

@@ -3,16 +3,16 @@ use Rattle.std.specs.Str.{IsCharBoundary}
 use Rattle.std.proofs.lemmas.Result.{err_from_is_err_and}
 use Rattle.csv_index.proofs.Mark.{mark_boundary}
 use Rattle.csv_index.proofs.Tables.{index_of, text_fault, rise_wide}
-use Rattle.csv_index.proofs.index.Index.build.Goals as goal
+use Rattle.csv_index.proofs.index.Index.read.Goals as goal
 
 pub of-requires-clause-boundary : goal.of-requires-clause-boundary
 of-requires-clause-boundary c =
-    subst (IsCharBoundary c.args.bytes.now) (sym c.mark_len-start.ensures.mark) (mark_boundary c.args.bytes.now c.in_ok-check_text.ensures.utf8)
+    subst (IsCharBoundary c.args.bytes.now) (sym c.mark_len-start.ensures.mark) (mark_boundary c.args.bytes.now c.requires)
 
 pub returns-in_err-structure-clause-fault : goal.returns-in_err-structure-clause-fault
 returns-in_err-structure-clause-fault c =
-    let p = err_from_is_err_and c.from_residual-in_err-structure.result c.from_residual-in_err-structure.ensures.1 in
-    rw (p.1, p.2) (text_fault c.args.bytes.now c.mark_len-start.result c.in_err-structure.field-0.0 c.in_ok-check_text.ensures.utf8
+    let p = err_from_is_err_and c.from_residual.result c.from_residual.ensures.1 in
+    rw (p.1, p.2) (text_fault c.args.bytes.now c.mark_len-start.result c.in_err-structure.field-0.0 c.requires
     c.mark_len-start.ensures.mark c.in_err-structure.ensures.fault)
 
 pub invariant_of-result : goal.invariant_of-result
@@ -25,5 +25,5 @@ invariant_of-result c =
 
 pub returns-clause-table : goal.returns-clause-table
 returns-clause-table c =
-    index_of c.args.bytes.now c.mark_len-start.result _ _ _ c.in_ok-check_text.ensures.utf8 c.mark_len-start.ensures.mark
+    index_of c.args.bytes.now c.mark_len-start.result _ _ _ c.requires c.mark_len-start.ensures.mark
     c.in_ok-structure.ensures.records c.in_default.is c.if-widths-eq0.false

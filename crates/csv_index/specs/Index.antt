@@ -1,10 +1,10 @@
 -- What an index knows of a file: the structural places, which are the comma or the LF behind each field, or the end of the file.
-use Rattle.std.specs.Prelude.{◌≡◌, ℕ, zero, suc, ◌+◌, ◌*◌, ◌<◌, ◌≤◌, true, List, [], ◌∷◌, length, map, slice_get, slice_range, Option, option_map, option_and_then}
+use Rattle.std.specs.Prelude.{◌≡◌, ℕ, zero, suc, ◌+◌, ◌*◌, ◌<◌, ◌≤◌, true, List, [], ◌∷◌, length, map, slice_get, slice_index, slice_range, Option, option_map, option_and_then}
 use Rattle.std.specs.List.{flat_map, AllByRecursion}
-use Rattle.std.specs.Str.{is_utf8}
+use Rattle.std.specs.Str.{is_utf8, IsCharBoundary}
 use Rattle.csv_grammar.specs.Records.{Field}
 use Rattle.csv_grammar.specs.Files.{IsTable}
-use Rattle.csv_index.specs.Raws.{RawField, raw_of, raw_between}
+use Rattle.csv_index.specs.Raw.{RawField, raw_of, raw_between}
 
 pub record Places : Type 0 where
   -- where the first field begins
@@ -36,12 +36,18 @@ abbrev pub Rise : ℕ → List ℕ → ℕ → Type 0
 Rise start [] size = Unit {0}
 Rise start (end ∷ ends) size = (start ≤ end) × (end ≤ size) × Rise (end + 1) ends size
 
--- the places are of bytes such as these: each record is whole, and each field is text
+-- at each place is an ASCII character or the end, so that no character is cut there
+abbrev pub AreAscii : List ℕ → List ℕ → Type 0
+AreAscii bytes ends = AllByRecursion (λ end. slice_index bytes end < 128) ends
+
+-- the places are of bytes such as these: each record is whole, each field is text, and no character is cut
 pub record FitsFile (places : Places) (bytes : List ℕ) : Type 0 where
   pub width : 0 < places.width
   pub count : length places.ends ≡ (places.rows + 1) * places.width
   pub rise : Rise places.start places.ends (length bytes)
   pub text : AllByRecursion (λ raw. is_utf8 raw.bytes ≡ true) (raws places bytes)
+  pub boundary : IsCharBoundary bytes places.start
+  pub ascii : AreAscii bytes places.ends
 
 -- the places are those of the file that is this header and these rows
 pub record IsIndexOf (places : Places) (bytes : List ℕ) (header : List Field) (rows : List (List Field)) : Type 0 where

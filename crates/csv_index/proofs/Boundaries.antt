@@ -1,0 +1,80 @@
+-- No character is cut at the places of an index.
+use Rattle.std.proofs.Common.{◌≡◌, ℕ, zero, suc, ◌+◌, ◌<◌, ◌≤◌, List, [], ◌∷◌, ◌++◌, length, drop, get_or, take, max, true, ◌-◌, Some, refl, subst, sym, ap, ◌∙◌, arith}
+use Rattle.std.specs.Prelude.{IsUtf8}
+use Rattle.std.specs.List.{slice_get, slice_index, slice_range}
+use Rattle.std.specs.Str.{is_utf8, IsCharBoundary}
+use Rattle.std.proofs.lemmas.List.{get_or-drop, get_or_at, get_or_past}
+use Rattle.std.proofs.lemmas.Str.{IsCharBoundary-after_ascii, IsCharBoundary-from_take, IsUtf8-append, IsUtf8-from_ascii, IsUtf8-from_is_utf8}
+use Rattle.std.proofs.lemmas.Str.Ascii.{IsAscii-cons, IsAscii-nil}
+use Rattle.csv_grammar.specs.Bytes.{double_quote}
+use Rattle.csv_index.specs.Raw.{raw_between, unwrapped, without_return}
+use Rattle.csv_index.specs.Index.{AreAscii, Rise, start_at}
+use Rattle.csv_index.proofs.CellLemmas.{AllByRecursion-at, start_before}
+
+-- the byte behind a piece of the file
+pub ascii_at : (file bytes : List ℕ) (b : ℕ) (rest : List ℕ) (at end : ℕ) → drop at file ≡ bytes ++ b ∷ rest → end ≡ at + length bytes → b < 128
+    → slice_index file end < 128
+ascii_at file bytes b rest at end e h small =
+    let there : get_or file end 0 ≡ b =
+    ap (λ k. get_or file k 0) h ∙ sym (get_or-drop at file (length bytes) 0) ∙ ap (λ l. get_or l (length bytes) 0) e ∙ get_or_at bytes b rest 0 (length bytes) refl in
+    omega (arith, there)
+
+-- there is none at the end
+pub ascii_end : (file : List ℕ) (end : ℕ) → end ≡ length file → slice_index file end < 128
+ascii_end file end h = omega (arith, get_or_past file end 0 (omega arith))
+
+pub boundary_at : (bytes : List ℕ) (end : ℕ) → end ≤ length bytes → slice_index bytes end < 128 → IsCharBoundary bytes end
+boundary_at bytes end within small = (within, λ _ wide. omega arith)
+
+-- behind a place that another follows
+pub boundary_behind : (start end : ℕ) (ends bytes : List ℕ) → IsUtf8 bytes → Rise start (end ∷ ends) (length bytes) → AreAscii bytes (end ∷ ends) → 0 < length ends
+    → IsCharBoundary bytes (end + 1)
+boundary_behind start end [] bytes utf8 rise ascii some = absurd (omega arith)
+boundary_behind start end (next ∷ ends) bytes utf8 rise ascii some =
+    IsCharBoundary-after_ascii bytes end utf8 (omega (arith, rise.2.0, rise.2.1)) ascii.0
+
+-- behind the place of that number
+pub boundary_next : (start : ℕ) (ends bytes : List ℕ) (n end : ℕ) → IsUtf8 bytes → Rise start ends (length bytes) → AreAscii bytes ends → slice_get ends n ≡ Some end
+    → 0 < length (drop (suc n) ends) → IsCharBoundary bytes (end + 1)
+boundary_next start [] bytes n end utf8 rise ascii e some = absurd (cc)
+boundary_next start (place ∷ ends) bytes zero end utf8 rise ascii e some =
+    let same : place ≡ end = cc in subst (λ k. IsCharBoundary bytes (k + 1)) same (boundary_behind start place ends bytes utf8 rise ascii some)
+boundary_next start (place ∷ ends) bytes (suc n) end utf8 rise ascii e some = boundary_next (place + 1) ends bytes n end utf8 rise.2 ascii.1 e some
+
+-- where a field ends
+pub end_boundary : (start : ℕ) (ends bytes : List ℕ) (n end : ℕ) → Rise start ends (length bytes) → AreAscii bytes ends → slice_get ends n ≡ Some end
+    → IsCharBoundary bytes end
+end_boundary start ends bytes n end rise ascii e =
+    boundary_at bytes end (start_before start (length bytes) ends n end rise e).1 (AllByRecursion-at (λ place. slice_index bytes place < 128) ends n end ascii e)
+
+-- and where it begins
+pub start_boundary : (start : ℕ) (ends bytes : List ℕ) (n end : ℕ) → IsUtf8 bytes → IsCharBoundary bytes start → Rise start ends (length bytes) → AreAscii bytes ends
+    → slice_get ends n ≡ Some end → IsCharBoundary bytes (start_at start ends n)
+start_boundary start [] bytes n end utf8 first rise ascii e = absurd (cc)
+start_boundary start (place ∷ ends) bytes zero end utf8 first rise ascii e = first
+start_boundary start (place ∷ []) bytes (suc n) end utf8 first rise ascii e = absurd (cc)
+start_boundary start (place ∷ next ∷ ends) bytes (suc n) end utf8 first rise ascii e =
+    start_boundary (place + 1) (next ∷ ends) bytes n end utf8 (boundary_behind start place (next ∷ ends) bytes utf8 rise ascii (omega arith)) rise.2 ascii.1 e
+
+-- ---- the double quotes of a field
+
+-- a text that begins with a double quote is one and a text
+pub behind_quote : (field : List ℕ) → IsUtf8 field → get_or field 0 0 ≡ double_quote → IsCharBoundary field 1
+behind_quote [] utf8 first = absurd (omega (arith, first))
+behind_quote (b ∷ bytes) utf8 first = IsCharBoundary-after_ascii (b ∷ bytes) 0 utf8 (omega arith) (omega (arith, first))
+
+-- what is between the double quotes is text, so the last of them is a character of its own
+pub before_quote : (field piece : List ℕ) (end : ℕ) → IsUtf8 field → get_or field 0 0 ≡ double_quote → end ≡ max (length field - 1) 1
+    → is_utf8 (raw_between piece).bytes ≡ true → field ≡ without_return piece → IsCharBoundary field end
+before_quote [] piece end utf8 first at text is = absurd (omega (arith, first))
+before_quote (b ∷ []) piece end utf8 first at text is = (omega (arith, at), λ within. absurd (omega (arith, at, within)))
+before_quote (b ∷ c ∷ bytes) piece end utf8 first at text is =
+    let whole : (unwrapped (b ∷ c ∷ bytes)).bytes ≡ slice_range (b ∷ c ∷ bytes) 1 (length (b ∷ c ∷ bytes) - 1) = rw first refl in
+    let inner : is_utf8 (slice_range (b ∷ c ∷ bytes) 1 (length (b ∷ c ∷ bytes) - 1)) ≡ true =
+    subst (λ t. is_utf8 t ≡ true) whole (subst (λ t. is_utf8 (unwrapped t).bytes ≡ true) (sym is) text) in
+    let same : slice_range (b ∷ c ∷ bytes) 1 (length (b ∷ c ∷ bytes) - 1) ≡ take (length bytes) (c ∷ bytes) = ap (λ k. take k (c ∷ bytes)) (omega arith) in
+    let front : IsUtf8 (b ∷ take (length bytes) (c ∷ bytes)) =
+    IsUtf8-append (b ∷ []) (take (length bytes) (c ∷ bytes)) (IsUtf8-from_ascii (b ∷ []) (IsAscii-cons b [] (omega (arith, first)) IsAscii-nil))
+    (subst IsUtf8 same (IsUtf8-from_is_utf8 _ inner)) in
+    let here : end ≡ suc (length bytes) = omega (arith, at) in
+    IsCharBoundary-from_take (b ∷ c ∷ bytes) end utf8 (omega (arith, here)) (subst (λ k. IsUtf8 (take k (b ∷ c ∷ bytes))) (sym here) front)
