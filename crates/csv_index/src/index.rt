@@ -14,6 +14,7 @@ use crate::fault::TextFault;
 use crate::fields::Fields;
 use crate::raw::Raw;
 use crate::structure::Structure;
+use crate::utf8::check_text;
 use csv_grammar::mark_len;
 use lane_class::BLOCK;
 use std::alloc::Global;
@@ -216,17 +217,4 @@ fn piece(bytes: &str, start: usize, end: usize) -> &str
     ensures { result.now ≡ slice_range bytes.now start end }
 {
     &bytes[start..end]
-}
-
-/// The bytes are UTF-8, or the error tells how many of them are.
-fn check_text(bytes: &[u8]) -> Result<(), TextFault>
-    ensures utf8 { IfOk result (λ _. IsUtf8 bytes.now) }
-    ensures fault { IfErr result (λ e. IfSome (text_cause e) (IsFileFault bytes.now)) }
-{
-    match simdutf8::compat::from_utf8(bytes) {
-        Ok(_) => Ok(()),
-        Err(e) => Err(TextFault::NotUtf8 {
-            at: e.valid_up_to(),
-        }),
-    }
 }

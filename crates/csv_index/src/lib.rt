@@ -11,9 +11,11 @@ mod fields;
 mod index;
 mod raw;
 mod structure;
+mod utf8;
 mod widths;
 
 pub use fault::TextFault;
 pub use fields::Fields;
 pub use index::Index;
 pub use raw::Raw;
+pub use utf8::text_of;

@@ -5,8 +5,8 @@ use Rattle.std.specs.List.{flat_map, AllByRecursion}
 use Rattle.std.proofs.lemmas.List.{map-append, length-map, take_at, drop_at}
 use Rattle.csv_grammar.specs.Records.{Field, unquoted, quoted, content, doubled}
 use Rattle.csv_grammar.specs.Files.{HasWidth}
-use Rattle.csv_index.specs.Raws.{raw_of, halved}
-use Rattle.csv_index.specs.Places.{Places, IsIndexOf, raws}
+use Rattle.csv_index.specs.Raw.{raw_of, halved}
+use Rattle.csv_index.specs.Index.{Places, IsIndexOf, raws}
 use Rattle.cell_types.specs.Column.{ColumnOf}
 use Rattle.table_store.specs.Table.{values_from, rows_from, mismatch_from}
 use Rattle.table_store.specs.Inside.{rows_of_fields}

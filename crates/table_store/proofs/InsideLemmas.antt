@@ -4,8 +4,8 @@ use Rattle.std.specs.List.{zip, AllByRecursion}
 use Rattle.std.proofs.lemmas.List.{length-map, length-take, length-drop, take_more}
 use Rattle.std.proofs.lemmas.Option.{get_or_from_slice_get, slice_get-map, slice_get_within}
 use Rattle.std.proofs.lemmas.Slice.Zip.{length-zip}
-use Rattle.csv_index.specs.Raws.{RawField, raw_content}
-use Rattle.csv_index.specs.Places.{Places, FitsFile, raws}
+use Rattle.csv_index.specs.Raw.{RawField, raw_content}
+use Rattle.csv_index.specs.Index.{Places, FitsFile, raws}
 use Rattle.cell_types.specs.Column.{ColumnOf}
 use Rattle.cell_types.specs.Cell.{value_of}
 use Rattle.table_store.specs.Inside.{rows_of_fields, rows_in, value_or_null, value_in, values_in, AllHaveValues}

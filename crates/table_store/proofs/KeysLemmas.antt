@@ -2,7 +2,7 @@
 use Rattle.std.proofs.Common.{◌≡◌, ℕ, ℤ, zero, suc, ◌<◌, Bool, true, false, not, cond, List, [], ◌∷◌, ◌++◌, length, get_or, Option, Some, None, slice_get, option_map, Result, Ok, Err, refl, sym, ap, subst, ◌∙◌, inl, inr, arith}
 use Rattle.std.specs.List.{list_any}
 use Rattle.std.specs.Option.{option_or, is_some}
-use Rattle.csv_index.specs.Raws.{RawField, raw_content}
+use Rattle.csv_index.specs.Raw.{RawField, raw_content}
 use Rattle.cell_types.specs.declared.cell.CellFault.{CellFault}
 use Rattle.cell_types.specs.declared.value.Value.{Value}
 use Rattle.cell_types.specs.declared.value.Value.TheVariants as V

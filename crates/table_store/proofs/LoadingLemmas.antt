@@ -2,7 +2,7 @@
 use Rattle.std.proofs.Common.{◌≡◌, ℕ, List, length, map, Option, Some, None, IfSome, option_map, Result, Ok, Err, refl, ap, sym, ◌∙◌, ◌⊎◌, inl, inr}
 use Rattle.std.specs.Result.{result_err}
 use Rattle.csv_grammar.specs.Records.{Field}
-use Rattle.csv_index.specs.Places.{Places, IsIndexOf}
+use Rattle.csv_index.specs.Index.{Places, IsIndexOf}
 use Rattle.cell_types.specs.declared.cell.CellFault.{CellFault}
 use Rattle.cell_types.specs.declared.cell.CellFault.TheVariants.{NoMemory}
 use Rattle.cell_types.specs.Column.{ColumnOf}

@@ -3,8 +3,8 @@ use Rattle.std.proofs.Common.{◌≡◌, ℕ, zero, suc, ◌+◌, ◌-◌, ◌*�
 use Rattle.std.proofs.lemmas.Nat.{mul-le}
 use Rattle.std.proofs.lemmas.List.{length-take, length-drop, length-map, drop-drop, drop_more}
 use Rattle.std.proofs.lemmas.Option.{slice_get-get_or, get_or_from_slice_get, slice_get_within}
-use Rattle.csv_index.specs.Raws.{RawField, raw_between}
-use Rattle.csv_index.specs.Places.{Places, FitsFile, cut, raws}
+use Rattle.csv_index.specs.Raw.{RawField, raw_between}
+use Rattle.csv_index.specs.Index.{Places, FitsFile, cut, raws}
 use Rattle.table_store.specs.Inside.{rows_of_fields}
 use Rattle.table_store.specs.Loading.{header_of, record_of, records_of}
 

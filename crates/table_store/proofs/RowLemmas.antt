@@ -5,7 +5,7 @@ use Rattle.std.proofs.lemmas.List.{drop_all, length-map, take_all, take_more}
 use Rattle.std.proofs.lemmas.Option.{get_or_from_slice_get, slice_get-map, slice_get_within}
 use Rattle.std.proofs.lemmas.Slice.Zip.{length-zip}
 use Rattle.std.specs.Result.{result_err}
-use Rattle.csv_index.specs.Raws.{RawField, raw_content}
+use Rattle.csv_index.specs.Raw.{RawField, raw_content}
 use Rattle.cell_types.specs.Value.{CellValue}
 use Rattle.cell_types.specs.declared.cell.CellFault.{CellFault}
 use Rattle.cell_types.specs.Column.{ColumnOf, column_view}

@@ -1,9 +1,9 @@
 -- What a table holds: cells, which are a schema, the bytes of a file and its index, and keys. The values are those of the fields that
 -- the index finds.
-use Rattle.std.specs.Prelude.{◌≡◌, ℕ, zero, suc, List, [], ◌∷◌, length, map, take, drop, Result, Ok, Err}
+use Rattle.std.specs.Prelude.{◌≡◌, ℕ, zero, suc, List, [], ◌∷◌, length, map, take, drop, Result, Ok, Err, string_bytes}
 use Rattle.std.specs.List.{zip}
-use Rattle.csv_index.specs.Raws.{RawField, raw_content}
-use Rattle.csv_index.specs.Places.{Places, raws, FitsFile}
+use Rattle.csv_index.specs.Raw.{RawField, raw_content}
+use Rattle.csv_index.specs.Index.{Places, raws, FitsFile}
 use Rattle.cell_types.specs.declared.cell.CellFault.{CellFault}
 use Rattle.cell_types.specs.Value.{CellValue, null}
 use Rattle.cell_types.specs.Column.{ColumnOf}
@@ -39,7 +39,7 @@ rows_in columns places bytes =
 abbrev pub table_view : Inside → TableOf
 table_view table = record {
   schema = schema_view table.schema;
-  rows = rows_in (schema_view table.schema).columns table.index table.bytes.items;
+  rows = rows_in (schema_view table.schema).columns table.index (string_bytes table.text);
 }
 
 -- each field of a row has a value in its column
@@ -55,10 +55,10 @@ AllHaveValues columns (fields ∷ rows) = HaveValues columns fields × AllHaveVa
 
 -- the index is that of the bytes, it has the schema's columns, and each cell has a value
 pub record IsWhole (table : Inside) : Type 0 where
-  pub fits : FitsFile table.index table.bytes.items
+  pub fits : FitsFile table.index (string_bytes table.text)
   pub width : table.index.width ≡ length (schema_view table.schema).columns
   pub values : AllHaveValues (schema_view table.schema).columns
-      (rows_of_fields table.index.rows table.index.width (drop table.index.width (raws table.index table.bytes.items)))
+      (rows_of_fields table.index.rows table.index.width (drop table.index.width (raws table.index (string_bytes table.text))))
 
 -- the keys are those of the rows
 abbrev pub IsKeyed : InsideTable → Type 0

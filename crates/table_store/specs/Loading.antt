@@ -3,8 +3,8 @@ use Rattle.std.specs.Prelude.{◌≡◌, ℕ, ◌+◌, ◌*◌, List, length, ta
 use Rattle.std.specs.Result.{result_err}
 use Rattle.csv_grammar.specs.Records.{Field, unquoted}
 use Rattle.csv_grammar.specs.Files.{IsTable, IsFileFault}
-use Rattle.csv_index.specs.Raws.{RawField, raw_content}
-use Rattle.csv_index.specs.Places.{Places, raws, FitsFile}
+use Rattle.csv_index.specs.Raw.{RawField, raw_content}
+use Rattle.csv_index.specs.Index.{Places, raws, FitsFile}
 use Rattle.csv_index.specs.Fault.{text_cause}
 use Rattle.cell_types.specs.declared.cell.CellFault.{CellFault}
 use Rattle.cell_types.specs.Value.{CellValue}

@@ -13,16 +13,16 @@ use crate::fault::LoadFault;
 use crate::keys::{KeyFault, Keys};
 use crate::loading::{BadCell, TableFault, cell_value, read_file};
 use cell_types::{CellFault, Value};
-use csv_index::Index;
+use csv_index::{Index, text_of};
 use csvw_meta::Schema;
 use std::alloc::{AllocError, Global};
 use std::marker::Model;
 
-/// The cells of a table, whose values are read from the bytes of its file.
+/// The cells of a table, whose values are read from the text of its file.
 #[derive(Drop)]
 pub struct Cells {
     schema: Schema,
-    bytes: Vec<u8>,
+    text: String,
     index: Index,
 }
 
@@ -67,7 +67,7 @@ impl Cells {
         ensures { IfOk result (λ value.
             option_and_then (λ values. slice_get values col) (slice_get self.now.rows row) ≡ Some (value_view value)) }
     {
-        let raw = self.index.cell(self.bytes.as_slice(), row, col);
+        let raw = self.index.cell(self.text.as_str(), row, col);
         match cell_value(alloc, &self.schema.columns[col], raw) {
             Ok(value) => Ok(value),
             Err(fault) => match fault {
@@ -93,10 +93,10 @@ impl Cells {
         ensures memory { IfErr result (λ e. load_cause e ≡ None → e ≡ LoadFault.NoMemory) }
     {
         match read_table(alloc, limit, &schema, file) {
-            Ok((bytes, index, keys)) => {
+            Ok((text, index, keys)) => {
                 let cells = Cells {
                     schema,
-                    bytes,
+                    text,
                     index,
                 };
                 Ok((cells, keys))
@@ -106,17 +106,17 @@ impl Cells {
     }
 }
 
-/// The bytes and the places of a file that is the table of a schema, and the keys of its rows; or why it is none.
+/// The text and the places of a file that is the table of a schema, and the keys of its rows; or why it is none.
 fn read_table(
     alloc: Global,
     limit: u32,
     schema: &Schema,
     file: Option<Vec<u8>>,
-) -> Result<(Vec<u8>, Index, Keys), TableFault>
+) -> Result<(String, Index, Keys), TableFault>
     requires { AreColumns (schema_view schema.now).key (schema_view schema.now).columns }
-    ensures file { IfOk result (λ found. HasFile limit (option_map (λ bytes. bytes.items) file) found.0.items) }
-    ensures read { IfOk result (λ found. IsTableAt (schema_view schema.now).columns found.0.items found.1) }
-    ensures keys { IfOk result (λ found. AreKeysOf found.2 (keys_at (schema_view schema.now) found.1 found.0.items)) }
+    ensures file { IfOk result (λ found. HasFile limit (option_map (λ bytes. bytes.items) file) (string_bytes found.0)) }
+    ensures read { IfOk result (λ found. IsTableAt (schema_view schema.now).columns (string_bytes found.0) found.1) }
+    ensures keys { IfOk result (λ found. AreKeysOf found.2 (keys_at (schema_view schema.now) found.1 (string_bytes found.0))) }
     ensures fault { IfErr result (λ e. IfSome (table_cause e)
         (HasTableCause limit (option_map (λ bytes. bytes.items) file) (schema_view schema.now))) }
     ensures memory { IfErr result (λ e. table_cause e ≡ None → e ≡ TableFault.NoMemory) }
@@ -127,8 +127,12 @@ fn read_table(
     if bytes.len() > limit as usize {
         return Err(TableFault::FileTooLarge);
     }
-    let (index, keys) = read_file(alloc, schema, bytes.as_slice())?;
-    Ok((bytes, index, keys))
+    let text = match text_of(bytes) {
+        Ok(text) => text,
+        Err(fault) => return Err(TableFault::Text(fault)),
+    };
+    let (index, keys) = read_file(alloc, schema, text.as_str())?;
+    Ok((text, index, keys))
 }
 
 /// The error of a folder that the fault of the table of that url is.

@@ -4,7 +4,7 @@ ghost use Rattle.std.specs.List.{list_any};
 ghost use Rattle.cell_types.specs.Column.{ColumnOf};
 ghost use Rattle.cell_types.specs.Datatype.{integer};
 ghost use Rattle.cell_types.specs.Value.{CellValue, null, value_eq, value_view};
-ghost use Rattle.csv_index.specs.Raws.{RawField};
+ghost use Rattle.csv_index.specs.Raw.{RawField};
 ghost use Rattle.csvw_meta.specs.Schema.{schema_view};
 ghost use Rattle.table_store.specs.Key.{row_key, row_keys, key_eq, has_null as has_null_in, row_of};
 ghost use Rattle.table_store.specs.Inside.{values_in};

@@ -6,8 +6,8 @@ ghost use Rattle.std.specs.Str.{bytes_eq};
 ghost use Rattle.cell_types.specs.Value.{value_view};
 ghost use Rattle.cell_types.specs.Column.{column_view};
 ghost use Rattle.cell_types.specs.Cell.{value_of};
-ghost use Rattle.csv_index.specs.Places.{FitsFile};
-ghost use Rattle.csv_index.specs.Raws.{raw_content};
+ghost use Rattle.csv_index.specs.Index.{FitsFile};
+ghost use Rattle.csv_index.specs.Raw.{raw_content};
 ghost use Rattle.csvw_meta.specs.Schema.{schema_view};
 ghost use Rattle.table_store.specs.Table.{is_called as is_called_by, mismatch_from, values_from};
 ghost use Rattle.table_store.specs.Fault.{bad_cell, cell_cause};
@@ -66,7 +66,7 @@ fn first_mismatch(
     alloc: Global,
     columns: &[Column],
     index: &Index,
-    bytes: &[u8],
+    bytes: &str,
 ) -> Result<Option<usize>, AllocError>
     requires { FitsFile index.now bytes.now }
     ensures { IfOk result (λ place. place
@@ -139,12 +139,7 @@ fn read_row<'a>(
 
 /// The keys of the rows, each of whose cells has a value; or the first cell, row by row, that has none, and else why the rows have no keys.
 /// Each cell is read once.
-fn read_rows(
-    alloc: Global,
-    schema: &Schema,
-    index: &Index,
-    bytes: &[u8],
-) -> Result<Keys, TableFault>
+fn read_rows(alloc: Global, schema: &Schema, index: &Index, bytes: &str) -> Result<Keys, TableFault>
     requires bytes { FitsFile index.now bytes.now }
     requires width { length (schema_view schema.now).columns ≡ index.now.width }
     requires key { AreColumns (schema_view schema.now).key (schema_view schema.now).columns }
@@ -187,14 +182,14 @@ fn fault_of(bad: BadCell) -> TableFault
 }
 
 /// The places of a file that is the table of a schema, and the keys of its rows; or the first thing that is wrong with it.
-pub fn read_file(alloc: Global, schema: &Schema, bytes: &[u8]) -> Result<(Index, Keys), TableFault>
+pub fn read_file(alloc: Global, schema: &Schema, bytes: &str) -> Result<(Index, Keys), TableFault>
     requires { AreColumns (schema_view schema.now).key (schema_view schema.now).columns }
     ensures read { IfOk result (λ found. IsTableAt (schema_view schema.now).columns bytes.now found.0) }
     ensures keys { IfOk result (λ found. AreKeysOf found.1 (keys_at (schema_view schema.now) found.0 bytes.now)) }
     ensures fault { IfErr result (λ e. IfSome (table_cause e) (HasFileCause (schema_view schema.now) bytes.now)) }
     ensures memory { IfErr result (λ e. table_cause e ≡ None → e ≡ TableFault.NoMemory) }
 {
-    let index = match Index::build(alloc, bytes) {
+    let index = match Index::of_text(alloc, bytes) {
         Ok(index) => index,
         Err(TextFault::NoMemory) => return Err(TableFault::NoMemory),
         Err(fault) => return Err(TableFault::Text(fault)),

@@ -1,5 +1,5 @@
 use Rattle.std.proofs.Common.{◌≡◌, true, false, Some, sym, ap, ◌∙◌, length, arith}
-use Rattle.csv_index.specs.Raws.{RawField, raw_content}
+use Rattle.csv_index.specs.Raw.{RawField, raw_content}
 use Rattle.cell_types.specs.Column.{column_view}
 use Rattle.table_store.specs.Table.{is_called}
 use Rattle.table_store.specs.Loading.{header_of}

@@ -3,7 +3,7 @@ use Rattle.std.proofs.lemmas.List.{length-drop, map-append}
 use Rattle.std.specs.Result.{is_ok, result_err}
 use Rattle.cell_types.specs.Column.{column_view}
 use Rattle.cell_types.specs.Value.{value_view}
-use Rattle.csv_index.specs.Raws.{RawField}
+use Rattle.csv_index.specs.Raw.{RawField}
 use Rattle.csv_index.specs.declared.raw.Raw.{Raw}
 use Rattle.table_store.proofs.PlaceLemmas.{drop-first, slice_get-from_read, slice_get-take}
 use Rattle.table_store.proofs.RowLemmas.{values_from-none, values_in-more, values_in-all, wrong_from-here, wrong_from-past, wrong_from-end}

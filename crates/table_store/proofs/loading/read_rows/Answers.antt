@@ -1,7 +1,7 @@
 use Rattle.std.proofs.Common.{◌≡◌, ◌<◌, ◌≤◌, ◌++◌, ◌∷◌, [], get_or, Some, Ok, map, drop, take, length, ap, sym, subst, ◌∙◌, arith, inl, inr}
 use Rattle.std.proofs.lemmas.List.{length-map, length-take, take_all}
 use Rattle.std.specs.Result.{result_err}
-use Rattle.csv_index.specs.Places.{raws}
+use Rattle.csv_index.specs.Index.{raws}
 use Rattle.cell_types.specs.Column.{column_view}
 use Rattle.cell_types.specs.Value.{value_view}
 use Rattle.csvw_meta.specs.Schema.{schema_view}

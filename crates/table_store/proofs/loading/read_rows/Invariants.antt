@@ -1,6 +1,6 @@
 use Rattle.std.proofs.Common.{◌≡◌, ◌+◌, ◌*◌, List, drop, take}
-use Rattle.csv_index.specs.Places.{raws}
-use Rattle.csv_index.specs.Raws.{RawField}
+use Rattle.csv_index.specs.Index.{raws}
+use Rattle.csv_index.specs.Raw.{RawField}
 use Rattle.csvw_meta.specs.Schema.{schema_view}
 use Rattle.table_store.specs.Inside.{rows_in, values_in}
 use Rattle.table_store.specs.Key.{row_key, row_keys}

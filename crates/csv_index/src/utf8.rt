@@ -1,0 +1,33 @@
+//! Texts from bytes.
+ghost use Rattle.std.specs.Prelude.{◌≡◌, ◌≢◌, IfOk, IfErr, IfSome, IsUtf8, string_bytes};
+ghost use Rattle.csv_grammar.specs.Files.{IsFileFault};
+ghost use Rattle.csv_index.specs.Fault.{text_cause};
+
+use crate::fault::TextFault;
+
+/// The bytes are UTF-8, or the error tells how many of them are.
+pub fn check_text(bytes: &[u8]) -> Result<(), TextFault>
+    ensures utf8 { IfOk result (λ _. IsUtf8 bytes.now) }
+    ensures fault { IfErr result (λ e. IfSome (text_cause e) (IsFileFault bytes.now)) }
+{
+    match simdutf8::compat::from_utf8(bytes) {
+        Ok(_) => Ok(()),
+        Err(e) => Err(TextFault::NotUtf8 {
+            at: e.valid_up_to(),
+        }),
+    }
+}
+
+/// The bytes of a file as a text, which takes no memory; the error tells how many of them are UTF-8.
+pub fn text_of(bytes: Vec<u8>) -> Result<String, TextFault>
+    ensures text { IfOk result (λ text. string_bytes text ≡ bytes.items) }
+    ensures fault { IfErr result (λ e. IfSome (text_cause e) (IsFileFault bytes.items)) }
+    ensures memory { IfErr result (λ e. e ≢ TextFault.NoMemory) }
+{
+    match String::from_utf8(bytes) {
+        Ok(text) => Ok(text),
+        Err(e) => Err(TextFault::NotUtf8 {
+            at: e.utf8_error().valid_up_to(),
+        }),
+    }
+}
