@@ -1,5 +1,5 @@
 -- What a definition of cells answers, and what it never does.
-use Rattle.std.proofs.Common.{◌≡◌, ◌≢◌, ◌&&◌, ℕ, pos, List, Bool, true, false, cond, Ok, Err, Result, refl, subst, sym}
+use Rattle.std.proofs.Common.{◌≡◌, ◌≢◌, ◌&&◌, not, ℕ, pos, List, Bool, true, false, cond, Ok, Err, Result, refl, subst, sym}
 use Rattle.std.specs.List.{list_any}
 use Rattle.std.specs.Str.{bytes_eq}
 use Rattle.std.specs.Str.Parse.{signed_digits_value}
@@ -9,8 +9,8 @@ use Rattle.cell_types.specs.declared.cell.CellFault.TheVariants.{Missing, NoMemo
 use Rattle.cell_types.specs.declared.datatype.DateForm.{DateForm}
 use Rattle.cell_types.specs.Boolean.{boolean_of}
 use Rattle.cell_types.specs.Cell.{content_of, content_value, is_null_text, null_reading, text_or_default, typed_value, value_of}
-use Rattle.cell_types.specs.Column.{ColumnOf}
-use Rattle.cell_types.specs.Datatype.{DatatypeOf, integer, string, boolean, date}
+use Rattle.cell_types.specs.Column.{ColumnOf, takes_all_texts}
+use Rattle.cell_types.specs.Datatype.{DatatypeOf, is_string, integer, string, boolean, date}
 use Rattle.cell_types.specs.Date.{date_of, date_text, day_place, is_date, month_place, number_at, year_place}
 use Rattle.cell_types.specs.Integer.{fits_64_bits, integer_of, is_integer}
 use Rattle.cell_types.specs.Laws.{IsOfColumn, IsOfDatatype, ValuesFitColumns}
@@ -110,3 +110,30 @@ value_of-fits column bytes v =
     cond_both (is_null_text column content) (null_reading column) (typed_value column.datatype content) (λ r. r ≡ Ok v → IsOfColumn column v)
     (λ _ e. null_reading-fits column v e)
     (λ _ e. of_datatype column v (typed_value-fits column.datatype content v e))
+
+-- ---- columns that take all texts
+
+-- a text that stands for null is one, and any other is a text
+string_reading : (required is_null : Bool) (bytes : List ℕ) → required ≡ false → (v : CellValue) × (cond is_null (cond required (Err Missing) (Ok value.null)) (Ok (value.text bytes)) ≡ Ok v)
+string_reading true is_null bytes e = absurd (cc)
+string_reading false true bytes e = (value.null, refl)
+string_reading false false bytes e = (value.text bytes, refl)
+
+both : (s t : Bool) → s && not t ≡ true → (s ≡ true) × (t ≡ false)
+both true false h = (refl, refl)
+both true true h = absurd (cc)
+both false t h = absurd (cc)
+
+string_content : (datatype : DatatypeOf) → is_string datatype ≡ true → (column : ColumnOf) (bytes : List ℕ) → column.datatype ≡ datatype → column.required ≡ false
+    → (v : CellValue) × (value_of column bytes ≡ Ok v)
+string_content integer is column bytes e none = absurd (cc)
+string_content (boolean ts fs) is column bytes e none = absurd (cc)
+string_content (date form) is column bytes e none = absurd (cc)
+string_content string is column bytes e none =
+    let content = text_or_default column bytes in
+    rw e (string_reading column.required (is_null_text column content) content none)
+
+pub string_value : (column : ColumnOf) (bytes : List ℕ) → takes_all_texts column ≡ true → (v : CellValue) × (value_of column bytes ≡ Ok v)
+string_value column bytes takes =
+    let parts = both (is_string column.datatype) column.required takes in
+    string_content column.datatype parts.0 column bytes refl parts.1

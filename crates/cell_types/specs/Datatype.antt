@@ -1,5 +1,5 @@
 -- What a datatype accepts (Metadata Vocabulary for Tabular Data, section 5.11), whichever memory keeps its texts.
-use Rattle.std.specs.Prelude.{ℕ, List, [], ◌∷◌, codes, string_bytes}
+use Rattle.std.specs.Prelude.{ℕ, Bool, true, false, List, [], ◌∷◌, codes, string_bytes}
 use Rattle.cell_types.specs.declared.datatype.BooleanForm.{BooleanForm}
 use Rattle.cell_types.specs.declared.datatype.BooleanForm.TheVariants.{Standard, Texts}
 use Rattle.cell_types.specs.declared.datatype.DateForm.{DateForm}
@@ -24,6 +24,10 @@ datatype_view Integer = integer
 datatype_view Text = string
 datatype_view (Boolean form) = boolean_view form
 datatype_view (Date form) = date form
+
+abbrev pub is_string : DatatypeOf → Bool
+is_string string = true
+is_string _ = false
 
 -- the pattern of a form, in the letters of Unicode Technical Standard 35
 abbrev pub pattern_of : DateForm → List ℕ

@@ -9,7 +9,7 @@ use Rattle.jiff.specs.Words.{IsDate}
 use Rattle.cell_types.specs.declared.cell.CellFault.TheVariants.{NoMemory}
 use Rattle.cell_types.specs.declared.datatype.DateForm.{DateForm}
 use Rattle.cell_types.specs.Cell.{value_of}
-use Rattle.cell_types.specs.Column.{ColumnOf}
+use Rattle.cell_types.specs.Column.{ColumnOf, takes_all_texts}
 use Rattle.cell_types.specs.Datatype as datatype
 use Rattle.cell_types.specs.Datatype.{DatatypeOf}
 use Rattle.cell_types.specs.Date.{IsDateText, date_of, date_text, is_date}
@@ -20,6 +20,10 @@ use Rattle.cell_types.specs.WhiteSpace.{is_white, normal_text, words}
 -- a text in a column has a value or one of five causes: want of memory is none of them
 abbrev pub MemoryIsNoCause : Type 0
 MemoryIsNoCause = (column : ColumnOf) (bytes : List ℕ) → value_of column bytes ≢ Err NoMemory
+
+-- in a column of strings that may be null each text has a value
+abbrev pub StringsHaveValues : Type 0
+StringsHaveValues = (column : ColumnOf) (bytes : List ℕ) → takes_all_texts column ≡ true → (value : CellValue) × (value_of column bytes ≡ Ok value)
 
 -- a normalized text has the same words; each of its white spaces is one space, and stands between two bytes that are none; to
 -- normalize it again changes nothing

@@ -1,4 +1,6 @@
 //! The columns of tables.
+ghost use Rattle.std.specs.Prelude.{◌≡◌};
+ghost use Rattle.cell_types.specs.Column.{column_view, takes_all_texts as takes_all_texts_of};
 
 use crate::datatype::Datatype;
 
@@ -16,4 +18,14 @@ pub struct Column {
     pub default: String,
     /// Whether a null is refused.
     pub required: bool,
+}
+
+impl Column {
+    /// Whether each text has a value in the column: texts are read as they stand, and may be null.
+    #[inline(always)]
+    pub fn takes_all_texts(&self) -> bool
+        ensures { result ≡ takes_all_texts_of (column_view self.now) }
+    {
+        matches!(self.datatype, Datatype::Text) && !self.required
+    }
 }

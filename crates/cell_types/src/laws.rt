@@ -1,7 +1,7 @@
 //! The laws of the definitions of cells: each function is a theorem, and does nothing.
 ghost use Rattle.std.specs.Prelude.{◌≡◌};
 ghost use Rattle.cell_types.specs.declared.value.Value.{Value};
-ghost use Rattle.cell_types.specs.Laws.{DatesReadBack, IntegersReadBack, MemoryIsNoCause, NormalTexts, ValuesAreOrdered, ValuesFitColumns};
+ghost use Rattle.cell_types.specs.Laws.{DatesReadBack, IntegersReadBack, MemoryIsNoCause, NormalTexts, StringsHaveValues, ValuesAreOrdered, ValuesFitColumns};
 ghost use Rattle.cell_types.specs.Value.{value_cmp, value_eq, value_view};
 
 use crate::value::Value as CellValue;
@@ -9,6 +9,11 @@ use crate::value::Value as CellValue;
 /// A text in a column has a value, or one of five causes why it has none.
 pub fn memory_is_no_cause()
     ensures { MemoryIsNoCause }
+{}
+
+/// In a column of strings that may be null each text has a value.
+pub fn strings_have_values()
+    ensures { StringsHaveValues }
 {}
 
 /// The value of a text in a column is of the column's datatype, or null where the column does not require one.

@@ -16,7 +16,7 @@ pub use cell::{CellFault, read_cell, read_text};
 pub use column::Column;
 pub use datatype::{BooleanForm, Datatype, DateForm};
 pub use laws::{
-    dates_read_back, integers_read_back, memory_is_no_cause, normal_texts, values_are_ordered,
-    values_compare_as_their_views, values_fit_columns,
+    dates_read_back, integers_read_back, memory_is_no_cause, normal_texts, strings_have_values,
+    values_are_ordered, values_compare_as_their_views, values_fit_columns,
 };
 pub use value::Value;

@@ -175,6 +175,14 @@ row_keys-more places rows values h =
     row_keys-some places (rows ++ values ∷ []) h ∙ map-append (row_key places) rows (values ∷ [])
     ∙ ap (λ keys. keys ++ row_key places values ∷ []) (sym (row_keys-some places rows h))
 
+-- the last row counts by its key alone
+pub row_keys-last : (places : List ℕ) (rows : List (List CellValue)) (values row : List CellValue) → row_key places values ≡ row_key places row
+    → row_keys places (rows ++ values ∷ []) ≡ row_keys places (rows ++ row ∷ [])
+row_keys-last [] rows values row same = refl
+row_keys-last (place ∷ places) rows values row same =
+    map-append (row_key (place ∷ places)) rows (values ∷ []) ∙ ap (λ key. map (row_key (place ∷ places)) rows ++ key ∷ []) same
+    ∙ sym (map-append (row_key (place ∷ places)) rows (row ∷ []))
+
 -- one more value of a key
 pub row_key-more : (places : List ℕ) (values : List CellValue) (i : ℕ) → i < length places
     → row_key (take (i + 1) places) values ≡ row_key (take i places) values ++ get_or values (get_or places i 0) null ∷ []

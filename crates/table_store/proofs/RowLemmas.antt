@@ -1,18 +1,20 @@
 -- The values of rows of fields, one cell after another.
-use Rattle.std.proofs.Common.{◌≡◌, ℕ, zero, suc, ◌+◌, ◌≤◌, List, [], ◌∷◌, ◌++◌, length, take, drop, map, Option, Some, None, option_map, Result, Ok, Err, slice_get, refl, ap, ◌∙◌, arith}
-use Rattle.std.specs.List.{zip}
-use Rattle.std.proofs.lemmas.List.{drop_all, length-map, take_all, take_more}
+use Rattle.std.proofs.Common.{◌≡◌, ◌⊎◌, ◌<◌, ◌==◌, ◌||◌, Bool, true, false, get_or, inl, inr, sym, subst, ℕ, zero, suc, ◌+◌, ◌≤◌, List, [], ◌∷◌, ◌++◌, length, take, drop, map, Option, Some, None, option_map, Result, Ok, Err, slice_get, refl, ap, ◌∙◌, arith}
+use Rattle.std.specs.List.{list_any, zip}
+use Rattle.std.proofs.lemmas.Bool.{cases_order, eq-eqb}
+use Rattle.std.proofs.lemmas.List.{drop_all, get_or_append_left, get_or_at, get_or_past}
 use Rattle.std.proofs.lemmas.Option.{get_or_from_slice_get, slice_get-map, slice_get_within}
 use Rattle.std.proofs.lemmas.Slice.Zip.{length-zip}
 use Rattle.std.specs.Result.{result_err}
 use Rattle.csv_index.specs.Raw.{RawField, raw_content}
-use Rattle.cell_types.specs.Value.{CellValue}
+use Rattle.cell_types.specs.Value.{CellValue, null}
 use Rattle.cell_types.specs.declared.cell.CellFault.{CellFault}
 use Rattle.cell_types.specs.Column.{ColumnOf, column_view}
 use Rattle.cell_types.specs.Cell.{value_of}
 use Rattle.cell_types.specs.declared.column.Column.{Column}
 use Rattle.table_store.specs.Table.{values_from, value_then, rows_from, row_then}
 use Rattle.table_store.specs.Inside.{value_or_null, value_in, values_in, HaveValues, AllHaveValues}
+use Rattle.table_store.specs.Key.{row_key}
 use Rattle.table_store.specs.Loading.{field_of}
 use Rattle.table_store.proofs.PlaceLemmas.{drop-from_slice_get}
 
@@ -109,21 +111,53 @@ wrong_from-here columns fields col column raw why e f value =
 pub wrong_from-end : (columns : List Column) (fields : List RawField) (col : ℕ) → length columns ≤ col → wrong_from col columns fields ≡ None
 wrong_from-end columns fields col h = rw (drop_all col columns h) refl
 
--- one more value of a row
-pub values_in-more : (columns : List Column) (fields : List RawField) (col : ℕ) (column : Column) (raw : RawField) (value : CellValue)
+-- the value of a row in a column
+pub value_at : (columns : List Column) (fields : List RawField) (col : ℕ) (column : Column) (raw : RawField) (value : CellValue)
     → slice_get columns col ≡ Some column → slice_get fields col ≡ Some raw → value_of (column_view column) (raw_content raw) ≡ Ok value
-    → take (col + 1) (values_in (map column_view columns) fields) ≡ take col (values_in (map column_view columns) fields) ++ value ∷ []
-values_in-more columns fields col column raw value e f is =
-    let values = values_in (map column_view columns) fields in
+    → get_or (values_in (map column_view columns) fields) col null ≡ value
+value_at columns fields col column raw value e f is =
     let at_column : slice_get (map column_view columns) col ≡ Some (column_view column) = slice_get-map column_view columns col ∙ ap (option_map column_view) e in
+    let values = values_in (map column_view columns) fields in
     let at : slice_get values col ≡ Some value = slice_get-values_in (map column_view columns) fields col (column_view column) raw at_column f ∙ ap (λ r. Some (value_or_null r)) is in
-    take_more values col value (slice_get_within values col value at) ∙ ap (λ v. take col values ++ v ∷ []) (get_or_from_slice_get values col value value at)
+    get_or_from_slice_get values col value null at
 
-pub values_in-all : (columns : List Column) (fields : List RawField) (col : ℕ) → length columns ≤ col → take col (values_in (map column_view columns) fields) ≡ values_in (map column_view columns) fields
-values_in-all columns fields col h =
-    let pairs = zip (map column_view columns) fields in
-    let size : length (values_in (map column_view columns) fields) ≡ length pairs = length-map pairs (λ pair. value_or_null (value_in pair)) in
-    take_all col (values_in (map column_view columns) fields) (omega (arith, size, length-zip (map column_view columns) fields, length-map columns column_view))
+-- one more value behind those that are read
+pub value_behind : (values : List CellValue) (row : List CellValue) (places : List ℕ) (col : ℕ) (value is : CellValue) → length values ≡ col
+    → ((k : ℕ) → k < col → list_any (λ place. place == k) places ≡ true → get_or values k null ≡ get_or row k null)
+    → (list_any (λ place. place == col) places ≡ true → value ≡ is) → get_or row col null ≡ is
+    → (k : ℕ) → k < col + 1 → list_any (λ place. place == k) places ≡ true → get_or (values ++ value ∷ []) k null ≡ get_or row k null
+value_behind values row places col value is size before asked there k within among =
+    elim (cases_order k col) [
+      | inl here ↦
+          get_or_at values value [] null k (omega (arith, size, here)) ∙ asked (subst (λ n. list_any (λ place. place == n) places ≡ true) here among)
+          ∙ sym there ∙ ap (λ n. get_or row n null) (sym here)
+      | inr (inl less) ↦ get_or_append_left values (value ∷ []) null k (omega (arith, less, size)) ∙ before k less among
+      | inr (inr more) ↦ absurd (omega (arith, more, within))
+    ]
+
+-- past their end both lists say the same
+pub values_past : (values row : List CellValue) (k col : ℕ) → length values ≡ col → length row ≡ col → (k < col → get_or values k null ≡ get_or row k null)
+    → get_or values k null ≡ get_or row k null
+values_past values row k col size wide before =
+    elim (cases_order k col) [
+      | inl here ↦ get_or_past values k null (omega (arith, size, here)) ∙ sym (get_or_past row k null (omega (arith, wide, here)))
+      | inr (inl less) ↦ before less
+      | inr (inr more) ↦ get_or_past values k null (omega (arith, size, more)) ∙ sym (get_or_past row k null (omega (arith, wide, more)))
+    ]
+
+either : (s t : Bool) → (s ≡ true) ⊎ (t ≡ true) → s || t ≡ true
+either true t h = refl
+either false t (inl e) = absurd (cc)
+either false t (inr e) = e
+
+-- the key of values that agree where it asks
+pub key_from : (places : List ℕ) (values row : List CellValue)
+    → ((k : ℕ) → list_any (λ place. place == k) places ≡ true → get_or values k null ≡ get_or row k null) → row_key places values ≡ row_key places row
+key_from [] values row agree = refl
+key_from (place ∷ places) values row agree =
+    let first : list_any (λ p. p == place) (place ∷ places) ≡ true = either (place == place) (list_any (λ p. p == place) places) (inl (eq-eqb place place refl)) in
+    ap (λ v. v ∷ row_key places values) (agree place first)
+    ∙ ap (λ vs. get_or row place null ∷ vs) (key_from places values row (λ k among. agree k (either (place == k) (list_any (λ p. p == k) places) (inr among))))
 
 -- ---- rows
 pub row_then-none : (row : ℕ) (values : Result (List CellValue) (ℕ × CellFault)) (rest : Result (List (List CellValue)) (ℕ × ℕ × CellFault))

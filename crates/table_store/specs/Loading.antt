@@ -15,7 +15,7 @@ use Rattle.table_store.specs.declared.loading.TableFault.TheVariants.{FileMissin
 use Rattle.table_store.specs.Table.{TableOf, mismatch_from, rows_from, HasCells, HasOtherHeader, HasBadCell, HasNullKey, HasKeyTwice}
 use Rattle.table_store.specs.Fault.{TableCause, file_missing, file_too_large, bad_text, bad_header, bad_cell, key_null, key_twice, cell_cause, LoadCause, no_metadata, bad_meta, bad_table}
 use Rattle.table_store.specs.File.{FileOf}
-use Rattle.table_store.specs.Key.{row_keys, null_row, repeated_row}
+use Rattle.table_store.specs.Key.{row_key, row_keys, null_row, repeated_row}
 use Rattle.table_store.specs.Keys.{key_cause}
 use Rattle.table_store.specs.Catalog.{HasFile, HasTableCause, IsFirstBadTable}
 use Rattle.table_store.specs.Inside.{rows_of_fields, rows_in, AllHaveValues}
@@ -60,6 +60,11 @@ table_cause NoMemory = None
 -- the keys of the rows behind the header
 abbrev pub keys_at : SchemaOf → Places → List ℕ → List (List CellValue)
 keys_at schema places bytes = row_keys schema.key (rows_in schema.columns places bytes)
+
+-- values stand for those of a row as far as a key asks for them: there are as many, and the key is the same
+pub record StandFor (places : List ℕ) (values row : List CellValue) : Type 0 where
+  pub count : length values ≡ length row
+  pub key : row_key places values ≡ row_key places row
 
 -- the first cell of the rows behind the header that has no value, and why
 abbrev pub bad_cell_of : SchemaOf → Places → List ℕ → Option (ℕ × ℕ × CellFault)

@@ -1,9 +1,9 @@
 //! The steps of loading a table from its file: the header against the columns, and then each cell.
-ghost use Rattle.std.specs.Prelude.{◌≡◌, ◌≤◌, ◌⊎◌, None, Some, Ok, Err, IfOk, IfErr, IfNone, IfSome, length, take, drop, map, option_map, string_bytes};
+ghost use Rattle.std.specs.Prelude.{◌≡◌, ◌≤◌, ◌⊎◌, ◌==◌, List, true, None, Some, Ok, Err, IfOk, IfErr, IfNone, IfSome, length, take, drop, map, option_map, string_bytes};
 ghost use Rattle.std.specs.List.{list_any};
 ghost use Rattle.std.specs.Result.{result_err};
 ghost use Rattle.std.specs.Str.{bytes_eq};
-ghost use Rattle.cell_types.specs.Value.{value_view};
+ghost use Rattle.cell_types.specs.Value.{CellValue, value_view};
 ghost use Rattle.cell_types.specs.Column.{column_view};
 ghost use Rattle.cell_types.specs.Cell.{value_of};
 ghost use Rattle.csv_index.specs.Index.{FitsFile};
@@ -12,7 +12,7 @@ ghost use Rattle.csvw_meta.specs.Schema.{schema_view};
 ghost use Rattle.table_store.specs.Table.{is_called as is_called_by, mismatch_from, values_from};
 ghost use Rattle.table_store.specs.Fault.{bad_cell, cell_cause};
 ghost use Rattle.table_store.specs.Keys.{AreColumns, AreKeysOf};
-ghost use Rattle.table_store.specs.Loading.{field_of, header_of, keys_at, bad_cell_of, IsTableAt, table_cause, HasFileCause, HasRowsCause};
+ghost use Rattle.table_store.specs.Loading.{field_of, header_of, keys_at, bad_cell_of, IsTableAt, StandFor, table_cause, HasFileCause, HasRowsCause};
 
 use crate::keys::{KeyFault, KeyReader, Keys};
 use cell_types::{CellFault, Column, Value, read_text};
@@ -101,18 +101,47 @@ pub fn cell_value<'a>(alloc: Global, column: &Column, raw: Raw<'a>) -> Result<Va
     }
 }
 
-/// The values of a row, or the first cell that has none. The row's fields are the next of those that are left.
+/// Whether a column is one of those places.
+fn is_among(places: &[usize], col: usize) -> bool
+    ensures { result ≡ list_any (λ place. place == col) places.now }
+{
+    places.contains(&col)
+}
+
+/// The value of a field in a column. Where no one asks for it and the column takes all texts, null stands for it.
+#[inline(always)]
+fn asked_value<'a>(
+    alloc: Global,
+    column: &Column,
+    raw: Raw<'a>,
+    is_asked: bool,
+) -> Result<Value<'a>, CellFault>
+    ensures value { IfOk result (λ value. (is : CellValue) × (value_of (column_view column.now)
+        (raw_content (record { bytes = raw.entry.bytes.now; quoted = raw.entry.quoted })) ≡ Ok is) × (is_asked ≡ true → value_view value ≡ is)) }
+    ensures fault { IfErr result (λ e. (e ≡ CellFault.NoMemory) ⊎ (value_of (column_view column.now)
+        (raw_content (record { bytes = raw.entry.bytes.now; quoted = raw.entry.quoted })) ≡ Err e)) }
+{
+    if !is_asked && column.takes_all_texts() {
+        cell_types::strings_have_values();
+        return Ok(Value::Null);
+    }
+    cell_value(alloc, column, raw)
+}
+
+/// The values of a row as far as a key of those places asks for them, or the first cell that has none. The row's fields are the next of
+/// those that are left.
 fn read_row<'a>(
     alloc: Global,
     columns: &[Column],
+    places: &[usize],
     fields: &mut Fields<'_, 'a>,
     row: usize,
     values: &mut Vec<Value<'a>>,
 ) -> Result<(), BadCell>
     requires width { length columns.now ≤ length fields.old }
     ensures passed { IfOk result (λ _. fields.new ≡ drop (length columns.now) fields.old) }
-    ensures values { IfOk result (λ _. values_from 0 (map column_view columns.now)
-        (map field_of (take (length columns.now) fields.old)) ≡ Ok (map value_view values.new.items)) }
+    ensures values { IfOk result (λ _. (row_values : List CellValue) × (values_from 0 (map column_view columns.now)
+        (map field_of (take (length columns.now) fields.old)) ≡ Ok row_values) × StandFor places.now (map value_view values.new.items) row_values) }
     ensures row { IfErr result (λ bad. bad.row ≡ row) }
     ensures fault { IfErr result (λ bad. (bad.fault ≡ CellFault.NoMemory) ⊎ (result_err (values_from 0 (map column_view columns.now)
         (map field_of (take (length columns.now) fields.old))) ≡ Some (bad.col, bad.fault))) }
@@ -122,7 +151,7 @@ fn read_row<'a>(
         let Some(raw) = fields.next_field() else {
             unreachable!();
         };
-        let value = match cell_value(alloc, column, raw) {
+        let value = match asked_value(alloc, column, raw, is_among(places, col)) {
             Ok(value) => value,
             Err(fault) => return Err(BadCell { row, col, fault }),
         };
@@ -156,7 +185,7 @@ fn read_rows(alloc: Global, schema: &Schema, index: &Index, bytes: &str) -> Resu
     let mut values = Vec::new(alloc);
     let mut fields = index.fields(bytes, 0);
     for row in 0..index.rows() {
-        match read_row(alloc, columns, &mut fields, row, &mut values) {
+        match read_row(alloc, columns, places, &mut fields, row, &mut values) {
             Ok(()) => {}
             Err(bad) => return Err(fault_of(bad)),
         }

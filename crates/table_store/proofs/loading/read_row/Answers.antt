@@ -1,12 +1,14 @@
-use Rattle.std.proofs.Common.{◌≡◌, ◌+◌, ◌≤◌, true, not, [], ◌∷◌, ◌++◌, Some, Ok, length, map, take, drop, slice_get, ap, sym, ◌∙◌, arith, inl, inr}
-use Rattle.std.proofs.lemmas.List.{length-drop, map-append}
+use Rattle.std.proofs.Common.{◌≡◌, ◌+◌, ◌≤◌, true, not, get_or, length-append, [], ◌∷◌, ◌++◌, Some, Ok, length, map, take, drop, slice_get, ap, sym, ◌∙◌, arith, inl, inr}
+use Rattle.std.proofs.lemmas.List.{length-drop, length-map, length-take, map-append}
 use Rattle.std.specs.Result.{is_ok, result_err}
 use Rattle.cell_types.specs.Column.{column_view}
-use Rattle.cell_types.specs.Value.{value_view}
+use Rattle.cell_types.specs.Value.{null, value_view}
 use Rattle.csv_index.specs.Raw.{RawField}
 use Rattle.csv_index.specs.declared.raw.Raw.{Raw}
+use Rattle.table_store.specs.Inside.{values_in}
+use Rattle.table_store.proofs.InsideLemmas.{length-values_in}
 use Rattle.table_store.proofs.PlaceLemmas.{drop-first, slice_get-from_read, slice_get-take}
-use Rattle.table_store.proofs.RowLemmas.{values_from-none, values_in-more, values_in-all, wrong_from-here, wrong_from-past, wrong_from-end}
+use Rattle.table_store.proofs.RowLemmas.{key_from, value_at, value_behind, values_from-none, values_past, wrong_from-here, wrong_from-past, wrong_from-end}
 use Rattle.table_store.proofs.loading.read_row.Goals.{In-Some}
 use Rattle.table_store.proofs.loading.read_row.Goals as goal
 
@@ -50,13 +52,18 @@ loop-col-preserved c =
     let next = next_field (goal.at.loop-col-preserved c).In-Some in
     let fits : is_ok c.push.result ≡ true = c.is_err.ensures.negation ∙ ap not c.if-is_err.false in
     let pushes : c.push.new.self.items ≡ c.loop-col.values.items ++ value ∷ [] = rw fits at c.push.ensures.items in
-    let more = values_in-more columns fields col column (as_it_stands c.in-Some.raw) (value_view value) at_column next.0 c.in-Ok.ensures.value in
+    let e = c.in-Ok.ensures.value in
+    let there = value_at columns fields col column (as_it_stands c.in-Some.raw) e.0 at_column next.0 e.1 in
+    let size : length (map value_view c.loop-col.values.items) ≡ col = length-map c.loop-col.values.items value_view ∙ c.loop-col.invariant.count in
     record {
-      right = sym (wrong_from-past columns fields col column (as_it_stands c.in-Some.raw) at_column next.0 (ap result_err c.in-Ok.ensures.value))
+      right = sym (wrong_from-past columns fields col column (as_it_stands c.in-Some.raw) at_column next.0 (ap result_err e.1))
           ∙ c.loop-col.invariant.right;
       passed = sym next.1;
-      values = ap (map value_view) pushes ∙ map-append value_view c.loop-col.values.items (value ∷ [])
-          ∙ ap (λ xs. xs ++ value_view value ∷ []) c.loop-col.invariant.values ∙ sym more;
+      count = ap length pushes ∙ omega (arith, length-append c.loop-col.values.items (value ∷ []), c.loop-col.invariant.count);
+      values = λ k within among.
+          ap (λ vs. get_or vs k null) (ap (map value_view) pushes ∙ map-append value_view c.loop-col.values.items (value ∷ []))
+          ∙ value_behind (map value_view c.loop-col.values.items) (values_in (map column_view columns) fields) c.args.places.now col (value_view value) e.0 size
+          c.loop-col.invariant.values (λ asked. e.2 (c.is_among.ensures ∙ asked)) there k within among;
     }
 
 pub returns-clause-values : goal.returns-clause-values
@@ -64,5 +71,18 @@ returns-clause-values c =
     let columns = c.args.columns.now in
     let fields = take (length columns) c.args.fields.now in
     let past : length columns ≤ c.loop-col.col = c.loop-col-test.false in
-    (values_from-none 0 (map column_view columns) fields (sym c.loop-col.invariant.right ∙ wrong_from-end columns fields c.loop-col.col past)).1
-    ∙ ap (λ values. Ok values) (sym (c.loop-col.invariant.values ∙ values_in-all columns fields c.loop-col.col past))
+    let row = values_in (map column_view columns) fields in
+    let values = map value_view c.loop-col.values.items in
+    let size : length values ≡ c.loop-col.col = length-map c.loop-col.values.items value_view ∙ c.loop-col.invariant.count in
+    let wide : length row ≡ c.loop-col.col =
+    length-values_in (map column_view columns) fields (omega (arith, length-map columns column_view, length-take (length columns) c.args.fields.now, c.requires.width))
+    ∙ omega (arith, length-map columns column_view, past) in
+    (
+      row,
+      (values_from-none 0 (map column_view columns) fields (sym c.loop-col.invariant.right ∙ wrong_from-end columns fields c.loop-col.col past)).1,
+      record {
+        count = omega (arith, size, wide);
+        key = key_from c.args.places.now values row
+            (λ k among. values_past values row k c.loop-col.col size wide (λ within. c.loop-col.invariant.values k within among));
+      },
+    )

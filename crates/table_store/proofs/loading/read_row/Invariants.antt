@@ -1,16 +1,19 @@
-use Rattle.std.proofs.Common.{◌≡◌, length, take, drop, map}
+use Rattle.std.proofs.Common.{◌≡◌, ◌<◌, ◌==◌, ℕ, true, get_or, length, take, drop, map}
+use Rattle.std.specs.List.{list_any}
 use Rattle.cell_types.specs.Column.{column_view}
-use Rattle.cell_types.specs.Value.{value_view}
+use Rattle.cell_types.specs.Value.{null, value_view}
 use Rattle.table_store.specs.Inside.{values_in}
 use Rattle.table_store.proofs.RowLemmas.{wrong_from}
 use Rattle.table_store.proofs.loading.read_row.Given as goal
 
--- nothing is wrong so far, the fields of the columns so far are passed, and their values are read
+-- nothing is wrong so far, the fields of the columns so far are passed, and their values are read where the key asks for them
 abbrev pub invariant-loop-col : goal.invariant-loop-col
 invariant-loop-col l =
     let fields = take (length l.columns) l.fn.fields in
     record {
       right : wrong_from l.col l.columns fields ≡ wrong_from 0 l.columns fields;
       passed : l.fields ≡ drop l.col l.fn.fields;
-      values : map value_view l.values.items ≡ take l.col (values_in (map column_view l.columns) fields);
+      count : length l.values.items ≡ l.col;
+      values : (k : ℕ) → k < l.col → list_any (λ place. place == k) l.places ≡ true
+          → get_or (map value_view l.values.items) k null ≡ get_or (values_in (map column_view l.columns) fields) k null;
     }

@@ -9,16 +9,19 @@ use Rattle.table_store.specs.Inside.{rows_in, values_in}
 use Rattle.table_store.specs.Key.{row_key, row_keys}
 use Rattle.table_store.specs.Keys.{HasRead, Suits}
 use Rattle.table_store.specs.Table.{values_from}
-use Rattle.table_store.specs.Loading.{field_of, keys_at, record_of, records_of}
+use Rattle.table_store.specs.Loading.{field_of, keys_at, record_of, records_of, StandFor}
 use Rattle.table_store.proofs.PlaceLemmas.{slice_get-records_of, length-rows_of_fields, take-record_of, drop-record_of, record_within}
 use Rattle.table_store.proofs.InsideLemmas.{length-rows_in, length-values_in, rows_in-more}
 use Rattle.table_store.proofs.LoadingLemmas.{bad_cell-cause, key_fault-cause}
+use Rattle.table_store.proofs.KeyLemmas.{row_keys-last}
 use Rattle.table_store.proofs.RowLemmas.{values_from-none, wrong_in_rows-here, wrong_in_rows-past, wrong_in_rows-end}
 use Rattle.table_store.proofs.loading.read_rows.Goals.{In-Ok-read_row}
 use Rattle.table_store.proofs.loading.read_rows.Goals as goal
 
--- the values of a row are those of its record
-read_values : (c : In-Ok-read_row) → values_from 0 (map column_view c.args.schema.now.columns.items) (map field_of (record_of c.args.index.now c.args.bytes.now c.loop-row.row)) ≡ Ok (map value_view c.read_row.new.values.items)
+-- the values of a row stand for those of its record
+read_values : (c : In-Ok-read_row)
+    → (values_from 0 (map column_view c.args.schema.now.columns.items) (map field_of (record_of c.args.index.now c.args.bytes.now c.loop-row.row)) ≡ Ok c.in-Ok-read_row.ensures.values.0)
+    × StandFor c.args.schema.now.key.items (map value_view c.read_row.new.values.items) c.in-Ok-read_row.ensures.values.0
 read_values c =
     let places = c.args.index.now in
     let bytes = c.args.bytes.now in
@@ -26,15 +29,20 @@ read_values c =
     let record_here = record_of places bytes c.loop-row.row in
     let wide : length columns ≡ places.width = ap length c.as_slice-columns.ensures.value ∙ sym (length-map c.args.schema.now.columns.items column_view) ∙ c.requires.width in
     let here = take-record_of places bytes c.loop-row.row (length columns) c.loop-row.fields wide c.loop-row.invariant.passed in
-    ap (λ cs. values_from 0 (map column_view cs) (map field_of record_here)) (sym c.as_slice-columns.ensures.value)
-    ∙ ap (λ fields. values_from 0 (map column_view columns) (map field_of fields)) (sym here) ∙ c.in-Ok-read_row.ensures.values
+    let values = c.in-Ok-read_row.ensures.values in (
+      ap (λ cs. values_from 0 (map column_view cs) (map field_of record_here)) (sym c.as_slice-columns.ensures.value)
+      ∙ ap (λ fields. values_from 0 (map column_view columns) (map field_of fields)) (sym here) ∙ values.1,
+      subst (λ key. StandFor key (map value_view c.read_row.new.values.items) values.0) c.as_slice-places.ensures.value values.2,
+    )
 
-are_values : (c : In-Ok-read_row) → map value_view c.read_row.new.values.items ≡ values_in (map column_view c.args.schema.now.columns.items) (record_of c.args.index.now c.args.bytes.now c.loop-row.row)
+are_values : (c : In-Ok-read_row) → StandFor c.args.schema.now.key.items (map value_view c.read_row.new.values.items)
+    (values_in (map column_view c.args.schema.now.columns.items) (record_of c.args.index.now c.args.bytes.now c.loop-row.row))
 are_values c =
     let e = read_values c in
-    let f = (values_from-none 0 (map column_view c.args.schema.now.columns.items) (record_of c.args.index.now c.args.bytes.now c.loop-row.row) (ap result_err e)).1 in
-    let both = sym e ∙ f in
-    cc
+    let f = (values_from-none 0 (map column_view c.args.schema.now.columns.items) (record_of c.args.index.now c.args.bytes.now c.loop-row.row) (ap result_err e.0)).1 in
+    let both = sym e.0 ∙ f in
+    let same : c.in-Ok-read_row.ensures.values.0 ≡ values_in (map column_view c.args.schema.now.columns.items) (record_of c.args.index.now c.args.bytes.now c.loop-row.row) = cc in
+    subst (StandFor c.args.schema.now.key.items (map value_view c.read_row.new.values.items)) same e.1
 
 pub read_row-requires : goal.read_row-requires
 read_row-requires c =
@@ -77,7 +85,7 @@ read-requires-clause-places c k d within =
     let count = length-values_in (map column_view items) record_here (omega (arith, size, c.requires.width)) in
     let all : length c.as_slice.result.now ≡ length (map column_view items) =
     ap length c.as_slice.ensures.value ∙ sym (length-map c.read_row.new.values.items value_view)
-    ∙ ap length (are_values (goal.at.read-requires-clause-places c).In-Ok-read_row) ∙ count in
+    ∙ (are_values (goal.at.read-requires-clause-places c).In-Ok-read_row).count ∙ count in
     let key = c.as_slice-places.ensures.value in
     let below : get_or c.as_slice-places.result.now k d < length (map column_view items) =
     subst (λ ps. get_or ps k d < length (map column_view items)) (sym key) (c.requires.key k d (omega (arith, within, ap length key))) in
@@ -89,7 +97,7 @@ read-requires-clause-suits c =
     let record_here = record_of c.args.index.now c.args.bytes.now c.loop-row.row in
     let values = are_values (goal.at.read-requires-clause-suits c).In-Ok-read_row in
     subst (Suits c.loop-row.keys.keys)
-    (ap (row_key schema.key) (sym values ∙ ap (map value_view) (sym c.as_slice.ensures.value))
+    (sym values.key ∙ ap (row_key schema.key) (ap (map value_view) (sym c.as_slice.ensures.value))
     ∙ ap (λ ps. row_key ps (map value_view c.as_slice.result.now)) (sym c.as_slice-places.ensures.value))
     (c.loop-row.invariant.suits record_here)
 
@@ -109,12 +117,13 @@ loop-row-preserved c =
     let was : HasRead c.loop-row.keys (row_keys key (take row rows)) = subst (λ ps. HasRead c.loop-row.keys (row_keys ps (take row rows))) (sym c.as_slice-places.ensures.value) c.loop-row.invariant.keys in
     record {
       right = sym (wrong_in_rows-past schema.columns (records_of places bytes) row (record_of places bytes row) (slice_get-records_of places bytes row within)
-          (ap result_err (read_values (goal.at.loop-row-preserved c).In-Ok-read_row)))
+          (ap result_err (read_values (goal.at.loop-row-preserved c).In-Ok-read_row).0))
           ∙ c.loop-row.invariant.right;
       passed = c.in-Ok-read_row.ensures.passed ∙ drop-record_of places bytes row (length columns) c.loop-row.fields wide c.loop-row.invariant.passed;
       keys = subst (HasRead c.read.new.self)
           (ap (λ ps. row_keys ps (take row rows ++ map value_view c.as_slice.result.now ∷ [])) c.as_slice-places.ensures.value
-          ∙ ap (λ vs. row_keys schema.key (take row rows ++ vs ∷ [])) (ap (map value_view) c.as_slice.ensures.value ∙ values)
+          ∙ ap (λ vs. row_keys schema.key (take row rows ++ vs ∷ [])) (ap (map value_view) c.as_slice.ensures.value)
+          ∙ row_keys-last schema.key (take row rows) _ _ values.key
           ∙ ap (row_keys schema.key) (sym (rows_in-more schema.columns places bytes row within)))
           (c.in-Ok-read.ensures.read (take row rows) size was);
       suits = λ fields. c.read.ensures.suits (row_key schema.key (values_in schema.columns fields)) (c.loop-row.invariant.suits fields);
