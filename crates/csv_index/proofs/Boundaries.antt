@@ -9,6 +9,7 @@ use Rattle.std.proofs.lemmas.Str.Ascii.{IsAscii-cons, IsAscii-nil}
 use Rattle.csv_grammar.specs.Bytes.{double_quote}
 use Rattle.csv_index.specs.Raw.{raw_between, unwrapped, without_return}
 use Rattle.csv_index.specs.Index.{AreAscii, Rise, start_at}
+use Rattle.csv_index.specs.Fields.{AreLeft}
 use Rattle.csv_index.proofs.CellLemmas.{AllByRecursion-at, start_before}
 
 -- the byte behind a piece of the file
@@ -32,6 +33,16 @@ pub boundary_behind : (start end : ℕ) (ends bytes : List ℕ) → IsUtf8 bytes
 boundary_behind start end [] bytes utf8 rise ascii some = absurd (omega arith)
 boundary_behind start end (next ∷ ends) bytes utf8 rise ascii some =
     IsCharBoundary-after_ascii bytes end utf8 (omega (arith, rise.2.0, rise.2.1)) ascii.0
+
+-- what is left behind the first of the places
+pub left_behind : (start end : ℕ) (ends bytes : List ℕ) → AreLeft start (end ∷ ends) bytes → AreLeft (end + 1) ends bytes
+left_behind start end ends bytes left = record {
+  rise = left.rise.2;
+  text = left.text.1;
+  utf8 = left.utf8;
+  boundary = boundary_behind start end ends bytes left.utf8 left.rise left.ascii;
+  ascii = left.ascii.1;
+}
 
 -- behind the place of that number
 pub boundary_next : (start : ℕ) (ends bytes : List ℕ) (n end : ℕ) → IsUtf8 bytes → Rise start ends (length bytes) → AreAscii bytes ends → slice_get ends n ≡ Some end

@@ -1,5 +1,6 @@
 pub mod Raw
 pub mod Index
+pub mod Fields
 pub mod Fault
 pub mod Blocks
 pub mod Widths

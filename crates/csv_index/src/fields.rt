@@ -1,5 +1,5 @@
 //! The fields of a file in order.
-ghost use Rattle.std.specs.Prelude.{◌≡◌, [], ◌∷◌, MatchOption};
+ghost use Rattle.std.specs.Prelude.{◌≡◌, [], ◌∷◌, MatchOption, drop};
 
 use crate::ends::Ends;
 use crate::raw::Raw;
@@ -17,24 +17,16 @@ pub struct Fields<'i, 'a> {
 }
 
 impl<'i, 'a> Model for Fields<'i, 'a> {
-    ghost use Rattle.std.specs.Prelude.{◌≡◌, ◌<◌, List, map, length, true, IsUtf8};
-    ghost use Rattle.std.specs.List.{AllByRecursion};
-    ghost use Rattle.std.specs.Str.{is_utf8, IsCharBoundary};
+    ghost use Rattle.std.specs.Prelude.{List, map};
     ghost use Rattle.csv_index.specs.Raw.{RawField, raw_between};
+    ghost use Rattle.csv_index.specs.Index.{cut};
+    ghost use Rattle.csv_index.specs.Fields.{AreLeft};
 
     ghost Value = { List RawField };
 
-    ghost use Rattle.csv_index.specs.Index.{cut, Rise, AreAscii};
-
     ghost view = { λ f. map raw_between (cut f.start f.ends f.bytes.now) };
 
-    ghost invariant = { λ f. record {
-      rise : Rise f.start f.ends (length f.bytes.now);
-      text : AllByRecursion (λ raw. is_utf8 raw.bytes ≡ true) (map raw_between (cut f.start f.ends f.bytes.now));
-      utf8 : IsUtf8 f.bytes.now;
-      boundary : 0 < length f.ends → IsCharBoundary f.bytes.now f.start;
-      ascii : AreAscii f.bytes.now f.ends;
-    } };
+    ghost invariant = { λ f. AreLeft f.start f.ends f.bytes.now };
 }
 
 impl<'i, 'a> Fields<'i, 'a> {
@@ -48,5 +40,15 @@ impl<'i, 'a> Fields<'i, 'a> {
         let field = &self.bytes[self.start..end];
         self.start = end + 1;
         Some(Raw::between(field))
+    }
+
+    /// Passes the next field, where there is one, without looking at it.
+    #[inline(always)]
+    pub fn pass(&mut self)
+        ensures { self.new ≡ drop 1 self.old }
+    {
+        if let Some(end) = self.ends.next() {
+            self.start = end + 1;
+        }
     }
 }

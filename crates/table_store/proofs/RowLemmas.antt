@@ -1,10 +1,9 @@
 -- The values of rows of fields, one cell after another.
-use Rattle.std.proofs.Common.{◌≡◌, ◌⊎◌, ◌<◌, ◌==◌, ◌||◌, Bool, true, false, get_or, inl, inr, sym, subst, ℕ, zero, suc, ◌+◌, ◌≤◌, List, [], ◌∷◌, ◌++◌, length, take, drop, map, Option, Some, None, option_map, Result, Ok, Err, slice_get, refl, ap, ◌∙◌, arith}
-use Rattle.std.specs.List.{list_any, zip}
+use Rattle.std.proofs.Common.{set, ◌≡◌, ◌⊎◌, ◌<◌, ◌==◌, ◌||◌, Bool, true, false, get_or, inl, inr, sym, subst, ℕ, zero, suc, ◌+◌, ◌≤◌, List, [], ◌∷◌, length, take, drop, map, Option, Some, None, option_map, Result, Ok, Err, slice_get, refl, ap, ◌∙◌, arith}
+use Rattle.std.specs.List.{list_any}
 use Rattle.std.proofs.lemmas.Bool.{cases_order, eq-eqb}
-use Rattle.std.proofs.lemmas.List.{drop_all, get_or_append_left, get_or_at, get_or_past}
-use Rattle.std.proofs.lemmas.Option.{get_or_from_slice_get, slice_get-map, slice_get_within}
-use Rattle.std.proofs.lemmas.Slice.Zip.{length-zip}
+use Rattle.std.proofs.lemmas.List.{drop_all, length-take, get_or_past, get_or-set_other, get_or-set_same}
+use Rattle.std.proofs.lemmas.Option.{get_or_from_slice_get, slice_get-map}
 use Rattle.std.specs.Result.{result_err}
 use Rattle.csv_index.specs.Raw.{RawField, raw_content}
 use Rattle.cell_types.specs.Value.{CellValue, null}
@@ -13,7 +12,7 @@ use Rattle.cell_types.specs.Column.{ColumnOf, column_view}
 use Rattle.cell_types.specs.Cell.{value_of}
 use Rattle.cell_types.specs.declared.column.Column.{Column}
 use Rattle.table_store.specs.Table.{values_from, value_then, rows_from, row_then}
-use Rattle.table_store.specs.Inside.{value_or_null, value_in, values_in, HaveValues, AllHaveValues}
+use Rattle.table_store.specs.Inside.{value_or_null, values_in, HaveValues, AllHaveValues}
 use Rattle.table_store.specs.Key.{row_key}
 use Rattle.table_store.specs.Loading.{field_of}
 use Rattle.table_store.proofs.PlaceLemmas.{drop-from_slice_get}
@@ -121,19 +120,37 @@ value_at columns fields col column raw value e f is =
     let at : slice_get values col ≡ Some value = slice_get-values_in (map column_view columns) fields col (column_view column) raw at_column f ∙ ap (λ r. Some (value_or_null r)) is in
     get_or_from_slice_get values col value null at
 
--- one more value behind those that are read
-pub value_behind : (values : List CellValue) (row : List CellValue) (places : List ℕ) (col : ℕ) (value is : CellValue) → length values ≡ col
-    → ((k : ℕ) → k < col → list_any (λ place. place == k) places ≡ true → get_or values k null ≡ get_or row k null)
-    → (list_any (λ place. place == col) places ≡ true → value ≡ is) → get_or row col null ≡ is
-    → (k : ℕ) → k < col + 1 → list_any (λ place. place == k) places ≡ true → get_or (values ++ value ∷ []) k null ≡ get_or row k null
-value_behind values row places col value is size before asked there k within among =
+-- one more value among those that are read
+pub value_put : (values row : List CellValue) (places : List ℕ) (col : ℕ) (value : CellValue) → col < length values
+    → ((k : ℕ) → k < col → list_any (λ place. place == k) places ≡ true → get_or values k null ≡ get_or row k null) → get_or row col null ≡ value
+    → (k : ℕ) → k < col + 1 → list_any (λ place. place == k) places ≡ true → get_or (set values col value) k null ≡ get_or row k null
+value_put values row places col value size before there k within among =
     elim (cases_order k col) [
-      | inl here ↦
-          get_or_at values value [] null k (omega (arith, size, here)) ∙ asked (subst (λ n. list_any (λ place. place == n) places ≡ true) here among)
-          ∙ sym there ∙ ap (λ n. get_or row n null) (sym here)
-      | inr (inl less) ↦ get_or_append_left values (value ∷ []) null k (omega (arith, less, size)) ∙ before k less among
+      | inl here ↦ ap (λ n. get_or (set values col value) n null) here ∙ get_or-set_same values col value null size ∙ sym there ∙ ap (λ n. get_or row n null) (sym here)
+      | inr (inl less) ↦ get_or-set_other values col k value null (λ e. absurd (omega (arith, e, less))) ∙ before k less among
       | inr (inr more) ↦ absurd (omega (arith, more, within))
     ]
+
+-- one value less to ask for
+pub value_passed : (values row : List CellValue) (places : List ℕ) (col : ℕ)
+    → ((k : ℕ) → k < col → list_any (λ place. place == k) places ≡ true → get_or values k null ≡ get_or row k null) → list_any (λ place. place == col) places ≡ false
+    → (k : ℕ) → k < col + 1 → list_any (λ place. place == k) places ≡ true → get_or values k null ≡ get_or row k null
+value_passed values row places col before none k within among =
+    elim (cases_order k col) [
+      | inl here ↦ let both = sym (subst (λ n. list_any (λ place. place == n) places ≡ true) here among) ∙ none in absurd (cc)
+      | inr (inl less) ↦ before k less among
+      | inr (inr more) ↦ absurd (omega (arith, more, within))
+    ]
+
+-- the field of a column is there where there are enough
+pub field_there : (columns : List Column) (fields : List RawField) (col : ℕ) → col < length columns → length columns ≤ length fields
+    → (raw : RawField) × (slice_get (take (length columns) fields) col ≡ Some raw)
+field_there columns fields col within enough = there (take (length columns) fields) col (omega (arith, within, enough, length-take (length columns) fields))
+  where
+    there : (xs : List RawField) (n : ℕ) → n < length xs → (raw : RawField) × (slice_get xs n ≡ Some raw)
+    there [] n h = absurd (omega arith)
+    there (x ∷ xs) zero h = (x, refl)
+    there (x ∷ xs) (suc n) h = there xs n (omega arith)
 
 -- past their end both lists say the same
 pub values_past : (values row : List CellValue) (k col : ℕ) → length values ≡ col → length row ≡ col → (k < col → get_or values k null ≡ get_or row k null)

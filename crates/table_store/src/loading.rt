@@ -108,28 +108,19 @@ fn is_among(places: &[usize], col: usize) -> bool
     places.contains(&col)
 }
 
-/// The value of a field in a column. Where no one asks for it and the column takes all texts, null stands for it.
-#[inline(always)]
-fn asked_value<'a>(
-    alloc: Global,
-    column: &Column,
-    raw: Raw<'a>,
-    is_asked: bool,
-) -> Result<Value<'a>, CellFault>
-    ensures value { IfOk result (λ value. (is : CellValue) × (value_of (column_view column.now)
-        (raw_content (record { bytes = raw.entry.bytes.now; quoted = raw.entry.quoted })) ≡ Ok is) × (is_asked ≡ true → value_view value ≡ is)) }
-    ensures fault { IfErr result (λ e. (e ≡ CellFault.NoMemory) ⊎ (value_of (column_view column.now)
-        (raw_content (record { bytes = raw.entry.bytes.now; quoted = raw.entry.quoted })) ≡ Err e)) }
+/// So many nulls.
+fn nulls<'a>(alloc: Global, count: usize) -> Result<Vec<Value<'a>>, AllocError>
+    ensures { IfOk result (λ values. length values.items ≡ count) }
 {
-    if !is_asked && column.takes_all_texts() {
-        cell_types::strings_have_values();
-        return Ok(Value::Null);
+    let mut values = Vec::with_capacity(alloc, count)?;
+    for _made in 0..count {
+        values.push(Value::Null)?;
     }
-    cell_value(alloc, column, raw)
+    Ok(values)
 }
 
 /// The values of a row as far as a key of those places asks for them, or the first cell that has none. The row's fields are the next of
-/// those that are left.
+/// those that are left. A column that takes all texts is passed, where the key does not ask for it.
 fn read_row<'a>(
     alloc: Global,
     columns: &[Column],
@@ -139,28 +130,27 @@ fn read_row<'a>(
     values: &mut Vec<Value<'a>>,
 ) -> Result<(), BadCell>
     requires width { length columns.now ≤ length fields.old }
+    requires count { length values.old.items ≡ length columns.now }
     ensures passed { IfOk result (λ _. fields.new ≡ drop (length columns.now) fields.old) }
     ensures values { IfOk result (λ _. (row_values : List CellValue) × (values_from 0 (map column_view columns.now)
         (map field_of (take (length columns.now) fields.old)) ≡ Ok row_values) × StandFor places.now (map value_view values.new.items) row_values) }
+    ensures count { length values.new.items ≡ length columns.now }
     ensures row { IfErr result (λ bad. bad.row ≡ row) }
     ensures fault { IfErr result (λ bad. (bad.fault ≡ CellFault.NoMemory) ⊎ (result_err (values_from 0 (map column_view columns.now)
         (map field_of (take (length columns.now) fields.old))) ≡ Some (bad.col, bad.fault))) }
 {
-    values.clear();
+    cell_types::strings_have_values();
     for (col, column) in columns.iter().enumerate() {
+        if column.takes_all_texts() && !is_among(places, col) {
+            fields.pass();
+            continue;
+        }
         let Some(raw) = fields.next_field() else {
             unreachable!();
         };
-        let value = match asked_value(alloc, column, raw, is_among(places, col)) {
-            Ok(value) => value,
+        match cell_value(alloc, column, raw) {
+            Ok(value) => values[col] = value,
             Err(fault) => return Err(BadCell { row, col, fault }),
-        };
-        if values.push(value).is_err() {
-            return Err(BadCell {
-                row,
-                col,
-                fault: CellFault::NoMemory,
-            });
         }
     }
     Ok(())
@@ -182,7 +172,9 @@ fn read_rows(alloc: Global, schema: &Schema, index: &Index, bytes: &str) -> Resu
     let Ok(mut keys) = KeyReader::new(alloc, schema, index.rows()) else {
         return Err(TableFault::NoMemory);
     };
-    let mut values = Vec::new(alloc);
+    let Ok(mut values) = nulls(alloc, columns.len()) else {
+        return Err(TableFault::NoMemory);
+    };
     let mut fields = index.fields(bytes, 0);
     for row in 0..index.rows() {
         match read_row(alloc, columns, places, &mut fields, row, &mut values) {

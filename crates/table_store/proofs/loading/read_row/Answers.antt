@@ -1,14 +1,15 @@
-use Rattle.std.proofs.Common.{◌≡◌, ◌+◌, ◌≤◌, true, not, get_or, length-append, [], ◌∷◌, ◌++◌, Some, Ok, length, map, take, drop, slice_get, ap, sym, ◌∙◌, arith, inl, inr}
-use Rattle.std.proofs.lemmas.List.{length-drop, length-map, length-take, map-append}
-use Rattle.std.specs.Result.{is_ok, result_err}
+use Rattle.std.proofs.Common.{◌≡◌, ◌+◌, ◌≤◌, false, ◌==◌, ◌<◌, get_or, [], Some, length, map, take, drop, slice_get, ap, sym, ◌∙◌, arith, inl, inr}
+use Rattle.std.proofs.lemmas.List.{drop-drop, length-drop, length-set, map-set, length-map, length-take}
+use Rattle.std.specs.List.{list_any}
+use Rattle.std.specs.Result.{result_err}
 use Rattle.cell_types.specs.Column.{column_view}
 use Rattle.cell_types.specs.Value.{null, value_view}
-use Rattle.csv_index.specs.Raw.{RawField}
+use Rattle.csv_index.specs.Raw.{RawField, raw_content}
 use Rattle.csv_index.specs.declared.raw.Raw.{Raw}
 use Rattle.table_store.specs.Inside.{values_in}
 use Rattle.table_store.proofs.InsideLemmas.{length-values_in}
 use Rattle.table_store.proofs.PlaceLemmas.{drop-first, slice_get-from_read, slice_get-take}
-use Rattle.table_store.proofs.RowLemmas.{key_from, value_at, value_behind, values_from-none, values_past, wrong_from-here, wrong_from-past, wrong_from-end}
+use Rattle.table_store.proofs.RowLemmas.{field_there, key_from, value_at, value_passed, value_put, values_from-none, values_past, wrong_from-here, wrong_from-past, wrong_from-end}
 use Rattle.table_store.proofs.loading.read_row.Goals.{In-Some}
 use Rattle.table_store.proofs.loading.read_row.Goals as goal
 
@@ -41,29 +42,44 @@ returns-in-Err-clause-fault c =
           ∙ wrong_from-here c.args.columns.now fields col c.index-columns-col.result (as_it_stands c.in-Some.raw) c.in-Err.fault at_column at_field e)
     ]
 
+pub loop-col-preserved-then-not-is_among : goal.loop-col-preserved-then-not-is_among
+loop-col-preserved-then-not-is_among c =
+    let col = c.loop-col.col in
+    let columns = c.args.columns.now in
+    let column = c.index-columns-col.result in
+    let fields = take (length columns) c.args.fields.now in
+    let at_column = slice_get-from_read columns col column c.loop-col-test.true c.index-columns-col.is in
+    let next = field_there columns c.args.fields.now col c.loop-col-test.true c.requires.width in
+    let value = c.strings_have_values.ensures (column_view column) (raw_content next.0) (sym c.takes_all_texts.ensures ∙ c.if-takes_all_texts.true) in
+    let past : list_any (λ place. place == col) c.args.places.now ≡ false = sym c.is_among.ensures ∙ c.if-not-is_among.true in
+    record {
+      right = sym (wrong_from-past columns fields col column next.0 at_column next.1 (ap result_err value.1)) ∙ c.loop-col.invariant.right;
+      passed = c.pass.ensures ∙ ap (drop 1) c.loop-col.invariant.passed ∙ drop-drop 1 col c.args.fields.now;
+      count = c.loop-col.invariant.count;
+      values = value_passed (map value_view c.loop-col.values.items) (values_in (map column_view columns) fields) c.args.places.now col c.loop-col.invariant.values past;
+    }
+
 pub loop-col-preserved : goal.loop-col-preserved
 loop-col-preserved c =
     let col = c.loop-col.col in
     let columns = c.args.columns.now in
     let column = c.index-columns-col.result in
     let value = c.in-Ok.value in
+    let items = c.loop-col.values.items in
     let fields = take (length columns) c.args.fields.now in
     let at_column = slice_get-from_read columns col column c.loop-col-test.true c.index-columns-col.is in
     let next = next_field (goal.at.loop-col-preserved c).In-Some in
-    let fits : is_ok c.push.result ≡ true = c.is_err.ensures.negation ∙ ap not c.if-is_err.false in
-    let pushes : c.push.new.self.items ≡ c.loop-col.values.items ++ value ∷ [] = rw fits at c.push.ensures.items in
-    let e = c.in-Ok.ensures.value in
-    let there = value_at columns fields col column (as_it_stands c.in-Some.raw) e.0 at_column next.0 e.1 in
-    let size : length (map value_view c.loop-col.values.items) ≡ col = length-map c.loop-col.values.items value_view ∙ c.loop-col.invariant.count in
+    let there = value_at columns fields col column (as_it_stands c.in-Some.raw) (value_view value) at_column next.0 c.in-Ok.ensures.value in
+    let size : col < length items = omega (arith, c.loop-col.invariant.count, c.loop-col-test.true) in
     record {
-      right = sym (wrong_from-past columns fields col column (as_it_stands c.in-Some.raw) at_column next.0 (ap result_err e.1))
+      right = sym (wrong_from-past columns fields col column (as_it_stands c.in-Some.raw) at_column next.0 (ap result_err c.in-Ok.ensures.value))
           ∙ c.loop-col.invariant.right;
       passed = sym next.1;
-      count = ap length pushes ∙ omega (arith, length-append c.loop-col.values.items (value ∷ []), c.loop-col.invariant.count);
+      count = length-set items col value ∙ c.loop-col.invariant.count;
       values = λ k within among.
-          ap (λ vs. get_or vs k null) (ap (map value_view) pushes ∙ map-append value_view c.loop-col.values.items (value ∷ []))
-          ∙ value_behind (map value_view c.loop-col.values.items) (values_in (map column_view columns) fields) c.args.places.now col (value_view value) e.0 size
-          c.loop-col.invariant.values (λ asked. e.2 (c.is_among.ensures ∙ asked)) there k within among;
+          ap (λ vs. get_or vs k null) (map-set value_view items col value)
+          ∙ value_put (map value_view items) (values_in (map column_view columns) fields) c.args.places.now col (value_view value)
+          (omega (arith, size, length-map items value_view)) c.loop-col.invariant.values there k within among;
     }
 
 pub returns-clause-values : goal.returns-clause-values
@@ -73,16 +89,15 @@ returns-clause-values c =
     let past : length columns ≤ c.loop-col.col = c.loop-col-test.false in
     let row = values_in (map column_view columns) fields in
     let values = map value_view c.loop-col.values.items in
-    let size : length values ≡ c.loop-col.col = length-map c.loop-col.values.items value_view ∙ c.loop-col.invariant.count in
-    let wide : length row ≡ c.loop-col.col =
+    let size : length values ≡ length columns = length-map c.loop-col.values.items value_view ∙ c.loop-col.invariant.count in
+    let wide : length row ≡ length columns =
     length-values_in (map column_view columns) fields (omega (arith, length-map columns column_view, length-take (length columns) c.args.fields.now, c.requires.width))
-    ∙ omega (arith, length-map columns column_view, past) in
-    (
+    ∙ length-map columns column_view in (
       row,
       (values_from-none 0 (map column_view columns) fields (sym c.loop-col.invariant.right ∙ wrong_from-end columns fields c.loop-col.col past)).1,
       record {
-        count = omega (arith, size, wide);
+        count = size ∙ sym wide;
         key = key_from c.args.places.now values row
-            (λ k among. values_past values row k c.loop-col.col size wide (λ within. c.loop-col.invariant.values k within among));
+            (λ k among. values_past values row k (length columns) size wide (λ within. c.loop-col.invariant.values k (omega (arith, within, past)) among));
       },
     )

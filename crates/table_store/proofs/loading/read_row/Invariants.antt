@@ -13,7 +13,7 @@ invariant-loop-col l =
     record {
       right : wrong_from l.col l.columns fields ≡ wrong_from 0 l.columns fields;
       passed : l.fields ≡ drop l.col l.fn.fields;
-      count : length l.values.items ≡ l.col;
+      count : length l.values.items ≡ length l.columns;
       values : (k : ℕ) → k < l.col → list_any (λ place. place == k) l.places ≡ true
           → get_or (map value_view l.values.items) k null ≡ get_or (values_in (map column_view l.columns) fields) k null;
     }

@@ -31,7 +31,7 @@ read_values c =
     let here = take-record_of places bytes c.loop-row.row (length columns) c.loop-row.fields wide c.loop-row.invariant.passed in
     let values = c.in-Ok-read_row.ensures.values in (
       ap (λ cs. values_from 0 (map column_view cs) (map field_of record_here)) (sym c.as_slice-columns.ensures.value)
-      ∙ ap (λ fields. values_from 0 (map column_view columns) (map field_of fields)) (sym here) ∙ values.1,
+          ∙ ap (λ fields. values_from 0 (map column_view columns) (map field_of fields)) (sym here) ∙ values.1,
       subst (λ key. StandFor key (map value_view c.read_row.new.values.items) values.0) c.as_slice-places.ensures.value values.2,
     )
 
@@ -47,7 +47,10 @@ are_values c =
 pub read_row-requires : goal.read_row-requires
 read_row-requires c =
     let wide : length c.as_slice-columns.result.now ≡ c.args.index.now.width = ap length c.as_slice-columns.ensures.value ∙ sym (length-map c.args.schema.now.columns.items column_view) ∙ c.requires.width in
-    record { width = omega (arith, wide, record_within c.args.index.now c.args.bytes.now c.loop-row.row c.loop-row.fields c.requires.bytes (omega arith) c.loop-row.invariant.passed) }
+    record {
+      width = omega (arith, wide, record_within c.args.index.now c.args.bytes.now c.loop-row.row c.loop-row.fields c.requires.bytes (omega arith) c.loop-row.invariant.passed);
+      count = c.loop-row.invariant.count ∙ sym (ap length c.as_slice-columns.ensures.value);
+    }
 
 pub returns-in-Err-clause-fault : goal.returns-in-Err-clause-fault
 returns-in-Err-clause-fault c =
@@ -120,6 +123,7 @@ loop-row-preserved c =
           (ap result_err (read_values (goal.at.loop-row-preserved c).In-Ok-read_row).0))
           ∙ c.loop-row.invariant.right;
       passed = c.in-Ok-read_row.ensures.passed ∙ drop-record_of places bytes row (length columns) c.loop-row.fields wide c.loop-row.invariant.passed;
+      count = c.read_row.ensures.count ∙ ap length c.as_slice-columns.ensures.value;
       keys = subst (HasRead c.read.new.self)
           (ap (λ ps. row_keys ps (take row rows ++ map value_view c.as_slice.result.now ∷ [])) c.as_slice-places.ensures.value
           ∙ ap (λ vs. row_keys schema.key (take row rows ++ vs ∷ [])) (ap (map value_view) c.as_slice.ensures.value)

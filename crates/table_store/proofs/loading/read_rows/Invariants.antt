@@ -1,4 +1,4 @@
-use Rattle.std.proofs.Common.{◌≡◌, ◌+◌, ◌*◌, List, drop, take}
+use Rattle.std.proofs.Common.{◌≡◌, ◌+◌, ◌*◌, List, drop, length, take}
 use Rattle.csv_index.specs.Index.{raws}
 use Rattle.csv_index.specs.Raw.{RawField}
 use Rattle.csvw_meta.specs.Schema.{schema_view}
@@ -9,7 +9,7 @@ use Rattle.table_store.specs.Loading.{records_of}
 use Rattle.table_store.proofs.RowLemmas.{wrong_in_rows}
 use Rattle.table_store.proofs.loading.read_rows.Given as goal
 
--- nothing is wrong so far, the fields of the rows so far are passed, and their keys are read
+-- nothing is wrong so far, the fields of the rows so far are passed, there is a value for each column, and the keys are read
 abbrev pub invariant-loop-row : goal.invariant-loop-row
 invariant-loop-row l =
     let schema = schema_view l.schema in
@@ -17,6 +17,7 @@ invariant-loop-row l =
     record {
       right : wrong_in_rows l.row schema.columns rows ≡ wrong_in_rows 0 schema.columns rows;
       passed : l.fields ≡ drop ((l.row + 1) * l.index.width) (raws l.index l.bytes);
+      count : length l.values.items ≡ length l.schema.columns.items;
       keys : HasRead l.keys (row_keys schema.key (take l.row (rows_in schema.columns l.index l.bytes)));
       suits : (fields : List RawField) → Suits l.keys.keys (row_key schema.key (values_in schema.columns fields));
     }
