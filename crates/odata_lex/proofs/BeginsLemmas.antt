@@ -6,9 +6,9 @@ use Rattle.std.specs.Bool.{Decides}
 use Rattle.std.specs.Char.{is_ascii_digit}
 use Rattle.std.specs.List.{list_all}
 use Rattle.std.specs.Option.{option_map}
-use Rattle.odata_lex.specs.Forms.{quote, minus, dollar, doubled, begins_word, IsText, IsNumber, IsWord, word, IsDollar, IsDateForm, IsDateText, IsOfKind, may_follow, EndsBefore}
+use Rattle.odata_lex.specs.Token.{quote, minus, dollar, doubled, begins_word, IsText, IsNumber, IsWord, word, IsDollar, IsDateForm, IsDateText, IsOfKind, may_follow, EndsBefore}
 use Rattle.odata_lex.specs.First.{text_len, word_len, ends_word, is_day, begins_date, date_token, number_token, dollar_token, sign_token, first_token}
-use Rattle.odata_lex.specs.Tokens.{Begins, BeginsDate}
+use Rattle.odata_lex.specs.Lexer.{Begins, BeginsDate}
 use Rattle.odata_lex.specs.declared.token.TheConstants.{MAX_DIGITS}
 use Rattle.odata_lex.specs.declared.token.TokenKind.{TokenKind}
 use Rattle.odata_lex.specs.declared.token.TokenKind.TheVariants.{Text, Date, Number, Word, Dollar, OpenParenthesis, CloseParenthesis, Comma, Slash, Minus, Star, EqualsSign}

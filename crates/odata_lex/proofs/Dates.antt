@@ -7,7 +7,7 @@ use Rattle.std.specs.Result.{result_ok}
 use Rattle.std.specs.Int.{IsInRange, is_in_range}
 use Rattle.jiff.specs.Words.{IsDate, IsYmd, days_in_month, Error}
 use Rattle.jiff.specs.declared.civil.dates.Date.{Date}
-use Rattle.odata_lex.specs.Forms.{IsDateForm, IsDayFromOne, IsDateText, year_of, month_of, day_of}
+use Rattle.odata_lex.specs.Token.{IsDateForm, IsDayFromOne, IsDateText, year_of, month_of, day_of}
 use Rattle.odata_lex.specs.First.{is_date_form, is_day}
 use Rattle.odata_lex.proofs.Digits.{Decides-digits, value_whole, take_short}
 

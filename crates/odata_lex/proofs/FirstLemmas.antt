@@ -4,9 +4,9 @@ use Rattle.std.proofs.lemmas.Bool.Decides.{nat_tests, Decides-and}
 use Rattle.std.proofs.lemmas.List.{take_rest}
 use Rattle.std.specs.Char.{is_ascii_digit}
 use Rattle.std.specs.Option.{option_map}
-use Rattle.odata_lex.specs.Forms.{quote, dollar, begins_word, IsDateForm, IsDateText}
+use Rattle.odata_lex.specs.Token.{quote, dollar, begins_word, IsDateForm, IsDateText}
 use Rattle.odata_lex.specs.First.{text_len, word_len, is_day, begins_date, date_token, number_token, dollar_token, sign_token, first_token}
-use Rattle.odata_lex.specs.Tokens.{is_blank}
+use Rattle.odata_lex.specs.Lexer.{is_blank}
 use Rattle.odata_lex.specs.declared.token.TokenKind.TheVariants.{Text, Word}
 use Rattle.odata_lex.proofs.Dates.{Decides-date_form, Decides-day}
 use Rattle.odata_lex.proofs.Runs.{from_not, not_equal}

@@ -4,6 +4,6 @@ pub mod Runs
 pub mod Texts
 pub mod FirstLemmas
 pub mod BeginsLemmas
-pub mod TokensLemmas
+pub mod LexerLemmas
 pub mod Places
 pub mod Progress

@@ -8,13 +8,13 @@ use Rattle.std.proofs.lemmas.Str.Parse.{digit_at}
 use Rattle.std.proofs.Math.Seq.{get_or-append_seam}
 use Rattle.std.specs.List.{All}
 use Rattle.std.specs.Str.Parse.{AllDigits}
-use Rattle.odata_lex.specs.Forms.{quote, dollar, doubled, IsOfKind, IsWord, word, is_word_byte}
-use Rattle.odata_lex.specs.Tokens.{Begins, Reads, reads_end, reads_blank, reads_token, IsTokenAt, AreInOrder, token_text}
+use Rattle.odata_lex.specs.Lexer.{Begins, Reads, reads_end, reads_blank, reads_token, IsTokenAt, AreInOrder}
+use Rattle.odata_lex.specs.Token.{quote, dollar, doubled, IsOfKind, IsWord, word, is_word_byte, token_text}
 use Rattle.odata_lex.specs.declared.token.Token.{Token}
 use Rattle.odata_lex.specs.declared.token.TokenKind.{TokenKind}
 use Rattle.odata_lex.specs.declared.token.TokenKind.TheVariants.{Text, Date, Number, Word, Dollar, OpenParenthesis, CloseParenthesis, Comma, Slash, Minus, Star, EqualsSign}
 use Rattle.odata_lex.proofs.Runs.{AreWordBytes, word_byte_of_begin}
-use Rattle.odata_lex.proofs.TokensLemmas.{kind_nonempty}
+use Rattle.odata_lex.proofs.LexerLemmas.{kind_nonempty}
 
 -- the first and the last byte are of ASCII
 record AsciiEnds (front : List ℕ) : Type 0 where

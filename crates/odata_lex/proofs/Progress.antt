@@ -2,12 +2,12 @@
 use Rattle.std.proofs.Common.{◌≡◌, ℕ, ◌+◌, ◌-◌, ◌≤◌, ◌<◌, List, [], ◌∷◌, ◌++◌, length, take, drop, get_or, true, false, Option, None, Some, inl, inr, ◌≢◌, refl, ap, ◌∙◌, sym, subst, arith, append-nil, append_assoc, length-append, length-drop, IsUtf8}
 use Rattle.std.proofs.lemmas.List.{drop-drop, drop_at, take_rest, at_drop_more, at_drop_all}
 use Rattle.odata_lex.specs.First.{first_token}
-use Rattle.odata_lex.specs.Tokens.{is_blank, Reads, reads_end, reads_blank, reads_token, IsBadPlace, AreTokens, IsBad, IsTooMany}
+use Rattle.odata_lex.specs.Lexer.{is_blank, Reads, reads_end, reads_blank, reads_token, IsBadPlace, AreTokens, IsBad, IsTooMany}
 use Rattle.odata_lex.specs.declared.token.TheConstants.{MAX_TOKENS}
 use Rattle.odata_lex.specs.declared.token.Token.{Token}
 use Rattle.odata_lex.specs.declared.token.TokenKind.{TokenKind}
 use Rattle.odata_lex.proofs.BeginsLemmas.{first_token_found, FindsIn, Finds}
-use Rattle.odata_lex.proofs.TokensLemmas.{reading, no_place, kind_nonempty}
+use Rattle.odata_lex.proofs.LexerLemmas.{reading, no_place, kind_nonempty}
 use Rattle.odata_lex.proofs.Places.{placed}
 
 -- the tokens so far, and then those of what stands at the place, are tokens of the source

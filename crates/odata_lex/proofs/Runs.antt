@@ -5,7 +5,7 @@ use Rattle.std.proofs.lemmas.List.Sums.{prefix_len-le-length}
 use Rattle.std.specs.Char.{digit_value}
 use Rattle.std.specs.List.{AllByRecursion}
 use Rattle.std.specs.Str.Parse.{AllDigits}
-use Rattle.odata_lex.specs.Forms.{begins_word, is_word_byte, IsWord, word, EndsBefore}
+use Rattle.odata_lex.specs.Token.{begins_word, is_word_byte, IsWord, word, EndsBefore}
 use Rattle.odata_lex.specs.First.{word_len, ends_word}
 use Rattle.odata_lex.specs.declared.token.TokenKind.TheVariants.{Word}
 

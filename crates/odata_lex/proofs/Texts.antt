@@ -3,7 +3,7 @@ use Rattle.std.proofs.Common.{◌≡◌, ℕ, suc, ◌+◌, Bool, true, false, n
 use Rattle.std.proofs.lemmas.Bool.Decides.{Decides-eqb}
 use Rattle.std.proofs.lemmas.List.{at_drop_more, at_drop_all}
 use Rattle.std.specs.Option.{option_map}
-use Rattle.odata_lex.specs.Forms.{quote, doubled, EndsBefore}
+use Rattle.odata_lex.specs.Token.{quote, doubled, EndsBefore}
 use Rattle.odata_lex.specs.First.{text_len}
 use Rattle.odata_lex.proofs.Runs.{not_true, not_equal}
 use Rattle.odata_lex.specs.declared.token.TokenKind.TheVariants.{Text}

@@ -6,7 +6,7 @@ use Rattle.std.specs.Option.{option_map}
 use Rattle.std.specs.Int.{is_in_range}
 use Rattle.std.specs.Char.{is_ascii_digit}
 use Rattle.jiff.specs.Words.{days_in_month}
-use Rattle.odata_lex.specs.Forms.{quote, minus, dollar, begins_word, is_word_byte, year_of, month_of, day_of}
+use Rattle.odata_lex.specs.Token.{quote, minus, dollar, begins_word, is_word_byte, year_of, month_of, day_of}
 use Rattle.odata_lex.specs.declared.token.TheConstants.{MAX_DIGITS}
 use Rattle.odata_lex.specs.declared.token.TokenKind.{TokenKind}
 use Rattle.odata_lex.specs.declared.token.TokenKind.TheVariants.{Text, Date, Number, Word, Dollar, OpenParenthesis, CloseParenthesis, Comma, Slash, Minus, Star, EqualsSign}

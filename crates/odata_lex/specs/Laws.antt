@@ -1,6 +1,6 @@
 -- What holds of every text.
 use Rattle.std.specs.Prelude.{◌≡◌, ℕ, List, ◌⊎◌}
-use Rattle.odata_lex.specs.Tokens.{Begins, ReadsAll, HasTokens, IsBad, IsTooMany}
+use Rattle.odata_lex.specs.Lexer.{Begins, ReadsAll, HasTokens, IsBad, IsTooMany}
 use Rattle.odata_lex.specs.declared.token.Token.{Token}
 use Rattle.odata_lex.specs.declared.token.TokenKind.{TokenKind}
 

@@ -1,4 +1,4 @@
-pub mod Forms
-pub mod Tokens
+pub mod Token
+pub mod Lexer
 pub mod Laws
 pub mod First

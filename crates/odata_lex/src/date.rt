@@ -6,7 +6,7 @@ ghost use Rattle.std.specs.List.{list_all};
 ghost use Rattle.std.specs.Char.{is_ascii_digit};
 ghost use Rattle.std.specs.Str.Parse.{digits_value};
 ghost use Rattle.jiff.specs.Words.{IsYmd};
-ghost use Rattle.odata_lex.specs.Forms.{AreDigits, IsDayFromOne, IsDateText, year_of, month_of, day_of};
+ghost use Rattle.odata_lex.specs.Token.{AreDigits, IsDayFromOne, IsDateText, year_of, month_of, day_of};
 ghost use Rattle.odata_lex.specs.First.{is_date_form};
 
 use jiff::civil::Date;

@@ -2,7 +2,7 @@
 //! begins, a date is read and no number.
 
 ghost use Rattle.std.specs.Prelude.{◌≡◌, ◌≤◌, ◌<◌, length, false, IsTrue, IfSome};
-ghost use Rattle.odata_lex.specs.Forms.{is_word_byte, begins_word};
+ghost use Rattle.odata_lex.specs.Token.{is_word_byte, begins_word};
 ghost use Rattle.odata_lex.specs.First.{ends_word, word_len, text_len, begins_date, date_token, number_token, dollar_token, sign_token, first_token};
 
 use crate::date::{DATE_LEN, are_digits, date_in, is_date_form};

@@ -1,7 +1,7 @@
 //! Reads a text once, token by token.
 
 ghost use Rattle.std.specs.Prelude.{◌≡◌, ◌⊎◌, IfOk, IfErr, IsErrAnd, IsUtf8};
-ghost use Rattle.odata_lex.specs.Tokens.{is_blank, AreTokens, HasTokens, IsBad, IsTooMany, IsFault};
+ghost use Rattle.odata_lex.specs.Lexer.{is_blank, AreTokens, HasTokens, IsBad, IsTooMany, IsFault};
 
 use crate::fault::LexFault;
 use crate::first::first_token;

@@ -1,6 +1,6 @@
 -- What the parts of `$apply` are by their first tokens.
 use Rattle.std.proofs.Common.{◌≡◌, ◌≢◌, ℕ, List, ◌∷◌, Some, None, codes, refl, sym, subst, ◌∙◌}
-use Rattle.odata_lex.specs.Tokens.{TokenOf}
+use Rattle.odata_lex.specs.Token.{TokenOf}
 use Rattle.odata_lex.specs.declared.token.TokenKind.TheVariants.{Word, Dollar, OpenParenthesis, CloseParenthesis, Comma}
 use Rattle.odata_parse.specs.declared.tree.AggregationMethod.{AggregationMethod}
 use Rattle.odata_parse.specs.Apply.{ReadsName, a_word, ReadsAlias, an_alias, ReadsAggregateItem, of_column, of_count, ReadsAggregate, an_aggregate, ReadsNames, ReadsTransformation, a_filter, an_aggregation, a_grouping, a_grouping_with}

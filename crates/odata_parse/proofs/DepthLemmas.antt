@@ -1,6 +1,6 @@
 -- Counting along tokens.
 use Rattle.std.proofs.Common.{◌≡◌, ℕ, zero, suc, ◌+◌, ◌-◌, ◌<◌, ◌≤◌, List, [], ◌∷◌, take, drop, sym, subst, arith}
-use Rattle.odata_lex.specs.Tokens.{TokenOf}
+use Rattle.odata_lex.specs.Token.{TokenOf}
 use Rattle.odata_parse.specs.declared.tree.UnaryOperator.{UnaryOperator}
 use Rattle.odata_parse.specs.Depth.{OpensTooMany, RepeatsOperators, BeginsWithOperators, no_operators, more_operators, open_behind, open_after}
 use Rattle.odata_parse.specs.Expressions.{IsUnaryOperator}

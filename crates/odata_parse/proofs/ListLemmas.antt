@@ -1,6 +1,6 @@
 -- Where a parser of a list is.
 use Rattle.std.proofs.Common.{◌≡◌, ◌≢◌, ◌<◌, List, [], ◌∷◌, ◌++◌, length, refl, sym, arith, append-nil, append_assoc, ap, subst, ◌∙◌}
-use Rattle.odata_lex.specs.Tokens.{TokenOf}
+use Rattle.odata_lex.specs.Token.{TokenOf}
 use Rattle.odata_lex.specs.declared.token.TokenKind.{TokenKind}
 use Rattle.odata_lex.specs.declared.token.TokenKind.TheVariants.{Text, Date, Number, Word, Dollar, OpenParenthesis, CloseParenthesis, Comma, Slash, Minus, Star, EqualsSign}
 use Rattle.odata_parse.specs.Lists.{Separated, last_item, more_items, Enclosed, enclosed}

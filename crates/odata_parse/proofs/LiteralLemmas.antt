@@ -10,8 +10,7 @@ use Rattle.std.specs.List.{slice_range}
 use Rattle.std.specs.Result.{IsOk}
 use Rattle.std.specs.Str.{IsCharBoundary}
 use Rattle.std.specs.Str.Parse.{AllDigits, digits_value, ParsesSigned}
-use Rattle.odata_lex.specs.Forms.{quote, doubled, IsText, IsNumber}
-use Rattle.odata_lex.specs.Tokens.{TokenOf}
+use Rattle.odata_lex.specs.Token.{quote, doubled, IsText, IsNumber, TokenOf}
 use Rattle.odata_lex.specs.declared.token.TokenKind.{TokenKind}
 use Rattle.odata_lex.specs.declared.token.TokenKind.TheVariants.{Text, Date, Number, Word, Dollar, OpenParenthesis, CloseParenthesis, Comma, Slash, Minus, Star, EqualsSign}
 use Rattle.odata_parse.proofs.KeywordLemmas.{one_keyword, null_word, true_word, false_word}

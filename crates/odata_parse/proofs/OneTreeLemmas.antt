@@ -1,6 +1,6 @@
 -- Phrases that begin alike, and can end where they do, are one.
 use Rattle.std.proofs.Common.{◌≡◌, ◌≢◌, ℕ, zero, suc, ◌≤◌, List, [], ◌∷◌, None, Some, codes, refl, sym, ap, ◌∙◌, subst, arith}
-use Rattle.odata_lex.specs.Tokens.{TokenOf}
+use Rattle.odata_lex.specs.Token.{TokenOf}
 use Rattle.odata_lex.specs.declared.token.TokenKind.{TokenKind}
 use Rattle.odata_lex.specs.declared.token.TokenKind.TheVariants.{Minus, OpenParenthesis, CloseParenthesis, Comma, Slash}
 use Rattle.odata_parse.specs.declared.tree.UnaryOperator.{UnaryOperator}

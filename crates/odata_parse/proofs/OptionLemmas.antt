@@ -1,6 +1,6 @@
 -- What the items of options are by their first tokens.
 use Rattle.std.proofs.Common.{◌≡◌, ◌≢◌, ℕ, true, false, List, [], ◌∷◌, codes, refl, sym, ap, ◌∙◌, subst}
-use Rattle.odata_lex.specs.Tokens.{TokenOf}
+use Rattle.odata_lex.specs.Token.{TokenOf}
 use Rattle.odata_lex.specs.declared.token.TokenKind.TheVariants.{Number, Word, Comma, Star, EqualsSign}
 use Rattle.odata_parse.specs.Expressions.{Reads, top}
 use Rattle.odata_parse.specs.Keywords.{IsKeyword}

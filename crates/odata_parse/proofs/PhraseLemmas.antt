@@ -1,6 +1,6 @@
 -- Phrases from the left: a phrase of the level below, and how it goes on.
 use Rattle.std.proofs.Common.{◌≡◌, ◌≢◌, ℕ, zero, suc, ◌<◌, ◌≤◌, List, [], ◌∷◌, length, codes, refl, sym, ap, ◌∙◌, subst, arith}
-use Rattle.odata_lex.specs.Tokens.{TokenOf}
+use Rattle.odata_lex.specs.Token.{TokenOf}
 use Rattle.odata_lex.specs.declared.token.TokenKind.{TokenKind}
 use Rattle.odata_lex.specs.declared.token.TokenKind.TheVariants.{Word, OpenParenthesis, CloseParenthesis, Comma, Minus}
 use Rattle.odata_parse.specs.declared.tree.LogicOperator.TheVariants.{And, Or}

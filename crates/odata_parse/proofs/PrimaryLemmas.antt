@@ -1,6 +1,6 @@
 -- What a phrase is by its first tokens.
 use Rattle.std.proofs.Common.{◌≡◌, ◌≢◌, ℕ, zero, suc, ◌≤◌, List, ◌∷◌, true, false, ◌⊎◌, inl, inr, codes, refl, sym, ap, ◌∙◌, subst, arith}
-use Rattle.odata_lex.specs.Tokens.{TokenOf}
+use Rattle.odata_lex.specs.Token.{TokenOf}
 use Rattle.odata_lex.specs.declared.token.TokenKind.{TokenKind}
 use Rattle.odata_lex.specs.declared.token.TokenKind.TheVariants.{Word, OpenParenthesis, CloseParenthesis, Comma, Minus}
 use Rattle.odata_parse.specs.declared.tree.UnaryOperator.{UnaryOperator}

@@ -1,5 +1,5 @@
 -- A token that the parsers hold.
-use Rattle.odata_lex.specs.Tokens.{TokenOf}
+use Rattle.odata_lex.specs.Token.{TokenOf}
 use Rattle.odata_parse.specs.declared.cursor.Lexeme.{Lexeme}
 
 abbrev pub lexeme_view : Lexeme → TokenOf

@@ -1,7 +1,7 @@
 -- The grammar of expressions (OData 4.01 URL Conventions, sections 5.1.1 and 5.1.1.15; OData ABNF Construction Rules, section 4).
 -- Operators bind from the tightest: `in`; `-` and `not`; `mul`, `div`, `mod`; `add`, `sub`; `gt`, `ge`, `lt`, `le`; `eq`, `ne`; `and`; `or`.
 use Rattle.std.specs.Prelude.{◌≡◌, ℕ, zero, suc, List, [], ◌∷◌, codes}
-use Rattle.odata_lex.specs.Tokens.{TokenOf}
+use Rattle.odata_lex.specs.Token.{TokenOf}
 use Rattle.odata_lex.specs.declared.token.TokenKind.TheVariants.{OpenParenthesis, CloseParenthesis, Comma, Minus}
 use Rattle.odata_parse.specs.declared.tree.LogicOperator.{LogicOperator}
 use Rattle.odata_parse.specs.declared.tree.LogicOperator.TheVariants.{And, Or}

@@ -1,7 +1,7 @@
 -- The keywords of expressions and query options (OData 4.01 URL Conventions, section 5.1.1: services read them in any case).
 use Rattle.std.specs.Prelude.{◌≡◌, ◌≢◌, ℕ, List, map, codes}
 use Rattle.std.specs.Char.{to_ascii_lowercase}
-use Rattle.odata_lex.specs.Tokens.{TokenOf}
+use Rattle.odata_lex.specs.Token.{TokenOf}
 use Rattle.odata_lex.specs.declared.token.TokenKind.TheVariants.{Word}
 use Rattle.odata_parse.specs.declared.tree.LogicOperator.{LogicOperator}
 use Rattle.odata_parse.specs.declared.tree.LogicOperator.TheVariants.{And, Or}

@@ -1,5 +1,5 @@
-pub use Rattle.odata_lex.specs.Forms
-pub use Rattle.odata_lex.specs.Tokens
+pub use Rattle.odata_lex.specs.Token
+pub use Rattle.odata_lex.specs.Lexer
 pub mod Trees
 pub mod Keywords
 pub mod Literals

@@ -1,6 +1,6 @@
 -- Items with a sign between each two (OData ABNF Construction Rules: `COMMA`).
 use Rattle.std.specs.Prelude.{◌≡◌, List, [], ◌∷◌}
-use Rattle.odata_lex.specs.Tokens.{TokenOf}
+use Rattle.odata_lex.specs.Token.{TokenOf}
 use Rattle.odata_lex.specs.declared.token.TokenKind.{TokenKind}
 use Rattle.odata_lex.specs.declared.token.TokenKind.TheVariants.{OpenParenthesis, CloseParenthesis}
 

@@ -1,8 +1,7 @@
 -- Values written in expressions (OData 4.01 URL Conventions, section 5.1.1.14.1; OData ABNF Construction Rules, section 7).
 use Rattle.std.specs.Prelude.{◌≡◌, ℕ, ℤ, pos, neg_ℤ, true, false, List, [], ◌∷◌, ◌++◌, codes}
 use Rattle.std.specs.Str.Parse.{digits_value}
-use Rattle.odata_lex.specs.Forms.{quote, doubled, year_of, month_of, day_of}
-use Rattle.odata_lex.specs.Tokens.{TokenOf}
+use Rattle.odata_lex.specs.Token.{quote, doubled, year_of, month_of, day_of, TokenOf}
 use Rattle.odata_lex.specs.declared.token.TokenKind.{TokenKind}
 use Rattle.odata_lex.specs.declared.token.TokenKind.TheVariants.{Text, Date, Number, Word, Minus}
 use Rattle.odata_parse.specs.Keywords.{lower}

@@ -1,6 +1,6 @@
 -- What a parser of the crate gives, against the grammar.
 use Rattle.std.specs.Prelude.{◌≡◌, ◌≢◌, ◌<◌, ◌≤◌, ℕ, codes, List, [], ◌∷◌, map, Result, Ok, Err, Vec}
-use Rattle.odata_lex.specs.Tokens.{TokenOf}
+use Rattle.odata_lex.specs.Token.{TokenOf}
 use Rattle.odata_lex.specs.declared.token.TokenKind.{TokenKind}
 use Rattle.odata_lex.specs.declared.token.TokenKind.TheVariants.{OpenParenthesis, CloseParenthesis, Comma, Slash, EqualsSign}
 use Rattle.odata_parse.specs.declared.fault.ParseFault.{ParseFault}

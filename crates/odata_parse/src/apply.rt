@@ -1,7 +1,8 @@
 //! `$apply` (OData Data Aggregation 4.0, section 3).
 
 ghost use Rattle.std.specs.Prelude.{◌≡◌, ◌≢◌, ◌<◌, ◌≤◌, ◌↔◌, ℕ, List, ◌∷◌, length, codes, string_bytes, IfOk, OnOk, OnErr, IsErrOf};
-ghost use Rattle.odata_lex.specs.Tokens.{TokenOf, AreTokens, token_views};
+ghost use Rattle.odata_lex.specs.Lexer.{AreTokens};
+ghost use Rattle.odata_lex.specs.Token.{TokenOf, token_views};
 ghost use Rattle.odata_lex.specs.declared.token.TokenKind.TheVariants.{Dollar};
 ghost use Rattle.odata_parse.specs.declared.tree.AggregationMethod.{AggregationMethod};
 ghost use Rattle.odata_parse.specs.Apply.{ReadsName, ReadsAlias, ReadsAggregateItem, ReadsAggregate, ReadsTransformation, IsApply};

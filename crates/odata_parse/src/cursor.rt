@@ -1,8 +1,8 @@
 //! The tokens that are left to read.
 
 ghost use Rattle.std.specs.Prelude.{◌≡◌, ◌≢◌, ◌↔◌, List, [], ◌∷◌, drop, IfSome, IfNone, IfOk, IfErr, OnOk, OnErr, IsTrue};
-ghost use Rattle.odata_lex.specs.Forms.{IsOfKind};
-ghost use Rattle.odata_lex.specs.Tokens.{TokenOf, token_views, AreTokens};
+ghost use Rattle.odata_lex.specs.Lexer.{AreTokens};
+ghost use Rattle.odata_lex.specs.Token.{IsOfKind, TokenOf, token_views};
 ghost use Rattle.odata_parse.specs.Keywords.{IsKeyword, lower};
 ghost use Rattle.odata_parse.specs.Cursors.{lexeme_view};
 
@@ -28,7 +28,8 @@ pub(crate) struct Cursor<'a> {
 impl<'a> Model for Cursor<'a> {
     ghost use Rattle.std.specs.Prelude.{List};
     ghost use Rattle.std.specs.List.{All};
-    ghost use Rattle.odata_lex.specs.Tokens.{TokenOf, token_views, IsTokenAt};
+    ghost use Rattle.odata_lex.specs.Lexer.{IsTokenAt};
+    ghost use Rattle.odata_lex.specs.Token.{TokenOf, token_views};
 
     ghost Value = { List TokenOf };
 

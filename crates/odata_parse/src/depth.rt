@@ -2,7 +2,8 @@
 //! behind a `(` or an operator before its operand.
 
 ghost use Rattle.std.specs.Prelude.{◌≡◌, ◌≤◌, ◌↔◌, IsTrue};
-ghost use Rattle.odata_lex.specs.Tokens.{AreTokens, token_views};
+ghost use Rattle.odata_lex.specs.Lexer.{AreTokens};
+ghost use Rattle.odata_lex.specs.Token.{token_views};
 ghost use Rattle.odata_parse.specs.declared.tree.UnaryOperator.{UnaryOperator};
 ghost use Rattle.odata_parse.specs.Cursors.{lexeme_view};
 ghost use Rattle.odata_parse.specs.Depth.{OpensTooMany, RepeatsOperators, IsTooDeep, open_behind, slashes};

@@ -3,8 +3,8 @@
 //! operand alone.
 
 ghost use Rattle.std.specs.Prelude.{◌≡◌, ◌≢◌, ◌<◌, ◌≤◌, ◌↔◌, List, ◌∷◌, length, codes, IfOk, IfErr, IfSome, IfNone, IsErrOf, OnOk};
-ghost use Rattle.odata_lex.specs.Forms.{IsOfKind};
-ghost use Rattle.odata_lex.specs.Tokens.{TokenOf, AreTokens, token_views};
+ghost use Rattle.odata_lex.specs.Lexer.{AreTokens};
+ghost use Rattle.odata_lex.specs.Token.{IsOfKind, TokenOf, token_views};
 ghost use Rattle.odata_lex.specs.declared.token.TokenKind.TheVariants.{OpenParenthesis, Word};
 ghost use Rattle.odata_parse.specs.declared.tree.BinaryOperator.{BinaryOperator};
 ghost use Rattle.odata_parse.specs.declared.tree.UnaryOperator.{UnaryOperator};

@@ -2,8 +2,7 @@
 
 ghost use Rattle.std.specs.Prelude.{◌≡◌, ◌<◌, ◌∷◌, List, pos, length, string_bytes, IfOk, IfErr, OnOk, IfSome, IfNone};
 ghost use Rattle.std.specs.Str.Parse.{digits_value};
-ghost use Rattle.odata_lex.specs.Forms.{IsNumber, IsText, IsDateText, IsOfKind, year_of, month_of, day_of};
-ghost use Rattle.odata_lex.specs.Tokens.{TokenOf};
+ghost use Rattle.odata_lex.specs.Token.{IsNumber, IsText, IsDateText, IsOfKind, year_of, month_of, day_of, TokenOf};
 ghost use Rattle.odata_lex.specs.declared.token.TokenKind.TheVariants.{Minus};
 ghost use Rattle.odata_parse.specs.Cursors.{lexeme_view};
 ghost use Rattle.odata_parse.specs.Keywords.{lower};

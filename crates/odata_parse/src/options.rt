@@ -2,7 +2,8 @@
 //! section 1).
 
 ghost use Rattle.std.specs.Prelude.{◌↔◌, List, IfOk, IsErrOf, IsTrue};
-ghost use Rattle.odata_lex.specs.Tokens.{AreTokens, token_views};
+ghost use Rattle.odata_lex.specs.Lexer.{AreTokens};
+ghost use Rattle.odata_lex.specs.Token.{token_views};
 ghost use Rattle.odata_parse.specs.Depth.{IsTooDeep};
 ghost use Rattle.odata_parse.specs.Options.{IsOrder, IsSelection, IsKey};
 ghost use Rattle.odata_parse.specs.Parsing.{GivesWhole, HasEqualsSign, item_trees};

@@ -1,7 +1,8 @@
 //! What all the tokens are.
 
 ghost use Rattle.std.specs.Prelude.{List, [], map, IfOk};
-ghost use Rattle.odata_lex.specs.Tokens.{AreTokens, token_views};
+ghost use Rattle.odata_lex.specs.Lexer.{AreTokens};
+ghost use Rattle.odata_lex.specs.Token.{token_views};
 ghost use Rattle.odata_parse.specs.Lists.{Separated};
 ghost use Rattle.odata_parse.specs.Parsing.{IsSeparator, GivesWhole, item_trees};
 

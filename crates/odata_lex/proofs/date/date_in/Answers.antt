@@ -1,5 +1,5 @@
 use Rattle.std.proofs.Common.{arith}
-use Rattle.odata_lex.specs.Forms.{IsDateForm}
+use Rattle.odata_lex.specs.Token.{IsDateForm}
 use Rattle.odata_lex.proofs.Dates.{Decides-date_form, day_small, date_or_none}
 use Rattle.odata_lex.proofs.date.date_in.Goals as goal
 

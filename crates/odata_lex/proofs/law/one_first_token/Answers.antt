@@ -1,4 +1,4 @@
-use Rattle.odata_lex.proofs.TokensLemmas.{one_first_token}
+use Rattle.odata_lex.proofs.LexerLemmas.{one_first_token}
 use Rattle.odata_lex.proofs.law.one_first_token.Goals as goal
 
 pub returns : goal.returns

@@ -1,4 +1,4 @@
-use Rattle.odata_lex.proofs.TokensLemmas.{reading_of, one_reading_of}
+use Rattle.odata_lex.proofs.LexerLemmas.{reading_of, one_reading_of}
 use Rattle.odata_lex.proofs.law.one_list_of_tokens.Goals as goal
 
 pub returns : goal.returns

@@ -1,4 +1,4 @@
-use Rattle.odata_lex.proofs.TokensLemmas.{tokens_only, bad_only, many_only}
+use Rattle.odata_lex.proofs.LexerLemmas.{tokens_only, bad_only, many_only}
 use Rattle.odata_lex.proofs.lexer.lex.Goals as goal
 
 pub returns-clause-has_tokens : goal.returns-clause-has_tokens

@@ -1,5 +1,5 @@
 use Rattle.std.proofs.Common.{length}
-use Rattle.odata_lex.specs.Tokens.{token_views}
+use Rattle.odata_lex.specs.Token.{token_views}
 use Rattle.odata_parse.proofs.DepthLemmas.{OpensLater}
 use Rattle.odata_parse.proofs.depth.opens_too_many.Given as goal
 

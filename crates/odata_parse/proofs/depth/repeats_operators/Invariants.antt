@@ -1,5 +1,5 @@
 use Rattle.std.proofs.Common.{length}
-use Rattle.odata_lex.specs.Tokens.{token_views}
+use Rattle.odata_lex.specs.Token.{token_views}
 use Rattle.odata_parse.proofs.DepthLemmas.{RepeatsLater}
 use Rattle.odata_parse.proofs.depth.repeats_operators.Given as goal
 

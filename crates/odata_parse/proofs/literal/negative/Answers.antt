@@ -1,5 +1,5 @@
 use Rattle.std.proofs.Common.{subst}
-use Rattle.odata_lex.specs.Forms.{IsOfKind}
+use Rattle.odata_lex.specs.Token.{IsOfKind}
 use Rattle.odata_lex.specs.declared.token.TokenKind.{TokenKind}
 use Rattle.odata_parse.proofs.LiteralLemmas.{number_fits, negated}
 use Rattle.odata_parse.specs.Literals.{negative}

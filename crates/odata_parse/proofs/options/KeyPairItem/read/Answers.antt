@@ -1,5 +1,5 @@
 use Rattle.std.proofs.Common.{ap}
-use Rattle.odata_lex.specs.Tokens.{TokenOf}
+use Rattle.odata_lex.specs.Token.{TokenOf}
 use Rattle.odata_parse.specs.Options.{key_value}
 use Rattle.odata_parse.proofs.OptionLemmas.{pair_parts, same_two}
 use Rattle.odata_parse.proofs.options.KeyPairItem.read.Goals as goal

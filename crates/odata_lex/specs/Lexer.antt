@@ -1,31 +1,15 @@
 -- The tokens of a text (OData 4.01 URL Conventions, section 5.1.1; OData ABNF Construction Rules, section 9: `RWS` and `BWS` are
 -- spaces and tabs). At each place the first kind that fits is taken, and each token is as long as its kind allows.
-use Rattle.std.specs.Prelude.{◌≡◌, ℕ, ◌+◌, ◌≤◌, ◌<◌, Bool, ◌==◌, ◌||◌, IsTrue, List, [], ◌∷◌, ◌++◌, length, map, ◌⊎◌}
-use Rattle.std.specs.List.{slice_range, All}
+use Rattle.std.specs.Prelude.{◌≡◌, ℕ, ◌+◌, ◌≤◌, ◌<◌, Bool, ◌==◌, ◌||◌, IsTrue, List, [], ◌∷◌, ◌++◌, length, ◌⊎◌}
+use Rattle.std.specs.List.{All}
 use Rattle.std.specs.Str.{IsCharBoundary}
-use Rattle.odata_lex.specs.Forms.{IsDateForm, IsOfKind, EndsBefore}
+use Rattle.odata_lex.specs.Token.{IsDateForm, IsOfKind, EndsBefore, token_text}
 use Rattle.odata_lex.specs.declared.fault.LexFault.{LexFault}
 use Rattle.odata_lex.specs.declared.fault.LexFault.TheVariants.{Bad, TooMany, NoMemory}
 use Rattle.odata_lex.specs.declared.token.TheConstants.{MAX_TOKENS}
 use Rattle.odata_lex.specs.declared.token.Token.{Token}
 use Rattle.odata_lex.specs.declared.token.TokenKind.{TokenKind}
 use Rattle.odata_lex.specs.declared.token.TokenKind.TheVariants.{Date, Number}
-
--- a token and its text
-pub record TokenOf : Type 0 where
-  pub kind : TokenKind
-  pub text : List ℕ
-
--- the bytes of a token in its source
-abbrev pub token_text : List ℕ → Token → List ℕ
-token_text source token = slice_range source token.start token.end
-
-abbrev pub token_view : List ℕ → Token → TokenOf
-token_view source token = record { kind = token.kind; text = token_text source token }
-
--- the tokens of a source as kinds and texts
-abbrev pub token_views : List ℕ → List Token → List TokenOf
-token_views source tokens = map (token_view source) tokens
 
 -- a space or a tab
 abbrev pub is_blank : ℕ → Bool

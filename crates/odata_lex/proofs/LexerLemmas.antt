@@ -2,9 +2,9 @@
 use Rattle.std.proofs.Common.{◌≡◌, ℕ, zero, suc, ◌+◌, ◌≤◌, ◌<◌, Bool, true, false, List, [], ◌∷◌, length, take, drop, Option, None, Some, ◌⊎◌, inl, inr, refl, ap, ◌∙◌, sym, arith, subst, get_or, nat_le, length-append, Result, Ok, Err, IfOk, IfErr, IsErrAnd}
 use Rattle.std.proofs.lemmas.Bool.Decides.{nat_tests}
 use Rattle.std.proofs.lemmas.List.{take_at, drop_at}
-use Rattle.odata_lex.specs.Forms.{IsOfKind, word}
+use Rattle.odata_lex.specs.Token.{IsOfKind, word}
 use Rattle.odata_lex.specs.First.{first_token}
-use Rattle.odata_lex.specs.Tokens.{Begins, is_blank, Reads, reads_end, reads_blank, reads_token, IsBadPlace, ReadsAll, AreTokens, IsBad, IsTooMany, IsFault, HasTokens}
+use Rattle.odata_lex.specs.Lexer.{Begins, is_blank, Reads, reads_end, reads_blank, reads_token, IsBadPlace, ReadsAll, AreTokens, IsBad, IsTooMany, IsFault, HasTokens}
 use Rattle.odata_lex.specs.declared.fault.LexFault.{LexFault}
 use Rattle.odata_lex.specs.declared.fault.LexFault.TheVariants.{Bad, TooMany, NoMemory}
 use Rattle.odata_lex.specs.declared.token.TheConstants.{MAX_TOKENS}

@@ -1,11 +1,12 @@
--- The form of each kind of token (OData 4.01 URL Conventions, section 5.1.1; OData ABNF Construction Rules, sections 6 and 7). Letters and
--- digits are those of ASCII; any other character stands inside a Text alone.
-use Rattle.std.specs.Prelude.{◌≡◌, ℕ, ◌≤◌, ◌<◌, Bool, true, ◌==◌, ◌||◌, not, IsTrue, if◌then◌else◌, List, [], ◌∷◌, ◌++◌, length, take, slice_index, pos}
+-- The form of each kind of token (OData 4.01 URL Conventions, section 5.1.1; OData ABNF Construction Rules, sections 6 and 7), and a token
+-- with its text. Letters and digits are those of ASCII; any other character stands inside a Text alone.
+use Rattle.std.specs.Prelude.{◌≡◌, ℕ, ◌≤◌, ◌<◌, Bool, true, ◌==◌, ◌||◌, not, IsTrue, if◌then◌else◌, List, [], ◌∷◌, ◌++◌, length, map, take, slice_index, pos}
 use Rattle.std.specs.List.{AllByRecursion, slice_range}
 use Rattle.std.specs.Char.{is_ascii_alphabetic, is_ascii_alphanumeric}
 use Rattle.std.specs.Str.Parse.{AllDigits, digits_value}
 use Rattle.jiff.specs.Words.{IsDate}
 use Rattle.odata_lex.specs.declared.token.TheConstants.{MAX_DIGITS}
+use Rattle.odata_lex.specs.declared.token.Token.{Token}
 use Rattle.odata_lex.specs.declared.token.TokenKind.{TokenKind}
 use Rattle.odata_lex.specs.declared.token.TokenKind.TheVariants.{Text, Date, Number, Word, Dollar, OpenParenthesis, CloseParenthesis, Comma, Slash, Minus, Star, EqualsSign}
 
@@ -118,3 +119,19 @@ may_follow _ b = true
 abbrev pub EndsBefore : TokenKind → List ℕ → Type 0
 EndsBefore kind [] = Unit {0}
 EndsBefore kind (b ∷ _) = IsTrue (may_follow kind b)
+
+-- a token and its text
+pub record TokenOf : Type 0 where
+  pub kind : TokenKind
+  pub text : List ℕ
+
+-- the bytes of a token in its source
+abbrev pub token_text : List ℕ → Token → List ℕ
+token_text source token = slice_range source token.start token.end
+
+abbrev pub token_view : List ℕ → Token → TokenOf
+token_view source token = record { kind = token.kind; text = token_text source token }
+
+-- the tokens of a source as kinds and texts
+abbrev pub token_views : List ℕ → List Token → List TokenOf
+token_views source tokens = map (token_view source) tokens
