@@ -4,9 +4,9 @@ use Rattle.odata_lex.specs.Token.{TokenOf}
 use Rattle.odata_lex.specs.declared.token.TokenKind.TheVariants.{Word, Dollar, OpenParenthesis, CloseParenthesis, Comma}
 use Rattle.odata_parse.specs.declared.tree.AggregationMethod.{AggregationMethod}
 use Rattle.odata_parse.specs.Apply.{ReadsName, a_word, ReadsAlias, an_alias, ReadsAggregateItem, of_column, of_count, ReadsAggregate, an_aggregate, ReadsNames, ReadsTransformation, a_filter, an_aggregation, a_grouping, a_grouping_with}
-use Rattle.odata_parse.specs.Expressions.{Reads, top}
-use Rattle.odata_parse.specs.Keywords.{IsKeyword, lower, method_text}
-use Rattle.odata_parse.specs.Lists.{Enclosed}
+use Rattle.odata_parse.specs.Expression.{Reads, top}
+use Rattle.odata_parse.specs.Keyword.{IsKeyword, lower, method_text}
+use Rattle.odata_parse.specs.List.{Enclosed}
 use Rattle.odata_parse.specs.Trees.{ExprOf, AggregateItemOf, aggregated, counted, TransformationOf, filter_by, aggregate, group_by}
 use Rattle.odata_parse.proofs.KeywordLemmas.{method, filter_word, aggregate_word, groupby_word}
 use Rattle.odata_parse.proofs.PhraseLemmas.{keyword_unique}

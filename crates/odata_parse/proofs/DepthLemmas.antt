@@ -3,7 +3,7 @@ use Rattle.std.proofs.Common.{◌≡◌, ℕ, zero, suc, ◌+◌, ◌-◌, ◌<�
 use Rattle.odata_lex.specs.Token.{TokenOf}
 use Rattle.odata_parse.specs.declared.tree.UnaryOperator.{UnaryOperator}
 use Rattle.odata_parse.specs.Depth.{OpensTooMany, RepeatsOperators, BeginsWithOperators, no_operators, more_operators, open_behind, open_after}
-use Rattle.odata_parse.specs.Expressions.{IsUnaryOperator}
+use Rattle.odata_parse.specs.Expression.{IsUnaryOperator}
 
 -- at some place from here on, with n open before, more than 32 are open
 pub record OpensFrom (n : ℕ) (tokens : List TokenOf) : Type 0 where

@@ -13,7 +13,7 @@ use Rattle.odata_parse.specs.declared.tree.BinaryFunction.{BinaryFunction}
 use Rattle.odata_parse.specs.declared.tree.BinaryFunction.TheVariants.{Contains, StartsWith, EndsWith, IndexOf, Concat}
 use Rattle.odata_parse.specs.declared.tree.AggregationMethod.{AggregationMethod}
 use Rattle.odata_parse.specs.declared.tree.AggregationMethod.TheVariants.{Sum, Min, Max, CountDistinct}
-use Rattle.odata_parse.specs.Keywords.{operator_text, unary_function_text, binary_function_text, method_text}
+use Rattle.odata_parse.specs.Keyword.{operator_text, unary_function_text, binary_function_text, method_text}
 
 -- all keywords
 pub data Keyword : Type 0 where

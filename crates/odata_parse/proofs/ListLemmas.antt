@@ -3,7 +3,7 @@ use Rattle.std.proofs.Common.{◌≡◌, ◌≢◌, ◌<◌, List, [], ◌∷◌
 use Rattle.odata_lex.specs.Token.{TokenOf}
 use Rattle.odata_lex.specs.declared.token.TokenKind.{TokenKind}
 use Rattle.odata_lex.specs.declared.token.TokenKind.TheVariants.{Text, Date, Number, Word, Dollar, OpenParenthesis, CloseParenthesis, Comma, Slash, Minus, Star, EqualsSign}
-use Rattle.odata_parse.specs.Lists.{Separated, last_item, more_items, Enclosed, enclosed}
+use Rattle.odata_parse.specs.List.{Separated, last_item, more_items, Enclosed, enclosed}
 use Rattle.odata_parse.specs.Parsing.{IsSeparator, IsCloseOrSeparator, IsAfterItem, IsAfterList}
 
 -- after an item the tokens go on with these items

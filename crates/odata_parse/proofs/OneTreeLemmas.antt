@@ -7,10 +7,10 @@ use Rattle.odata_parse.specs.declared.tree.UnaryOperator.{UnaryOperator}
 use Rattle.odata_parse.specs.declared.tree.UnaryFunction.{UnaryFunction}
 use Rattle.odata_parse.specs.declared.tree.BinaryFunction.{BinaryFunction}
 use Rattle.odata_parse.specs.Apply.{ReadsName, a_word, ReadsAlias, an_alias, ReadsAggregateItem, of_column, of_count, ReadsAggregate, an_aggregate, ReadsNames, ReadsTransformation, a_filter, an_aggregation, a_grouping, a_grouping_with}
-use Rattle.odata_parse.specs.Expressions.{Reads, read_group, read_literal, read_name, read_unary_call, read_binary_call, read_in, read_unary, read_binary, read_tighter, IsUnaryOperator, top}
-use Rattle.odata_parse.specs.Keywords.{IsKeyword, IsName, unary_function_text, binary_function_text}
-use Rattle.odata_parse.specs.Lists.{Separated, Enclosed}
-use Rattle.odata_parse.specs.Literals.{ReadsLiteral, one_token, negative, IsLiteral, IsLiteralOfKind}
+use Rattle.odata_parse.specs.Expression.{Reads, read_group, read_literal, read_name, read_unary_call, read_binary_call, read_in, read_unary, read_binary, read_tighter, IsUnaryOperator, top}
+use Rattle.odata_parse.specs.Keyword.{IsKeyword, IsName, unary_function_text, binary_function_text}
+use Rattle.odata_parse.specs.List.{Separated, Enclosed}
+use Rattle.odata_parse.specs.Literal.{ReadsLiteral, one_token, negative, IsLiteral, IsLiteralOfKind}
 use Rattle.odata_parse.specs.Options.{ReadsOrderItem, order_alone, order_ascending, order_descending, ReadsSelectItem, select_all, select_name, ReadsKeyPair, key_value, IsKey, key_single, key_named}
 use Rattle.odata_parse.specs.Parsing.{CanEnd, IsAfterItem}
 use Rattle.odata_parse.specs.Trees.{LiteralOf, ExprOf, name, unary, in_list, unary_call, binary_call, OrderItemOf, SelectItemOf, selected, KeyPairOf, KeyOf, single, named, AggregateItemOf, counted, TransformationOf, filter_by, aggregate, group_by}

@@ -2,10 +2,10 @@
 use Rattle.std.proofs.Common.{◌≡◌, ◌≢◌, ℕ, true, false, List, [], ◌∷◌, codes, refl, sym, ap, ◌∙◌, subst}
 use Rattle.odata_lex.specs.Token.{TokenOf}
 use Rattle.odata_lex.specs.declared.token.TokenKind.TheVariants.{Number, Word, Comma, Star, EqualsSign}
-use Rattle.odata_parse.specs.Expressions.{Reads, top}
-use Rattle.odata_parse.specs.Keywords.{IsKeyword}
-use Rattle.odata_parse.specs.Lists.{Separated, last_item, more_items}
-use Rattle.odata_parse.specs.Literals.{ReadsLiteral, one_token, negative}
+use Rattle.odata_parse.specs.Expression.{Reads, top}
+use Rattle.odata_parse.specs.Keyword.{IsKeyword}
+use Rattle.odata_parse.specs.List.{Separated, last_item, more_items}
+use Rattle.odata_parse.specs.Literal.{ReadsLiteral, one_token, negative}
 use Rattle.odata_parse.specs.Options.{ReadsOrderItem, order_alone, order_ascending, order_descending, ReadsSelectItem, select_all, select_name, ReadsKeyPair, key_value, IsKey, key_single, key_named}
 use Rattle.odata_parse.specs.Parsing.{CanEnd, MayFollow, IsAfterItem, IsCloseOrSeparator, HasEqualsSign}
 use Rattle.odata_parse.specs.Trees.{LiteralOf, ExprOf, OrderItemOf, order_item, SelectItemOf, all_columns, selected, KeyPairOf, key_pair, KeyOf, single, named}

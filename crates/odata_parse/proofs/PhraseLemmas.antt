@@ -8,8 +8,8 @@ use Rattle.odata_parse.specs.declared.tree.ComparisonOperator.TheVariants.{Equal
 use Rattle.odata_parse.specs.declared.tree.ArithmeticOperator.TheVariants.{Add, Sub, Mul, Div, Mod}
 use Rattle.odata_parse.specs.declared.tree.BinaryOperator.{BinaryOperator}
 use Rattle.odata_parse.specs.declared.tree.BinaryOperator.TheVariants.{Logic, Comparison, Arithmetic}
-use Rattle.odata_parse.specs.Expressions.{Reads, read_in, read_unary, read_binary, read_tighter, level_of}
-use Rattle.odata_parse.specs.Keywords.{IsKeyword, operator_text}
+use Rattle.odata_parse.specs.Expression.{Reads, read_in, read_unary, read_binary, read_tighter, level_of}
+use Rattle.odata_parse.specs.Keyword.{IsKeyword, operator_text}
 use Rattle.odata_parse.specs.Parsing.{CanEnd, MayFollow, IsAfterItem, IsCloseOrSeparator}
 use Rattle.odata_parse.specs.Trees.{ExprOf, binary}
 use Rattle.odata_parse.proofs.KeywordLemmas.{Keyword, keyword_text, one_keyword, operator, in_word}

@@ -7,10 +7,10 @@ use Rattle.odata_parse.specs.declared.tree.UnaryOperator.{UnaryOperator}
 use Rattle.odata_parse.specs.declared.tree.UnaryOperator.TheVariants.{Negate, Not}
 use Rattle.odata_parse.specs.declared.tree.UnaryFunction.{UnaryFunction}
 use Rattle.odata_parse.specs.declared.tree.BinaryFunction.{BinaryFunction}
-use Rattle.odata_parse.specs.Expressions.{Reads, read_group, read_literal, read_name, read_unary_call, read_binary_call, read_in, read_unary, read_binary, read_tighter, IsUnaryOperator, top}
-use Rattle.odata_parse.specs.Keywords.{IsKeyword, IsName, lower, unary_function_text, binary_function_text}
-use Rattle.odata_parse.specs.Literals.{IsLiteral, IsLiteralOfKind, IsWordLiteral, ReadsLiteral}
-use Rattle.odata_parse.specs.Lists.{Enclosed}
+use Rattle.odata_parse.specs.Expression.{Reads, read_group, read_literal, read_name, read_unary_call, read_binary_call, read_in, read_unary, read_binary, read_tighter, IsUnaryOperator, top}
+use Rattle.odata_parse.specs.Keyword.{IsKeyword, IsName, lower, unary_function_text, binary_function_text}
+use Rattle.odata_parse.specs.Literal.{IsLiteral, IsLiteralOfKind, IsWordLiteral, ReadsLiteral}
+use Rattle.odata_parse.specs.List.{Enclosed}
 use Rattle.odata_parse.specs.Parsing.{CanEnd, Calls, calls_unary, calls_binary}
 use Rattle.odata_parse.specs.Trees.{LiteralOf, null, boolean, number, text, date, ExprOf, literal, name, unary, in_list, unary_call, binary_call}
 use Rattle.odata_parse.proofs.KeywordLemmas.{Keyword, keyword_text, one_keyword, unary_function, binary_function, not_word, true_word, false_word, null_word}

@@ -3,9 +3,9 @@ use Rattle.std.specs.Prelude.{◌≡◌, ℕ, List, [], ◌∷◌, Some, None, c
 use Rattle.odata_lex.specs.Token.{TokenOf}
 use Rattle.odata_lex.specs.declared.token.TokenKind.TheVariants.{Word, Dollar, OpenParenthesis, CloseParenthesis, Comma, Slash}
 use Rattle.odata_parse.specs.declared.tree.AggregationMethod.{AggregationMethod}
-use Rattle.odata_parse.specs.Expressions.{Reads, top}
-use Rattle.odata_parse.specs.Keywords.{IsKeyword, lower, method_text}
-use Rattle.odata_parse.specs.Lists.{Separated, Enclosed}
+use Rattle.odata_parse.specs.Expression.{Reads, top}
+use Rattle.odata_parse.specs.Keyword.{IsKeyword, lower, method_text}
+use Rattle.odata_parse.specs.List.{Separated, Enclosed}
 use Rattle.odata_parse.specs.Trees.{ExprOf, AggregateItemOf, aggregated, counted, TransformationOf, filter_by, aggregate, group_by}
 
 -- a word

@@ -5,7 +5,7 @@ use Rattle.odata_lex.specs.declared.token.TokenKind.{TokenKind}
 use Rattle.odata_lex.specs.declared.token.TokenKind.TheVariants.{OpenParenthesis, CloseParenthesis, Slash}
 use Rattle.odata_parse.specs.declared.depth.TheConstants.{MAX_OPEN, MAX_OPERATORS}
 use Rattle.odata_parse.specs.declared.tree.UnaryOperator.{UnaryOperator}
-use Rattle.odata_parse.specs.Expressions.{IsUnaryOperator}
+use Rattle.odata_parse.specs.Expression.{IsUnaryOperator}
 
 -- how many `(` are open behind a token, where n are before it; a `)` that closes nothing does not count
 abbrev pub open_behind : ℕ → TokenKind → ℕ

@@ -2,10 +2,10 @@
 use Rattle.std.specs.Prelude.{◌≡◌, ℕ, true, false, List, [], ◌∷◌, codes}
 use Rattle.odata_lex.specs.Token.{TokenOf}
 use Rattle.odata_lex.specs.declared.token.TokenKind.TheVariants.{Word, Comma, Star, EqualsSign}
-use Rattle.odata_parse.specs.Expressions.{Reads, top}
-use Rattle.odata_parse.specs.Keywords.{IsKeyword}
-use Rattle.odata_parse.specs.Lists.{Separated}
-use Rattle.odata_parse.specs.Literals.{ReadsLiteral}
+use Rattle.odata_parse.specs.Expression.{Reads, top}
+use Rattle.odata_parse.specs.Keyword.{IsKeyword}
+use Rattle.odata_parse.specs.List.{Separated}
+use Rattle.odata_parse.specs.Literal.{ReadsLiteral}
 use Rattle.odata_parse.specs.Trees.{LiteralOf, ExprOf, OrderItemOf, order_item, SelectItemOf, all_columns, selected, KeyPairOf, key_pair, KeyOf, single, named}
 
 -- an expression, and `asc` or `desc` or neither; without `desc` the order ascends

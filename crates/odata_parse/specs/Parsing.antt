@@ -10,8 +10,8 @@ use Rattle.odata_parse.specs.declared.fault.PhraseFault.TheVariants.{Syntax as N
 use Rattle.odata_parse.specs.declared.tree.BinaryOperator.{BinaryOperator}
 use Rattle.odata_parse.specs.declared.tree.UnaryFunction.{UnaryFunction}
 use Rattle.odata_parse.specs.declared.tree.BinaryFunction.{BinaryFunction}
-use Rattle.odata_parse.specs.Expressions.{Reads, level_of, top}
-use Rattle.odata_parse.specs.Keywords.{IsKeyword, operator_text, unary_function_text, binary_function_text}
+use Rattle.odata_parse.specs.Expression.{Reads, level_of, top}
+use Rattle.odata_parse.specs.Keyword.{IsKeyword, operator_text, unary_function_text, binary_function_text}
 use Rattle.odata_parse.specs.Trees.{ExprOf, unary_call, binary_call}
 
 abbrev pub parse_fault : PhraseFault → ParseFault

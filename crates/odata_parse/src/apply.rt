@@ -7,7 +7,7 @@ ghost use Rattle.odata_lex.specs.declared.token.TokenKind.TheVariants.{Dollar};
 ghost use Rattle.odata_parse.specs.declared.tree.AggregationMethod.{AggregationMethod};
 ghost use Rattle.odata_parse.specs.Apply.{ReadsName, ReadsAlias, ReadsAggregateItem, ReadsAggregate, ReadsTransformation, IsApply};
 ghost use Rattle.odata_parse.specs.Depth.{IsTooDeepForApply};
-ghost use Rattle.odata_parse.specs.Keywords.{IsKeyword, method_text};
+ghost use Rattle.odata_parse.specs.Keyword.{IsKeyword, method_text};
 ghost use Rattle.odata_parse.specs.Parsing.{Gives, item_trees};
 ghost use Rattle.odata_parse.specs.Trees.{AggregateItemOf, aggregate_item_view, TransformationOf, transformation_view};
 

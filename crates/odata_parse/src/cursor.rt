@@ -3,8 +3,8 @@
 ghost use Rattle.std.specs.Prelude.{◌≡◌, ◌≢◌, ◌↔◌, List, [], ◌∷◌, drop, IfSome, IfNone, IfOk, IfErr, OnOk, OnErr, IsTrue};
 ghost use Rattle.odata_lex.specs.Lexer.{AreTokens};
 ghost use Rattle.odata_lex.specs.Token.{IsOfKind, TokenOf, token_views};
-ghost use Rattle.odata_parse.specs.Keywords.{IsKeyword, lower};
-ghost use Rattle.odata_parse.specs.Cursors.{lexeme_view};
+ghost use Rattle.odata_parse.specs.Keyword.{IsKeyword, lower};
+ghost use Rattle.odata_parse.specs.Cursor.{lexeme_view};
 
 use crate::fault::PhraseFault;
 use crate::keyword::spells;

@@ -5,9 +5,9 @@ ghost use Rattle.std.specs.Prelude.{◌≡◌, ◌≤◌, ◌↔◌, IsTrue};
 ghost use Rattle.odata_lex.specs.Lexer.{AreTokens};
 ghost use Rattle.odata_lex.specs.Token.{token_views};
 ghost use Rattle.odata_parse.specs.declared.tree.UnaryOperator.{UnaryOperator};
-ghost use Rattle.odata_parse.specs.Cursors.{lexeme_view};
+ghost use Rattle.odata_parse.specs.Cursor.{lexeme_view};
 ghost use Rattle.odata_parse.specs.Depth.{OpensTooMany, RepeatsOperators, IsTooDeep, open_behind, slashes};
-ghost use Rattle.odata_parse.specs.Expressions.{IsUnaryOperator};
+ghost use Rattle.odata_parse.specs.Expression.{IsUnaryOperator};
 
 use crate::cursor::{Cursor, Lexeme};
 use crate::keyword::spells;

@@ -8,11 +8,11 @@ ghost use Rattle.odata_lex.specs.Token.{IsOfKind, TokenOf, token_views};
 ghost use Rattle.odata_lex.specs.declared.token.TokenKind.TheVariants.{OpenParenthesis, Word};
 ghost use Rattle.odata_parse.specs.declared.tree.BinaryOperator.{BinaryOperator};
 ghost use Rattle.odata_parse.specs.declared.tree.UnaryOperator.{UnaryOperator};
-ghost use Rattle.odata_parse.specs.Cursors.{lexeme_view};
+ghost use Rattle.odata_parse.specs.Cursor.{lexeme_view};
 ghost use Rattle.odata_parse.specs.Depth.{IsTooDeep};
-ghost use Rattle.odata_parse.specs.Expressions.{Reads, IsFilter, IsUnaryOperator, level_of};
-ghost use Rattle.odata_parse.specs.Keywords.{IsKeyword, operator_text};
-ghost use Rattle.odata_parse.specs.Literals.{IsLiteral};
+ghost use Rattle.odata_parse.specs.Expression.{Reads, IsFilter, IsUnaryOperator, level_of};
+ghost use Rattle.odata_parse.specs.Keyword.{IsKeyword, operator_text};
+ghost use Rattle.odata_parse.specs.Literal.{IsLiteral};
 ghost use Rattle.odata_parse.specs.Parsing.{Calls, CanEnd, Gives};
 ghost use Rattle.odata_parse.specs.Trees.{ExprOf, LiteralOf, expr_view, unary, binary};
 
@@ -215,7 +215,7 @@ fn call(alloc: Global, tokens: &mut Cursor<'_>, function: Lexeme<'_>) -> Result<
 }
 
 impl Item for Expr {
-    ghost use Rattle.odata_parse.specs.Expressions.{Reads, top};
+    ghost use Rattle.odata_parse.specs.Expression.{Reads, top};
     ghost use Rattle.odata_parse.specs.Trees.{ExprOf, expr_view};
 
     ghost Tree = { ExprOf };

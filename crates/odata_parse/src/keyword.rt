@@ -2,7 +2,7 @@
 
 ghost use Rattle.std.specs.Prelude.{◌≡◌, ◌≢◌, ◌↔◌, IsTrue, IfSome, IfNone};
 ghost use Rattle.odata_parse.specs.Format.{same_text};
-ghost use Rattle.odata_parse.specs.Keywords.{lower, logic_text, comparison_text, arithmetic_text, operator_text, unary_function_text, binary_function_text, method_text};
+ghost use Rattle.odata_parse.specs.Keyword.{lower, logic_text, comparison_text, arithmetic_text, operator_text, unary_function_text, binary_function_text, method_text};
 ghost use Rattle.odata_parse.specs.declared.tree.LogicOperator.{LogicOperator};
 ghost use Rattle.odata_parse.specs.declared.tree.ComparisonOperator.{ComparisonOperator};
 ghost use Rattle.odata_parse.specs.declared.tree.ArithmeticOperator.{ArithmeticOperator};

@@ -1,7 +1,7 @@
 //! The law of the grammars.
 
 ghost use Rattle.odata_parse.specs.Apply.{IsApply};
-ghost use Rattle.odata_parse.specs.Expressions.{IsFilter};
+ghost use Rattle.odata_parse.specs.Expression.{IsFilter};
 ghost use Rattle.odata_parse.specs.Laws.{HasOneTree};
 ghost use Rattle.odata_parse.specs.Options.{IsOrder, IsSelection, IsKey};
 

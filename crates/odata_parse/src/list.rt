@@ -2,7 +2,7 @@
 
 ghost use Rattle.std.specs.Prelude.{◌<◌, List, length, map, IfOk, OnOk, vec_len};
 ghost use Rattle.odata_lex.specs.Token.{TokenOf};
-ghost use Rattle.odata_parse.specs.Lists.{Separated, Enclosed};
+ghost use Rattle.odata_parse.specs.List.{Separated, Enclosed};
 ghost use Rattle.odata_parse.specs.Parsing.{IsSeparator, IsAfterItem, IsAfterList, Gives, item_trees};
 
 use crate::cursor::Cursor;

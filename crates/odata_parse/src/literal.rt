@@ -4,9 +4,9 @@ ghost use Rattle.std.specs.Prelude.{◌≡◌, ◌<◌, ◌∷◌, List, pos, le
 ghost use Rattle.std.specs.Str.Parse.{digits_value};
 ghost use Rattle.odata_lex.specs.Token.{IsNumber, IsText, IsDateText, IsOfKind, year_of, month_of, day_of, TokenOf};
 ghost use Rattle.odata_lex.specs.declared.token.TokenKind.TheVariants.{Minus};
-ghost use Rattle.odata_parse.specs.Cursors.{lexeme_view};
-ghost use Rattle.odata_parse.specs.Keywords.{lower};
-ghost use Rattle.odata_parse.specs.Literals.{IsLiteral, IsWordLiteral, Quotes, ReadsLiteral};
+ghost use Rattle.odata_parse.specs.Cursor.{lexeme_view};
+ghost use Rattle.odata_parse.specs.Keyword.{lower};
+ghost use Rattle.odata_parse.specs.Literal.{IsLiteral, IsWordLiteral, Quotes, ReadsLiteral};
 ghost use Rattle.odata_parse.specs.Parsing.{Gives};
 ghost use Rattle.odata_parse.specs.Trees.{LiteralOf, literal_view, date as date_value};
 
@@ -91,7 +91,7 @@ fn negative(tokens: &mut Cursor<'_>) -> Result<Literal, PhraseFault>
 }
 
 impl Item for Literal {
-    ghost use Rattle.odata_parse.specs.Literals.{ReadsLiteral};
+    ghost use Rattle.odata_parse.specs.Literal.{ReadsLiteral};
     ghost use Rattle.odata_parse.specs.Trees.{LiteralOf, literal_view};
 
     ghost Tree = { LiteralOf };

@@ -3,7 +3,7 @@
 ghost use Rattle.std.specs.Prelude.{List, [], map, IfOk};
 ghost use Rattle.odata_lex.specs.Lexer.{AreTokens};
 ghost use Rattle.odata_lex.specs.Token.{token_views};
-ghost use Rattle.odata_parse.specs.Lists.{Separated};
+ghost use Rattle.odata_parse.specs.List.{Separated};
 ghost use Rattle.odata_parse.specs.Parsing.{IsSeparator, GivesWhole, item_trees};
 
 use crate::cursor::Cursor;

@@ -1,7 +1,7 @@
 use Rattle.std.proofs.Common.{◌≡◌, suc, ◌-◌, ◌∷◌, arith, sym, ◌∙◌}
 use Rattle.std.proofs.lemmas.Bool.{false≢true}
 use Rattle.std.proofs.lemmas.Result.{err_from_is_err_and}
-use Rattle.odata_parse.specs.Expressions.{read_group, read_literal, read_in, read_unary, read_tighter}
+use Rattle.odata_parse.specs.Expression.{read_group, read_literal, read_in, read_unary, read_tighter}
 use Rattle.odata_parse.specs.Parsing.{calls_unary, calls_binary}
 use Rattle.odata_parse.proofs.LiteralLemmas.{IsLiteral-unique}
 use Rattle.odata_parse.proofs.PhraseLemmas.{Midway-init, Midway-more, Midway-only, none_first, none_next, close_ends, comma_ends, CanEnd-pred}

@@ -1,6 +1,6 @@
 use Rattle.std.proofs.Common.{◌∷◌}
 use Rattle.std.proofs.lemmas.Result.{err_from_is_err_and}
-use Rattle.odata_parse.specs.Lists.{enclosed}
+use Rattle.odata_parse.specs.List.{enclosed}
 use Rattle.odata_parse.proofs.ListLemmas.{enclosed_parts}
 use Rattle.odata_parse.proofs.PrimaryLemmas.{same_rest}
 use Rattle.odata_parse.proofs.list.enclosed.Goals as goal

@@ -2,7 +2,7 @@ use Rattle.std.proofs.Common.{subst}
 use Rattle.odata_lex.specs.Token.{IsOfKind}
 use Rattle.odata_lex.specs.declared.token.TokenKind.{TokenKind}
 use Rattle.odata_parse.proofs.LiteralLemmas.{number_fits, negated}
-use Rattle.odata_parse.specs.Literals.{negative}
+use Rattle.odata_parse.specs.Literal.{negative}
 use Rattle.odata_parse.proofs.literal.negative.Goals as goal
 
 pub returns-clause-found : goal.returns-clause-found

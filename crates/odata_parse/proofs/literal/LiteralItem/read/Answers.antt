@@ -1,5 +1,5 @@
 use Rattle.std.proofs.lemmas.Result.{err_from_is_err_and}
-use Rattle.odata_parse.specs.Literals.{one_token}
+use Rattle.odata_parse.specs.Literal.{one_token}
 use Rattle.odata_parse.proofs.LiteralLemmas.{IsLiteral-unique, ReadsLiteral-one}
 use Rattle.odata_parse.proofs.literal.LiteralItem.read.Goals as goal
 

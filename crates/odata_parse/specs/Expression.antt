@@ -15,9 +15,9 @@ use Rattle.odata_parse.specs.declared.tree.UnaryOperator.{UnaryOperator}
 use Rattle.odata_parse.specs.declared.tree.UnaryOperator.TheVariants.{Negate, Not}
 use Rattle.odata_parse.specs.declared.tree.UnaryFunction.{UnaryFunction}
 use Rattle.odata_parse.specs.declared.tree.BinaryFunction.{BinaryFunction}
-use Rattle.odata_parse.specs.Keywords.{IsKeyword, IsName, operator_text, unary_function_text, binary_function_text}
-use Rattle.odata_parse.specs.Lists.{Enclosed}
-use Rattle.odata_parse.specs.Literals.{IsLiteral, ReadsLiteral}
+use Rattle.odata_parse.specs.Keyword.{IsKeyword, IsName, operator_text, unary_function_text, binary_function_text}
+use Rattle.odata_parse.specs.List.{Enclosed}
+use Rattle.odata_parse.specs.Literal.{IsLiteral, ReadsLiteral}
 use Rattle.odata_parse.specs.Trees.{LiteralOf, ExprOf, literal, name, unary, binary, in_list, unary_call, binary_call}
 
 -- The levels: 0 a primary, 1 with `in`, 2 with `-` and `not`, and then the operators between two operands.

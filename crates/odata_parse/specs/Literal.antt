@@ -4,7 +4,7 @@ use Rattle.std.specs.Str.Parse.{digits_value}
 use Rattle.odata_lex.specs.Token.{quote, doubled, year_of, month_of, day_of, TokenOf}
 use Rattle.odata_lex.specs.declared.token.TokenKind.{TokenKind}
 use Rattle.odata_lex.specs.declared.token.TokenKind.TheVariants.{Text, Date, Number, Word, Minus}
-use Rattle.odata_parse.specs.Keywords.{lower}
+use Rattle.odata_parse.specs.Keyword.{lower}
 use Rattle.odata_parse.specs.Trees.{LiteralOf, null, boolean, number, text, date}
 
 -- a text is the keyword of a value: `true`, `false` or `null`, in any ASCII case
