@@ -7,7 +7,7 @@ use Rattle.odata_parse.specs.Apply.{ReadsName, a_word, ReadsAlias, an_alias, Rea
 use Rattle.odata_parse.specs.Expression.{Reads, top}
 use Rattle.odata_parse.specs.Keyword.{IsKeyword, lower, method_text}
 use Rattle.odata_parse.specs.List.{Enclosed}
-use Rattle.odata_parse.specs.Trees.{ExprOf, AggregateItemOf, aggregated, counted, TransformationOf, filter_by, aggregate, group_by}
+use Rattle.odata_parse.specs.Tree.{ExprOf, AggregateItemOf, aggregated, counted, TransformationOf, filter_by, aggregate, group_by}
 use Rattle.odata_parse.proofs.KeywordLemmas.{method, filter_word, aggregate_word, groupby_word}
 use Rattle.odata_parse.proofs.PhraseLemmas.{keyword_unique}
 

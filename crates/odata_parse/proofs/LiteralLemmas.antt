@@ -15,7 +15,7 @@ use Rattle.odata_lex.specs.declared.token.TokenKind.{TokenKind}
 use Rattle.odata_lex.specs.declared.token.TokenKind.TheVariants.{Text, Date, Number, Word, Dollar, OpenParenthesis, CloseParenthesis, Comma, Slash, Minus, Star, EqualsSign}
 use Rattle.odata_parse.proofs.KeywordLemmas.{one_keyword, null_word, true_word, false_word}
 use Rattle.odata_parse.specs.Literal.{Quotes, IsWordLiteral, IsLiteralOfKind, IsLiteral, ReadsLiteral, one_token, negative}
-use Rattle.odata_parse.specs.Trees.{LiteralOf, null, boolean, number, text, date}
+use Rattle.odata_parse.specs.Tree.{LiteralOf, null, boolean, number, text, date}
 use mir.Syntax.{w128}
 
 own : IsNumeralModel (AllDigits 10) (digits_value 10)

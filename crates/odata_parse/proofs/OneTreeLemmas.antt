@@ -13,7 +13,7 @@ use Rattle.odata_parse.specs.List.{Separated, Enclosed}
 use Rattle.odata_parse.specs.Literal.{ReadsLiteral, one_token, negative, IsLiteral, IsLiteralOfKind}
 use Rattle.odata_parse.specs.Options.{ReadsOrderItem, order_alone, order_ascending, order_descending, ReadsSelectItem, select_all, select_name, ReadsKeyPair, key_value, IsKey, key_single, key_named}
 use Rattle.odata_parse.specs.Parsing.{CanEnd, IsAfterItem}
-use Rattle.odata_parse.specs.Trees.{LiteralOf, ExprOf, name, unary, in_list, unary_call, binary_call, OrderItemOf, SelectItemOf, selected, KeyPairOf, KeyOf, single, named, AggregateItemOf, counted, TransformationOf, filter_by, aggregate, group_by}
+use Rattle.odata_parse.specs.Tree.{LiteralOf, ExprOf, name, unary, in_list, unary_call, binary_call, OrderItemOf, SelectItemOf, selected, KeyPairOf, KeyOf, single, named, AggregateItemOf, counted, TransformationOf, filter_by, aggregate, group_by}
 use Rattle.odata_parse.proofs.ApplyLemmas.{name_no_dollar, method_unique, aggregate_keyword, filter_parts, GroupTail, group_alone, group_with, group_parts, only_aggregate}
 use Rattle.odata_parse.proofs.KeywordLemmas.{Keyword, keyword_text, filter_word, aggregate_word, groupby_word}
 use Rattle.odata_parse.proofs.ListLemmas.{HasOnlyItems, Separated-only, Enclosed-only}

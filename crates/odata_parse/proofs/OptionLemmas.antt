@@ -8,7 +8,7 @@ use Rattle.odata_parse.specs.List.{Separated, last_item, more_items}
 use Rattle.odata_parse.specs.Literal.{ReadsLiteral, one_token, negative}
 use Rattle.odata_parse.specs.Options.{ReadsOrderItem, order_alone, order_ascending, order_descending, ReadsSelectItem, select_all, select_name, ReadsKeyPair, key_value, IsKey, key_single, key_named}
 use Rattle.odata_parse.specs.Parsing.{CanEnd, MayFollow, IsAfterItem, IsCloseOrSeparator, HasEqualsSign}
-use Rattle.odata_parse.specs.Trees.{LiteralOf, ExprOf, OrderItemOf, order_item, SelectItemOf, all_columns, selected, KeyPairOf, key_pair, KeyOf, single, named}
+use Rattle.odata_parse.specs.Tree.{LiteralOf, ExprOf, OrderItemOf, order_item, SelectItemOf, all_columns, selected, KeyPairOf, key_pair, KeyOf, single, named}
 use Rattle.odata_parse.proofs.KeywordLemmas.{operator, in_word, asc_word, desc_word}
 use Rattle.odata_parse.proofs.PhraseLemmas.{keyword_unique, word_no_open, item_ends}
 

@@ -11,7 +11,7 @@ use Rattle.odata_parse.specs.declared.tree.BinaryOperator.TheVariants.{Logic, Co
 use Rattle.odata_parse.specs.Expression.{Reads, read_in, read_unary, read_binary, read_tighter, level_of}
 use Rattle.odata_parse.specs.Keyword.{IsKeyword, operator_text}
 use Rattle.odata_parse.specs.Parsing.{CanEnd, MayFollow, IsAfterItem, IsCloseOrSeparator}
-use Rattle.odata_parse.specs.Trees.{ExprOf, binary}
+use Rattle.odata_parse.specs.Tree.{ExprOf, binary}
 use Rattle.odata_parse.proofs.KeywordLemmas.{Keyword, keyword_text, one_keyword, operator, in_word}
 
 -- operators between operands bind more loosely than those before one

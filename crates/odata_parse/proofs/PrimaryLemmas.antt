@@ -12,7 +12,7 @@ use Rattle.odata_parse.specs.Keyword.{IsKeyword, IsName, lower, unary_function_t
 use Rattle.odata_parse.specs.Literal.{IsLiteral, IsLiteralOfKind, IsWordLiteral, ReadsLiteral}
 use Rattle.odata_parse.specs.List.{Enclosed}
 use Rattle.odata_parse.specs.Parsing.{CanEnd, Calls, calls_unary, calls_binary}
-use Rattle.odata_parse.specs.Trees.{LiteralOf, null, boolean, number, text, date, ExprOf, literal, name, unary, in_list, unary_call, binary_call}
+use Rattle.odata_parse.specs.Tree.{LiteralOf, null, boolean, number, text, date, ExprOf, literal, name, unary, in_list, unary_call, binary_call}
 use Rattle.odata_parse.proofs.KeywordLemmas.{Keyword, keyword_text, one_keyword, unary_function, binary_function, not_word, true_word, false_word, null_word}
 use Rattle.odata_parse.proofs.LiteralLemmas.{IsLiteral-unique}
 use Rattle.odata_parse.proofs.PhraseLemmas.{level_from_three, keyword_unique, word_no_open, word_no_minus, in_follows, CanEnd-pred}

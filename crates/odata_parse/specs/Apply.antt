@@ -6,7 +6,7 @@ use Rattle.odata_parse.specs.declared.tree.AggregationMethod.{AggregationMethod}
 use Rattle.odata_parse.specs.Expression.{Reads, top}
 use Rattle.odata_parse.specs.Keyword.{IsKeyword, lower, method_text}
 use Rattle.odata_parse.specs.List.{Separated, Enclosed}
-use Rattle.odata_parse.specs.Trees.{ExprOf, AggregateItemOf, aggregated, counted, TransformationOf, filter_by, aggregate, group_by}
+use Rattle.odata_parse.specs.Tree.{ExprOf, AggregateItemOf, aggregated, counted, TransformationOf, filter_by, aggregate, group_by}
 
 -- a word
 pub data ReadsName : List TokenOf → List ℕ → List TokenOf → Type 0 where

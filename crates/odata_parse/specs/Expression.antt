@@ -18,7 +18,7 @@ use Rattle.odata_parse.specs.declared.tree.BinaryFunction.{BinaryFunction}
 use Rattle.odata_parse.specs.Keyword.{IsKeyword, IsName, operator_text, unary_function_text, binary_function_text}
 use Rattle.odata_parse.specs.List.{Enclosed}
 use Rattle.odata_parse.specs.Literal.{IsLiteral, ReadsLiteral}
-use Rattle.odata_parse.specs.Trees.{LiteralOf, ExprOf, literal, name, unary, binary, in_list, unary_call, binary_call}
+use Rattle.odata_parse.specs.Tree.{LiteralOf, ExprOf, literal, name, unary, binary, in_list, unary_call, binary_call}
 
 -- The levels: 0 a primary, 1 with `in`, 2 with `-` and `not`, and then the operators between two operands.
 abbrev pub arithmetic_level : ArithmeticOperator → ℕ

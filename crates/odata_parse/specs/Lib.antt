@@ -1,6 +1,6 @@
 pub use Rattle.odata_lex.specs.Token
 pub use Rattle.odata_lex.specs.Lexer
-pub mod Trees
+pub mod Tree
 pub mod Keyword
 pub mod Literal
 pub mod List

@@ -5,7 +5,7 @@ use Rattle.odata_lex.specs.Token.{quote, doubled, year_of, month_of, day_of, Tok
 use Rattle.odata_lex.specs.declared.token.TokenKind.{TokenKind}
 use Rattle.odata_lex.specs.declared.token.TokenKind.TheVariants.{Text, Date, Number, Word, Minus}
 use Rattle.odata_parse.specs.Keyword.{lower}
-use Rattle.odata_parse.specs.Trees.{LiteralOf, null, boolean, number, text, date}
+use Rattle.odata_parse.specs.Tree.{LiteralOf, null, boolean, number, text, date}
 
 -- a text is the keyword of a value: `true`, `false` or `null`, in any ASCII case
 abbrev pub IsWordLiteral : List ℕ → LiteralOf → Type 0

@@ -6,7 +6,7 @@ use Rattle.odata_parse.specs.Expression.{Reads, top}
 use Rattle.odata_parse.specs.Keyword.{IsKeyword}
 use Rattle.odata_parse.specs.List.{Separated}
 use Rattle.odata_parse.specs.Literal.{ReadsLiteral}
-use Rattle.odata_parse.specs.Trees.{LiteralOf, ExprOf, OrderItemOf, order_item, SelectItemOf, all_columns, selected, KeyPairOf, key_pair, KeyOf, single, named}
+use Rattle.odata_parse.specs.Tree.{LiteralOf, ExprOf, OrderItemOf, order_item, SelectItemOf, all_columns, selected, KeyPairOf, key_pair, KeyOf, single, named}
 
 -- an expression, and `asc` or `desc` or neither; without `desc` the order ascends
 pub data ReadsOrderItem : List TokenOf → OrderItemOf → List TokenOf → Type 0 where

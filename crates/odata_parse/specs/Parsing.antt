@@ -12,7 +12,7 @@ use Rattle.odata_parse.specs.declared.tree.UnaryFunction.{UnaryFunction}
 use Rattle.odata_parse.specs.declared.tree.BinaryFunction.{BinaryFunction}
 use Rattle.odata_parse.specs.Expression.{Reads, level_of, top}
 use Rattle.odata_parse.specs.Keyword.{IsKeyword, operator_text, unary_function_text, binary_function_text}
-use Rattle.odata_parse.specs.Trees.{ExprOf, unary_call, binary_call}
+use Rattle.odata_parse.specs.Tree.{ExprOf, unary_call, binary_call}
 
 abbrev pub parse_fault : PhraseFault → ParseFault
 parse_fault NoPhrase = Syntax

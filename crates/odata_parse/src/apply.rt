@@ -9,7 +9,7 @@ ghost use Rattle.odata_parse.specs.Apply.{ReadsName, ReadsAlias, ReadsAggregateI
 ghost use Rattle.odata_parse.specs.Depth.{IsTooDeepForApply};
 ghost use Rattle.odata_parse.specs.Keyword.{IsKeyword, method_text};
 ghost use Rattle.odata_parse.specs.Parsing.{Gives, item_trees};
-ghost use Rattle.odata_parse.specs.Trees.{AggregateItemOf, aggregate_item_view, TransformationOf, transformation_view};
+ghost use Rattle.odata_parse.specs.Tree.{AggregateItemOf, aggregate_item_view, TransformationOf, transformation_view};
 
 use crate::cursor::Cursor;
 use crate::depth::{has_slashes, is_too_deep};
@@ -85,7 +85,7 @@ fn aggregated(alloc: Global, tokens: &mut Cursor<'_>) -> Result<AggregateItem, P
 
 impl Item for AggregateItem {
     ghost use Rattle.odata_parse.specs.Apply.{ReadsAggregateItem};
-    ghost use Rattle.odata_parse.specs.Trees.{AggregateItemOf, aggregate_item_view};
+    ghost use Rattle.odata_parse.specs.Tree.{AggregateItemOf, aggregate_item_view};
 
     ghost Tree = { AggregateItemOf };
 
@@ -152,7 +152,7 @@ fn group(alloc: Global, tokens: &mut Cursor<'_>) -> Result<Transformation, Phras
 
 impl Item for Transformation {
     ghost use Rattle.odata_parse.specs.Apply.{ReadsTransformation};
-    ghost use Rattle.odata_parse.specs.Trees.{TransformationOf, transformation_view};
+    ghost use Rattle.odata_parse.specs.Tree.{TransformationOf, transformation_view};
 
     ghost Tree = { TransformationOf };
 

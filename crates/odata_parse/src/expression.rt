@@ -14,7 +14,7 @@ ghost use Rattle.odata_parse.specs.Expression.{Reads, IsFilter, IsUnaryOperator,
 ghost use Rattle.odata_parse.specs.Keyword.{IsKeyword, operator_text};
 ghost use Rattle.odata_parse.specs.Literal.{IsLiteral};
 ghost use Rattle.odata_parse.specs.Parsing.{Calls, CanEnd, Gives};
-ghost use Rattle.odata_parse.specs.Trees.{ExprOf, LiteralOf, expr_view, unary, binary};
+ghost use Rattle.odata_parse.specs.Tree.{ExprOf, LiteralOf, expr_view, unary, binary};
 
 use crate::cursor::{Cursor, Lexeme};
 use crate::depth::is_too_deep;
@@ -216,7 +216,7 @@ fn call(alloc: Global, tokens: &mut Cursor<'_>, function: Lexeme<'_>) -> Result<
 
 impl Item for Expr {
     ghost use Rattle.odata_parse.specs.Expression.{Reads, top};
-    ghost use Rattle.odata_parse.specs.Trees.{ExprOf, expr_view};
+    ghost use Rattle.odata_parse.specs.Tree.{ExprOf, expr_view};
 
     ghost Tree = { ExprOf };
 

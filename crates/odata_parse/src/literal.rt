@@ -8,7 +8,7 @@ ghost use Rattle.odata_parse.specs.Cursor.{lexeme_view};
 ghost use Rattle.odata_parse.specs.Keyword.{lower};
 ghost use Rattle.odata_parse.specs.Literal.{IsLiteral, IsWordLiteral, Quotes, ReadsLiteral};
 ghost use Rattle.odata_parse.specs.Parsing.{Gives};
-ghost use Rattle.odata_parse.specs.Trees.{LiteralOf, literal_view, date as date_value};
+ghost use Rattle.odata_parse.specs.Tree.{LiteralOf, literal_view, date as date_value};
 
 use crate::cursor::{Cursor, Lexeme};
 use crate::fault::PhraseFault;
@@ -92,7 +92,7 @@ fn negative(tokens: &mut Cursor<'_>) -> Result<Literal, PhraseFault>
 
 impl Item for Literal {
     ghost use Rattle.odata_parse.specs.Literal.{ReadsLiteral};
-    ghost use Rattle.odata_parse.specs.Trees.{LiteralOf, literal_view};
+    ghost use Rattle.odata_parse.specs.Tree.{LiteralOf, literal_view};
 
     ghost Tree = { LiteralOf };
 

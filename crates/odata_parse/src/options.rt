@@ -7,7 +7,7 @@ ghost use Rattle.odata_lex.specs.Token.{token_views};
 ghost use Rattle.odata_parse.specs.Depth.{IsTooDeep};
 ghost use Rattle.odata_parse.specs.Options.{IsOrder, IsSelection, IsKey};
 ghost use Rattle.odata_parse.specs.Parsing.{GivesWhole, HasEqualsSign, item_trees};
-ghost use Rattle.odata_parse.specs.Trees.{OrderItemOf, order_item_view, SelectItemOf, select_item_view, KeyOf, key_view};
+ghost use Rattle.odata_parse.specs.Tree.{OrderItemOf, order_item_view, SelectItemOf, select_item_view, KeyOf, key_view};
 
 use crate::cursor::Cursor;
 use crate::depth::is_too_deep;
@@ -21,7 +21,7 @@ use std::alloc::Global;
 
 impl Item for OrderItem {
     ghost use Rattle.odata_parse.specs.Options.{ReadsOrderItem};
-    ghost use Rattle.odata_parse.specs.Trees.{OrderItemOf, order_item_view};
+    ghost use Rattle.odata_parse.specs.Tree.{OrderItemOf, order_item_view};
 
     ghost Tree = { OrderItemOf };
 
@@ -69,7 +69,7 @@ pub fn parse_orderby(
 
 impl Item for SelectItem {
     ghost use Rattle.odata_parse.specs.Options.{ReadsSelectItem};
-    ghost use Rattle.odata_parse.specs.Trees.{SelectItemOf, select_item_view};
+    ghost use Rattle.odata_parse.specs.Tree.{SelectItemOf, select_item_view};
 
     ghost Tree = { SelectItemOf };
 
@@ -108,7 +108,7 @@ pub fn parse_select(
 
 impl Item for KeyPair {
     ghost use Rattle.odata_parse.specs.Options.{ReadsKeyPair};
-    ghost use Rattle.odata_parse.specs.Trees.{KeyPairOf, key_pair_view};
+    ghost use Rattle.odata_parse.specs.Tree.{KeyPairOf, key_pair_view};
 
     ghost Tree = { KeyPairOf };
 

@@ -1,7 +1,7 @@
 use Rattle.std.proofs.Common.{◌∷◌, ap, ◌∙◌}
 use Rattle.std.proofs.lemmas.Result.{err_from_is_err_and}
 use Rattle.odata_parse.specs.Apply.{a_filter}
-use Rattle.odata_parse.specs.Trees.{filter_by}
+use Rattle.odata_parse.specs.Tree.{filter_by}
 use Rattle.odata_parse.proofs.ApplyLemmas.{filter_parts}
 use Rattle.odata_parse.proofs.PhraseLemmas.{close_ends}
 use Rattle.odata_parse.proofs.PrimaryLemmas.{same_rest}

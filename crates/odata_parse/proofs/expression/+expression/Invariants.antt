@@ -1,5 +1,5 @@
 use Rattle.std.proofs.Common.{◌+◌, ◌*◌, ◌-◌, length}
-use Rattle.odata_parse.specs.Trees.{expr_view}
+use Rattle.odata_parse.specs.Tree.{expr_view}
 use Rattle.odata_parse.proofs.PhraseLemmas.{Midway}
 use Rattle.odata_parse.proofs.expression.+expression.Given as goal
 

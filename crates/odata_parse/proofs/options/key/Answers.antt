@@ -2,7 +2,7 @@ use Rattle.std.proofs.Common.{ap, ◌∙◌, sym}
 use Rattle.std.proofs.lemmas.Bool.{false≢true}
 use Rattle.std.proofs.lemmas.Result.{err_from_is_err_and}
 use Rattle.odata_parse.specs.Options.{key_single, key_named}
-use Rattle.odata_parse.specs.Trees.{named, single}
+use Rattle.odata_parse.specs.Tree.{named, single}
 use Rattle.odata_parse.proofs.OptionLemmas.{key_by_pairs, key_by_value}
 use Rattle.odata_parse.proofs.options.key.Goals as goal
 

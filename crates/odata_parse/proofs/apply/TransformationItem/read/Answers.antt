@@ -1,7 +1,7 @@
 use Rattle.std.proofs.Common.{ap, ◌∙◌}
 use Rattle.std.proofs.lemmas.Result.{err_from_is_err_and}
 use Rattle.odata_parse.specs.Apply.{an_aggregation}
-use Rattle.odata_parse.specs.Trees.{aggregate}
+use Rattle.odata_parse.specs.Tree.{aggregate}
 use Rattle.odata_parse.proofs.ApplyLemmas.{only_aggregate_at}
 use Rattle.odata_parse.proofs.apply.TransformationItem.read.Goals as goal
 
