@@ -1,5 +1,6 @@
 -- What the keys that a table keeps stand for, what is known of them while rows are read, and why rows have none.
-use Rattle.std.specs.Prelude.{◌≡◌, ◌<◌, ◌⊎◌, ℕ, ℤ, List, [], ◌∷◌, length, map, None, Some, All}
+use Rattle.std.specs.Prelude.{◌≡◌, ◌<◌, ◌≤◌, ◌⊎◌, ℕ, ℤ, List, [], ◌∷◌, length, map, None, Some, All}
+use Rattle.indexmap.specs.IndexSet.{spare}
 use Rattle.cell_types.specs.Column.{ColumnOf}
 use Rattle.cell_types.specs.Value.{CellValue, null, int, value_view}
 use Rattle.table_store.specs.declared.keys.Keys.{Keys}
@@ -29,6 +30,12 @@ abbrev pub Suits : Keys → List CellValue → Type 0
 Suits Absent key = key ≡ []
 Suits (Integers keys) key = (value : CellValue) × IsInteger value × (key ≡ value ∷ [])
 Suits (Values keys) key = Unit {0}
+
+-- so many keys more may come before there has to be more room for them
+abbrev pub HasRoom : Keys → ℕ → Type 0
+HasRoom Absent rows = Unit {0}
+HasRoom (Integers keys) rows = rows ≤ spare keys
+HasRoom (Values keys) rows = rows ≤ spare keys
 
 -- those are the keys of the rows: none has a null, and no row has that of an earlier one
 pub record AreKeysOf (keys : Keys) (of : List (List CellValue)) : Type 0 where

@@ -8,7 +8,7 @@ ghost use Rattle.csv_index.specs.Raw.{RawField};
 ghost use Rattle.csvw_meta.specs.Schema.{schema_view};
 ghost use Rattle.table_store.specs.Key.{row_key, row_keys, key_eq, has_null as has_null_in, row_of};
 ghost use Rattle.table_store.specs.Inside.{values_in};
-ghost use Rattle.table_store.specs.Keys.{keys_view, AreColumns, AreKeysOf, HasKeyFault, HasRead, Suits};
+ghost use Rattle.table_store.specs.Keys.{keys_view, AreColumns, AreKeysOf, HasKeyFault, HasRead, HasRoom, Suits};
 
 use cell_types::{Datatype, Value};
 use csvw_meta::Schema;
@@ -48,12 +48,13 @@ pub struct KeyReader {
 }
 
 impl KeyReader {
-    /// A reader of the keys of so many rows, none of which is read.
+    /// A reader of keys, none of which is read, with room for those of so many rows.
     pub fn new(alloc: Global, schema: &Schema, rows: usize) -> Result<KeyReader, AllocError>
         requires { AreColumns (schema_view schema.now).key (schema_view schema.now).columns }
         ensures read { IfOk result (λ reader. HasRead reader []) }
         ensures suits { IfOk result (λ reader. (fields : List RawField)
             → Suits reader.keys (row_key (schema_view schema.now).key (values_in (schema_view schema.now).columns fields))) }
+        ensures room { IfOk result (λ reader. HasRoom reader.keys rows) }
     {
         cell_types::values_fit_columns();
         let keys = match schema.key.as_slice() {
