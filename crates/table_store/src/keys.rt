@@ -1,5 +1,5 @@
 //! The keys of a table's rows.
-ghost use Rattle.std.specs.Prelude.{◌≡◌, ◌<◌, false, true, not, [], ◌∷◌, ◌++◌, List, Some, IfOk, IfErr, length, map, slice_get, option_map, All};
+ghost use Rattle.std.specs.Prelude.{◌≡◌, ◌↔◌, ◌<◌, false, true, not, [], ◌∷◌, ◌++◌, List, Some, IfOk, IfErr, IsTrue, length, map, slice_get, option_map, All};
 ghost use Rattle.std.specs.List.{list_any};
 ghost use Rattle.cell_types.specs.Column.{ColumnOf};
 ghost use Rattle.cell_types.specs.Datatype.{integer};
@@ -165,10 +165,10 @@ impl Keys {
     }
 }
 
-/// Whether the values of a column that are not null are integers.
+/// Whether the datatype of a column is `integer`.
 fn has_integers(schema: &Schema, place: usize) -> bool
     requires { place < length (schema_view schema.now).columns }
-    ensures { result ≡ true → option_map (λ (column : ColumnOf). column.datatype) (slice_get (schema_view schema.now).columns place) ≡ Some integer }
+    ensures { IsTrue result ↔ (option_map (λ (column : ColumnOf). column.datatype) (slice_get (schema_view schema.now).columns place) ≡ Some integer) }
 {
     matches!(schema.columns[place].datatype, Datatype::Integer)
 }

@@ -18,6 +18,6 @@ returns-clause-suits c fields =
       | in-len1+in_ok-with_capacity-in-len1 w ↦ subst (λ keys. Suits keys key) (sym w.keys-is)
           (integer_suits c.values_fit_columns.ensures schema.columns schema.key (get_or c.as_slice.result.now 0 0) fields
           (sym c.as_slice.ensures.value ∙ one_item c.as_slice.result.now 0 (omega (arith, w.in-len1.len_at_least, w.in-len1.len_below)))
-          (w.has_integers.ensures w.if-has_integers.true))
+          (w.has_integers.ensures.0 w.if-has_integers.true))
       | else-as_slice-lt1+in_default+in_ok-with_capacity-in_default w ↦ subst (λ keys. Suits keys key) (sym w.keys-is) tt
     ]
