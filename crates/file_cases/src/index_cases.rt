@@ -1,6 +1,6 @@
 //! Files of a CSV table: rows, widths, cells and faults (RFC 4180, section 2).
 use crate::plain_reader::plain_table;
-use csv_index::{Index, TextFault};
+use csv_index::{Index, TextFault, text_of};
 use std::alloc::{AllocError, Global};
 use std::borrow::CowStr;
 use std::test::Fail;
@@ -35,15 +35,21 @@ fn behind_x(
 
 /// What each cell says, row after row, as `cell` gives it and as `fields` does.
 fn cells(alloc: Global, file: &[u8]) -> Result<(Vec<String>, Vec<String>), Fail> {
-    let index = Index::build(alloc, file)?;
+    let text = text_of(Vec::from_slice(alloc, file)?)?;
+    let index = Index::of_text(alloc, text.as_str())?;
     let mut found = Vec::new(alloc);
     for row in 0..index.rows() {
         for col in 0..index.width() {
-            found.push(index.cell(file, row, col).text(alloc)?.into_owned(alloc)?)?;
+            found.push(
+                index
+                    .cell(text.as_str(), row, col)
+                    .text(alloc)?
+                    .into_owned(alloc)?,
+            )?;
         }
     }
     let mut passed = Vec::new(alloc);
-    let mut fields = index.fields(file, 0);
+    let mut fields = index.fields(text.as_str(), 0);
     for _ in 0..found.len() {
         let raw = fields.next_field().ok_or("a field is missing")?;
         passed.push(raw.text(alloc)?.into_owned(alloc)?)?;
@@ -202,8 +208,7 @@ fn borrows_where_no_pair_stands(rt: HostRuntime) -> Result<(), Fail> {
         ("A\n\"\"\"\"\"é\"\"\"", "\"\"é\"", false),
     ];
     for (file, want, borrowed) in cases {
-        let file = file.as_bytes();
-        let index = Index::build(rt.alloc(), file)?;
+        let index = Index::build(rt.alloc(), file.as_bytes())?;
         if index.rows() == 0 || index.width() == 0 {
             return Err("no row".into());
         }
@@ -212,6 +217,49 @@ fn borrows_where_no_pair_stands(rt: HostRuntime) -> Result<(), Fail> {
             CowStr::Owned(content) => assert_eq!(rt; (content.as_str(), false), (want, borrowed)),
         }
     }
+    Ok(())
+}
+
+/// Every second field of the rows, the others passed.
+fn second_fields(alloc: Global, file: &str) -> Result<Vec<String>, Fail> {
+    let index = Index::of_text(alloc, file)?;
+    let mut fields = index.fields(file, 0);
+    fields.pass();
+    let mut found = Vec::new(alloc);
+    while let Some(raw) = fields.next_field() {
+        found.push(raw.text(alloc)?.into_owned(alloc)?)?;
+        fields.pass();
+    }
+    Ok(found)
+}
+
+#[test]
+fn passes_fields(rt: HostRuntime) -> Result<(), Fail> {
+    let cases = [
+        ("A,B\n1,2\n3,4", ["2", "4"]),
+        ("A\n\"a\n\"\n\"b\"\"\"\n\nd\n", ["b\"", "d"]),
+        ("A\né\nè\n\nê", ["è", "ê"]),
+    ];
+    for (file, [first, second]) in cases {
+        let found = second_fields(rt.alloc(), file)?;
+        assert_eq!(rt; found.len(), 2);
+        assert_eq!(rt; (found[0].as_str(), found[1].as_str()), (first, second));
+    }
+    Ok(())
+}
+
+#[test]
+fn texts_of_bytes(rt: HostRuntime) -> Result<(), Fail> {
+    let text = text_of(Vec::from_slice(rt.alloc(), "A\né".as_bytes())?)?;
+    assert_eq!(rt; text.as_str(), "A\né");
+    assert_eq!(rt;
+        text_of(Vec::from_slice(rt.alloc(), b"A\n\xFF")?),
+        Err(TextFault::NotUtf8 { at: 2 })
+    );
+    assert_eq!(rt;
+        text_of(Vec::from_slice(rt.alloc(), b"\xC3")?),
+        Err(TextFault::NotUtf8 { at: 0 })
+    );
     Ok(())
 }
 
