@@ -1,4 +1,4 @@
-//! A reader or a writer of std as a device, with its calls, ends and failures counted.
+//! A reader or a writer of std as a device, with its reads, ends and failures counted.
 ghost use Rattle.std.specs.Prelude.{◌≡◌};
 ghost use Rattle.odata_http.specs.Device.{Counts};
 
@@ -10,7 +10,7 @@ use std::marker::Model;
 #[derive(Debug, Drop)]
 pub struct Counted<T> {
     inner: T,
-    calls: u64,
+    reads: u64,
     ends: u64,
     failed: u64,
 }
@@ -20,7 +20,7 @@ impl<T> Model for Counted<T> {
 
     ghost Value = { CountedOf T };
 
-    ghost view = { λ c. record { inner = c.inner; calls = c.calls; ends = c.ends; failed = c.failed } };
+    ghost view = { λ c. record { inner = c.inner; reads = c.reads; ends = c.ends; failed = c.failed } };
 }
 
 fn one_more(n: u64) -> u64
@@ -32,11 +32,11 @@ fn one_more(n: u64) -> u64
 impl<T> Counted<T> {
     /// The reader or the writer, with nothing counted yet.
     pub fn new(inner: T) -> Counted<T>
-        ensures { result ≡ record { inner = inner; calls = 0; ends = 0; failed = 0 } }
+        ensures { result ≡ record { inner = inner; reads = 0; ends = 0; failed = 0 } }
     {
         Counted {
             inner,
-            calls: 0,
+            reads: 0,
             ends: 0,
             failed: 0,
         }
@@ -46,10 +46,10 @@ impl<T> Counted<T> {
 impl<T: Read> Source for Counted<T> {
     ghost use Rattle.odata_http.specs.Device.{SourceOf};
 
-    ghost source = { λ s. record { left = T.remaining s.inner; reads = s.calls; ends = s.ends; failed_reads = s.failed } };
+    ghost source = { λ s. record { left = T.remaining s.inner; reads = s.reads; ends = s.ends; failed_reads = s.failed } };
 
     fn read(&mut self, buf: &mut [u8]) -> Result<usize, DeviceFault> {
-        self.calls = one_more(self.calls);
+        self.reads = one_more(self.reads);
         match self.inner.read(buf) {
             Ok(0) if !buf.is_empty() => {
                 self.ends = one_more(self.ends);
@@ -70,7 +70,6 @@ impl<T: Write> Sink for Counted<T> {
     ghost sink = { λ s. record { taken = T.contents s.inner; failed_writes = s.failed } };
 
     fn write(&mut self, bytes: &[u8]) -> Result<usize, DeviceFault> {
-        self.calls = one_more(self.calls);
         match self.inner.write(bytes) {
             Ok(0) if !bytes.is_empty() => {
                 self.failed = one_more(self.failed);
