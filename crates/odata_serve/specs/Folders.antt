@@ -2,6 +2,7 @@
 use Rattle.std.specs.Prelude.{◌≡◌, ℕ, List, [], ◌∷◌, Option, None, Some, IfSome, Result, Ok, Err, if◌then◌else◌}
 use Rattle.std.specs.Str.{bytes_eq}
 use Rattle.csvw_meta.specs.declared.limits.TheConstants.{MOST_FILE_BYTES, MOST_TABLES, MOST_COLUMNS, MOST_TRANSFORMATIONS}
+use Rattle.csvw_meta.specs.Limits.{LimitsOf}
 use Rattle.table_store.specs.Catalog.{FolderOf, CatalogOf, Means, IsRefused}
 use Rattle.table_store.specs.Fault.{LoadCause, no_metadata, load_cause}
 use Rattle.odata_http.specs.Device.{Counts}
@@ -15,15 +16,21 @@ pub record FoldersOf : Type 0 where
   pub no_metadata : ℕ
   pub device : ℕ
 
--- a folder means this catalog: the one that was taken, where it is told
+-- the greatest limits
+abbrev pub greatest_limits : LimitsOf
+greatest_limits = record { file = MOST_FILE_BYTES; tables = MOST_TABLES; columns = MOST_COLUMNS; transformations = MOST_TRANSFORMATIONS }
+
+-- a folder under the greatest limits means this catalog: the folder that was taken, where it is told
 pub record MeansTaken (taken : Option FolderOf) (catalog : CatalogOf) : Type 0 where
   pub folder : FolderOf
+  pub limits : folder.limits ≡ greatest_limits
   pub same : IfSome taken (λ other. other ≡ folder)
   pub means : Means folder catalog
 
--- a folder is refused under this cause: the one that was taken, where it is told
+-- a folder under the greatest limits is refused under this cause: the folder that was taken, where it is told
 pub record RefusesTaken (taken : Option FolderOf) (cause : LoadCause) : Type 0 where
   pub folder : FolderOf
+  pub limits : folder.limits ≡ greatest_limits
   pub same : IfSome taken (λ other. other ≡ folder)
   pub refused : IsRefused folder cause
 
@@ -46,17 +53,17 @@ CountsFault old new (Err (Load fault)) = KeepsCounts old new
 CountsFault old new (Err Device) = (new.no_metadata ≡ old.no_metadata) × Counts old.device new.device
 CountsFault old new (Err NoMemory) = KeepsCounts old new
 
--- the folder `notes`, under the greatest limits
+-- the folder `notes`
 abbrev pub notes_folder : FolderOf
 notes_folder = record {
-  limits = record { file = MOST_FILE_BYTES; tables = MOST_TABLES; columns = MOST_COLUMNS; transformations = MOST_TRANSFORMATIONS };
+  limits = greatest_limits;
   meta = Some NOTES_METADATA.now;
   files = record { name = NOTES_FILE.now; bytes = NOTES_BYTES.now } ∷ [];
 }
 
 -- a folder with nothing in it
 abbrev pub empty_folder : FolderOf
-empty_folder = record { limits = notes_folder.limits; meta = None; files = [] }
+empty_folder = record { limits = greatest_limits; meta = None; files = [] }
 
 -- the built-in folder of that name: there is one
 abbrev pub built_in : List ℕ → FolderOf

@@ -1,6 +1,10 @@
 //! Folders on a disk. Of a folder `csv-metadata.json` is read, then each file that the metadata names, once, and no other file; of each
 //! at most one byte more than the limit of a file.
-ghost use Rattle.std.specs.Prelude.{None};
+ghost use Rattle.std.specs.Prelude.{◌≡◌, ◌≢◌, ◌≤◌, ◌+◌, ◌↔◌, None, IfOk, IfSome, IsTrue, map, take, vec_len};
+ghost use Rattle.std.specs.IoError.{error_kind};
+ghost use Rattle.csvw_meta.specs.Schema.{schema_view};
+ghost use Rattle.table_store.specs.File.{file_view};
+ghost use Rattle.odata_serve.specs.Disk.{AreFilesOf};
 
 use crate::folders::{FolderFault, Folders};
 use csvw_meta::{Limits, MOST_FILE_BYTES, MetaFault, Schema, Schemas};
@@ -23,7 +27,10 @@ pub struct Disk<'a, R> {
 }
 
 impl<'a, R: Files> Disk<'a, R> {
-    pub fn new(files: &'a R) -> Disk<'a, R> {
+    /// The folders of that disk, none of which was asked for yet.
+    pub fn new(files: &'a R) -> Disk<'a, R>
+        ensures { ⟦<Disk<'a, R> as Folders>⟧.folders result ≡ record { took = λ _. None; no_metadata = 0; device = 0 } }
+    {
         Disk {
             files,
             no_metadata: 0,
@@ -55,12 +62,17 @@ impl From<AllocError> for TakeFault {
 }
 
 /// Whether the metadata was not read for want of memory.
-fn is_memory(fault: &MetaFault) -> bool {
+fn is_memory(fault: &MetaFault) -> bool
+    ensures { IsTrue result ↔ (fault.now ≡ MetaFault.NoMemory) }
+{
     matches!(fault, MetaFault::NoMemory)
 }
 
 /// The fault that an error of a file is.
-fn device_fault(error: &io::Error) -> TakeFault {
+fn device_fault(error: &io::Error) -> TakeFault
+    ensures memory { error_kind error.now ≡ ErrorKind.OutOfMemory → result ≡ TakeFault.NoMemory }
+    ensures device { error_kind error.now ≢ ErrorKind.OutOfMemory → result ≡ TakeFault.Device }
+{
     match error.kind() {
         ErrorKind::OutOfMemory => TakeFault::NoMemory,
         _ => TakeFault::Device,
@@ -68,7 +80,11 @@ fn device_fault(error: &io::Error) -> TakeFault {
 }
 
 /// All bytes of a file, or one more than the limit. Room is taken once by the file's length, where the system tells it.
-fn read_file<F: OpenFile + Read + Drop>(alloc: Global, file: F) -> Result<Vec<u8>, TakeFault> {
+fn read_file<F: OpenFile + Read + Drop>(alloc: Global, file: F) -> Result<Vec<u8>, TakeFault>
+    ensures most { IfOk result (λ bytes. vec_len bytes ≤ MOST_FILE_BYTES + 1) }
+    // Where the file tells what it has.
+    ensures bytes { IfOk result (λ bytes. IfSome (F.remaining file) (λ all. bytes.items ≡ take (MOST_FILE_BYTES + 1) all)) }
+{
     let most = u64::from(MOST_FILE_BYTES) + 1;
     let room = match file.metadata() {
         Ok(metadata) => metadata.len().saturating_add(1).min(most),
@@ -76,7 +92,11 @@ fn read_file<F: OpenFile + Read + Drop>(alloc: Global, file: F) -> Result<Vec<u8
     };
     let mut bytes = Vec::with_capacity(alloc, room as usize)?;
     match file.take(most).read_to_end(&mut bytes) {
-        Ok(_) => Ok(bytes),
+        Ok(_) => {
+            // no byte goes: the promise of a reader's `take` is about bytes that the reader tells
+            bytes.truncate(most as usize);
+            Ok(bytes)
+        }
         Err(error) => Err(device_fault(&error)),
     }
 }
@@ -87,7 +107,9 @@ fn take_file<R: Files>(
     files: &R,
     folder: &str,
     name: &str,
-) -> Result<Option<Vec<u8>>, TakeFault> {
+) -> Result<Option<Vec<u8>>, TakeFault>
+    ensures { IfOk result (λ file. IfSome file (λ bytes. vec_len bytes ≤ MOST_FILE_BYTES + 1)) }
+{
     let path = format!(in alloc; "{folder}/{name}")?;
     match fs::open(files, path.as_str()) {
         Ok(file) => Ok(Some(read_file(alloc, file)?)),
@@ -97,7 +119,9 @@ fn take_file<R: Files>(
 }
 
 /// The file of a table, with its name.
-fn named_file(alloc: Global, url: &str, bytes: Vec<u8>) -> Result<NamedFile, AllocError> {
+fn named_file(alloc: Global, url: &str, bytes: Vec<u8>) -> Result<NamedFile, AllocError>
+    ensures { IfOk result (λ file. file_view file ≡ record { name = url.now; bytes = bytes.items }) }
+{
     let name = String::from_str(alloc, url)?;
     Ok(NamedFile { name, bytes })
 }
@@ -108,7 +132,9 @@ fn take_tables<R: Files>(
     files: &R,
     folder: &str,
     tables: &[Schema],
-) -> Result<Vec<NamedFile>, TakeFault> {
+) -> Result<Vec<NamedFile>, TakeFault>
+    ensures { IfOk result (λ files. AreFilesOf (map schema_view tables.now) (map file_view files.items)) }
+{
     let mut taken = Vec::new(alloc);
     for table in tables {
         if let Some(bytes) = take_file(alloc, files, folder, table.url.as_str())? {

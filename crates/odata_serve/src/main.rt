@@ -3,6 +3,10 @@
 //! status 0; a fault is told on standard error and by the exit status.
 #![tactic(auto)]
 
+ghost use Rattle.std.specs.Prelude.{◌≡◌, ◌≢◌};
+ghost use Rattle.std.specs.IoError.{error_kind};
+ghost use Rattle.odata_serve.specs.Main.{IsFaultStatus, IsStatus};
+
 mod check;
 mod disk;
 mod fault_line;
@@ -28,7 +32,10 @@ use words::{Words, WordsFault, read_words};
 const DONE: u8 = 0;
 
 /// The exit status of an error of the system.
-fn error_status(error: &io::Error) -> u8 {
+fn error_status(error: &io::Error) -> u8
+    ensures memory { error_kind error.now ≡ ErrorKind.OutOfMemory → result ≡ MEMORY }
+    ensures device { error_kind error.now ≢ ErrorKind.OutOfMemory → result ≡ DEVICE }
+{
     match error.kind() {
         ErrorKind::OutOfMemory => MEMORY,
         _ => DEVICE,
@@ -36,7 +43,9 @@ fn error_status(error: &io::Error) -> u8 {
 }
 
 /// Writes what is said of a fault to standard error, and gives its exit status.
-fn report(rt: &(impl Eprint + AllocGlobal), fault: &ProgramFault) -> u8 {
+fn report(rt: &(impl Eprint + AllocGlobal), fault: &ProgramFault) -> u8
+    ensures { IsFaultStatus fault.now result }
+{
     match fault_line(rt.alloc(), fault) {
         Ok((line, status)) => {
             if !line.is_empty() {
@@ -49,7 +58,9 @@ fn report(rt: &(impl Eprint + AllocGlobal), fault: &ProgramFault) -> u8 {
 }
 
 /// The exit status of an end, which is told on standard error where it is a fault.
-fn end_status(rt: &(impl Eprint + AllocGlobal), end: Result<(), ProgramFault>) -> u8 {
+fn end_status(rt: &(impl Eprint + AllocGlobal), end: Result<(), ProgramFault>) -> u8
+    ensures { IsStatus end result }
+{
     match end {
         Ok(()) => DONE,
         Err(fault) => report(rt, &fault),

@@ -1,0 +1,17 @@
+-- What is taken of a folder on a disk.
+use Rattle.std.specs.Prelude.{◌≡◌, ◌≤◌, ◌+◌, ◌⊎◌, List, [], ◌∷◌, length}
+use Rattle.csvw_meta.specs.declared.limits.TheConstants.{MOST_FILE_BYTES}
+use Rattle.csvw_meta.specs.Schema.{SchemaOf}
+use Rattle.table_store.specs.File.{FileOf}
+
+-- the file of a schema, at most one byte above the limit of a file
+pub record IsFileOf (schema : SchemaOf) (file : FileOf) : Type 0 where
+  pub name : file.name ≡ schema.url
+  pub most : length file.bytes ≤ MOST_FILE_BYTES + 1
+
+-- files of schemas, in order, but those that are missing; there is no other file
+abbrev pub AreFilesOf : List SchemaOf → List FileOf → Type 0
+AreFilesOf [] files = files ≡ []
+AreFilesOf (schema ∷ schemas) files =
+    AreFilesOf schemas files
+    ⊎ ((file : FileOf) × (more : List FileOf) × (files ≡ file ∷ more) × IsFileOf schema file × AreFilesOf schemas more)
