@@ -8,7 +8,7 @@ use Rattle.table_store.specs.Catalog.{CatalogOf}
 use Rattle.odata_http.specs.Device.{SinkOf}
 use Rattle.odata_http.specs.Answer.{HasWritten, HasFailed}
 use Rattle.odata_serve.specs.declared.program.ProgramFault.{ProgramFault}
-use Rattle.odata_serve.specs.declared.program.ProgramFault.TheVariants.{Folder, Run, Script, Device, NoMemory}
+use Rattle.odata_serve.specs.declared.program.ProgramFault.TheVariants.{Folder, Run, Device, NoMemory}
 use Rattle.odata_serve.specs.Program.{Loading, IsFolderFault, IsLoaded}
 
 -- the line of a table: its name, its number of rows and its number of columns
@@ -27,7 +27,6 @@ AreListed tables old new (Err Device) = (n : ℕ) × HasFailed old new (take n (
 AreListed tables old new (Err NoMemory) = (n : ℕ) × HasWritten old new (table_lines (take n tables))
 AreListed tables old new (Err (Folder fault)) = ⊥
 AreListed tables old new (Err (Run fault)) = ⊥
-AreListed tables old new (Err (Script line)) = ⊥
 
 -- the lines of the tables that the folder means were written so
 pub record Lists (l : Loading) (old new : SinkOf) (r : Result ⊤ ProgramFault) : Type 0 where

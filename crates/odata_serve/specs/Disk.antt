@@ -1,6 +1,7 @@
 -- What is taken of a folder on a disk.
-use Rattle.std.specs.Prelude.{◌≡◌, ◌≤◌, ◌+◌, ◌⊎◌, List, [], ◌∷◌, length}
+use Rattle.std.specs.Prelude.{◌≡◌, ◌≤◌, ◌+◌, ◌⊎◌, List, [], ◌∷◌, length, Result, Ok, Err}
 use Rattle.csvw_meta.specs.declared.limits.TheConstants.{MOST_FILE_BYTES}
+use Rattle.csvw_meta.specs.Fault.{MetaCause}
 use Rattle.csvw_meta.specs.Schema.{SchemaOf}
 use Rattle.table_store.specs.File.{FileOf}
 
@@ -15,3 +16,8 @@ AreFilesOf [] files = files ≡ []
 AreFilesOf (schema ∷ schemas) files =
     AreFilesOf schemas files
     ⊎ ((file : FileOf) × (more : List FileOf) × (files ≡ file ∷ more) × IsFileOf schema file × AreFilesOf schemas more)
+
+-- the files of the schemas that metadata has; there is none where it is refused
+abbrev pub AreFilesIn : Result (List SchemaOf) MetaCause → List FileOf → Type 0
+AreFilesIn (Ok schemas) files = AreFilesOf schemas files
+AreFilesIn (Err cause) files = files ≡ []

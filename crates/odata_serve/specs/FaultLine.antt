@@ -1,13 +1,12 @@
 -- What the program says of a fault on standard error, and its exit status.
 use Rattle.std.specs.Prelude.{ℕ, List, [], ◌++◌, codes, if◌then◌else◌, is_none}
-use Rattle.std.specs.Fmt.{decimal}
 use Rattle.table_store.specs.declared.fault.LoadFault.{LoadFault}
 use Rattle.table_store.specs.Fault.{load_cause, load_fault_text}
 use Rattle.odata_http.specs.declared.runs.RunFault.TheVariants as run
 use Rattle.odata_serve.specs.declared.folders.FolderFault.TheVariants as folder
 use Rattle.odata_serve.specs.declared.program.ProgramFault.{ProgramFault}
-use Rattle.odata_serve.specs.declared.program.ProgramFault.TheVariants.{Folder, Run, Script, Device, NoMemory}
-use Rattle.odata_serve.specs.declared.fault_line.TheConstants.{REFUSED, SCRIPT, DEVICE, MEMORY}
+use Rattle.odata_serve.specs.declared.program.ProgramFault.TheVariants.{Folder, Run, Device, NoMemory}
+use Rattle.odata_serve.specs.declared.fault_line.TheConstants.{REFUSED, DEVICE, MEMORY}
 
 -- a refused folder: the file that is refused, and why; nothing where memory ran out
 abbrev pub refusal_text : LoadFault → List ℕ
@@ -23,7 +22,6 @@ fault_text (Folder (folder.Load fault)) = refusal_text fault
 fault_text (Folder folder.Device) = []
 fault_text (Folder folder.NoMemory) = []
 fault_text (Run fault) = []
-fault_text (Script line) = codes "line " ++ decimal line ++ codes ": bad command"
 fault_text Device = []
 fault_text NoMemory = []
 
@@ -36,6 +34,5 @@ exit_status (Run run.NoMemory) = MEMORY
 exit_status (Run run.Read) = DEVICE
 exit_status (Run run.Write) = DEVICE
 exit_status (Run run.TooManyReads) = DEVICE
-exit_status (Script line) = SCRIPT
 exit_status Device = DEVICE
 exit_status NoMemory = MEMORY

@@ -6,7 +6,7 @@ use Rattle.odata_http.specs.Reply.{field_line, line_end, reply_of}
 use Rattle.odata_http.specs.Runs.{Course, IsRun}
 use Rattle.odata_serve.specs.declared.program.TheConstants.{MAX_READS}
 use Rattle.odata_serve.specs.declared.program.ProgramFault.{ProgramFault}
-use Rattle.odata_serve.specs.declared.program.ProgramFault.TheVariants.{Folder, Run, Script, Device, NoMemory}
+use Rattle.odata_serve.specs.declared.program.ProgramFault.TheVariants.{Folder, Run, Device, NoMemory}
 use Rattle.odata_serve.specs.declared.folders.FolderFault.{FolderFault}
 use Rattle.odata_serve.specs.Folders.{FoldersOf, MeansTaken, RefusesTaken, folder_cause, KeepsCounts, CountsFault}
 
@@ -44,7 +44,6 @@ abbrev pub IsAnswer : Loading → Course → Result ⊤ ProgramFault → Type 0
 IsAnswer l c (Ok u) = RunsOver l c (Ok u)
 IsAnswer l c (Err (Run fault)) = RunsOver l c (Err fault)
 IsAnswer l c (Err (Folder fault)) = IsFolderFault l fault × IsStill c
-IsAnswer l c (Err (Script line)) = ⊥
 IsAnswer l c (Err Device) = ⊥
 IsAnswer l c (Err NoMemory) = ⊥
 

@@ -4,7 +4,7 @@ use Rattle.std.specs.Fmt.{decimal}
 use Rattle.odata_http.specs.Device.{SinkOf}
 use Rattle.odata_http.specs.Answer.{HasWritten, HasFailed}
 use Rattle.odata_serve.specs.declared.program.ProgramFault.{ProgramFault}
-use Rattle.odata_serve.specs.declared.program.ProgramFault.TheVariants.{Folder, Run, Script, Device, NoMemory}
+use Rattle.odata_serve.specs.declared.program.ProgramFault.TheVariants.{Folder, Run, Device, NoMemory}
 
 -- the line that tells a port
 abbrev pub port_line : ℕ → List ℕ
@@ -25,4 +25,3 @@ IsServed old new (Err Device) = FailsToTell old new ⊎ (TellsPort old new ⊎ (
 IsServed old new (Err NoMemory) = TellsPort old new ⊎ (new ≡ old)
 IsServed old new (Err (Folder fault)) = ⊥
 IsServed old new (Err (Run fault)) = ⊥
-IsServed old new (Err (Script line)) = ⊥

@@ -1,10 +1,13 @@
 //! Folders on a disk. Of a folder `csv-metadata.json` is read, then each file that the metadata names, once, and no other file; of each
 //! at most one byte more than the limit of a file.
-ghost use Rattle.std.specs.Prelude.{◌≡◌, ◌≢◌, ◌≤◌, ◌+◌, ◌↔◌, None, IfOk, IfSome, IsTrue, map, take, vec_len};
+ghost use Rattle.std.specs.Prelude.{◌≡◌, ◌≢◌, ◌≤◌, ◌+◌, None, IfOk, IfSome, is_none, map, take, vec_len};
 ghost use Rattle.std.specs.IoError.{error_kind};
+ghost use Rattle.csvw_meta.specs.Document.{schemas_of};
+ghost use Rattle.csvw_meta.specs.Fault.{meta_cause};
 ghost use Rattle.csvw_meta.specs.Schema.{schema_view};
 ghost use Rattle.table_store.specs.File.{file_view};
-ghost use Rattle.odata_serve.specs.Disk.{AreFilesOf};
+ghost use Rattle.odata_serve.specs.Disk.{AreFilesIn, AreFilesOf};
+ghost use Rattle.odata_serve.specs.Folders.{greatest_limits};
 
 use crate::folders::{FolderFault, Folders};
 use csvw_meta::{Limits, MOST_FILE_BYTES, MetaFault, Schema, Schemas};
@@ -63,7 +66,7 @@ impl From<AllocError> for TakeFault {
 
 /// Whether the metadata was not read for want of memory.
 fn is_memory(fault: &MetaFault) -> bool
-    ensures { IsTrue result ↔ (fault.now ≡ MetaFault.NoMemory) }
+    ensures { result ≡ is_none (meta_cause fault.now) }
 {
     matches!(fault, MetaFault::NoMemory)
 }
@@ -93,7 +96,7 @@ fn read_file<F: OpenFile + Read + Drop>(alloc: Global, file: F) -> Result<Vec<u8
     let mut bytes = Vec::with_capacity(alloc, room as usize)?;
     match file.take(most).read_to_end(&mut bytes) {
         Ok(_) => {
-            // no byte goes: the promise of a reader's `take` is about bytes that the reader tells
+            // no byte goes by this: of bytes that a reader does not tell, std does not say that `take` keeps the limit
             bytes.truncate(most as usize);
             Ok(bytes)
         }
@@ -147,20 +150,39 @@ fn take_tables<R: Files>(
     Ok(taken)
 }
 
-/// The metadata of a folder and the files that it names; no file where the metadata is refused.
+/// The files that the metadata names; none where it is refused.
+fn take_named<R: Files>(
+    alloc: Global,
+    files: &R,
+    folder: &str,
+    meta: &[u8],
+) -> Result<Vec<NamedFile>, TakeFault>
+    ensures { IfOk result (λ files. AreFilesIn (schemas_of greatest_limits meta.now) (map file_view files.items)) }
+{
+    match Schemas::read(alloc, meta, &Limits::greatest()) {
+        Ok(schemas) => take_tables(alloc, files, folder, schemas.tables.as_slice()),
+        Err(fault) => {
+            if is_memory(&fault) {
+                return Err(TakeFault::NoMemory);
+            }
+            Ok(Vec::new(alloc))
+        }
+    }
+}
+
+/// The metadata of a folder and the files that it names.
 fn take_folder<R: Files>(
     alloc: Global,
     files: &R,
     folder: &str,
-) -> Result<(Vec<u8>, Vec<NamedFile>), TakeFault> {
+) -> Result<(Vec<u8>, Vec<NamedFile>), TakeFault>
+    ensures meta { IfOk result (λ taken. vec_len taken.0 ≤ MOST_FILE_BYTES + 1) }
+    ensures files { IfOk result (λ taken. AreFilesIn (schemas_of greatest_limits taken.0.items) (map file_view taken.1.items)) }
+{
     let Some(meta) = take_file(alloc, files, folder, METADATA)? else {
         return Err(TakeFault::NoMetadata);
     };
-    let taken = match Schemas::read(alloc, meta.as_slice(), &Limits::greatest()) {
-        Ok(schemas) => take_tables(alloc, files, folder, schemas.tables.as_slice())?,
-        Err(fault) if is_memory(&fault) => return Err(TakeFault::NoMemory),
-        Err(_fault) => Vec::new(alloc),
-    };
+    let taken = take_named(alloc, files, folder, meta.as_slice())?;
     Ok((meta, taken))
 }
 

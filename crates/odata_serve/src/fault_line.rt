@@ -1,5 +1,5 @@
 //! What the program says of a fault, and its exit status.
-ghost use Rattle.std.specs.Prelude.{◌≡◌, IfOk, string_bytes};
+ghost use Rattle.std.specs.Prelude.{◌≡◌, ◌≢◌, IfOk, string_bytes};
 ghost use Rattle.odata_serve.specs.FaultLine.{exit_status, fault_text, refusal_status, refusal_text};
 
 use crate::folders::FolderFault;
@@ -11,8 +11,8 @@ use table_store::LoadFault;
 /// The exit status of a refused folder.
 pub const REFUSED: u8 = 1;
 
-/// The exit status of a script, or a command line, that cannot be read.
-pub const SCRIPT: u8 = 2;
+/// The exit status of words that are no command of the program.
+pub const USAGE: u8 = 2;
 
 /// The exit status of a device's fault, or of too many reads.
 pub const DEVICE: u8 = 3;
@@ -24,6 +24,7 @@ pub const MEMORY: u8 = 4;
 fn refusal(alloc: Global, fault: &LoadFault) -> Result<(String, u8), AllocError>
     ensures line { IfOk result (λ line. string_bytes line.0 ≡ refusal_text fault.now) }
     ensures status { IfOk result (λ line. line.1 ≡ refusal_status fault.now) }
+    ensures other { IfOk result (λ line. line.1 ≢ USAGE) }
 {
     if fault.is_memory() {
         return Ok((String::new(alloc), MEMORY));
@@ -37,6 +38,7 @@ fn refusal(alloc: Global, fault: &LoadFault) -> Result<(String, u8), AllocError>
 pub fn fault_line(alloc: Global, fault: &ProgramFault) -> Result<(String, u8), AllocError>
     ensures line { IfOk result (λ line. string_bytes line.0 ≡ fault_text fault.now) }
     ensures status { IfOk result (λ line. line.1 ≡ exit_status fault.now) }
+    ensures other { IfOk result (λ line. line.1 ≢ USAGE) }
 {
     match fault {
         ProgramFault::Folder(FolderFault::NoMetadata) => {
@@ -48,10 +50,6 @@ pub fn fault_line(alloc: Global, fault: &ProgramFault) -> Result<(String, u8), A
         ProgramFault::Folder(FolderFault::NoMemory) => Ok((String::new(alloc), MEMORY)),
         ProgramFault::Run(RunFault::NoMemory) => Ok((String::new(alloc), MEMORY)),
         ProgramFault::Run(_) => Ok((String::new(alloc), DEVICE)),
-        ProgramFault::Script { line } => {
-            let line = format!(in alloc; "line {line}: bad command")?;
-            Ok((line, SCRIPT))
-        }
         ProgramFault::Device => Ok((String::new(alloc), DEVICE)),
         ProgramFault::NoMemory => Ok((String::new(alloc), MEMORY)),
     }

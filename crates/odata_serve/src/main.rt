@@ -3,9 +3,10 @@
 //! status 0; a fault is told on standard error and by the exit status.
 #![tactic(auto)]
 
-ghost use Rattle.std.specs.Prelude.{◌≡◌, ◌≢◌};
+ghost use Rattle.std.specs.Prelude.{◌≡◌, ◌≢◌, ◌⊎◌};
 ghost use Rattle.std.specs.IoError.{error_kind};
 ghost use Rattle.odata_serve.specs.Main.{IsFaultStatus, IsStatus};
+ghost use Rattle.odata_serve.specs.Words.{IsTaken, texts};
 
 mod check;
 mod disk;
@@ -17,7 +18,7 @@ mod words;
 
 use check::check_folder;
 use disk::Disk;
-use fault_line::{DEVICE, MEMORY, SCRIPT, fault_line};
+use fault_line::{DEVICE, MEMORY, USAGE, fault_line};
 use folders::{BuiltIn, Folders, NOTES};
 use odata_http::Counted;
 use program::{ProgramFault, answer, request_to};
@@ -35,6 +36,7 @@ const DONE: u8 = 0;
 fn error_status(error: &io::Error) -> u8
     ensures memory { error_kind error.now ≡ ErrorKind.OutOfMemory → result ≡ MEMORY }
     ensures device { error_kind error.now ≢ ErrorKind.OutOfMemory → result ≡ DEVICE }
+    ensures other { result ≢ USAGE }
 {
     match error.kind() {
         ErrorKind::OutOfMemory => MEMORY,
@@ -44,7 +46,8 @@ fn error_status(error: &io::Error) -> u8
 
 /// Writes what is said of a fault to standard error, and gives its exit status.
 fn report(rt: &(impl Eprint + AllocGlobal), fault: &ProgramFault) -> u8
-    ensures { IsFaultStatus fault.now result }
+    ensures status { IsFaultStatus fault.now result }
+    ensures other { result ≢ USAGE }
 {
     match fault_line(rt.alloc(), fault) {
         Ok((line, status)) => {
@@ -59,7 +62,8 @@ fn report(rt: &(impl Eprint + AllocGlobal), fault: &ProgramFault) -> u8
 
 /// The exit status of an end, which is told on standard error where it is a fault.
 fn end_status(rt: &(impl Eprint + AllocGlobal), end: Result<(), ProgramFault>) -> u8
-    ensures { IsStatus end result }
+    ensures status { IsStatus end result }
+    ensures other { result ≢ USAGE }
 {
     match end {
         Ok(()) => DONE,
@@ -68,7 +72,9 @@ fn end_status(rt: &(impl Eprint + AllocGlobal), end: Result<(), ProgramFault>) -
 }
 
 /// Answers standard input over the folder `notes`.
-fn answer_input(rt: &HostRuntime) -> u8 {
+fn answer_input(rt: &HostRuntime) -> u8
+    ensures { result ≢ USAGE }
+{
     let mut folders = BuiltIn::new();
     let mut input = Counted::new(rt.reader());
     let mut out = Counted::new(io::writer(rt));
@@ -77,14 +83,18 @@ fn answer_input(rt: &HostRuntime) -> u8 {
 }
 
 /// Says whether a folder is served.
-fn check_tables(rt: &HostRuntime, folder: &str) -> u8 {
+fn check_tables(rt: &HostRuntime, folder: &str) -> u8
+    ensures { result ≢ USAGE }
+{
     let mut out = Counted::new(io::writer(rt));
     let end = check_folder(rt.alloc(), &mut Disk::new(rt), folder, &mut out);
     end_status(rt, end)
 }
 
 /// Answers one GET of a target over a folder.
-fn query(rt: &HostRuntime, folder: &str, target: &str) -> u8 {
+fn query(rt: &HostRuntime, folder: &str, target: &str) -> u8
+    ensures { result ≢ USAGE }
+{
     let Ok(request) = request_to(rt.alloc(), target) else {
         return MEMORY;
     };
@@ -95,7 +105,9 @@ fn query(rt: &HostRuntime, folder: &str, target: &str) -> u8 {
 }
 
 /// Answers the stream of a file over a folder.
-fn answer_file(rt: &HostRuntime, folder: &str, file: &str) -> u8 {
+fn answer_file(rt: &HostRuntime, folder: &str, file: &str) -> u8
+    ensures { result ≢ USAGE }
+{
     match fs::open(rt, file) {
         Ok(opened) => {
             let mut input = Counted::new(opened);
@@ -108,7 +120,9 @@ fn answer_file(rt: &HostRuntime, folder: &str, file: &str) -> u8 {
 }
 
 /// Serves a folder on a port of this machine.
-fn serve_folder(rt: &HostRuntime, folder: &str, port: u16, connections: u32) -> u8 {
+fn serve_folder(rt: &HostRuntime, folder: &str, port: u16, connections: u32) -> u8
+    ensures { result ≢ USAGE }
+{
     let catalog = match Disk::new(rt).load(rt.alloc(), folder) {
         Ok(catalog) => catalog,
         Err(fault) => return report(rt, &ProgramFault::Folder(fault)),
@@ -123,8 +137,12 @@ fn serve_folder(rt: &HostRuntime, folder: &str, port: u16, connections: u32) -> 
     }
 }
 
-/// Does what the words ask for, the first of which is the program's name.
-fn act(rt: &HostRuntime, line: &[&str]) -> u8 {
+/// Does what the words ask for, the first of which is the program's name. The status is that of usage where `clap` does not take them, and
+/// nowhere else.
+fn act(rt: &HostRuntime, line: &[&str]) -> u8
+    ensures usage { ¬ (IsTaken (texts line.now)) → (result ≡ USAGE) ⊎ (result ≡ MEMORY) }
+    ensures taken { IsTaken (texts line.now) → result ≢ USAGE }
+{
     match read_words(rt.alloc(), line) {
         Ok(Words::Nothing) => answer_input(rt),
         Ok(Words::Check { folder }) => check_tables(rt, folder),
@@ -139,7 +157,7 @@ fn act(rt: &HostRuntime, line: &[&str]) -> u8 {
         ) => serve_folder(rt, folder, port, connections),
         Err(WordsFault::Usage) => {
             let _ = rt.eprintln("bad command line");
-            SCRIPT
+            USAGE
         }
         Err(WordsFault::NoMemory) => MEMORY,
     }

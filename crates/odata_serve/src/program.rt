@@ -17,8 +17,6 @@ pub enum ProgramFault {
     Folder(FolderFault),
     /// The stream was not answered to its end.
     Run(RunFault),
-    /// A line of a script, counted from 1, cannot be read.
-    Script { line: usize },
     /// A write of the program's own failed.
     Device,
     /// Memory ran out.
