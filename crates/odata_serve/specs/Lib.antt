@@ -2,6 +2,7 @@ pub mod Folders
 pub mod Disk
 pub mod Program
 pub mod Check
+pub mod Listener
 pub mod Serve
 pub mod FaultLine
 pub mod Words

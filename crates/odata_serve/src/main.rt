@@ -12,6 +12,7 @@ mod check;
 mod disk;
 mod fault_line;
 mod folders;
+mod listener;
 mod program;
 mod serve;
 mod words;
@@ -20,6 +21,7 @@ use check::check_folder;
 use disk::Disk;
 use fault_line::{DEVICE, MEMORY, USAGE, fault_line};
 use folders::{BuiltIn, Folders, NOTES};
+use listener::CountedListener;
 use odata_http::Counted;
 use program::{ProgramFault, answer, request_to};
 use std::io::ErrorKind;
@@ -128,9 +130,10 @@ fn serve_folder(rt: &HostRuntime, folder: &str, port: u16, connections: u32) -> 
         Err(fault) => return report(rt, &ProgramFault::Folder(fault)),
     };
     match TcpListener::bind(rt, (Ipv4Addr::LOCALHOST, port)) {
-        Ok(listener) => {
+        Ok(inner) => {
+            let mut listener = CountedListener::new(inner);
             let mut out = Counted::new(io::writer(rt));
-            let end = serve::serve(rt.alloc(), &catalog, &listener, connections, &mut out);
+            let end = serve::serve(rt.alloc(), &catalog, &mut listener, connections, &mut out);
             end_status(rt, end)
         }
         Err(error) => error_status(&error),

@@ -1,43 +1,24 @@
-//! Connections over TCP, one after another in one thread. Each is a stream of requests, answered as any other stream is.
-ghost use Rattle.std.specs.Prelude.{◌≡◌, IfErr};
-ghost use Rattle.odata_serve.specs.Serve.{IsServed};
+//! Connections, one after another in one thread. Each is a stream of requests, answered as any other stream is.
+ghost use Rattle.std.specs.Prelude.{◌≡◌};
+ghost use Rattle.odata_serve.specs.Serve.{AnswersInTurn, IsServed, IsTold, serving};
 
-use crate::program::{MAX_READS, ProgramFault};
-use odata_http::{Counted, RunFault, Sink, run, send};
+use crate::listener::Listener;
+use crate::program::ProgramFault;
+use odata_http::{Sink, send};
 use std::alloc::Global;
-use std::net::{TcpListener, TcpStream};
 use table_store::Catalog;
 
-/// Answers one connection. A read or a write of it that fails, and too many reads, end it alone.
-fn serve_connection(
-    alloc: Global,
-    catalog: &Catalog,
-    stream: &TcpStream,
-) -> Result<(), ProgramFault>
-    ensures { IfErr result (λ fault. fault ≡ ProgramFault.NoMemory) }
-{
-    // a head and a body are two writes: without this the second waits for the peer
-    let _ = stream.set_nodelay(true);
-    let mut input = Counted::new(stream);
-    let mut out = Counted::new(stream);
-    match run(alloc, catalog, &mut input, &mut out, MAX_READS) {
-        Err(RunFault::NoMemory) => Err(ProgramFault::NoMemory),
-        _ => Ok(()),
-    }
-}
-
 /// Writes the line that tells the listener's port.
-fn write_port<W: Sink>(
+fn write_port<L: Listener, W: Sink>(
     alloc: Global,
-    listener: &TcpListener,
+    listener: &mut L,
     out: &mut W,
 ) -> Result<(), ProgramFault>
-    ensures { IsServed (W.sink out.old) (W.sink out.new) result }
+    ensures { IsTold (serving (L.listener listener.old) (L.listener listener.new) (W.sink out.old) (W.sink out.new)) result }
 {
-    let Ok(address) = listener.local_addr() else {
+    let Ok(port) = listener.port() else {
         return Err(ProgramFault::Device);
     };
-    let port = address.port();
     let Ok(line) = format!(in alloc; "listening 127.0.0.1:{port}\n") else {
         return Err(ProgramFault::NoMemory);
     };
@@ -47,22 +28,32 @@ fn write_port<W: Sink>(
     }
 }
 
-/// Tells the port, then answers so many connections in turn from the catalog. Want of memory ends it, as does a connection that cannot be taken.
-pub fn serve<W: Sink>(
+/// Answers so many connections in turn from the catalog.
+fn answer_connections<L: Listener>(
     alloc: Global,
     catalog: &Catalog,
-    listener: &TcpListener,
+    listener: &mut L,
+    connections: u32,
+) -> Result<(), ProgramFault>
+    ensures port { (L.listener listener.new).port ≡ (L.listener listener.old).port }
+    ensures counts { AnswersInTurn connections (L.listener listener.old) (L.listener listener.new) result }
+{
+    for _turn in 0..connections {
+        listener.answer_next(alloc, catalog)?;
+    }
+    Ok(())
+}
+
+/// Tells the port, then answers so many connections in turn from the catalog. Want of memory ends it, as does a connection that cannot be taken.
+pub fn serve<L: Listener, W: Sink>(
+    alloc: Global,
+    catalog: &Catalog,
+    listener: &mut L,
     connections: u32,
     out: &mut W,
 ) -> Result<(), ProgramFault>
-    ensures { IsServed (W.sink out.old) (W.sink out.new) result }
+    ensures { IsServed connections (serving (L.listener listener.old) (L.listener listener.new) (W.sink out.old) (W.sink out.new)) result }
 {
     write_port(alloc, listener, out)?;
-    for _turn in 0..connections {
-        match listener.accept() {
-            Ok((stream, _)) => serve_connection(alloc, catalog, &stream)?,
-            Err(_) => return Err(ProgramFault::Device),
-        }
-    }
-    Ok(())
+    answer_connections(alloc, catalog, listener, connections)
 }

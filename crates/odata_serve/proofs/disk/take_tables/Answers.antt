@@ -1,4 +1,4 @@
-use Rattle.std.proofs.Common.{◌≡◌, ◌≤◌, ◌+◌, ◌∙◌, ℕ, true, not, List, [], ◌∷◌, ◌++◌, length, map, take, sym, ap, subst}
+use Rattle.std.proofs.Common.{◌≡◌, ◌≤◌, ◌∙◌, ℕ, true, not, List, [], ◌∷◌, ◌++◌, length, map, sym, ap, subst}
 use Rattle.std.specs.Result.{is_ok}
 use Rattle.std.proofs.lemmas.List.{map-append}
 use Rattle.csvw_meta.specs.Schema.{schema_view}

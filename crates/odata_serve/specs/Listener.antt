@@ -1,0 +1,33 @@
+-- What a listener tells and counts, and how one connection was answered.
+use Rattle.std.specs.Prelude.{◌≡◌, ◌≢◌, ℕ, Option, Result, Ok, Err, ⊤}
+use Rattle.odata_http.specs.declared.runs.RunFault.{RunFault}
+use Rattle.odata_http.specs.declared.runs.RunFault.TheVariants as run
+use Rattle.odata_http.specs.Device.{Counts}
+use Rattle.odata_http.specs.Head.{HeadOf}
+use Rattle.odata_http.specs.Reply.{ReplyOf}
+use Rattle.odata_http.specs.Runs.{Course, IsRun}
+use Rattle.odata_serve.specs.declared.program.TheConstants.{MAX_READS}
+use Rattle.odata_serve.specs.declared.program.ProgramFault.{ProgramFault}
+use Rattle.odata_serve.specs.declared.program.ProgramFault.TheVariants.{Folder, Run, Device, NoMemory}
+
+-- a listener: the port that it told last, if it did; how many connections were answered to their ends, and how many calls failed
+pub record ListenerOf : Type 0 where
+  pub port : Option ℕ
+  pub answered : ℕ
+  pub failed : ℕ
+
+-- a connection that was answered is counted, and so is a call that failed
+abbrev pub CountsAnswer : ListenerOf → ListenerOf → Result ⊤ ProgramFault → Type 0
+CountsAnswer old new (Ok u) = Counts old.answered new.answered × (new.failed ≡ old.failed)
+CountsAnswer old new (Err Device) = (new.answered ≡ old.answered) × Counts old.failed new.failed
+CountsAnswer old new (Err NoMemory) = (new.answered ≡ old.answered) × (new.failed ≡ old.failed)
+CountsAnswer old new (Err (Folder fault)) = ⊥
+CountsAnswer old new (Err (Run fault)) = ⊥
+
+-- how answering the stream of a connection ended: by a run, whose fault is the connection's alone but for want of memory
+abbrev pub IsConnection : (HeadOf → ReplyOf) → Course → Result ⊤ ProgramFault → Type 0
+IsConnection reply c (Ok u) = (end : Result ⊤ RunFault) × (end ≢ Err run.NoMemory) × IsRun reply MAX_READS c end
+IsConnection reply c (Err NoMemory) = IsRun reply MAX_READS c (Err run.NoMemory)
+IsConnection reply c (Err Device) = ⊥
+IsConnection reply c (Err (Folder fault)) = ⊥
+IsConnection reply c (Err (Run fault)) = ⊥

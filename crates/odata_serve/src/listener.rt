@@ -1,0 +1,116 @@
+//! Where connections come from. Contracts see a listener as one record: the port that it told, and what it counts.
+ghost use Rattle.std.specs.Prelude.{◌≡◌, ◌<◌, ◌^◌, IfErr, IfOk, None, Some};
+ghost use Rattle.odata_http.specs.Device.{CountsFailure};
+ghost use Rattle.odata_http.specs.Reply.{reply_of};
+ghost use Rattle.odata_http.specs.Runs.{course};
+ghost use Rattle.odata_serve.specs.Listener.{CountsAnswer, IsConnection, ListenerOf};
+
+use crate::program::{MAX_READS, ProgramFault};
+use odata_http::{Counted, DeviceFault, RunFault, Sink, Source, run};
+use std::alloc::Global;
+use std::net::{TcpListener, TcpStream};
+use table_store::Catalog;
+
+/// What connections are taken from, one after another.
+pub trait Listener {
+    /// The port that was told, and the counts.
+    ghost listener: { Self → ListenerOf };
+
+    /// The port that it listens on.
+    fn port(&mut self) -> Result<u16, DeviceFault>
+        ensures port { IfOk result (λ port. (listener self.new).port ≡ Some port) }
+        ensures answered { (listener self.new).answered ≡ (listener self.old).answered }
+        ensures failed { CountsFailure (listener self.old).failed (listener self.new).failed result };
+
+    /// Takes the next connection, and answers its stream from the catalog. A read or a write of it that fails, and too many reads, end it
+    /// alone.
+    fn answer_next(&mut self, alloc: Global, catalog: &Catalog) -> Result<(), ProgramFault>
+        ensures port { (listener self.new).port ≡ (listener self.old).port }
+        ensures counts { CountsAnswer (listener self.old) (listener self.new) result };
+}
+
+/// Answers the stream of one connection.
+fn answer_stream<R: Source, W: Sink>(
+    alloc: Global,
+    catalog: &Catalog,
+    input: &mut R,
+    out: &mut W,
+) -> Result<(), ProgramFault>
+    requires reads { (R.source input.old).reads < 2 ^ 63 }
+    requires ends { (R.source input.old).ends < 2 ^ 63 }
+    requires failed_reads { (R.source input.old).failed_reads < 2 ^ 63 }
+    requires failed_writes { (W.sink out.old).failed_writes < 2 ^ 63 }
+    ensures { IsConnection (reply_of catalog.now.tables)
+        (course (R.source input.old) (R.source input.new) (W.sink out.old) (W.sink out.new)) result }
+{
+    match run(alloc, catalog, input, out, MAX_READS) {
+        Err(RunFault::NoMemory) => Err(ProgramFault::NoMemory),
+        _ => Ok(()),
+    }
+}
+
+/// Answers one connection over TCP.
+fn answer_connection(
+    alloc: Global,
+    catalog: &Catalog,
+    stream: &TcpStream,
+) -> Result<(), ProgramFault>
+    ensures { IfErr result (λ fault. fault ≡ ProgramFault.NoMemory) }
+{
+    // a head and a body are two writes: without this the second waits for the peer
+    let _ = stream.set_nodelay(true);
+    let mut input = Counted::new(stream);
+    let mut out = Counted::new(stream);
+    answer_stream(alloc, catalog, &mut input, &mut out)
+}
+
+/// A listener of the system's. The counts stop at `u64::MAX`.
+#[derive(Drop)]
+pub struct CountedListener {
+    inner: TcpListener,
+    port: Option<u16>,
+    answered: u64,
+    failed: u64,
+}
+
+impl CountedListener {
+    /// The listener, with nothing told and nothing counted yet.
+    pub fn new(inner: TcpListener) -> CountedListener
+        ensures { ⟦<CountedListener as Listener>⟧.listener result ≡ record { port = None; answered = 0; failed = 0 } }
+    {
+        CountedListener {
+            inner,
+            port: None,
+            answered: 0,
+            failed: 0,
+        }
+    }
+}
+
+impl Listener for CountedListener {
+    ghost listener = { λ s. record { port = s.port; answered = s.answered; failed = s.failed } };
+
+    fn port(&mut self) -> Result<u16, DeviceFault> {
+        match self.inner.local_addr() {
+            Ok(address) => {
+                let port = address.port();
+                self.port = Some(port);
+                Ok(port)
+            }
+            Err(_) => {
+                self.failed = self.failed.saturating_add(1);
+                Err(DeviceFault)
+            }
+        }
+    }
+
+    fn answer_next(&mut self, alloc: Global, catalog: &Catalog) -> Result<(), ProgramFault> {
+        let Ok((stream, _)) = self.inner.accept() else {
+            self.failed = self.failed.saturating_add(1);
+            return Err(ProgramFault::Device);
+        };
+        answer_connection(alloc, catalog, &stream)?;
+        self.answered = self.answered.saturating_add(1);
+        Ok(())
+    }
+}
