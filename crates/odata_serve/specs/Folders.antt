@@ -10,9 +10,11 @@ use Rattle.odata_serve.specs.declared.folders.TheConstants.{NOTES, NOTES_METADAT
 use Rattle.odata_serve.specs.declared.folders.FolderFault.{FolderFault}
 use Rattle.odata_serve.specs.declared.folders.FolderFault.TheVariants.{NoMetadata, Load, Device, NoMemory}
 
--- what the last load under a name took, where that is told; how many loads answered `NoMetadata`, and how many `Device`
+-- what the last load under a name took, where that is told; how many loads there were, how many of them answered `NoMetadata`, and how many
+-- `Device`
 pub record FoldersOf : Type 0 where
   pub took : List ℕ → Option FolderOf
+  pub loads : ℕ
   pub no_metadata : ℕ
   pub device : ℕ
 
@@ -41,7 +43,7 @@ folder_cause (Load fault) = load_cause fault
 folder_cause Device = None
 folder_cause NoMemory = None
 
--- both counts stay
+-- both counts of answers stay
 abbrev pub KeepsCounts : FoldersOf → FoldersOf → Type 0
 KeepsCounts old new = (new.no_metadata ≡ old.no_metadata) × (new.device ≡ old.device)
 

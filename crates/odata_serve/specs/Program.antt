@@ -2,6 +2,7 @@
 use Rattle.std.specs.Prelude.{◌≡◌, ℕ, List, ◌++◌, codes, IfSome, Result, Ok, Err, ⊤}
 use Rattle.table_store.specs.Catalog.{CatalogOf}
 use Rattle.odata_http.specs.declared.runs.RunFault.{RunFault}
+use Rattle.odata_http.specs.Device.{Counts}
 use Rattle.odata_http.specs.Reply.{field_line, line_end, reply_of}
 use Rattle.odata_http.specs.Runs.{Course, IsRun}
 use Rattle.odata_serve.specs.declared.program.TheConstants.{MAX_READS}
@@ -19,13 +20,15 @@ pub record Loading : Type 0 where
 abbrev pub loading : List ℕ → FoldersOf → FoldersOf → Loading
 loading name folders folders_after = record { name = name; folders = folders; folders_after = folders_after }
 
--- the folder gave no catalog, under this fault's cause, and the answer was counted
+-- the folder was loaded once and gave no catalog, under this fault's cause, and the answer was counted
 pub record IsFolderFault (l : Loading) (fault : FolderFault) : Type 0 where
+  pub load : Counts l.folders.loads l.folders_after.loads
   pub cause : IfSome (folder_cause fault) (RefusesTaken (l.folders_after.took l.name))
   pub counts : CountsFault {X = ⊤} l.folders l.folders_after (Err fault)
 
--- the folder means a catalog, and no other answer was counted
+-- the folder was loaded once and means a catalog, and no other answer was counted
 pub record IsLoaded (l : Loading) (catalog : CatalogOf) : Type 0 where
+  pub load : Counts l.folders.loads l.folders_after.loads
   pub means : MeansTaken (l.folders_after.took l.name) catalog
   pub counts : KeepsCounts l.folders l.folders_after
 

@@ -25,6 +25,7 @@ const METADATA: &str = "csv-metadata.json";
 #[derive(Drop)]
 pub struct Disk<'a, R> {
     files: &'a R,
+    loads: u64,
     no_metadata: u64,
     device: u64,
 }
@@ -32,10 +33,11 @@ pub struct Disk<'a, R> {
 impl<'a, R: Files> Disk<'a, R> {
     /// The folders of that disk, none of which was asked for yet.
     pub fn new(files: &'a R) -> Disk<'a, R>
-        ensures { ⟦<Disk<'a, R> as Folders>⟧.folders result ≡ record { took = λ _. None; no_metadata = 0; device = 0 } }
+        ensures { ⟦<Disk<'a, R> as Folders>⟧.folders result ≡ record { took = λ _. None; loads = 0; no_metadata = 0; device = 0 } }
     {
         Disk {
             files,
+            loads: 0,
             no_metadata: 0,
             device: 0,
         }
@@ -187,10 +189,11 @@ fn take_folder<R: Files>(
 }
 
 impl<'a, R: Files> Folders for Disk<'a, R> {
-    ghost folders = { λ s. record { took = λ _. None; no_metadata = s.no_metadata; device = s.device } };
+    ghost folders = { λ s. record { took = λ _. None; loads = s.loads; no_metadata = s.no_metadata; device = s.device } };
 
     /// The catalog of the folder at that path.
     fn load(&mut self, alloc: Global, name: &str) -> Result<Catalog, FolderFault> {
+        self.loads = self.loads.saturating_add(1);
         match take_folder(alloc, self.files, name) {
             Ok((meta, files)) => match Catalog::load(alloc, Limits::greatest(), meta, files) {
                 Ok(catalog) => Ok(catalog),

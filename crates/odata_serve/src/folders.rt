@@ -1,12 +1,12 @@
 //! Folders of files, and the one that is built in.
-ghost use Rattle.std.specs.Prelude.{◌≡◌, IfErr, IfOk, IfSome, string_bytes};
+ghost use Rattle.std.specs.Prelude.{◌≡◌, IfErr, IfOk, IfSome, Some, string_bytes};
 ghost use Rattle.table_store.specs.Catalog.{IsRefused, Means};
 ghost use Rattle.table_store.specs.Fault.{load_cause};
-ghost use Rattle.odata_serve.specs.Folders.{CountsFault, FoldersOf, MeansTaken, RefusesTaken, folder_cause, notes_folder};
+ghost use Rattle.odata_http.specs.Device.{Counts};
+ghost use Rattle.odata_serve.specs.Folders.{CountsFault, FoldersOf, MeansTaken, RefusesTaken, built_in, folder_cause, notes_folder};
 
 use csvw_meta::Limits;
 use std::alloc::{AllocError, Global};
-use std::marker::Model;
 use table_store::{Catalog, LoadFault, NamedFile};
 
 /// Why a folder gives no catalog.
@@ -34,13 +34,14 @@ impl From<AllocError> for FolderFault {
 
 /// Where folders are loaded from, by their names.
 pub trait Folders {
-    /// What the last load under a name took, where that is told; and the counts of two answers.
+    /// What the last load under a name took, where that is told; and the counts of loads and of two answers.
     ghost folders: { Self → FoldersOf };
 
     /// The catalog of the folder of that name: what `Catalog::load` answers of what was taken.
     fn load(&mut self, alloc: Global, name: &str) -> Result<Catalog, FolderFault>
         ensures tables { IfOk result (λ catalog. MeansTaken ((folders self.new).took name.now) catalog) }
         ensures fault { IfErr result (λ e. IfSome (folder_cause e) (RefusesTaken ((folders self.new).took name.now))) }
+        ensures load { Counts (folders self.old).loads (folders self.new).loads }
         ensures counts { CountsFault (folders self.old) (folders self.new) result };
 }
 
@@ -57,25 +58,23 @@ pub const NOTES_FILE: &str = "notes.csv";
 /// The bytes of that file.
 pub const NOTES_BYTES: &str = "Id,Text\n1,hello\n2,\"a, b\"\n";
 
-/// The folder `notes`, which the program has in itself; there is no other. It is seen as the number of its loads under other names.
+/// The folder `notes`, which the program has in itself; there is no other. It counts its loads, and those under other names.
 #[derive(Debug, Drop)]
 pub struct BuiltIn {
+    loads: u64,
     others: u64,
 }
 
-impl Model for BuiltIn {
-    ghost use Rattle.std.specs.Prelude.{ℕ};
-
-    ghost Value = { ℕ };
-
-    ghost view = { λ folder. folder.others };
-}
-
 impl BuiltIn {
+    /// The folder, which was not loaded yet.
     pub fn new() -> BuiltIn
-        ensures { result ≡ 0 }
+        ensures { ⟦<BuiltIn as Folders>⟧.folders result
+            ≡ record { took = λ name. Some (built_in name); loads = 0; no_metadata = 0; device = 0 } }
     {
-        BuiltIn { others: 0 }
+        BuiltIn {
+            loads: 0,
+            others: 0,
+        }
     }
 }
 
@@ -107,13 +106,11 @@ fn load_notes(alloc: Global) -> Result<Catalog, LoadFault>
 }
 
 impl Folders for BuiltIn {
-    ghost use Rattle.std.specs.Prelude.{Some};
-    ghost use Rattle.odata_serve.specs.Folders.{built_in};
-
-    ghost folders = { λ s. record { took = λ name. Some (built_in name); no_metadata = s; device = 0 } };
+    ghost folders = { λ s. record { took = λ name. Some (built_in name); loads = s.loads; no_metadata = s.others; device = 0 } };
 
     /// The catalog of `notes`; there is no metadata under any other name.
     fn load(&mut self, alloc: Global, name: &str) -> Result<Catalog, FolderFault> {
+        self.loads = self.loads.saturating_add(1);
         if name != NOTES {
             self.others = self.others.saturating_add(1);
             return Err(FolderFault::NoMetadata);
