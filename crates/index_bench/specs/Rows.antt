@@ -1,0 +1,10 @@
+-- What an answer says of a file.
+use Rattle.std.specs.Prelude.{ℕ, ℤ, pos, negsuc, List, length}
+use Rattle.csv_grammar.specs.Records.{Field}
+use Rattle.csv_grammar.specs.Files.{FileCause, IsTable, IsFileFault}
+
+-- so many rows, a file with a fault, or want of memory, which may come at any time
+pub data Answers (bytes : List ℕ) : ℤ → Type 0 where
+  table : (header : List Field) (rows : List (List Field)) → IsTable bytes header rows → Answers bytes (pos (length rows))
+  refused : (cause : FileCause) → IsFileFault bytes cause → Answers bytes (negsuc 0)
+  no_memory : Answers bytes (negsuc 1)
