@@ -75,6 +75,24 @@ impl Carry {
             → AreMasks result.0 text block }
         ensures within { (result.0.sep < 2 ^ len) × (result.0.eol < 2 ^ len) × (result.0.fault < 2 ^ len) }
     {
+        if len == 64 {
+            self.step_by(c, 64)
+        } else {
+            self.step_by(c, len)
+        }
+    }
+
+    /// The same. A whole block is a call of its own, so that its shifts are by constants.
+    #[inline(always)]
+    fn step_by(self, c: Classes, len: u32) -> (Masks, Carry)
+        requires some { 0 < len }
+        requires most { len ≤ 64 }
+        ensures carry { (text block : List ℕ) → self ≡ carry_of text → length block ≡ len → AreClasses c block
+            → result.1 ≡ carry_of (text ++ block) }
+        ensures masks { (text block : List ℕ) → self ≡ carry_of text → length block ≡ len → AreClasses c block → IsViable text
+            → AreMasks result.0 text block }
+        ensures within { (result.0.sep < 2 ^ len) × (result.0.eol < 2 ^ len) × (result.0.fault < 2 ^ len) }
+    {
         csv_grammar::one_structure();
         csv_grammar::what_follows();
         let quoted = prefix_xor(c.quote ^ self.odd);

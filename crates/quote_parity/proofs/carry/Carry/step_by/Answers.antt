@@ -2,7 +2,7 @@
 use Rattle.std.proofs.Common.{◌-◌, ◌∙◌, arith, bit_or}
 use Rattle.quote_parity.proofs.StepWords.{AreWords, top_bit, masks_fit}
 use Rattle.quote_parity.proofs.StepLemmas.{carry_after, masks_after}
-use Rattle.quote_parity.proofs.carry.Carry.step.Goals as goal
+use Rattle.quote_parity.proofs.carry.Carry.step_by.Goals as goal
 
 pub invariant_of-result : goal.invariant_of-result
 invariant_of-result c =
