@@ -1,12 +1,13 @@
 -- What the masks of a block count.
-use Rattle.std.proofs.Common.{◌≡◌, ℕ, zero, suc, ◌+◌, ◌-◌, ◌*◌, ◌%◌, ◌^◌, ◌<◌, ◌≤◌, List, [], ◌∷◌, ◌++◌, cond, ◌==◌, refl, sym, ap, ◌∙◌, arith, add-one, bit_and, w64}
+use Rattle.std.proofs.Common.{◌≡◌, ℕ, zero, suc, Bool, true, false, ◌||◌, Option, Some, is_some, ◌+◌, ◌-◌, ◌*◌, ◌%◌, ◌^◌, ◌<◌, ◌≤◌, List, [], ◌∷◌, ◌++◌, cond, ◌==◌, refl, sym, ap, ◌∙◌, arith, add-one, bit_and, w64}
 use Rattle.std.specs.Int.{bit_at}
 use Rattle.std.specs.Int.RustNames.{count_ones}
 use Rattle.std.specs.Int.{trailing_zeros, bit_not}
 use Rattle.std.proofs.lemmas.Nat.Bits.{bit_at-lt, bit_at-trailing_zeros, bit_at_clear_other, bit_at-zero}
 use Rattle.std.proofs.lemmas.Nat.{ones-le}
+use Rattle.std.proofs.lemmas.Bool.{eq-eqb}
 use Rattle.csv_grammar.specs.Structure.{Role, separator, record_end, inner}
-use Rattle.csv_index.specs.Widths.{record_counted, role_counted, roles_counted, mask_roles}
+use Rattle.csv_index.specs.Widths.{width_with, uneven_with, record_counted, role_counted, roles_counted, mask_roles}
 use Rattle.csv_index.specs.declared.widths.Widths.{Widths}
 use Rattle.csv_index.proofs.Bits.{ones_next, ones_none, ones_rise, ones_most, ones_before, ones_whole, cleared_below, roles_around}
 
@@ -125,3 +126,27 @@ counting_all old now sep eol ends passed c end small =
       omega (arith, c.fields),
       sym (no_ends sep eol c.next (64 - c.next) now passed (count_ones sep) (λ k h l. sym (c.left k h (omega arith)) ∙ ap (λ e. bit_at e k) end ∙ bit_at-zero k) c.before whole) ∙ c.counts,
     )
+
+kept_width : (t : Bool) (fields width : ℕ) → fields ≡ width → cond t fields width ≡ width
+kept_width true fields width e = e
+kept_width false fields width e = refl
+
+kept_uneven : (t other : Bool) (now more : Option ℕ) → other ≡ true → cond (t || other) now more ≡ now
+kept_uneven true other now more e = refl
+kept_uneven false other now more e = rw e refl
+
+same_widths : (fields fields' records width width' : ℕ) (uneven uneven' : Option ℕ) → fields ≡ fields' → width ≡ width' → uneven ≡ uneven'
+    → ◌≡◌ {A = Widths} (record { fields = fields; records = records; width = width; uneven = uneven })
+    (record { fields = fields'; records = records; width = width'; uneven = uneven' })
+same_widths fields fields' records width width' uneven uneven' e f g = rw (e, f, g) refl
+
+-- one more record of the first's width, and the separators behind it
+pub even_record : (w : Widths) (n m : ℕ) → w.fields + n + 1 ≡ w.width
+    → more_fields (record_counted (more_fields w n)) m ≡ record { fields = m; records = w.records + 1; width = w.width; uneven = w.uneven }
+even_record w n m even =
+    let width : width_with (more_fields w n) (w.fields + n + 1) ≡ w.width = kept_width (w.records == 0) (w.fields + n + 1) w.width even in
+    let uneven : uneven_with (more_fields w n) (w.fields + n + 1) ≡ w.uneven =
+    kept_uneven (is_some w.uneven) (w.fields + n + 1 == width_with (more_fields w n) (w.fields + n + 1)) w.uneven (Some (w.records - 1))
+    (eq-eqb (w.fields + n + 1) (width_with (more_fields w n) (w.fields + n + 1)) (even ∙ sym width)) in
+    same_widths (0 + m) m (w.records + 1) (width_with (more_fields w n) (w.fields + n + 1)) w.width
+    (uneven_with (more_fields w n) (w.fields + n + 1)) w.uneven (omega arith) width uneven

@@ -38,17 +38,41 @@ impl Widths {
         requires apart { (k : ℕ) → bit_at eol k ≡ 1 → bit_at sep k ≡ 0 }
         ensures { self.new ≡ roles_counted self.old (mask_roles sep eol 0 64) }
     {
+        if eol == 0 {
+            self.fields += sep.count_ones() as usize;
+            return;
+        }
+        let place = eol.trailing_zeros();
+        let before = (sep & ((1 << place) - 1)).count_ones();
+        if eol & !(1 << place) == 0 && self.fields + before as usize + 1 == self.width {
+            self.records += 1;
+            self.fields = (sep.count_ones() - before) as usize;
+            return;
+        }
+        *self = self.with_each(sep, eol);
+    }
+
+    /// The same for any block, record after record. Most blocks end one record of the first's width at most, and need no loop.
+    #[inline(always)]
+    fn with_each(self, sep: u64, eol: u64) -> Widths
+        requires fields { self.fields < 2 ^ 63 }
+        requires records { self.records < 2 ^ 63 }
+        requires apart { (k : ℕ) → bit_at eol k ≡ 1 → bit_at sep k ≡ 0 }
+        ensures { result ≡ roles_counted self (mask_roles sep eol 0 64) }
+    {
+        let mut widths = self;
         let mut ends = eol;
         let mut passed = 0;
         while ends != 0 {
             let place = ends.trailing_zeros();
             let before = (sep & ((1 << place) - 1)).count_ones();
-            self.fields += (before - passed) as usize;
-            self.end_record();
+            widths.fields += (before - passed) as usize;
+            widths.end_record();
             passed = before;
             ends &= !(1 << place);
         }
-        self.fields += (sep.count_ones() - passed) as usize;
+        widths.fields += (sep.count_ones() - passed) as usize;
+        widths
     }
 
     /// A record ends.
