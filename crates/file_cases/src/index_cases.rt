@@ -224,13 +224,15 @@ fn borrows_where_no_pair_stands(rt: HostRuntime) -> Result<(), Fail> {
 fn second_fields(alloc: Global, file: &str) -> Result<Vec<String>, Fail> {
     let index = Index::of_text(alloc, file)?;
     let mut fields = index.fields(file, 0);
-    fields.pass();
     let mut found = Vec::new(alloc);
-    while let Some(raw) = fields.next_field() {
-        found.push(raw.text(alloc)?.into_owned(alloc)?)?;
+    for _ in 0..=file.len() {
         fields.pass();
+        let Some(raw) = fields.next_field() else {
+            return Ok(found);
+        };
+        found.push(raw.text(alloc)?.into_owned(alloc)?)?;
     }
-    Ok(found)
+    Err("more fields than bytes".into())
 }
 
 #[test]
