@@ -108,7 +108,7 @@ fn is_among(places: &[usize], col: usize) -> bool
     places.contains(&col)
 }
 
-/// So many nulls.
+/// So many values, to be written over.
 fn nulls<'a>(alloc: Global, count: usize) -> Result<Vec<Value<'a>>, AllocError>
     ensures { IfOk result (λ values. length values.items ≡ count) }
 {
@@ -157,7 +157,7 @@ fn read_row<'a>(
 }
 
 /// The keys of the rows, each of whose cells has a value; or the first cell, row by row, that has none, and else why the rows have no keys.
-/// Each cell is read once.
+/// Each cell is read at most once.
 fn read_rows(alloc: Global, schema: &Schema, index: &Index, bytes: &str) -> Result<Keys, TableFault>
     requires bytes { FitsFile index.now bytes.now }
     requires width { length (schema_view schema.now).columns ≡ index.now.width }
