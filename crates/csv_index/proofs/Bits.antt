@@ -1,6 +1,6 @@
 -- The set bits of a word, as places and as roles.
 use Rattle.std.proofs.Common.{◌≡◌, ℕ, zero, suc, ◌+◌, ◌-◌, ◌*◌, ◌/◌, ◌%◌, ◌^◌, ◌<◌, ◌≤◌, List, [], ◌∷◌, ◌++◌, length, length-append, Bool, true, false, cond, ◌==◌, refl, sym, ap, ◌∙◌, arith, add-one, add_comm, bit_or, bit_and, max, w64, ◌≢◌}
-use Rattle.std.proofs.Math.Nat.{mod-eq_of_lt, mod-lt}
+use Rattle.std.proofs.Math.Nat.{mod-eq_of_lt, mod-lt, div-add-mod}
 use Rattle.std.proofs.Math.Pow.{pow-lt}
 use Rattle.std.specs.Int.{bit_at, bit_not}
 use Rattle.std.specs.Int.RustNames.{count_ones}
@@ -48,6 +48,11 @@ one_shl : (k : ℕ) → k < 64 → 1 * 2 ^ k % 2 ^ 64 ≡ 2 ^ k
 one_shl k h =
     let one : 1 * 2 ^ k ≡ 2 ^ k = omega arith in
     ap (λ n. n % 2 ^ 64) one ∙ mod-eq_of_lt (pow-lt h)
+
+pub ones_front : (w k : ℕ) → count_ones (w % 2 ^ k) ≤ count_ones w
+ones_front w k =
+    let split : w ≡ w / 2 ^ k * 2 ^ k + w % 2 ^ k = omega (arith, div-add-mod w (2 ^ k)) in
+    omega (arith, ap count_ones split ∙ ones_cat k (w / 2 ^ k) (w % 2 ^ k) (mod-lt w (pow_pos k)))
 
 -- the bits below a place, by a mask
 pub ones_before : (w k : ℕ) → k < 64 → count_ones (bit_and w (1 * 2 ^ k % 2 ^ 64 - 1)) ≡ count_ones (w % 2 ^ k)
@@ -152,6 +157,33 @@ pub length-mask_roles : (sep eol i n : ℕ) → length (mask_roles sep eol i n) 
 unfolding mask_roles
 length-mask_roles sep eol i zero = refl
 length-mask_roles sep eol i (suc n) = ap suc (length-mask_roles sep eol (i + 1) n)
+
+-- a byte that ends a record is none that parts fields
+role_by_ends : (s e : ℕ) → s < 2 → e < 2 → cond (e == 1) record_end (cond (max s e == 1) separator inner) ≡ cond (e == 1) record_end (cond (s == 1) separator inner)
+role_by_ends zero zero hs he = refl
+role_by_ends (suc zero) zero hs he = refl
+role_by_ends zero (suc zero) hs he = refl
+role_by_ends (suc zero) (suc zero) hs he = refl
+role_by_ends (suc (suc s)) b hs he = absurd (omega arith)
+role_by_ends s (suc (suc b)) hs he = absurd (omega arith)
+
+-- so all structural places may stand for the separators
+pub roles_by_ends : (sep eol i n : ℕ) → mask_roles (bit_or sep eol) eol i n ≡ mask_roles sep eol i n
+unfolding mask_roles
+roles_by_ends sep eol i zero = refl
+roles_by_ends sep eol i (suc n) =
+    ap (λ b. cond (bit_at eol i == 1) record_end (cond (b == 1) separator inner) ∷ mask_roles (bit_or sep eol) eol (i + 1) n) (bit_at_or sep eol i)
+    ∙ ap (λ r. r ∷ mask_roles (bit_or sep eol) eol (i + 1) n) (role_by_ends (bit_at sep i) (bit_at eol i) (bit_at-lt sep i) (bit_at-lt eol i))
+    ∙ ap (λ rs. mask_role sep eol i ∷ rs) (roles_by_ends sep eol (i + 1) n)
+
+set_either : (s e : ℕ) → s < 2 → e ≡ 1 → max s e ≡ 1
+set_either zero e hs set = rw set refl
+set_either (suc zero) e hs set = rw set refl
+set_either (suc (suc s)) e hs set = absurd (omega arith)
+
+-- the end of a record is a structural place
+pub ends_within : (sep eol k : ℕ) → bit_at eol k ≡ 1 → bit_at (bit_or sep eol) k ≡ 1
+ends_within sep eol k set = bit_at_or sep eol k ∙ set_either (bit_at sep k) (bit_at eol k) (bit_at-lt sep k) set
 
 -- around the end of a record
 pub roles_around : (sep eol i a p q b n : ℕ) → p ≡ i + a → q ≡ p + 1 → n ≡ a + (b + 1) → bit_at eol p ≡ 1

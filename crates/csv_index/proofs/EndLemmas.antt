@@ -3,7 +3,7 @@ use Rattle.std.proofs.Common.{◌≡◌, ℕ, ◌+◌, ◌-◌, ◌*◌, ◌%◌
 use Rattle.std.specs.Option.{MatchOption}
 use Rattle.std.specs.Int.{bit_at, bit_not, trailing_zeros}
 use Rattle.std.proofs.lemmas.Nat.Bits.{bit_at-trailing_zeros, bit_at_clear_other, bit_at-zero}
-use Rattle.csv_index.specs.Blocks.{set_places, block_ends}
+use Rattle.csv_index.specs.Blocks.{set_places}
 use Rattle.csv_index.specs.Structure.{ends_of}
 use Rattle.csv_index.specs.declared.blocks.Block.{Block}
 use Rattle.csv_index.proofs.Bits.{places_split, places_same, places_none, places_around, cleared_below}
@@ -14,10 +14,10 @@ empty (x ∷ xs) e = absurd (omega arith)
 
 -- where no bit is left, the next block's are
 pub ends_next : (base word : ℕ) (block : Block) (rest : List Block) (last : Option ℕ) → word ≡ 0
-    → set_places base word 0 64 ++ ends_of (base + 64) (block ∷ rest) last ≡ set_places (base + 64) (block_ends block) 0 64 ++ ends_of (base + 64 + 64) rest last
+    → set_places base word 0 64 ++ ends_of (base + 64) (block ∷ rest) last ≡ set_places (base + 64) block.ends 0 64 ++ ends_of (base + 64 + 64) rest last
 ends_next base word block rest last none =
     ap (λ l. l ++ ends_of (base + 64) (block ∷ rest) last) (places_none base word 0 64 (λ k h l. ap (λ w. bit_at w k) none ∙ bit_at-zero k))
-    ∙ append_assoc (set_places (base + 64) (block_ends block) 0 64) _ _
+    ∙ append_assoc (set_places (base + 64) block.ends 0 64) _ _
 
 -- where no bit is left and no block is, there is the last end alone
 pub ends_last : (base word : ℕ) (last : Option ℕ) → word ≡ 0 → set_places base word 0 64 ++ ends_of (base + 64) [] last ≡ ends_of (base + 64) [] last

@@ -6,7 +6,7 @@ use Rattle.std.specs.Int.{bit_at, bit_not}
 use Rattle.std.proofs.Math.Seq.{drop-append-add}
 use Rattle.std.proofs.lemmas.Nat.Bits.{bit_at-lt, bit_at_and, bit_at-zero, bit_at_mask_below, bit_at_mask_inside, bit_at_clear_same, bit_at_clear_other, ones_shl}
 use Rattle.csv_index.specs.Index.{Rise}
-use Rattle.csv_index.specs.Blocks.{set_places, block_ends, block_places, Stands}
+use Rattle.csv_index.specs.Blocks.{set_places, block_places, Stands}
 use Rattle.csv_index.specs.Structure.{ends_of}
 use Rattle.csv_index.specs.declared.blocks.Block.{Block}
 use Rattle.csv_index.proofs.Bits.{places_split, places_none, places_same}
@@ -21,12 +21,12 @@ rise_at start size (end ∷ ends) (suc n) x rise e = let more = rise_at (end + 1
 
 -- around the place that was found
 ends_around : (start n number bit : ℕ) (blocks : List Block) (last : Option ℕ) → (s : Stands blocks n number bit)
-    → ends_of start blocks last ≡ s.front start ++ (start + 64 * number + bit) ∷ (set_places (start + 64 * number) (block_ends s.block) (bit + 1) (63 - bit)
+    → ends_of start blocks last ≡ s.front start ++ (start + 64 * number + bit) ∷ (set_places (start + 64 * number) s.block.ends (bit + 1) (63 - bit)
     ++ ends_of (start + 64 * number + 64) (drop (number + 1) blocks) last)
 ends_around start n number bit blocks last s =
     ap (λ l. l ++ option_to_list last) (s.split start)
     ∙ append_assoc (s.front start) _ (option_to_list last)
-    ∙ ap (λ l. s.front start ++ (start + 64 * number + bit) ∷ l) (append_assoc (set_places (start + 64 * number) (block_ends s.block) (bit + 1) (63 - bit)) _ (option_to_list last))
+    ∙ ap (λ l. s.front start ++ (start + 64 * number + bit) ∷ l) (append_assoc (set_places (start + 64 * number) s.block.ends (bit + 1) (63 - bit)) _ (option_to_list last))
 
 pub found_end : (start n number bit : ℕ) (blocks : List Block) (last : Option ℕ) → Stands blocks n number bit
     → slice_get (ends_of start blocks last) n ≡ Some (start + 64 * number + bit)
@@ -83,16 +83,16 @@ places_behind base w bit within =
 
 -- the places that follow the one that was found
 pub found_behind : (start n number bit base word : ℕ) (blocks rest : List Block) (last : Option ℕ) → (s : Stands blocks n number bit) → base ≡ start + number * 64
-    → word ≡ bit_and (bit_and (block_ends s.block) ((2 ^ 64 - 1) * 2 ^ bit % 2 ^ 64)) (bit_not w64 (1 * 2 ^ bit % 2 ^ 64)) → rest ≡ drop (number + 1) blocks
+    → word ≡ bit_and (bit_and s.block.ends ((2 ^ 64 - 1) * 2 ^ bit % 2 ^ 64)) (bit_not w64 (1 * 2 ^ bit % 2 ^ 64)) → rest ≡ drop (number + 1) blocks
     → set_places base word 0 64 ++ ends_of (base + 64) rest last ≡ drop (n + 1) (ends_of start blocks last)
 found_behind start n number bit base word blocks rest last s b w r =
     let place : base ≡ start + 64 * number = omega arith in
     let size : n + 1 ≡ length (s.front start) + 1 = omega (arith, s.count start) in
-    let tail : List ℕ = set_places (start + 64 * number) (block_ends s.block) (bit + 1) (63 - bit) ++ ends_of (start + 64 * number + 64) (drop (number + 1) blocks) last in
+    let tail : List ℕ = set_places (start + 64 * number) s.block.ends (bit + 1) (63 - bit) ++ ends_of (start + 64 * number + 64) (drop (number + 1) blocks) last in
     ap (λ k. set_places k word 0 64 ++ ends_of (k + 64) rest last) place
     ∙ ap (λ v. set_places (start + 64 * number) v 0 64 ++ ends_of (start + 64 * number + 64) rest last) w
-    ∙ ap (λ l. l ++ ends_of (start + 64 * number + 64) rest last) (places_behind (start + 64 * number) (block_ends s.block) bit s.within)
-    ∙ ap (λ bs. set_places (start + 64 * number) (block_ends s.block) (bit + 1) (63 - bit) ++ ends_of (start + 64 * number + 64) bs last) r
+    ∙ ap (λ l. l ++ ends_of (start + 64 * number + 64) rest last) (places_behind (start + 64 * number) s.block.ends bit s.within)
+    ∙ ap (λ bs. set_places (start + 64 * number) s.block.ends (bit + 1) (63 - bit) ++ ends_of (start + 64 * number + 64) bs last) r
     ∙ sym (ap (λ k. drop k (ends_of start blocks last)) size
     ∙ ap (drop (length (s.front start) + 1)) (ends_around start n number bit blocks last s)
     ∙ drop-append-add (s.front start) ((start + 64 * number + bit) ∷ tail) 1)

@@ -21,23 +21,23 @@ use Rattle.csv_grammar.specs.Laws.{OneStructure, WhatFollows}
 use Rattle.lane_class.specs.Classes.{block_at, Marks, AreClasses}
 use Rattle.lane_class.specs.declared.Classes.{Classes}
 use Rattle.quote_parity.specs.Words.{IsLowest}
-use Rattle.quote_parity.specs.Carry.{MarksRole, AreMasks}
+use Rattle.quote_parity.specs.Carry.{AreMasks}
 use Rattle.quote_parity.specs.declared.carry.Masks.{Masks}
 use Rattle.csv_index.specs.Blocks.{set_places, block_places, rank, AreRanked}
-use Rattle.csv_index.specs.Widths.{CountsWidths, uncounted, record_counted, role_counted, roles_counted, mask_role, mask_roles}
+use Rattle.csv_index.specs.Widths.{CountsWidths, uncounted, roles_counted, mask_role, mask_roles}
 use Rattle.csv_index.specs.Structure.{all_fields, Cuts, ends_of, ReadsAs, HasTextFault}
 use Rattle.csv_index.specs.Fault.{text_cause}
 use Rattle.csv_index.specs.declared.fault.TextFault.{TextFault}
 use Rattle.csv_index.specs.declared.fault.TextFault.TheVariants.{Unfinished}
 use Rattle.csv_index.specs.declared.blocks.Block.{Block}
 use Rattle.csv_index.specs.declared.widths.Widths.{Widths}
-use Rattle.csv_index.proofs.Bits.{role_places, role_places-append, role_places-length, places_from_roles, places_split, places_none, places_count, roles_split, roles_one, ones_whole}
+use Rattle.csv_index.proofs.Bits.{role_places, role_places-append, role_places-length, places_from_roles, places_split, places_none, roles_by_ends, roles_split, roles_one, ones_whole}
 use Rattle.csv_index.proofs.BlockLemmas.{block_places-push, block_places-length}
 use Rattle.csv_index.proofs.EndLemmas.{empty}
 use Rattle.csv_index.proofs.CellLemmas.{slice_get-front, slice_get-behind}
-use Rattle.csv_index.proofs.WidthLemmas.{roles_counted-append, no_ends}
+use Rattle.csv_index.proofs.WidthLemmas.{roles_counted-append, places_counted, counted_most, no_ends}
 use Rattle.csv_index.proofs.Trees.{last_end, tree_pieces, tree_texts}
-use Rattle.csv_index.proofs.TreeCounts.{role_open, open_after, open_after-append, tree_open, tree_counted}
+use Rattle.csv_index.proofs.TreeCounts.{role_open, open_after, open_after-append, tree_open, counted_if, tree_counted}
 
 -- ---- a block of the text
 
@@ -73,11 +73,6 @@ not_end e = cc
 
 not_separator : Some inner ≡ Some separator → ⊥
 not_separator e = cc
-
-apart_at : (b : ℕ) → b < 2 → (b ≡ 1 → ⊥) → b ≡ 0
-apart_at zero h ne = refl
-apart_at (suc zero) h ne = absurd (ne refl)
-apart_at (suc (suc b)) h ne = absurd (omega arith)
 
 -- a set bit is within the word
 bit_within : (word n k : ℕ) → word < 2 ^ n → bit_at word k ≡ 1 → k < n
@@ -118,7 +113,6 @@ pub record BlockRoles (t b : List ℕ) (roles : List Role) (sep eol : ℕ) : Typ
   pub next : List Role
   pub are : AreRoles (t ++ b) next
   pub is : next ≡ roles ++ mask_roles sep eol 0 (length b)
-  pub apart : (k : ℕ) → bit_at eol k ≡ 1 → bit_at sep k ≡ 0
 
 pub block_roles : (laws : OneStructure) (t b : List ℕ) (roles : List Role) (masks : Masks) → AreRoles t roles → AreMasks masks t b → IsViable (t ++ b)
     → masks.sep < 2 ^ length b → BlockRoles t b roles masks.sep masks.eol
@@ -138,19 +132,12 @@ block_roles laws t b roles masks are m viable within =
       next = next;
       are = some.1;
       is = sym (take-append-drop (length t) next) ∙ ap (λ l. l ++ drop (length t) next) (sym front) ∙ ap (λ l. roles ++ l) (block ∙ ap (mask_roles masks.sep masks.eol 0) size);
-      apart = λ k set. apart_at (bit_at masks.sep k) (bit_at-lt masks.sep k) (λ both. on next size s e k set both);
     }
-  where
-    on : (next : List Role) → length (drop (length t) next) ≡ length b → MarksRole masks.sep (drop (length t) next) separator → MarksRole masks.eol (drop (length t) next) record_end
-        → (k : ℕ) → bit_at masks.eol k ≡ 1 → bit_at masks.sep k ≡ 1 → ⊥
-    on next size s e k set both =
-        let inside : k < length b = bit_within masks.sep (length b) k within both in
-        not_both (sym ((s k (omega (arith, size))).0 both) ∙ (e k (omega (arith, size))).0 set)
 
 -- ---- behind a front of the text
 
 -- so much of the text is read
-pub record HasRead (text : List ℕ) (mark n : ℕ) (carry : TextCarry) (blocks : List Block) (widths : Widths) (before : ℕ) (unended : Bool) : Type 0 where
+pub record HasRead (text : List ℕ) (mark n : ℕ) (carry : TextCarry) (blocks : List Block) (widths : Widths) (unended : Bool) : Type 0 where
   pub carried : carry ≡ carry_of (take (64 * n) text)
   pub viable : IsViable (take (64 * n) text)
   pub roles : List Role
@@ -159,10 +146,9 @@ pub record HasRead (text : List ℕ) (mark n : ℕ) (carry : TextCarry) (blocks 
   pub counted : widths ≡ roles_counted uncounted roles
   pub length_is : length blocks ≡ n
   pub ranked : AreRanked blocks
-  pub stand_before : before ≡ length (block_places 0 blocks)
   pub state : unended ≡ open_after false roles
 
-pub has_read_none : OneStructure → WhatFollows → (text : List ℕ) (mark : ℕ) → HasRead text mark 0 (carry_of []) [] uncounted 0 false
+pub has_read_none : OneStructure → WhatFollows → (text : List ℕ) (mark : ℕ) → HasRead text mark 0 (carry_of []) [] uncounted false
 has_read_none laws follows text mark =
     let some = laws.some [] follows.empty in
     let none : some.0 ≡ [] = empty some.0 (laws.count [] some.0 some.1) in record {
@@ -174,7 +160,6 @@ has_read_none laws follows text mark =
       counted = refl;
       length_is = refl;
       ranked = λ k block e. absurd (none_at [] k block refl e);
-      stand_before = refl;
       state = refl;
     }
   where
@@ -227,13 +212,13 @@ pub record StepsTo (text : List ℕ) (n len : ℕ) (masks : Masks) (behind : Tex
   pub fault : masks.fault < 2 ^ len
 
 -- what `step` ensures, at the next block
-pub steps_to : (text : List ℕ) (mark n len at : ℕ) (classes : Classes) (masks : Masks) (carry behind : TextCarry) (blocks : List Block) (widths : Widths) (before : ℕ) (was : Bool)
-    → HasRead text mark n carry blocks widths before was → 64 * n < length text → at ≡ n * 64 → len ≡ min (length text - at) 64 → AreClasses classes (block_at text at)
+pub steps_to : (text : List ℕ) (mark n len at : ℕ) (classes : Classes) (masks : Masks) (carry behind : TextCarry) (blocks : List Block) (widths : Widths) (was : Bool)
+    → HasRead text mark n carry blocks widths was → 64 * n < length text → at ≡ n * 64 → len ≡ min (length text - at) 64 → AreClasses classes (block_at text at)
     → ((t b : List ℕ) → carry ≡ carry_of t → length b ≡ len → AreClasses classes b → behind ≡ carry_of (t ++ b))
     → ((t b : List ℕ) → carry ≡ carry_of t → length b ≡ len → AreClasses classes b → IsViable t → AreMasks masks t b)
     → (masks.sep < 2 ^ len) × (masks.eol < 2 ^ len) × (masks.fault < 2 ^ len) → StepsTo text n len masks behind
 unfolding next_block
-steps_to text mark n len at classes masks carry behind blocks widths before was read more at_is len_is are carried masked within =
+steps_to text mark n len at classes masks carry behind blocks widths was read more at_is len_is are carried masked within =
     let same : at ≡ 64 * n = omega arith in
     let cut : len ≡ min (length text - 64 * n) 64 = omega arith in
     let b : AreClasses classes (take len (drop (64 * n) text)) = classes_of classes text (64 * n) len (omega arith) (omega arith) (subst (λ k. AreClasses classes (block_at text k)) same are) in record {
@@ -296,12 +281,12 @@ roles_whole sep eol len w most s e =
     let whole : len + (64 - len) ≡ 64 = omega arith in
     let v : Widths = roles_counted w (mask_roles sep eol 0 len) in
     let wide : sep < 2 ^ 64 = less_wide sep len most s in
-    let none : v.fields + (count_ones sep - count_ones sep) ≡ v.fields = omega arith in
+    let none : v.places + (count_ones sep - count_ones sep) ≡ v.places = omega arith in
     ap (roles_counted w) (roles_split sep eol 0 len len (64 - len) 64 (omega arith) (omega arith))
     ∙ roles_counted-append w (mask_roles sep eol 0 len) (mask_roles sep eol len (64 - len))
     ∙ no_ends sep eol len (64 - len) v (count_ones sep) (count_ones sep) (λ k h l. bit_at_above eol len k e h) (sym (ap count_ones (mod-eq_of_lt s)))
     (sym (ap (λ k. count_ones (sep % 2 ^ k)) whole ∙ ones_whole sep wide))
-    ∙ ap (λ k. record v { fields = k }) none
+    ∙ ap (λ k. record v { places = k }) none
 
 places_whole : (at sep eol len : ℕ) → len ≤ 64 → sep < 2 ^ len → eol < 2 ^ len → set_places at (bit_or sep eol) 0 64 ≡ role_places at (mask_roles sep eol 0 len)
 places_whole at sep eol len most s e =
@@ -324,23 +309,24 @@ block_open was sep eol last len e =
     ∙ open_after-append was (mask_roles sep eol 0 last) (mask_role sep eol last ∷ [])
     ∙ open_bit (bit_at eol last) (bit_at sep last == 1) (bit_at-lt eol last)
 
--- no more is counted than there are bytes
-counted_most : (w : Widths) (roles : List Role) → ((roles_counted w roles).fields ≤ w.fields + length roles) × ((roles_counted w roles).records ≤ w.records + length roles)
-counted_most w [] = (omega arith, omega arith)
-counted_most w (separator ∷ roles) = let m = counted_most (role_counted w separator) roles in (omega (arith, m.0), omega (arith, m.1))
-counted_most w (record_end ∷ roles) = let m = counted_most (role_counted w record_end) roles in (omega (arith, m.0), omega (arith, m.1))
-counted_most w (inner ∷ roles) = let m = counted_most w roles in (omega (arith, m.0), omega (arith, m.1))
+-- the counts behind a front of the text: so many structural places stand before the next block, and no more than there are bytes
+pub record AreCounts (text : List ℕ) (blocks : List Block) (widths : Widths) : Type 0 where
+  pub before : widths.places ≡ length (block_places 0 blocks)
+  pub places : widths.places ≤ length text
+  pub start : widths.start ≤ widths.places
+  pub records : widths.records ≤ length text
 
--- likewise behind a front of the text
-pub read_most : (laws : OneStructure) (text : List ℕ) (mark n : ℕ) (carry : TextCarry) (blocks : List Block) (widths : Widths) (before : ℕ) (was : Bool)
-    → HasRead text mark n carry blocks widths before was → (widths.fields ≤ length text) × (widths.records ≤ length text) × (before ≤ length text)
-read_most laws text mark n carry blocks widths before was read =
-    let most = counted_most uncounted read.roles in
-    let size : length read.roles ≤ length text = omega (arith, laws.count (take (64 * n) text) read.roles read.are, length-take (64 * n) text) in (
-      omega (arith, most.0, ap (λ (w : Widths). w.fields) read.counted),
-      omega (arith, most.1, ap (λ (w : Widths). w.records) read.counted),
-      omega (arith, role_places-length mark read.roles, ap length read.places, block_places-length 0 mark blocks, read.stand_before),
-    )
+pub read_counts : (laws : OneStructure) (text : List ℕ) (mark n : ℕ) (carry : TextCarry) (blocks : List Block) (widths : Widths) (was : Bool)
+    → HasRead text mark n carry blocks widths was → AreCounts text blocks widths
+read_counts laws text mark n carry blocks widths was read =
+    let most = counted_most uncounted read.roles (omega arith) in
+    let size : length read.roles ≤ length text = omega (arith, laws.count (take (64 * n) text) read.roles read.are, length-take (64 * n) text) in
+    let places : widths.places ≡ length (role_places mark read.roles) = omega (arith, ap (λ (w : Widths). w.places) read.counted, places_counted uncounted mark read.roles) in record {
+      before = omega (arith, places, ap length read.places, block_places-length 0 mark blocks);
+      places = omega (arith, places, role_places-length mark read.roles);
+      start = subst (λ (w : Widths). w.start ≤ w.places) (sym read.counted) most.0;
+      records = omega (arith, most.1, ap (λ (w : Widths). w.records) read.counted);
+    }
 
 -- the structure of the next block
 pub record NextRoles (text : List ℕ) (n len : ℕ) (roles : List Role) (sep eol : ℕ) : Type 0 where
@@ -348,7 +334,6 @@ pub record NextRoles (text : List ℕ) (n len : ℕ) (roles : List Role) (sep eo
   pub are : AreRoles (take (64 * (n + 1)) text) next
   pub viable : IsViable (take (64 * (n + 1)) text)
   pub is : next ≡ roles ++ mask_roles sep eol 0 len
-  pub apart : (k : ℕ) → bit_at eol k ≡ 1 → bit_at sep k ≡ 0
 
 pub next_roles : (laws : OneStructure) (text : List ℕ) (n len : ℕ) (masks : Masks) (behind : TextCarry) (roles : List Role) → AreRoles (take (64 * n) text) roles
     → StepsTo text n len masks behind → masks.fault ≡ 0 → NextRoles text n len roles masks.sep masks.eol
@@ -361,22 +346,20 @@ next_roles laws text n len masks behind roles are s none =
       are = subst (λ t. AreRoles t b.next) front b.are;
       viable = subst IsViable front viable;
       is = b.is ∙ ap (λ k. roles ++ mask_roles masks.sep masks.eol 0 k) size;
-      apart = b.apart;
     }
 
 -- one block more
-pub has_read_more : (laws : OneStructure) (text : List ℕ) (mark n len last : ℕ) (masks : Masks) (carry behind : TextCarry) (blocks : List Block) (widths counted : Widths) (before stand : ℕ) (was unended : Bool)
-    → HasRead text mark n carry blocks widths before was → StepsTo text n len masks behind → masks.fault ≡ 0
-    → counted ≡ roles_counted widths (mask_roles masks.sep masks.eol 0 64) → stand ≡ before + count_ones (bit_or masks.sep masks.eol) → len ≡ last + 1 → unended ≡ bit_at masks.eol last == 0
-    → HasRead text mark (n + 1) behind (blocks ++ record { sep = masks.sep; eol = masks.eol; before = before } ∷ []) counted stand unended
-has_read_more laws text mark n len last masks carry behind blocks widths counted before stand was unended read s none c b l u =
+pub has_read_more : (laws : OneStructure) (text : List ℕ) (mark n len last : ℕ) (masks : Masks) (carry behind : TextCarry) (blocks : List Block) (widths counted : Widths) (was unended : Bool)
+    → HasRead text mark n carry blocks widths was → StepsTo text n len masks behind → masks.fault ≡ 0
+    → counted ≡ roles_counted widths (mask_roles (bit_or masks.sep masks.eol) masks.eol 0 64) → len ≡ last + 1 → unended ≡ bit_at masks.eol last == 0
+    → HasRead text mark (n + 1) behind (blocks ++ record { ends = bit_or masks.sep masks.eol; before = widths.places } ∷ []) counted unended
+has_read_more laws text mark n len last masks carry behind blocks widths counted was unended read s none c l u =
     let front = next_front text n len s.more s.len_is in
     let most : len ≤ 64 = omega (arith, s.len_is) in
     let next = next_roles laws text n len masks behind read.roles read.are s none in
-    let block : Block = record { sep = masks.sep; eol = masks.eol; before = before } in
-    let size : length read.roles ≡ 64 * n = laws.count (take (64 * n) text) read.roles read.are ∙ length-front text n len s.more s.len_is in
     let ends : ℕ = bit_or masks.sep masks.eol in
-    let wide : ends < 2 ^ 64 = less_wide ends len most (or_lt len masks.sep masks.eol s.sep s.eol) in
+    let block : Block = record { ends = ends; before = widths.places } in
+    let size : length read.roles ≡ 64 * n = laws.count (take (64 * n) text) read.roles read.are ∙ length-front text n len s.more s.len_is in
     let place : mark + 64 * n ≡ mark + 64 * length blocks = omega (arith, read.length_is) in
     let start : mark + 64 * n ≡ mark + length read.roles = omega arith in record {
       carried = s.carried ∙ ap carry_of front;
@@ -389,42 +372,32 @@ has_read_more laws text mark n len last masks carry behind blocks widths counted
           ∙ sym (role_places-append mark read.roles (mask_roles masks.sep masks.eol 0 len))
           ∙ ap (role_places mark) (sym next.is);
       counted = c
+          ∙ ap (roles_counted widths) (roles_by_ends masks.sep masks.eol 0 64)
           ∙ roles_whole masks.sep masks.eol len widths most s.sep s.eol
           ∙ ap (λ w. roles_counted w (mask_roles masks.sep masks.eol 0 len)) read.counted
           ∙ sym (roles_counted-append uncounted read.roles (mask_roles masks.sep masks.eol 0 len))
           ∙ ap (roles_counted uncounted) (sym next.is);
       length_is = length-append blocks (block ∷ []) ∙ omega (arith, read.length_is);
-      ranked = ranked_push blocks block read.ranked read.stand_before;
-      stand_before = b ∙ omega (
-        arith,
-        read.stand_before,
-        ap length (block_places-push 0 (0 + 64 * length blocks) blocks block refl),
-        length-append (block_places 0 blocks) (set_places (0 + 64 * length blocks) ends 0 64),
-        places_count (0 + 64 * length blocks) ends 64,
-        ones_whole ends wide,
-      );
+      ranked = ranked_push blocks block read.ranked (read_counts laws text mark n carry blocks widths was read).before;
       state = u ∙ sym (block_open (open_after false read.roles) masks.sep masks.eol last len l) ∙ sym (open_after-append false read.roles (mask_roles masks.sep masks.eol 0 len))
           ∙ ap (open_after false) (sym next.is);
     }
 
 -- ---- at the end of the text
 
--- the end of a last record that is unended, and the counts with it
+-- the end of a last record that is unended
 abbrev pub end_if : Bool → ℕ → Option ℕ
 end_if was size = cond was (Some size) None
-
-abbrev pub counted_if : Bool → Widths → Widths
-counted_if was w = cond was (record_counted w) w
 
 last_end-is : (size : ℕ) (last : Option (List Field)) → end_if (is_some last) size ≡ last_end size last
 last_end-is size None = refl
 last_end-is size (Some fields) = refl
 
-pub reads_as : (laws : OneStructure) (file : List ℕ) (mark n : ℕ) (carry : TextCarry) (blocks : List Block) (widths : Widths) (before : ℕ) (was : Bool) → IsUtf8 file → mark ≤ length file
-    → IsCharBoundary file mark → HasRead (drop mark file) mark n carry blocks widths before was → length (drop mark file) ≤ 64 * n → mark + 64 * n + 64 < 2 ^ 64
+pub reads_as : (laws : OneStructure) (file : List ℕ) (mark n : ℕ) (carry : TextCarry) (blocks : List Block) (widths : Widths) (was : Bool) → IsUtf8 file → mark ≤ length file
+    → IsCharBoundary file mark → HasRead (drop mark file) mark n carry blocks widths was → length (drop mark file) ≤ 64 * n → mark + 64 * n + 64 < 2 ^ 64
     → (records : List (List Field)) × AreRecords (drop mark file) records
     → (records : List (List Field)) × ReadsAs file mark records blocks (end_if was (length file)) (counted_if was widths)
-reads_as laws file mark n carry blocks widths before was utf8 within boundary read all room (records, are) =
+reads_as laws file mark n carry blocks widths was utf8 within boundary read all room (records, are) =
     let tree : CsvText = are.tree in
     let text : List ℕ = drop mark file in
     let whole : take (64 * n) text ≡ text = take_all (64 * n) text all in

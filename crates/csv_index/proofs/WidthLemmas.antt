@@ -1,152 +1,149 @@
 -- What the masks of a block count.
-use Rattle.std.proofs.Common.{◌≡◌, ℕ, zero, suc, Bool, true, false, ◌||◌, Option, Some, is_some, ◌+◌, ◌-◌, ◌*◌, ◌%◌, ◌^◌, ◌<◌, ◌≤◌, List, [], ◌∷◌, ◌++◌, cond, ◌==◌, refl, sym, ap, ◌∙◌, arith, add-one, bit_and, w64}
+use Rattle.std.proofs.Common.{◌≡◌, ℕ, zero, suc, ◌+◌, ◌-◌, ◌*◌, ◌%◌, ◌^◌, ◌<◌, ◌≤◌, List, [], ◌∷◌, ◌++◌, length, cond, ◌==◌, refl, sym, ap, ◌∙◌, arith, add-one, bit_and, w64}
 use Rattle.std.specs.Int.{bit_at}
 use Rattle.std.specs.Int.RustNames.{count_ones}
 use Rattle.std.specs.Int.{trailing_zeros, bit_not}
 use Rattle.std.proofs.lemmas.Nat.Bits.{bit_at-lt, bit_at-trailing_zeros, bit_at_clear_other, bit_at-zero}
-use Rattle.std.proofs.lemmas.Nat.{ones-le}
-use Rattle.std.proofs.lemmas.Bool.{eq-eqb}
 use Rattle.csv_grammar.specs.Structure.{Role, separator, record_end, inner}
-use Rattle.csv_index.specs.Widths.{width_with, uneven_with, record_counted, role_counted, roles_counted, mask_roles}
+use Rattle.csv_index.specs.Widths.{record_ended, role_counted, roles_counted, mask_roles}
 use Rattle.csv_index.specs.declared.widths.Widths.{Widths}
-use Rattle.csv_index.proofs.Bits.{ones_next, ones_none, ones_rise, ones_most, ones_before, ones_whole, cleared_below, roles_around}
+use Rattle.csv_index.proofs.Bits.{role_places, ones_next, ones_none, ones_rise, ones_most, ones_before, ones_whole, cleared_below, roles_around}
 
--- so many separators more
-abbrev pub more_fields : Widths → ℕ → Widths
-more_fields w n = record w { fields = w.fields + n }
+-- so many structural places more, none of which ends a record
+abbrev pub more_places : Widths → ℕ → Widths
+more_places w n = record w { places = w.places + n }
 
 pub roles_counted-append : (w : Widths) (xs ys : List Role) → roles_counted w (xs ++ ys) ≡ roles_counted (roles_counted w xs) ys
 roles_counted-append w [] ys = refl
 roles_counted-append w (x ∷ xs) ys = roles_counted-append (role_counted w x) xs ys
 
+-- all structural places are counted
+pub places_counted : (w : Widths) (at : ℕ) (roles : List Role) → (roles_counted w roles).places ≡ w.places + length (role_places at roles)
+places_counted w at [] = omega arith
+places_counted w at (separator ∷ roles) = omega (arith, places_counted (role_counted w separator) (at + 1) roles)
+places_counted w at (record_end ∷ roles) = omega (arith, places_counted (role_counted w record_end) (at + 1) roles)
+places_counted w at (inner ∷ roles) = places_counted w (at + 1) roles
+
+-- a record begins behind some of them, and there are no more records than bytes
+pub counted_most : (w : Widths) (roles : List Role) → w.start ≤ w.places
+    → ((roles_counted w roles).start ≤ (roles_counted w roles).places) × ((roles_counted w roles).records ≤ w.records + length roles)
+counted_most w [] h = (h, omega arith)
+counted_most w (separator ∷ roles) h = let m = counted_most (role_counted w separator) roles (omega arith) in (m.0, omega (arith, m.1))
+counted_most w (record_end ∷ roles) h = let m = counted_most (role_counted w record_end) roles (omega arith) in (m.0, omega (arith, m.1))
+counted_most w (inner ∷ roles) h = let m = counted_most w roles h in (m.0, omega (arith, m.1))
+
 -- a byte that ends no record
-one_role : (w : Widths) (s e : ℕ) → s < 2 → e ≡ 0 → role_counted w (cond (e == 1) record_end (cond (s == 1) separator inner)) ≡ more_fields w s
-one_role w zero e h none = let same : w.fields + 0 ≡ w.fields = omega arith in rw (none, same) refl
+one_role : (w : Widths) (s e : ℕ) → s < 2 → e ≡ 0 → role_counted w (cond (e == 1) record_end (cond (s == 1) separator inner)) ≡ more_places w s
+one_role w zero e h none = let same : w.places + 0 ≡ w.places = omega arith in rw (none, same) refl
 one_role w (suc zero) e h none = rw none refl
 one_role w (suc (suc s)) e h none = absurd (omega arith)
 
 -- bytes that end no record
-pub no_ends : (sep eol i n : ℕ) (w : Widths) (from to : ℕ) → ((k : ℕ) → i ≤ k → k < i + n → bit_at eol k ≡ 0)
-    → from ≡ count_ones (sep % 2 ^ i) → to ≡ count_ones (sep % 2 ^ (i + n)) → roles_counted w (mask_roles sep eol i n) ≡ more_fields w (to - from)
+pub no_ends : (ends eol i n : ℕ) (w : Widths) (from to : ℕ) → ((k : ℕ) → i ≤ k → k < i + n → bit_at eol k ≡ 0)
+    → from ≡ count_ones (ends % 2 ^ i) → to ≡ count_ones (ends % 2 ^ (i + n)) → roles_counted w (mask_roles ends eol i n) ≡ more_places w (to - from)
 unfolding mask_roles
-no_ends sep eol i zero w from to none f t =
+no_ends ends eol i zero w from to none f t =
     let same : i + 0 ≡ i = omega arith in
-    let e : w.fields + (to - from) ≡ w.fields = omega (arith, ap (λ k. count_ones (sep % 2 ^ k)) same) in
+    let e : w.places + (to - from) ≡ w.places = omega (arith, ap (λ k. count_ones (ends % 2 ^ k)) same) in
     rw e refl
-no_ends sep eol i (suc n) w from to none f t =
-    let one = ap (λ k. count_ones (sep % 2 ^ k)) (add-one i) ∙ ones_next sep i in
+no_ends ends eol i (suc n) w from to none f t =
+    let one = ap (λ k. count_ones (ends % 2 ^ k)) (add-one i) ∙ ones_next ends i in
     let next : i + suc n ≡ i + 1 + n = omega arith in
-    let last : to ≡ count_ones (sep % 2 ^ (i + 1 + n)) = t ∙ ap (λ k. count_ones (sep % 2 ^ k)) next in
-    let rise : count_ones (sep % 2 ^ (i + 1)) ≤ count_ones (sep % 2 ^ (i + 1 + n)) = ones_rise sep (i + 1) n in
-    let sum : w.fields + bit_at sep i + (to - count_ones (sep % 2 ^ (i + 1))) ≡ w.fields + (to - from) = omega (arith, one, rise, last, f) in
-    ap (λ v. roles_counted v (mask_roles sep eol (i + 1) n)) (one_role w (bit_at sep i) (bit_at eol i) (bit_at-lt sep i) (none i (omega arith) (omega arith)))
-    ∙ no_ends sep eol (i + 1) n (more_fields w (bit_at sep i)) (count_ones (sep % 2 ^ (i + 1))) to (λ k h l. none k (omega arith) (omega arith)) refl last
-    ∙ ap (λ fields. record w { fields = fields }) sum
+    let last : to ≡ count_ones (ends % 2 ^ (i + 1 + n)) = t ∙ ap (λ k. count_ones (ends % 2 ^ k)) next in
+    let rise : count_ones (ends % 2 ^ (i + 1)) ≤ count_ones (ends % 2 ^ (i + 1 + n)) = ones_rise ends (i + 1) n in
+    let sum : w.places + bit_at ends i + (to - count_ones (ends % 2 ^ (i + 1))) ≡ w.places + (to - from) = omega (arith, one, rise, last, f) in
+    ap (λ v. roles_counted v (mask_roles ends eol (i + 1) n)) (one_role w (bit_at ends i) (bit_at eol i) (bit_at-lt ends i) (none i (omega arith) (omega arith)))
+    ∙ no_ends ends eol (i + 1) n (more_places w (bit_at ends i)) (count_ones (ends % 2 ^ (i + 1))) to (λ k h l. none k (omega arith) (omega arith)) refl last
+    ∙ ap (λ places. record w { places = places }) sum
 
 -- up to the end of a record
-pub to_end : (sep eol i p : ℕ) (w : Widths) (passed before : ℕ) → i ≤ p → p < 64 → bit_at eol p ≡ 1 → ((k : ℕ) → i ≤ k → k < p → bit_at eol k ≡ 0)
-    → passed ≡ count_ones (sep % 2 ^ i) → before ≡ count_ones (sep % 2 ^ p)
-    → roles_counted w (mask_roles sep eol i (64 - i))
-    ≡ roles_counted (record_counted (more_fields w (before - passed))) (mask_roles sep eol (p + 1) (64 - (p + 1)))
-to_end sep eol i p w passed before from within set none f t =
+to_end : (ends eol i p : ℕ) (w : Widths) (passed before : ℕ) → i ≤ p → p < 64 → bit_at eol p ≡ 1 → ((k : ℕ) → i ≤ k → k < p → bit_at eol k ≡ 0)
+    → passed ≡ count_ones (ends % 2 ^ i) → before ≡ count_ones (ends % 2 ^ p)
+    → roles_counted (more_places w passed) (mask_roles ends eol i (64 - i))
+    ≡ roles_counted (more_places (record_ended w (w.places + before)) (before + 1)) (mask_roles ends eol (p + 1) (64 - (p + 1)))
+to_end ends eol i p w passed before from within set none f t =
     let there : i + (p - i) ≡ p = omega arith in
-    ap (roles_counted w) (roles_around sep eol i (p - i) p (p + 1) (64 - (p + 1)) (64 - i) (omega arith) refl (omega arith) set)
-    ∙ roles_counted-append w (mask_roles sep eol i (p - i)) (record_end ∷ mask_roles sep eol (p + 1) (64 - (p + 1)))
-    ∙ ap (λ v. roles_counted (record_counted v) (mask_roles sep eol (p + 1) (64 - (p + 1))))
-    (no_ends sep eol i (p - i) w passed before (λ k h l. none k h (omega arith)) f (t ∙ ap (λ k. count_ones (sep % 2 ^ k)) (sym there)))
+    let rise : count_ones (ends % 2 ^ i) ≤ count_ones (ends % 2 ^ p) = omega (arith, ones_rise ends i (p - i), ap (λ k. count_ones (ends % 2 ^ k)) there) in
+    let sum : w.places + passed + (before - passed) ≡ w.places + before = omega (arith, rise) in
+    let next : w.places + before + 1 ≡ w.places + (before + 1) = omega arith in
+    ap (roles_counted (more_places w passed)) (roles_around ends eol i (p - i) p (p + 1) (64 - (p + 1)) (64 - i) (omega arith) refl (omega arith) set)
+    ∙ roles_counted-append (more_places w passed) (mask_roles ends eol i (p - i)) (record_end ∷ mask_roles ends eol (p + 1) (64 - (p + 1)))
+    ∙ ap (λ v. roles_counted (role_counted v record_end) (mask_roles ends eol (p + 1) (64 - (p + 1))))
+    (no_ends ends eol i (p - i) (more_places w passed) passed before (λ k h l. none k h (omega arith)) f (t ∙ ap (λ k. count_ones (ends % 2 ^ k)) (sym there)))
+    ∙ ap (λ k. roles_counted (role_counted (record w { places = k }) record_end) (mask_roles ends eol (p + 1) (64 - (p + 1)))) sum
+    ∙ ap (λ k. roles_counted (record (record_ended w (w.places + before)) { places = k }) (mask_roles ends eol (p + 1) (64 - (p + 1)))) next
 
--- the bytes before `next` are counted
-pub record IsCounting (old now : Widths) (sep eol ends passed : ℕ) : Type 0 where
+-- the bytes before `next` are counted but for their structural places
+pub record IsCounting (old now : Widths) (ends eol left : ℕ) : Type 0 where
   pub next : ℕ
   pub most : next ≤ 64
-  pub left : (k : ℕ) → next ≤ k → k < 64 → bit_at ends k ≡ bit_at eol k
-  pub none : (k : ℕ) → k < next → bit_at ends k ≡ 0
-  pub before : passed ≡ count_ones (sep % 2 ^ next)
-  pub counts : roles_counted now (mask_roles sep eol next (64 - next)) ≡ roles_counted old (mask_roles sep eol 0 64)
-  pub fields : now.fields ≤ old.fields
+  pub others : (k : ℕ) → next ≤ k → k < 64 → bit_at left k ≡ bit_at eol k
+  pub none : (k : ℕ) → k < next → bit_at left k ≡ 0
+  pub counts : roles_counted (more_places now (count_ones (ends % 2 ^ next))) (mask_roles ends eol next (64 - next)) ≡ roles_counted old (mask_roles ends eol 0 64)
+  pub places : now.places ≡ old.places
+  pub start : now.start ≤ now.places + count_ones (ends % 2 ^ next)
   pub records : now.records ≤ old.records + next
 
-pub counting_none : (old : Widths) (sep eol : ℕ) → IsCounting old old sep eol eol 0
-counting_none old sep eol = record {
-  next = 0;
-  most = omega arith;
-  left = λ k h l. refl;
-  none = λ k h. absurd (omega arith);
-  before = sym (ones_none sep);
-  counts = refl;
-  fields = omega arith;
-  records = omega arith;
-}
+pub counting_none : (old : Widths) (ends eol : ℕ) → old.start ≤ old.places → IsCounting old old ends eol eol
+counting_none old ends eol h =
+    let none : old.places + count_ones (ends % 2 ^ 0) ≡ old.places = omega (arith, ones_none ends) in record {
+      next = 0;
+      most = omega arith;
+      others = λ k h l. refl;
+      none = λ k h. absurd (omega arith);
+      counts = ap (λ k. roles_counted (record old { places = k }) (mask_roles ends eol 0 64)) none;
+      places = refl;
+      start = omega arith;
+      records = omega arith;
+    }
 
 not_below : (place next b : ℕ) → b ≡ 1 → (place < next → b ≡ 0) → next ≤ place
 not_below place next b set none = grind arith
 
 -- up to the lowest bit that is left
-pub counting_more : (old now : Widths) (sep eol ends passed before place : ℕ) → IsCounting old now sep eol ends passed → 0 < ends → ends < 2 ^ 64
-    → place ≡ trailing_zeros w64 ends → before ≡ count_ones (bit_and sep (1 * 2 ^ place % 2 ^ 64 - 1))
-    → ((k : ℕ) → bit_at eol k ≡ 1 → bit_at sep k ≡ 0)
-    → (passed ≤ before) × (now.fields + (before - passed) ≤ old.fields + 64) × (now.records ≤ old.records + 63)
-    × IsCounting old (record_counted (more_fields now (before - passed))) sep eol (bit_and ends (bit_not w64 (1 * 2 ^ place % 2 ^ 64))) before
-counting_more old now sep eol ends passed before place c some small is f apart =
-    let low = bit_at-trailing_zeros w64 ends some small in
+pub counting_more : (old now : Widths) (ends eol left before place : ℕ) → IsCounting old now ends eol left → 0 < left → left < 2 ^ 64
+    → place ≡ trailing_zeros w64 left → before ≡ count_ones (bit_and ends (1 * 2 ^ place % 2 ^ 64 - 1))
+    → ((k : ℕ) → bit_at eol k ≡ 1 → bit_at ends k ≡ 1)
+    → (before ≤ 64) × (now.start ≤ now.places + before) × (now.records ≤ old.records + 63)
+    × IsCounting old (record_ended now (now.places + before)) ends eol (bit_and left (bit_not w64 (1 * 2 ^ place % 2 ^ 64)))
+counting_more old now ends eol left before place c some small is f within_ends =
+    let low = bit_at-trailing_zeros w64 left some small in
     let within : place < 64 = omega (arith, low.0) in
-    let set : bit_at ends place ≡ 1 = ap (bit_at ends) is ∙ low.1 in
-    let from : c.next ≤ place = not_below place c.next (bit_at ends place) set (c.none place) in
-    let ended : bit_at eol place ≡ 1 = sym (c.left place from within) ∙ set in
-    let below : (k : ℕ) → k < place → bit_at ends k ≡ 0 = λ k h. low.2 k (omega arith) in
-    let count : before ≡ count_ones (sep % 2 ^ place) = f ∙ ones_before sep place within in
+    let set : bit_at left place ≡ 1 = ap (bit_at left) is ∙ low.1 in
+    let from : c.next ≤ place = not_below place c.next (bit_at left place) set (c.none place) in
+    let ended : bit_at eol place ≡ 1 = sym (c.others place from within) ∙ set in
+    let below : (k : ℕ) → k < place → bit_at left k ≡ 0 = λ k h. low.2 k (omega arith) in
+    let count : before ≡ count_ones (ends % 2 ^ place) = f ∙ ones_before ends place within in
     let there : c.next + (place - c.next) ≡ place = omega arith in
-    let rise : passed ≤ before = omega (arith, c.before, count, ones_rise sep c.next (place - c.next), ap (λ k. count_ones (sep % 2 ^ k)) there) in
-    let most : before ≤ place = omega (arith, count, ones_most sep place) in (
-      rise,
-      omega (arith, c.fields),
+    let rise : count_ones (ends % 2 ^ c.next) ≤ before = omega (arith, count, ones_rise ends c.next (place - c.next), ap (λ k. count_ones (ends % 2 ^ k)) there) in
+    let most : before ≤ place = omega (arith, count, ones_most ends place) in
+    let behind : count_ones (ends % 2 ^ (place + 1)) ≡ before + 1 = omega (arith, count, ones_next ends place, ap (λ k. count_ones (ends % 2 ^ k)) (add-one place), within_ends place ended) in (
+      omega arith,
+      omega (arith, c.start),
       omega (arith, c.records),
       record {
         next = place + 1;
         most = omega arith;
-        left = λ k h l. bit_at_clear_other w64 ends place within k l (λ e. omega arith) ∙ c.left k (omega arith) l;
-        none = λ k h. cleared_below ends place k within below (omega arith);
-        before = omega (arith, count, ones_next sep place, ap (λ k. count_ones (sep % 2 ^ k)) (add-one place), apart place ended);
-        counts = sym (to_end sep eol c.next place now passed before from within ended
-            (λ k h l. sym (c.left k h (omega arith)) ∙ below k l) c.before count) ∙ c.counts;
-        fields = omega arith;
+        others = λ k h l. bit_at_clear_other w64 left place within k l (λ e. omega arith) ∙ c.others k (omega arith) l;
+        none = λ k h. cleared_below left place k within below (omega arith);
+        counts = ap (λ n. roles_counted (more_places (record_ended now (now.places + before)) n) (mask_roles ends eol (place + 1) (64 - (place + 1)))) behind
+            ∙ sym (to_end ends eol c.next place now (count_ones (ends % 2 ^ c.next)) before from within ended
+            (λ k h l. sym (c.others k h (omega arith)) ∙ below k l) refl count) ∙ c.counts;
+        places = c.places;
+        start = omega (arith, behind);
         records = omega (arith, c.records);
       },
     )
 
 -- no bit is left
-pub counting_all : (old now : Widths) (sep eol ends passed : ℕ) → IsCounting old now sep eol ends passed → ends ≡ 0 → sep < 2 ^ 64
-    → (passed ≤ count_ones sep) × (now.fields + (count_ones sep - passed) ≤ old.fields + 64) × (more_fields now (count_ones sep - passed) ≡ roles_counted old (mask_roles sep eol 0 64))
-counting_all old now sep eol ends passed c end small =
+pub counting_all : (old now : Widths) (ends eol left : ℕ) → IsCounting old now ends eol left → left ≡ 0 → ends < 2 ^ 64
+    → more_places now (count_ones ends) ≡ roles_counted old (mask_roles ends eol 0 64)
+counting_all old now ends eol left c end small =
     let there : c.next + (64 - c.next) ≡ 64 = omega (arith, c.most) in
-    let whole : count_ones sep ≡ count_ones (sep % 2 ^ (c.next + (64 - c.next))) = sym (ones_whole sep small) ∙ ap (λ k. count_ones (sep % 2 ^ k)) (sym there) in
-    let rise : passed ≤ count_ones sep = omega (arith, c.before, whole, ones_rise sep c.next (64 - c.next)) in
-    let most : count_ones sep ≤ 64 = ones-le 64 sep small in (
-      rise,
-      omega (arith, c.fields),
-      sym (no_ends sep eol c.next (64 - c.next) now passed (count_ones sep) (λ k h l. sym (c.left k h (omega arith)) ∙ ap (λ e. bit_at e k) end ∙ bit_at-zero k) c.before whole) ∙ c.counts,
-    )
-
-kept_width : (t : Bool) (fields width : ℕ) → fields ≡ width → cond t fields width ≡ width
-kept_width true fields width e = e
-kept_width false fields width e = refl
-
-kept_uneven : (t other : Bool) (now more : Option ℕ) → other ≡ true → cond (t || other) now more ≡ now
-kept_uneven true other now more e = refl
-kept_uneven false other now more e = rw e refl
-
-same_widths : (fields fields' records width width' : ℕ) (uneven uneven' : Option ℕ) → fields ≡ fields' → width ≡ width' → uneven ≡ uneven'
-    → ◌≡◌ {A = Widths} (record { fields = fields; records = records; width = width; uneven = uneven })
-    (record { fields = fields'; records = records; width = width'; uneven = uneven' })
-same_widths fields fields' records width width' uneven uneven' e f g = rw (e, f, g) refl
-
--- one more record of the first's width, and the separators behind it
-pub even_record : (w : Widths) (n m : ℕ) → w.fields + n + 1 ≡ w.width
-    → more_fields (record_counted (more_fields w n)) m ≡ record { fields = m; records = w.records + 1; width = w.width; uneven = w.uneven }
-even_record w n m even =
-    let width : width_with (more_fields w n) (w.fields + n + 1) ≡ w.width = kept_width (w.records == 0) (w.fields + n + 1) w.width even in
-    let uneven : uneven_with (more_fields w n) (w.fields + n + 1) ≡ w.uneven =
-    kept_uneven (is_some w.uneven) (w.fields + n + 1 == width_with (more_fields w n) (w.fields + n + 1)) w.uneven (Some (w.records - 1))
-    (eq-eqb (w.fields + n + 1) (width_with (more_fields w n) (w.fields + n + 1)) (even ∙ sym width)) in
-    same_widths (0 + m) m (w.records + 1) (width_with (more_fields w n) (w.fields + n + 1)) w.width
-    (uneven_with (more_fields w n) (w.fields + n + 1)) w.uneven (omega arith) width uneven
+    let whole : count_ones ends ≡ count_ones (ends % 2 ^ (c.next + (64 - c.next))) = sym (ones_whole ends small) ∙ ap (λ k. count_ones (ends % 2 ^ k)) (sym there) in
+    let rise : count_ones (ends % 2 ^ c.next) ≤ count_ones ends = omega (arith, whole, ones_rise ends c.next (64 - c.next)) in
+    let sum : now.places + count_ones ends ≡ now.places + count_ones (ends % 2 ^ c.next) + (count_ones ends - count_ones (ends % 2 ^ c.next)) = omega (arith, rise) in
+    ap (λ places. record now { places = places }) sum
+    ∙ sym (no_ends ends eol c.next (64 - c.next) (more_places now (count_ones (ends % 2 ^ c.next))) (count_ones (ends % 2 ^ c.next)) (count_ones ends)
+    (λ k h l. sym (c.others k h (omega arith)) ∙ ap (λ e. bit_at e k) end ∙ bit_at-zero k) refl whole)
+    ∙ c.counts

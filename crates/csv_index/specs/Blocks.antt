@@ -1,6 +1,6 @@
 -- The structural places of a text, the commas that part fields and the LFs that end records (RFC 4180, section 2, rules 1, 2
 -- and 4), as the set bits of masks: a block has 64 bytes, and bit i speaks of byte i.
-use Rattle.std.specs.Prelude.{◌≡◌, ℕ, zero, suc, ◌+◌, ◌-◌, ◌*◌, ◌<◌, ◌≤◌, List, [], ◌∷◌, ◌++◌, length, take, drop, if◌then◌else◌, ◌==◌, bit_or, slice_get, Some}
+use Rattle.std.specs.Prelude.{◌≡◌, ℕ, zero, suc, ◌+◌, ◌-◌, ◌*◌, ◌<◌, ◌≤◌, List, [], ◌∷◌, ◌++◌, length, take, drop, if◌then◌else◌, ◌==◌, slice_get, Some}
 use Rattle.std.specs.Int.{bit_at}
 use Rattle.csv_index.specs.declared.blocks.Block.{Block}
 
@@ -10,14 +10,10 @@ set_places at word i zero = []
 set_places at word i (suc n) =
     if bit_at word i == 1 then (at + i) ∷ set_places at word (i + 1) n else set_places at word (i + 1) n
 
--- the structural places of a block
-abbrev pub block_ends : Block → ℕ
-block_ends block = bit_or block.sep block.eol
-
 -- the structural places of blocks, the first of which begins at that place
 abbrev pub block_places : ℕ → List Block → List ℕ
 block_places at [] = []
-block_places at (block ∷ blocks) = set_places at (block_ends block) 0 64 ++ block_places (at + 64) blocks
+block_places at (block ∷ blocks) = set_places at block.ends 0 64 ++ block_places (at + 64) blocks
 
 -- how many structural places stand before a block
 abbrev pub rank : List Block → ℕ → ℕ
@@ -35,7 +31,7 @@ pub record Stands (blocks : List Block) (n number bit : ℕ) : Type 0 where
   pub front : ℕ → List ℕ
   pub count : (at : ℕ) → length (front at) ≡ n
   pub split : (at : ℕ) → block_places at blocks
-      ≡ front at ++ (at + 64 * number + bit) ∷ (set_places (at + 64 * number) (block_ends block) (bit + 1) (63 - bit)
+      ≡ front at ++ (at + 64 * number + bit) ∷ (set_places (at + 64 * number) block.ends (bit + 1) (63 - bit)
       ++ block_places (at + 64 * number + 64) (drop (number + 1) blocks))
 
 -- the block of that number is the last before which there are no more than n

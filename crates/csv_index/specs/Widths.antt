@@ -9,7 +9,7 @@ use Rattle.csv_index.specs.declared.widths.Widths.{Widths}
 
 -- before the first byte
 abbrev pub uncounted : Widths
-uncounted = record { fields = 0; records = 0; width = 0; uneven = None }
+uncounted = record { places = 0; start = 0; records = 0; width = 0; uneven = None }
 
 -- the first record's width, where one more record of so many fields ends
 abbrev pub width_with : Widths → ℕ → ℕ
@@ -19,19 +19,19 @@ width_with w fields = if w.records == 0 then fields else w.width
 abbrev pub uneven_with : Widths → ℕ → Option ℕ
 uneven_with w fields = if is_some w.uneven || fields == width_with w fields then w.uneven else Some (w.records - 1)
 
--- behind the end of a record, which has one field more than separators
-abbrev pub record_counted : Widths → Widths
-record_counted w = record {
-  fields = 0;
+-- the record under way ends at the structural place of that number, the first of which is 0: each of its fields ends at one
+abbrev pub record_ended : Widths → ℕ → Widths
+record_ended w at = record w {
+  start = at + 1;
   records = w.records + 1;
-  width = width_with w (w.fields + 1);
-  uneven = uneven_with w (w.fields + 1);
+  width = width_with w (at + 1 - w.start);
+  uneven = uneven_with w (at + 1 - w.start);
 }
 
 -- behind one more byte of that role
 abbrev pub role_counted : Widths → Role → Widths
-role_counted w separator = record w { fields = w.fields + 1 }
-role_counted w record_end = record_counted w
+role_counted w separator = record w { places = w.places + 1 }
+role_counted w record_end = record (record_ended w w.places) { places = w.places + 1 }
 role_counted w inner = w
 
 abbrev pub roles_counted : Widths → List Role → Widths

@@ -1,30 +1,18 @@
 //! The structural places of a file (RFC 4180, section 2), kept as masks: which bytes of each block of 64 part fields or end
-//! records, and how many do before the block. So the place of a given number is found by a search of the counts and one
+//! records, and how many do before the block, in 16 bytes. So the place of a given number is found by a search of the counts and one
 //! [`select`], and no list of places is kept.
-ghost use Rattle.std.specs.Prelude.{◌≡◌, ◌≤◌, ◌<◌, ◌+◌, length, Some, MatchOption, bit_or, slice_get};
+ghost use Rattle.std.specs.Prelude.{◌≡◌, ◌≤◌, ◌<◌, ◌+◌, length, Some, MatchOption, slice_get};
 ghost use Rattle.csv_index.specs.Blocks.{block_places, AreRanked, IsLastBefore, Stands};
 
 use quote_parity::select;
 
-/// A block of 64 bytes: bit i of a mask speaks of byte i.
+/// A block of 64 bytes.
 #[derive(Clone, Copy)]
 pub struct Block {
-    /// The commas that part fields.
-    pub sep: u64,
-    /// The LFs that end records.
-    pub eol: u64,
-    /// How many structural places stand before the block.
+    /// The structural places of the block: bit i speaks of byte i.
+    pub ends: u64,
+    /// How many stand before the block.
     pub before: usize,
-}
-
-impl Block {
-    /// The structural places of the block.
-    #[inline(always)]
-    pub fn ends(self) -> u64
-        ensures { result ≡ bit_or self.sep self.eol }
-    {
-        self.sep | self.eol
-    }
 }
 
 /// The structural place of number `n`, counted from 0: the number of its block, and its bit there.
@@ -37,7 +25,7 @@ pub fn find(blocks: &[Block], n: usize) -> Option<(usize, u32)>
     }
     let number = last_before(blocks, n);
     let block = blocks.get(number)?;
-    let bit = select(block.ends(), (n - block.before).min(64) as u32)?;
+    let bit = select(block.ends, (n - block.before).min(64) as u32)?;
     Some((number, bit))
 }
 

@@ -40,7 +40,7 @@ impl<'i> Ends<'i> {
             let Some((block, rest)) = self.rest.split_first() else {
                 return self.last.take();
             };
-            self.word = block.ends();
+            self.word = block.ends;
             self.rest = rest;
             self.base += 64;
         }

@@ -62,19 +62,19 @@ impl Index {
         ensures fault { IfErr result (λ e. IfSome (text_cause e) (IsFileFault bytes.now)) }
     {
         check_text(bytes)?;
-        Index::read(alloc, bytes)
+        Index::of_utf8(alloc, bytes)
     }
 
-    /// [`Index::build`] of bytes that are known to be UTF-8.
+    /// [`Index::build`] of a text.
     pub fn of_text(alloc: Global, bytes: &str) -> Result<Index, TextFault>
         ensures table { IfOk result (λ index. (header : List Field) × (rows : List (List Field)) × IsIndexOf index bytes.now header rows) }
         ensures fault { IfErr result (λ e. IfSome (text_cause e) (IsFileFault bytes.now)) }
     {
-        Index::read(alloc, bytes.as_bytes())
+        Index::of_utf8(alloc, bytes.as_bytes())
     }
 
-    /// The same, where the bytes are UTF-8.
-    fn read(alloc: Global, bytes: &[u8]) -> Result<Index, TextFault>
+    /// [`Index::build`] of bytes that are known to be UTF-8.
+    pub fn of_utf8(alloc: Global, bytes: &[u8]) -> Result<Index, TextFault>
         requires { IsUtf8 bytes.now }
         ensures table { IfOk result (λ index. (header : List Field) × (rows : List (List Field)) × IsIndexOf index bytes.now header rows) }
         ensures fault { IfErr result (λ e. IfSome (text_cause e) (IsFileFault bytes.now)) }
@@ -193,7 +193,7 @@ impl Index {
     {
         match find(&self.blocks, n) {
             Some((number, bit)) => Ends {
-                word: self.blocks[number].ends() & (u64::MAX << bit) & !(1 << bit),
+                word: self.blocks[number].ends & (u64::MAX << bit) & !(1 << bit),
                 base: self.start + number * BLOCK,
                 rest: &self.blocks[number + 1..],
                 last: self.last,

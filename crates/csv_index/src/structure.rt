@@ -40,7 +40,6 @@ impl Structure {
         let mut blocks = Vec::with_capacity(alloc, count).map_err(|_| TextFault::NoMemory)?;
         let mut carry = Carry::start();
         let mut widths = Widths::new();
-        let mut before = 0;
         let mut open = false;
         for number in 0..count {
             let at = number * BLOCK;
@@ -49,14 +48,10 @@ impl Structure {
             if masks.fault != 0 {
                 return Err(fault_at(text, at + masks.fault.trailing_zeros() as usize, mark));
             }
-            let block = Block {
-                sep: masks.sep,
-                eol: masks.eol,
-                before,
-            };
-            keep(&mut blocks, block)?;
-            before += block.ends().count_ones() as usize;
-            widths.add(masks.sep, masks.eol);
+            let ends = masks.sep | masks.eol;
+            let before = widths.places;
+            keep(&mut blocks, Block { ends, before })?;
+            widths.add(ends, masks.eol);
             open = (masks.eol >> (len - 1)) & 1 == 0;
             carry = behind;
         }
@@ -64,7 +59,8 @@ impl Structure {
             return Err(TextFault::Unfinished { at: file.len() });
         };
         if open {
-            widths.end_record();
+            let at = widths.places;
+            widths.end_record(at);
         }
         Ok(Structure {
             blocks,

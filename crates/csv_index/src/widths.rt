@@ -1,14 +1,16 @@
-//! How many fields the records of a file have, counted from the masks of its blocks: a record has one field more than commas
-//! that part them (RFC 4180, section 2, rule 4).
-ghost use Rattle.std.specs.Prelude.{◌≡◌, ℕ, ◌+◌, ◌^◌, ◌<◌};
+//! How many fields the records of a file have, counted from the masks of its blocks: a structural place stands behind each field
+//! (RFC 4180, section 2, rule 4).
+ghost use Rattle.std.specs.Prelude.{◌≡◌, ℕ, ◌+◌, ◌^◌, ◌<◌, ◌≤◌};
 ghost use Rattle.std.specs.Int.{bit_at};
-ghost use Rattle.csv_index.specs.Widths.{uncounted, width_with, uneven_with, record_counted, roles_counted, mask_roles};
+ghost use Rattle.csv_index.specs.Widths.{uncounted, width_with, uneven_with, record_ended, roles_counted, mask_roles};
 
 /// What is known of the records so far.
 #[derive(Clone, Copy)]
 pub struct Widths {
-    /// How many commas part fields of the record under way.
-    fields: usize,
+    /// How many structural places there are.
+    pub places: usize,
+    /// How many of them stand before the record under way.
+    start: usize,
     /// How many records ended.
     pub records: usize,
     /// How many fields the first of these has.
@@ -23,69 +25,47 @@ impl Widths {
         ensures { result ≡ uncounted }
     {
         Widths {
-            fields: 0,
+            places: 0,
+            start: 0,
             records: 0,
             width: 0,
             uneven: None,
         }
     }
 
-    /// Counts the bytes of one more block.
+    /// Counts the bytes of one more block: its structural places, and those of them that end records.
     #[inline(always)]
-    pub fn add(&mut self, sep: u64, eol: u64)
-        requires fields { self.old.fields < 2 ^ 63 }
+    pub fn add(&mut self, ends: u64, eol: u64)
+        requires start { self.old.start ≤ self.old.places }
+        requires places { self.old.places < 2 ^ 63 }
         requires records { self.old.records < 2 ^ 63 }
-        requires apart { (k : ℕ) → bit_at eol k ≡ 1 → bit_at sep k ≡ 0 }
-        ensures { self.new ≡ roles_counted self.old (mask_roles sep eol 0 64) }
+        requires within { (k : ℕ) → bit_at eol k ≡ 1 → bit_at ends k ≡ 1 }
+        ensures { self.new ≡ roles_counted self.old (mask_roles ends eol 0 64) }
     {
-        if eol == 0 {
-            self.fields += sep.count_ones() as usize;
-            return;
+        let mut left = eol;
+        while left != 0 {
+            let place = left.trailing_zeros();
+            let before = (ends & ((1 << place) - 1)).count_ones();
+            self.end_record(self.places + before as usize);
+            left &= !(1 << place);
         }
-        let place = eol.trailing_zeros();
-        let before = (sep & ((1 << place) - 1)).count_ones();
-        if eol & !(1 << place) == 0 && self.fields + before as usize + 1 == self.width {
-            self.records += 1;
-            self.fields = (sep.count_ones() - before) as usize;
-            return;
-        }
-        *self = self.with_each(sep, eol);
+        self.places += ends.count_ones() as usize;
     }
 
-    /// The same for any block, record after record. Most blocks end one record of the first's width at most, and need no loop.
+    /// The record under way ends at the structural place of that number, the first of which is 0.
     #[inline(always)]
-    fn with_each(self, sep: u64, eol: u64) -> Widths
-        requires fields { self.fields < 2 ^ 63 }
-        requires records { self.records < 2 ^ 63 }
-        requires apart { (k : ℕ) → bit_at eol k ≡ 1 → bit_at sep k ≡ 0 }
-        ensures { result ≡ roles_counted self (mask_roles sep eol 0 64) }
-    {
-        let mut widths = self;
-        let mut ends = eol;
-        let mut passed = 0;
-        while ends != 0 {
-            let place = ends.trailing_zeros();
-            let before = (sep & ((1 << place) - 1)).count_ones();
-            widths.fields += (before - passed) as usize;
-            widths.end_record();
-            passed = before;
-            ends &= !(1 << place);
-        }
-        widths.fields += (sep.count_ones() - passed) as usize;
-        widths
-    }
-
-    /// A record ends.
-    pub fn end_record(&mut self)
-        requires fields { self.old.fields + 1 < 2 ^ 64 }
+    pub fn end_record(&mut self, at: usize)
+        requires start { self.old.start ≤ at }
+        requires at { at + 1 < 2 ^ 64 }
         requires records { self.old.records + 1 < 2 ^ 64 }
-        ensures { self.new ≡ record_counted self.old }
+        ensures { self.new ≡ record_ended self.old at }
     {
-        let fields = self.fields + 1;
+        let fields = at + 1 - self.start;
         let width = self.width_with(fields);
         let uneven = self.uneven_with(fields);
         *self = Widths {
-            fields: 0,
+            places: self.places,
+            start: at + 1,
             records: self.records + 1,
             width,
             uneven,

@@ -222,7 +222,7 @@ fn borrows_where_no_pair_stands(rt: HostRuntime) -> Result<(), Fail> {
 
 /// Every second field of the rows, the others passed.
 fn second_fields(alloc: Global, file: &str) -> Result<Vec<String>, Fail> {
-    let index = Index::of_text(alloc, file)?;
+    let index = Index::of_utf8(alloc, file.as_bytes())?;
     let mut fields = index.fields(file, 0);
     let mut found = Vec::new(alloc);
     for _ in 0..=file.len() {

@@ -1,6 +1,6 @@
--- No file has more rows than bytes.
-use Rattle.std.proofs.Common.{◌≢◌, ℕ, ◌+◌, ◌*◌, ◌<◌, ◌≤◌, List, [], ◌∷◌, length, refl, arith}
-use Rattle.std.specs.Prelude.{IfSome}
+-- No file has more rows than bytes, and each fault but want of memory is the file's.
+use Rattle.std.proofs.Common.{◌≢◌, ℕ, ◌+◌, ◌*◌, ◌^◌, ◌<◌, ◌≤◌, List, [], ◌∷◌, length, refl, arith}
+use Rattle.std.specs.Prelude.{IfSome, IfOk, Result, Ok, Err}
 use Rattle.std.proofs.lemmas.Nat.{mul-le}
 use Rattle.csv_grammar.specs.Records.{Field}
 use Rattle.csv_grammar.specs.Files.{FileCause, not_utf8, malformed, no_header, wrong_width, IsFileFault}
@@ -28,6 +28,12 @@ rows_within places bytes header rows index =
     let start = start_within places.start places.ends (length bytes) index.fits.rise some in
     let ends = count_of_places places.start places.ends (length bytes) index.fits.rise (omega (arith, start)) in
     omega (arith, ends, most, index.fits.count)
+
+-- an index of bytes that fit a slice
+pub few_rows : (index : Result Places TextFault) (bytes : List ℕ) → length bytes < 2 ^ 63
+    → IfOk index (λ index. (header : List Field) × (rows : List (List Field)) × IsIndexOf index bytes header rows) → IfOk index (λ index. index.rows < 2 ^ 63)
+few_rows (Ok index) bytes small t = omega (arith, rows_within index bytes t.0 t.1 t.2)
+few_rows (Err e) bytes small t = tt
 
 pub fault_told : (e : TextFault) (bytes : List ℕ) → e ≢ NoMemory → IfSome (text_cause e) (IsFileFault bytes) → (cause : FileCause) × IsFileFault bytes cause
 fault_told (NotUtf8 at) bytes other fault = (not_utf8 at, fault)

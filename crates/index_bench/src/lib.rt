@@ -2,6 +2,11 @@
 //! number of rows, and says of each negative answer what it means, exactly as [`csv_index::Index::build`] does.
 #![tactic(auto)]
 
+ghost use Rattle.std.specs.Prelude.{ℕ, ◌^◌, ◌<◌, List, IfOk, IfErr, IfSome, IsUtf8};
+ghost use Rattle.csv_grammar.specs.Records.{Field};
+ghost use Rattle.csv_grammar.specs.Files.{IsFileFault};
+ghost use Rattle.csv_index.specs.Index.{IsIndexOf};
+ghost use Rattle.csv_index.specs.Fault.{text_cause};
 ghost use Rattle.index_bench.specs.Rows.{Answers};
 
 use csv_index::{Index, TextFault};
@@ -18,7 +23,25 @@ const NO_MEMORY: i64 = -2;
 pub extern "C" fn index_rows(alloc: Global, bytes: &[u8]) -> i64
     ensures { Answers bytes.now result }
 {
-    match Index::build(alloc, bytes) {
+    rows_of(Index::build(alloc, bytes))
+}
+
+/// The same for bytes that are known to be UTF-8: the index alone, with no check of them.
+#[unsafe(no_mangle)]
+pub extern "C" fn utf8_rows(alloc: Global, bytes: &[u8]) -> i64
+    requires { IsUtf8 bytes.now }
+    ensures { Answers bytes.now result }
+{
+    rows_of(Index::of_utf8(alloc, bytes))
+}
+
+/// What an index, or a fault, says of the file.
+fn rows_of(index: Result<Index, TextFault>) -> i64
+    requires { IfOk index (λ index. index.rows < 2 ^ 63) }
+    ensures { (bytes : List ℕ) → IfOk index (λ index. (header : List Field) × (rows : List (List Field)) × IsIndexOf index bytes header rows)
+        → IfErr index (λ e. IfSome (text_cause e) (IsFileFault bytes)) → Answers bytes result }
+{
+    match index {
         Ok(index) => index.rows() as i64,
         Err(fault) if fault == TextFault::NoMemory => NO_MEMORY,
         Err(_) => REFUSED,

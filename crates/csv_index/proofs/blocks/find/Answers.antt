@@ -7,11 +7,11 @@ pub returns-in_err-bit : goal.returns-in_err-bit
 returns-in_err-bit c =
     let few : length (block_places 0 c.args.blocks.now) ≤ c.args.n =
     none_found c.args.blocks.now c.args.n c.last_before-number.result c.min.result c.in_ok-block.block.now c.requires (slice_get-read _ _ _ (c.in_ok-block.ensures.lookup.3.0) (c.in_ok-block.ensures.lookup.1))
-    c.last_before-number.ensures (omega (arith, c.ends.ensures)) (omega arith) (rw c.ends.ensures at c.in_err-bit.ensures) in
+    c.last_before-number.ensures (omega arith) c.in_err-bit.ensures in
     rw c.from_residual-in_err-bit.ensures few
 
 pub returns : goal.returns
 returns c =
     let f = c.in_ok-bit.ensures in
     found c.args.blocks.now c.args.n c.last_before-number.result c.in_ok-bit.bit c.min.result c.in_ok-block.block.now c.requires (slice_get-read _ _ _ (c.in_ok-block.ensures.lookup.3.0) (c.in_ok-block.ensures.lookup.1))
-    c.last_before-number.ensures (omega arith) f.0 (rw c.ends.ensures at f.1) (rw c.ends.ensures at f.2)
+    c.last_before-number.ensures (omega arith) f.0 f.1 f.2

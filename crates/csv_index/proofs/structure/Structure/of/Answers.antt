@@ -1,13 +1,12 @@
 -- The text is read block after block.
-use Rattle.std.proofs.Common.{◌≡◌, ◌+◌, ◌-◌, ◌*◌, ◌<◌, ◌≤◌, ◌==◌, [], ◌∷◌, ◌++◌, length, length-drop, take, drop, refl, ap, ◌∙◌, subst, arith, rules, ◌^◌, true, false}
+use Rattle.std.proofs.Common.{◌≡◌, ◌+◌, ◌-◌, ◌*◌, ◌<◌, ◌≤◌, ◌==◌, [], ◌∷◌, ◌++◌, length, length-drop, take, drop, refl, ap, ◌∙◌, subst, arith, rules, ◌^◌, true, false, bit_or}
 use Rattle.std.specs.Bool.{then_some}
-use Rattle.std.specs.Int.RustNames.{count_ones}
-use Rattle.std.proofs.lemmas.Nat.{ones-le}
 use Rattle.std.proofs.lemmas.Nat.Bits.{shr_and_one}
 use Rattle.std.proofs.lemmas.List.{take_all}
 use Rattle.csv_grammar.specs.Records.{AreRecords}
 use Rattle.lane_class.specs.Classes.{block_at, AreClasses}
-use Rattle.csv_index.proofs.StructureLemmas.{StepsTo, has_read_none, has_read_more, steps_to, read_fault, read_most, next_roles, reads_as, reads_by, text_is, tells, tells_end}
+use Rattle.csv_index.proofs.Bits.{ends_within}
+use Rattle.csv_index.proofs.StructureLemmas.{StepsTo, has_read_none, has_read_more, steps_to, read_fault, AreCounts, read_counts, reads_as, reads_by, text_is, tells, tells_end}
 use Rattle.csv_index.proofs.structure.Structure.of.Goals.{At-loop-number, After-step-behind, then-open, else-open}
 use Rattle.csv_index.proofs.structure.Structure.of.Goals as goal
 
@@ -18,17 +17,13 @@ next_step c =
     let size = ap length (text_is c.args.file.now c.args.mark) in
     let more : 64 * c.loop-number.number < length text = omega (arith, c.div_ceil-count.ensures, c.loop-number-test.true) in
     steps_to text c.args.mark c.loop-number.number c.min-len.result (c.loop-number.number * 64) c.classify.result c.step-behind.result.0 c.loop-number.carry c.step-behind.result.1
-    c.loop-number.blocks.items c.loop-number.widths c.loop-number.before c.loop-number.open c.loop-number.invariant more refl (omega (arith, c.min-len.ensures))
+    c.loop-number.blocks.items c.loop-number.widths c.loop-number.open c.loop-number.invariant more refl (omega (arith, c.min-len.ensures))
     (subst (AreClasses c.classify.result) (c.load.ensures ∙ ap (λ t. block_at t (c.loop-number.number * 64)) (text_is c.args.file.now c.args.mark)) c.classify.ensures)
     c.step-behind.ensures.carry c.step-behind.ensures.masks c.step-behind.ensures.within
 
--- what is counted so far is no more than the bytes
-counts_within : (c : At-loop-number)
-    → (c.loop-number.widths.fields ≤ length c.args.file.now) × (c.loop-number.widths.records ≤ length c.args.file.now) × (c.loop-number.before ≤ length c.args.file.now)
-counts_within c =
-    let m = read_most c.one_structure.ensures (drop c.args.mark c.args.file.now) c.args.mark c.loop-number.number c.loop-number.carry c.loop-number.blocks.items c.loop-number.widths c.loop-number.before c.loop-number.open c.loop-number.invariant in
-    let size = length-drop c.args.mark c.args.file.now in
-    (omega (arith, m.0, size), omega (arith, m.1, size), omega (arith, m.2, size))
+-- what is counted so far
+counts : (c : At-loop-number) → AreCounts (drop c.args.mark c.args.file.now) c.loop-number.blocks.items c.loop-number.widths
+counts c = read_counts c.one_structure.ensures (drop c.args.mark c.args.file.now) c.args.mark c.loop-number.number c.loop-number.carry c.loop-number.blocks.items c.loop-number.widths c.loop-number.open c.loop-number.invariant
 
 pub loop-number-init : goal.loop-number-init
 loop-number-init c =
@@ -49,40 +44,39 @@ returns-then-masks-ne0-clause-fault c =
     let f = read_fault text c.loop-number.number c.min-len.result _ c.step-behind.result.0 c.step-behind.result.1 s c.if-masks-ne0.true refl in
     tells c.args.file.now _ c.args.mark _ c.fault_at.result (text_is c.args.file.now c.args.mark) f.1 c.fault_at.ensures
 
-pub overflow_add-before : goal.overflow_add-before
-overflow_add-before c =
-    let m = counts_within (goal.at.overflow_add-before c).At-loop-number in omega (arith, m.2, ones-le 64 c.ends.result (omega arith))
+pub add-requires-clause-start : goal.add-requires-clause-start
+add-requires-clause-start c = (counts (goal.at.add-requires-clause-start c).At-loop-number).start
 
-pub add-requires-clause-fields : goal.add-requires-clause-fields
-add-requires-clause-fields c =
-    let m = counts_within (goal.at.add-requires-clause-fields c).At-loop-number in omega (arith, m.0)
+pub add-requires-clause-places : goal.add-requires-clause-places
+add-requires-clause-places c =
+    let m = counts (goal.at.add-requires-clause-places c).At-loop-number in omega (arith, m.places, length-drop c.args.mark c.args.file.now)
 
 pub add-requires-clause-records : goal.add-requires-clause-records
 add-requires-clause-records c =
-    let m = counts_within (goal.at.add-requires-clause-records c).At-loop-number in omega (arith, m.1)
+    let m = counts (goal.at.add-requires-clause-records c).At-loop-number in omega (arith, m.records, length-drop c.args.mark c.args.file.now)
 
-pub add-requires-clause-apart : goal.add-requires-clause-apart
-add-requires-clause-apart c =
-    let text = drop c.args.mark c.args.file.now in
-    let s = next_step (goal.at.add-requires-clause-apart c).After-step-behind in
-    (next_roles c.one_structure.ensures text c.loop-number.number c.min-len.result c.step-behind.result.0 c.step-behind.result.1 c.loop-number.invariant.roles c.loop-number.invariant.are s c.if-masks-ne0.false).apart
+pub add-requires-clause-within : goal.add-requires-clause-within
+add-requires-clause-within c = ends_within c.step-behind.result.0.sep c.step-behind.result.0.eol
 
 pub loop-number-preserved : goal.loop-number-preserved
 loop-number-preserved c =
     let text = drop c.args.mark c.args.file.now in
     let s = next_step (goal.at.loop-number-preserved c).After-step-behind in
-    let items : c.keep.new.blocks.items ≡ c.loop-number.blocks.items ++ record { sep = c.step-behind.result.0.sep; eol = c.step-behind.result.0.eol; before = c.loop-number.before } ∷ [] = c.in_ok-keep.ensures.kept in
+    let items : c.keep.new.blocks.items ≡ c.loop-number.blocks.items ++ record { ends = bit_or c.step-behind.result.0.sep c.step-behind.result.0.eol; before = c.loop-number.widths.places } ∷ [] = c.in_ok-keep.ensures.kept in
     rw items (has_read_more c.one_structure.ensures text c.args.mark c.loop-number.number c.min-len.result (c.min-len.result - 1) c.step-behind.result.0 c.loop-number.carry c.step-behind.result.1
-    c.loop-number.blocks.items c.loop-number.widths c.add.new.self c.loop-number.before _ c.loop-number.open _ c.loop-number.invariant s c.if-masks-ne0.false c.add.ensures
-    (ap (λ e. c.loop-number.before + count_ones e) c.ends.ensures) (omega arith) (ap (λ b. b == 0) (shr_and_one c.step-behind.result.0.eol (c.min-len.result - 1))))
+    c.loop-number.blocks.items c.loop-number.widths c.add.new.self c.loop-number.open _ c.loop-number.invariant s c.if-masks-ne0.false c.add.ensures
+    (omega arith) (ap (λ b. b == 0) (shr_and_one c.step-behind.result.0.eol (c.min-len.result - 1))))
 
-pub end_record-requires-clause-fields : goal.end_record-requires-clause-fields
-end_record-requires-clause-fields c =
-    let m = counts_within (goal.at.end_record-requires-clause-fields c).At-loop-number in omega (arith, m.0)
+pub end_record-requires-clause-start : goal.end_record-requires-clause-start
+end_record-requires-clause-start c = (counts (goal.at.end_record-requires-clause-start c).At-loop-number).start
+
+pub end_record-requires-clause-at : goal.end_record-requires-clause-at
+end_record-requires-clause-at c =
+    let m = counts (goal.at.end_record-requires-clause-at c).At-loop-number in omega (arith, m.places, length-drop c.args.mark c.args.file.now)
 
 pub end_record-requires-clause-records : goal.end_record-requires-clause-records
 end_record-requires-clause-records c =
-    let m = counts_within (goal.at.end_record-requires-clause-records c).At-loop-number in omega (arith, m.1)
+    let m = counts (goal.at.end_record-requires-clause-records c).At-loop-number in omega (arith, m.records, length-drop c.args.mark c.args.file.now)
 
 pub returns-in_default-clause-fault : goal.returns-in_default-clause-fault
 returns-in_default-clause-fault c =
@@ -100,7 +94,7 @@ returns-clause-records c =
     let whole : take (64 * c.loop-number.number) (drop c.args.mark c.args.file.now) ≡ drop c.args.mark c.args.file.now = take_all (64 * c.loop-number.number) (drop c.args.mark c.args.file.now) all in
     let end = c.in-Ok.ensures (take (64 * c.loop-number.number) (drop c.args.mark c.args.file.now)) c.loop-number.invariant.carried c.loop-number.invariant.viable in
     let room : c.args.mark + 64 * c.loop-number.number + 64 < 2 ^ 64 = omega (arith, c.div_ceil-count.ensures, length-drop c.args.mark c.args.file.now) in
-    let r = reads_as c.one_structure.ensures c.args.file.now c.args.mark c.loop-number.number c.loop-number.carry c.loop-number.blocks.items c.loop-number.widths c.loop-number.before c.loop-number.open c.requires.utf8 c.requires.within c.requires.boundary
+    let r = reads_as c.one_structure.ensures c.args.file.now c.args.mark c.loop-number.number c.loop-number.carry c.loop-number.blocks.items c.loop-number.widths c.loop-number.open c.requires.utf8 c.requires.within c.requires.boundary
     c.loop-number.invariant all room (end.0, subst (λ t. AreRecords t end.0) whole end.1) in
     elim c.if-open.branch [
       | then-open w ↦ (

@@ -1,24 +1,26 @@
--- No record ends, or one of the first's width, or each is counted.
-use Rattle.std.proofs.Common.{◌≡◌, ◌-◌, ◌<◌, ◌∙◌, sym, ap, arith, refl}
-use Rattle.std.specs.Int.RustNames.{count_ones}
-use Rattle.csv_index.proofs.WidthLemmas.{counting_none, counting_more, counting_all, even_record, more_fields}
+-- Each turn counts up to the end of a record.
+use Rattle.std.proofs.Common.{◌<◌, arith, refl, w64}
+use Rattle.std.proofs.lemmas.Nat.Bits.{bit_at-trailing_zeros}
+use Rattle.csv_index.proofs.Bits.{cleared_less}
+use Rattle.csv_index.proofs.WidthLemmas.{counting_more, counting_all}
 use Rattle.csv_index.proofs.widths.Widths.add.Goals as goal
 
-pub returns-then-eol-eq0 : goal.returns-then-eol-eq0
-returns-then-eol-eq0 c =
-    let all = counting_all c.args.self.now c.args.self.now c.args.sep c.args.eol c.args.eol 0 (counting_none c.args.self.now c.args.sep c.args.eol) c.if-eol-eq0.true (omega arith) in
-    let whole : count_ones c.args.sep ≡ count_ones c.args.sep - 0 = omega arith in
-    ap (more_fields c.args.self.now) whole ∙ all.2
+pub end_record-requires-clause-start : goal.end_record-requires-clause-start
+end_record-requires-clause-start c =
+    let some : 0 < c.loop-left.left = omega arith in
+    let m = counting_more c.args.self.now c.loop-left.self c.args.ends c.args.eol c.loop-left.left _ _ c.loop-left.invariant some (omega arith) refl refl c.requires.within in m.1
 
-pub overflow_sub-self : goal.overflow_sub-self
-overflow_sub-self c =
-    let some : 0 < c.args.eol = omega arith in
-    let m = counting_more c.args.self.now c.args.self.now c.args.sep c.args.eol c.args.eol 0 _ _ (counting_none c.args.self.now c.args.sep c.args.eol) some (omega arith) refl refl c.requires.apart in
-    (counting_all c.args.self.now _ c.args.sep c.args.eol _ _ m.3 c.if-eol-place-eq0.true (omega arith)).0
+pub loop-left-smaller : goal.loop-left-smaller
+loop-left-smaller c =
+    let some : 0 < c.loop-left.left = omega arith in
+    let low = bit_at-trailing_zeros w64 c.loop-left.left some (omega arith) in
+    cleared_less c.loop-left.left _ low.0 low.1
 
-pub returns-then-self-before : goal.returns-then-self-before
-returns-then-self-before c =
-    let some : 0 < c.args.eol = omega arith in
-    let m = counting_more c.args.self.now c.args.self.now c.args.sep c.args.eol c.args.eol 0 _ _ (counting_none c.args.self.now c.args.sep c.args.eol) some (omega arith) refl refl c.requires.apart in
-    let all = counting_all c.args.self.now _ c.args.sep c.args.eol _ _ m.3 c.if-eol-place-eq0.true (omega arith) in
-    sym (even_record c.args.self.now _ _ (omega (arith, c.if-self-before.true))) ∙ all.2
+pub loop-left-preserved : goal.loop-left-preserved
+loop-left-preserved c =
+    let some : 0 < c.loop-left.left = omega arith in
+    let m = counting_more c.args.self.now c.loop-left.self c.args.ends c.args.eol c.loop-left.left _ _ c.loop-left.invariant some (omega arith) refl refl c.requires.within in
+    rw c.end_record.ensures m.3
+
+pub returns : goal.returns
+returns c = counting_all c.args.self.now c.loop-left.self c.args.ends c.args.eol c.loop-left.left c.loop-left.invariant c.loop-left-test.false (omega arith)

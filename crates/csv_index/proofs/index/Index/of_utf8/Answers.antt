@@ -3,7 +3,7 @@ use Rattle.std.specs.Str.{IsCharBoundary}
 use Rattle.std.proofs.lemmas.Result.{err_from_is_err_and}
 use Rattle.csv_index.proofs.Mark.{mark_boundary}
 use Rattle.csv_index.proofs.Tables.{index_of, text_fault, rise_wide}
-use Rattle.csv_index.proofs.index.Index.read.Goals as goal
+use Rattle.csv_index.proofs.index.Index.of_utf8.Goals as goal
 
 pub of-requires-clause-boundary : goal.of-requires-clause-boundary
 of-requires-clause-boundary c =
