@@ -1,15 +1,16 @@
 -- The values of rows of fields, one cell after another.
 use Rattle.std.proofs.Common.{set, ◌≡◌, ◌⊎◌, ◌<◌, ◌==◌, ◌||◌, Bool, true, false, get_or, inl, inr, sym, subst, ℕ, zero, suc, ◌+◌, ◌≤◌, List, [], ◌∷◌, length, take, drop, map, Option, Some, None, option_map, Result, Ok, Err, slice_get, refl, ap, ◌∙◌, arith}
-use Rattle.std.specs.List.{list_any}
-use Rattle.std.proofs.lemmas.Bool.{cases_order, eq-eqb}
+use Rattle.std.specs.List.{list_all, list_any}
+use Rattle.std.proofs.lemmas.Bool.{and_parts, cases_order, eq-eqb}
 use Rattle.std.proofs.lemmas.List.{drop_all, length-take, get_or_past, get_or-set_other, get_or-set_same}
 use Rattle.std.proofs.lemmas.Option.{get_or_from_slice_get, slice_get-map}
 use Rattle.std.specs.Result.{result_err}
 use Rattle.csv_index.specs.Raw.{RawField, raw_content}
 use Rattle.cell_types.specs.Value.{CellValue, null}
 use Rattle.cell_types.specs.declared.cell.CellFault.{CellFault}
-use Rattle.cell_types.specs.Column.{ColumnOf, column_view}
+use Rattle.cell_types.specs.Column.{ColumnOf, column_view, takes_all_texts}
 use Rattle.cell_types.specs.Cell.{value_of}
+use Rattle.cell_types.specs.Laws.{StringsHaveValues}
 use Rattle.cell_types.specs.declared.column.Column.{Column}
 use Rattle.table_store.specs.Table.{values_from, value_then, rows_from, row_then}
 use Rattle.table_store.specs.Inside.{value_or_null, values_in, HaveValues, AllHaveValues}
@@ -211,6 +212,22 @@ rows_from-none row columns (fields ∷ rows) e =
     let first = values_from-none 0 columns fields parts.0 in
     let later = rows_from-none (row + 1) columns rows parts.1 in
     ((first.0, later.0), row_then-ok row values rest (values_in columns fields) (map (values_in columns) rows) first.1 later.1)
+
+-- nothing is wrong where each column takes all texts
+takes_all-row : StringsHaveValues → (place : ℕ) (columns : List Column) (fields : List RawField) → list_all (λ column. takes_all_texts (column_view column)) columns ≡ true
+    → result_err (values_from place (map column_view columns) (map field_of fields)) ≡ None
+takes_all-row law place [] fields all = refl
+takes_all-row law place (column ∷ columns) [] all = refl
+takes_all-row law place (column ∷ columns) (field ∷ fields) all =
+    let both = and_parts (takes_all_texts (column_view column)) (list_all (λ column. takes_all_texts (column_view column)) columns) all in
+    let value = law (column_view column) (raw_content field) both.0 in
+    value_then-past place (value_of (column_view column) (raw_content field)) _ (ap result_err value.1) ∙ takes_all-row law (place + 1) columns fields both.1
+
+pub takes_all-rows : StringsHaveValues → (row : ℕ) (columns : List Column) (rows : List (List RawField)) → list_all (λ column. takes_all_texts (column_view column)) columns ≡ true
+    → result_err (rows_from row (map column_view columns) (map (map field_of) rows)) ≡ None
+takes_all-rows law row columns [] all = refl
+takes_all-rows law row columns (fields ∷ rows) all =
+    row_then-past row (values_from 0 (map column_view columns) (map field_of fields)) _ (takes_all-row law 0 columns fields all) ∙ takes_all-rows law (row + 1) columns rows all
 
 -- what is wrong from a row on
 abbrev pub wrong_in_rows : ℕ → List ColumnOf → List (List RawField) → Option (ℕ × ℕ × CellFault)

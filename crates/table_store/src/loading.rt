@@ -1,10 +1,10 @@
 //! The steps of loading a table from its file: the header against the columns, and then each cell.
 ghost use Rattle.std.specs.Prelude.{◌≡◌, ◌≤◌, ◌⊎◌, ◌==◌, List, true, None, Some, Ok, Err, IfOk, IfErr, IfNone, IfSome, length, take, drop, map, option_map, string_bytes};
-ghost use Rattle.std.specs.List.{list_any};
+ghost use Rattle.std.specs.List.{list_all, list_any};
 ghost use Rattle.std.specs.Result.{result_err};
 ghost use Rattle.std.specs.Str.{bytes_eq};
 ghost use Rattle.cell_types.specs.Value.{CellValue, value_view};
-ghost use Rattle.cell_types.specs.Column.{column_view};
+ghost use Rattle.cell_types.specs.Column.{column_view, takes_all_texts};
 ghost use Rattle.cell_types.specs.Cell.{value_of};
 ghost use Rattle.csv_index.specs.Index.{FitsFile};
 ghost use Rattle.csv_index.specs.Raw.{raw_content};
@@ -156,8 +156,15 @@ fn read_row<'a>(
     Ok(())
 }
 
+/// Whether any text has a value in each of the columns.
+fn take_all_texts(columns: &[Column]) -> bool
+    ensures { result ≡ list_all (λ column. takes_all_texts (column_view column)) columns.now }
+{
+    columns.iter().all(|column| column.takes_all_texts())
+}
+
 /// The keys of the rows, each of whose cells has a value; or the first cell, row by row, that has none, and else why the rows have no keys.
-/// Each cell is read at most once.
+/// Each cell is read at most once, and none where no row can be wrong.
 fn read_rows(alloc: Global, schema: &Schema, index: &Index, bytes: &str) -> Result<Keys, TableFault>
     requires bytes { FitsFile index.now bytes.now }
     requires width { length (schema_view schema.now).columns ≡ index.now.width }
@@ -167,8 +174,12 @@ fn read_rows(alloc: Global, schema: &Schema, index: &Index, bytes: &str) -> Resu
     ensures fault { IfErr result (λ e. IfSome (table_cause e) (HasRowsCause (schema_view schema.now) index.now bytes.now)) }
     ensures memory { IfErr result (λ e. table_cause e ≡ None → e ≡ TableFault.NoMemory) }
 {
+    cell_types::strings_have_values();
     let columns = schema.columns.as_slice();
     let places = schema.key.as_slice();
+    if places.is_empty() && take_all_texts(columns) {
+        return Ok(Keys::Absent);
+    }
     let Ok(mut keys) = KeyReader::new(alloc, schema, index.rows()) else {
         return Err(TableFault::NoMemory);
     };

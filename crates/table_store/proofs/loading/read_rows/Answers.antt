@@ -1,8 +1,9 @@
 use Rattle.std.proofs.Common.{◌≡◌, ◌<◌, ◌≤◌, ◌++◌, ◌∷◌, [], get_or, Some, Ok, map, drop, take, length, ap, sym, subst, ◌∙◌, arith, inl, inr}
 use Rattle.std.proofs.lemmas.List.{length-map, length-take, take_all}
+use Rattle.std.specs.List.{list_all}
 use Rattle.std.specs.Result.{result_err}
 use Rattle.csv_index.specs.Index.{raws}
-use Rattle.cell_types.specs.Column.{column_view}
+use Rattle.cell_types.specs.Column.{column_view, takes_all_texts}
 use Rattle.cell_types.specs.Value.{value_view}
 use Rattle.csvw_meta.specs.Schema.{schema_view}
 use Rattle.table_store.specs.Inside.{rows_in, values_in}
@@ -14,7 +15,7 @@ use Rattle.table_store.proofs.PlaceLemmas.{slice_get-records_of, length-rows_of_
 use Rattle.table_store.proofs.InsideLemmas.{length-rows_in, length-values_in, rows_in-more}
 use Rattle.table_store.proofs.LoadingLemmas.{bad_cell-cause, key_fault-cause}
 use Rattle.table_store.proofs.KeyLemmas.{row_keys-last}
-use Rattle.table_store.proofs.RowLemmas.{values_from-none, wrong_in_rows-here, wrong_in_rows-past, wrong_in_rows-end}
+use Rattle.table_store.proofs.RowLemmas.{takes_all-rows, values_from-none, wrong_in_rows-here, wrong_in_rows-past, wrong_in_rows-end}
 use Rattle.table_store.proofs.loading.read_rows.Goals.{In-Ok-read_row}
 use Rattle.table_store.proofs.loading.read_rows.Goals as goal
 
@@ -43,6 +44,12 @@ are_values c =
     let both = sym e.0 ∙ f in
     let same : c.in-Ok-read_row.ensures.values.0 ≡ values_in (map column_view c.args.schema.now.columns.items) (record_of c.args.index.now c.args.bytes.now c.loop-row.row) = cc in
     subst (StandFor c.args.schema.now.key.items (map value_view c.read_row.new.values.items)) same e.1
+
+pub returns-then-take_all_texts-clause-values : goal.returns-then-take_all_texts-clause-values
+returns-then-take_all_texts-clause-values c =
+    let columns = c.as_slice-columns.ensures.value in
+    takes_all-rows c.strings_have_values.ensures 0 c.args.schema.now.columns.items (records_of c.args.index.now c.args.bytes.now)
+    (ap (list_all (λ column. takes_all_texts (column_view column))) (sym columns) ∙ sym c.take_all_texts.ensures ∙ c.if-take_all_texts.true)
 
 pub read_row-requires : goal.read_row-requires
 read_row-requires c =
