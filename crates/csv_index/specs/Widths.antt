@@ -38,7 +38,7 @@ abbrev pub roles_counted : Widths → List Role → Widths
 roles_counted w [] = w
 roles_counted w (role ∷ roles) = roles_counted (role_counted w role) roles
 
--- the role that the masks of a block give to a byte
+-- the role that the masks of a block give to a byte; where the first has the ends of records too, they are these
 abbrev pub mask_role : ℕ → ℕ → ℕ → Role
 mask_role sep eol i = if bit_at eol i == 1 then record_end else (if bit_at sep i == 1 then separator else inner)
 

@@ -47,8 +47,6 @@ impl<'a, R: Files> Disk<'a, R> {
 /// Why the files of a folder were not taken.
 #[derive(Clone, Copy, Debug, Drop)]
 enum TakeFault {
-    /// The folder has no metadata.
-    NoMetadata,
     /// A file could not be read.
     Device,
     /// Memory ran out.
@@ -172,20 +170,20 @@ fn take_named<R: Files>(
     }
 }
 
-/// The metadata of a folder and the files that it names.
+/// The metadata of a folder, where it has some, and the files that the metadata names.
 fn take_folder<R: Files>(
     alloc: Global,
     files: &R,
     folder: &str,
-) -> Result<(Vec<u8>, Vec<NamedFile>), TakeFault>
-    ensures meta { IfOk result (λ taken. vec_len taken.0 ≤ MOST_FILE_BYTES + 1) }
-    ensures files { IfOk result (λ taken. AreFilesIn (schemas_of greatest_limits taken.0.items) (map file_view taken.1.items)) }
+) -> Result<Option<(Vec<u8>, Vec<NamedFile>)>, TakeFault>
+    ensures meta { IfOk result (λ taken. IfSome taken (λ folder. vec_len folder.0 ≤ MOST_FILE_BYTES + 1)) }
+    ensures files { IfOk result (λ taken. IfSome taken (λ folder. AreFilesIn (schemas_of greatest_limits folder.0.items) (map file_view folder.1.items))) }
 {
     let Some(meta) = take_file(alloc, files, folder, METADATA)? else {
-        return Err(TakeFault::NoMetadata);
+        return Ok(None);
     };
     let taken = take_named(alloc, files, folder, meta.as_slice())?;
-    Ok((meta, taken))
+    Ok(Some((meta, taken)))
 }
 
 impl<'a, R: Files> Folders for Disk<'a, R> {
@@ -195,11 +193,13 @@ impl<'a, R: Files> Folders for Disk<'a, R> {
     fn load(&mut self, alloc: Global, name: &str) -> Result<Catalog, FolderFault> {
         self.loads = self.loads.saturating_add(1);
         match take_folder(alloc, self.files, name) {
-            Ok((meta, files)) => match Catalog::load(alloc, Limits::greatest(), meta, files) {
-                Ok(catalog) => Ok(catalog),
-                Err(fault) => Err(FolderFault::Load(fault)),
-            },
-            Err(TakeFault::NoMetadata) => {
+            Ok(Some((meta, files))) => {
+                match Catalog::load(alloc, Limits::greatest(), meta, files) {
+                    Ok(catalog) => Ok(catalog),
+                    Err(fault) => Err(FolderFault::Load(fault)),
+                }
+            }
+            Ok(None) => {
                 self.no_metadata = self.no_metadata.saturating_add(1);
                 Err(FolderFault::NoMetadata)
             }

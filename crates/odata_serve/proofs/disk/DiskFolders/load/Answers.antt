@@ -5,8 +5,8 @@ use Rattle.odata_serve.proofs.disk.DiskFolders.load.Goals as goal
 
 pub returns-in-Err-clause-fault : goal.returns-in-Err-clause-fault
 returns-in-Err-clause-fault g c =
-    refused_untold (folder_view c.greatest.result c.in-Ok.meta.items c.in-Ok.files.items) (load_cause c.in-Err.fault) (cc)
+    refused_untold (folder_view c.greatest.result c.in-Ok-Some.meta.items c.in-Ok-Some.files.items) (load_cause c.in-Err.fault) (cc)
     c.in-Err.ensures.fault
 
-pub returns-in-Err-NoMetadata-clause-fault : goal.returns-in-Err-NoMetadata-clause-fault
-returns-in-Err-NoMetadata-clause-fault g c = empty_untold
+pub returns-in-Ok-None-clause-fault : goal.returns-in-Ok-None-clause-fault
+returns-in-Ok-None-clause-fault g c = empty_untold
