@@ -2,14 +2,15 @@
 use Rattle.std.proofs.Common.{◌≡◌, ℕ, zero, suc, ◌+◌, ◌-◌, ◌*◌, ◌/◌, ◌%◌, ◌^◌, ◌<◌, ◌≤◌, List, [], ◌∷◌, ◌++◌, length, length-append, Bool, true, false, cond, ◌==◌, refl, sym, ap, ◌∙◌, arith, add-one, add_comm, bit_or, bit_and, max, w64, ◌≢◌}
 use Rattle.std.proofs.Math.Nat.{mod-eq_of_lt, mod-lt, div-add-mod}
 use Rattle.std.proofs.Math.Pow.{pow-lt}
-use Rattle.std.specs.Int.{bit_at, bit_not}
+use Rattle.std.specs.Int.{bit_at, bit_not, trailing_zeros}
 use Rattle.std.specs.Int.RustNames.{count_ones}
 use Rattle.std.specs.Int.Count.{ones_step}
 use Rattle.std.proofs.lemmas.Bool.{eqb-true, eqb-false}
-use Rattle.std.proofs.lemmas.Nat.{mod-pow-add, ones_cat, ones-le, pow_pos, and_mask, and_le_l}
-use Rattle.std.proofs.lemmas.Nat.Bits.{bit_at-lt, bit_at_or, bit_at_clear_same, bit_at_clear_other}
+use Rattle.std.proofs.lemmas.Nat.{mod-pow-add, ones_cat, ones-le, pow_pos, and_mask, and_le_l, zero_from_ones}
+use Rattle.std.proofs.lemmas.Nat.Bits.{bit_at-lt, bit_at_or, bit_at_clear_same, bit_at_clear_other, bit_at-trailing_zeros}
 use Rattle.csv_grammar.specs.Structure.{Role, separator, record_end, inner}
 use Rattle.csv_index.specs.Blocks.{set_places}
+use Rattle.csv_index.specs.Reading.{role_places}
 use Rattle.csv_index.specs.Widths.{mask_role, mask_roles}
 
 less : (a b : ℕ) → a ≤ b → a ≢ b → a < b
@@ -53,6 +54,36 @@ pub ones_front : (w k : ℕ) → count_ones (w % 2 ^ k) ≤ count_ones w
 ones_front w k =
     let split : w ≡ w / 2 ^ k * 2 ^ k + w % 2 ^ k = omega (arith, div-add-mod w (2 ^ k)) in
     omega (arith, ap count_ones split ∙ ones_cat k (w / 2 ^ k) (w % 2 ^ k) (mod-lt w (pow_pos k)))
+
+-- one set bit alone
+pub record IsOne (w place : ℕ) : Type 0 where
+  pub within : place < 64
+  pub is : w ≡ 2 ^ place
+
+zero_below : (w k : ℕ) → count_ones (w % 2 ^ k) ≡ 0 → w % 2 ^ k ≡ 0
+zero_below w k h = zero_from_ones (w % 2 ^ k) h
+
+pub one_alone : (w : ℕ) → w < 2 ^ 64 → count_ones w ≡ 1 → IsOne w (trailing_zeros w64 w)
+one_alone w small one =
+    let place : ℕ = trailing_zeros w64 w in
+    let some : 0 < w = not_zero w one in
+    let low = bit_at-trailing_zeros w64 w some small in
+    let split : w ≡ w / 2 ^ suc place * 2 ^ suc place + w % 2 ^ suc place = omega (arith, div-add-mod w (2 ^ suc place)) in
+    let sum : 1 ≡ count_ones (w / 2 ^ suc place) + count_ones (w % 2 ^ suc place) =
+    sym one ∙ ap count_ones split ∙ ones_cat (suc place) (w / 2 ^ suc place) (w % 2 ^ suc place) (mod-lt w (pow_pos (suc place))) in
+    let next = ones_next w place in
+    let above : w / 2 ^ suc place ≡ 0 = zero_from_ones (w / 2 ^ suc place) (omega (arith, sum, next, low.1)) in
+    let below : w % 2 ^ place ≡ 0 = zero_below w place (omega (arith, sum, next, low.1)) in
+    let here : w % 2 ^ suc place ≡ bit_at w place * 2 ^ place + w % 2 ^ place = ap (λ n. w % 2 ^ n) (sym (add-one place) ∙ add_comm place 1) ∙ mod-pow-add w 1 place in
+    let bit : bit_at w place * 2 ^ place ≡ 2 ^ place = ap (λ b. b * 2 ^ place) low.1 ∙ omega arith in
+    let none : w / 2 ^ suc place * 2 ^ suc place ≡ 0 = ap (λ a. a * 2 ^ suc place) above ∙ omega arith in record {
+      within = omega (arith, low.0);
+      is = omega (arith, split, none, here, bit, below);
+    }
+  where
+    not_zero : (n : ℕ) → count_ones n ≡ 1 → 0 < n
+    not_zero zero h = omega (arith, h, one_bit 0 (omega arith))
+    not_zero (suc n) h = omega arith
 
 -- the bits below a place, by a mask
 pub ones_before : (w k : ℕ) → k < 64 → count_ones (bit_and w (1 * 2 ^ k % 2 ^ 64 - 1)) ≡ count_ones (w % 2 ^ k)
@@ -195,12 +226,6 @@ roles_around sep eol i a p q b n ep eq en set =
     (roles_split sep eol p q 1 b (b + 1) eq (omega arith) ∙ ap (λ l. l ++ mask_roles sep eol q b) (roles_one sep eol p ∙ ap (λ r. r ∷ []) role))
 
 -- ---- the structural places among roles
-
-abbrev pub role_places : ℕ → List Role → List ℕ
-role_places at [] = []
-role_places at (separator ∷ roles) = at ∷ role_places (at + 1) roles
-role_places at (record_end ∷ roles) = at ∷ role_places (at + 1) roles
-role_places at (inner ∷ roles) = role_places (at + 1) roles
 
 -- a byte's role, and its bit of both masks
 role_step : (s e : ℕ) → s < 2 → e < 2 → (x : ℕ) (xs : List ℕ) (roles : List Role) → xs ≡ role_places (x + 1) roles

@@ -10,6 +10,7 @@ pub mod WidthLemmas
 pub mod EndLemmas
 pub mod Trees
 pub mod TreeCounts
+pub mod ReadingLemmas
 pub mod StructureLemmas
 pub mod Tables
 pub mod FindLemmas

@@ -5,22 +5,13 @@ use Rattle.std.specs.List.{AllByRecursion, flat_map}
 use Rattle.std.proofs.lemmas.List.{length_push}
 use Rattle.csv_grammar.specs.Records.{Field, print_field, IsRecord, IsLast, LineBreak, crlf, lf, Line, CsvText, IsText, records_of}
 use Rattle.csv_grammar.specs.Structure.{Role, separator, record_end, inner, field_roles, record_roles, break_roles, line_roles, last_roles, text_roles}
-use Rattle.csv_index.specs.Widths.{CountsWidths, uncounted, record_ended, role_counted, roles_counted}
+use Rattle.csv_index.specs.Widths.{CountsWidths, uncounted, record_ended, with_places, role_counted, roles_counted}
+use Rattle.csv_index.specs.Reading.{role_open, open_after}
 use Rattle.csv_index.specs.declared.widths.Widths.{Widths}
-use Rattle.csv_index.proofs.WidthLemmas.{more_places}
 use Rattle.csv_index.proofs.Counting.{counts_push}
 use Rattle.csv_index.proofs.Trees.{length-record_roles}
 
 -- ---- whether bytes stand behind the end of a record
-
-abbrev pub role_open : Role → Bool
-role_open separator = true
-role_open record_end = false
-role_open inner = true
-
-abbrev pub open_after : Bool → List Role → Bool
-open_after was [] = was
-open_after was (role ∷ roles) = open_after (role_open role) roles
 
 pub open_after-append : (was : Bool) (xs ys : List Role) → open_after was (xs ++ ys) ≡ open_after (open_after was xs) ys
 open_after-append was [] ys = refl
@@ -75,7 +66,7 @@ inner_counts w [] more = refl
 inner_counts w (b ∷ bytes) more = inner_counts w bytes more
 
 record_counts : (w : Widths) (fields : List Field) (more : List Role) (n : ℕ) → length fields ≡ n + 1
-    → roles_counted w (record_roles fields ++ more) ≡ roles_counted (more_places w n) more
+    → roles_counted w (record_roles fields ++ more) ≡ roles_counted (with_places w n) more
 record_counts w [] more n e = absurd (omega arith)
 record_counts w (field ∷ []) more n e =
     let none : w.places + n ≡ w.places = omega arith in
@@ -85,17 +76,17 @@ record_counts w (field ∷ next ∷ fields) more (suc n) e =
     let sum : w.places + 1 + n ≡ w.places + suc n = omega arith in
     ap (roles_counted w) (append_assoc (field_roles field) (separator ∷ record_roles (next ∷ fields)) more)
     ∙ inner_counts w (print_field field) (separator ∷ record_roles (next ∷ fields) ++ more)
-    ∙ record_counts (more_places w 1) (next ∷ fields) more n (omega arith)
+    ∙ record_counts (with_places w 1) (next ∷ fields) more n (omega arith)
     ∙ ap (λ k. roles_counted (record w { places = k }) more) sum
 
 line_counts : (w : Widths) (line : Line) (more : List Role) (n : ℕ) → length line.fields ≡ n + 1
-    → roles_counted w (line_roles line ++ more) ≡ roles_counted (role_counted (more_places w n) record_end) more
+    → roles_counted w (line_roles line ++ more) ≡ roles_counted (role_counted (with_places w n) record_end) more
 line_counts w line more n e =
     ap (roles_counted w) (append_assoc (record_roles line.fields) (break_roles line.end) more)
     ∙ record_counts w line.fields (break_roles line.end ++ more) n e
     ∙ on line.end
   where
-    on : (end : LineBreak) → roles_counted (more_places w n) (break_roles end ++ more) ≡ roles_counted (role_counted (more_places w n) record_end) more
+    on : (end : LineBreak) → roles_counted (with_places w n) (break_roles end ++ more) ≡ roles_counted (role_counted (with_places w n) record_end) more
     on crlf = refl
     on lf = refl
 
@@ -105,10 +96,10 @@ pub record AreCounted (records : List (List Field)) (w : Widths) : Type 0 where
   pub widths : CountsWidths w.width w.uneven records
 
 counted_more : (records : List (List Field)) (fields : List Field) (w : Widths) (n : ℕ) → length fields ≡ n + 1 → w.start ≡ w.places → AreCounted records w
-    → AreCounted (records ++ fields ∷ []) (record_ended (more_places w n) (w.places + n))
+    → AreCounted (records ++ fields ∷ []) (record_ended (with_places w n) (w.places + n))
 counted_more records fields w n e none counted = record {
   count = omega (arith, length_push records fields, counted.count);
-  widths = counts_push (more_places w n) (w.places + n + 1 - w.start) records fields counted.count (omega arith) counted.widths;
+  widths = counts_push (with_places w n) (w.places + n + 1 - w.start) records fields counted.count (omega arith) counted.widths;
 }
 
 -- behind lines
@@ -130,7 +121,7 @@ lines_counted records (line ∷ lines) w more valid none counted =
     let n : ℕ = length line.fields - 1 in
     let e : length line.fields ≡ n + 1 = omega (arith, valid.0.0) in
     let these = counted_more records line.fields w n e none counted in
-    let next = lines_counted (records ++ line.fields ∷ []) lines (role_counted (more_places w n) record_end) more valid.1 refl (record { count = these.count; widths = these.widths }) in record {
+    let next = lines_counted (records ++ line.fields ∷ []) lines (role_counted (with_places w n) record_end) more valid.1 refl (record { count = these.count; widths = these.widths }) in record {
       behind = next.behind;
       counted = subst (λ rs. AreCounted rs next.behind) (append_assoc records (line.fields ∷ []) (map (λ (l : Line). l.fields) lines)) next.counted;
       none = next.none;
@@ -160,6 +151,6 @@ tree_counted tree valid = on tree.last valid.last
         let n : ℕ = length fields - 1 in
         let e : length fields ≡ n + 1 = omega (arith, ends.0.0) in
         let c = lines_counted [] tree.lines uncounted (record_roles fields) valid.lines refl none_counted in
-        let whole : roles_counted uncounted (flat_map line_roles tree.lines ++ record_roles fields) ≡ more_places c.behind n =
+        let whole : roles_counted uncounted (flat_map line_roles tree.lines ++ record_roles fields) ≡ with_places c.behind n =
         c.is ∙ ap (roles_counted c.behind) (sym (append-nil (record_roles fields))) ∙ record_counts c.behind fields [] n e in
         subst (λ w. AreCounted (line_records tree.lines ++ fields ∷ []) (record_ended w w.places)) (sym whole) (counted_more (line_records tree.lines) fields c.behind n e c.none c.counted)

@@ -13,7 +13,8 @@ use Rattle.csv_index.specs.Raw.{RawField, raw_of, raw_between}
 use Rattle.csv_index.specs.Index.{cut, Rise, AreAscii}
 use Rattle.csv_index.specs.Structure.{all_fields}
 use Rattle.csv_index.proofs.Boundaries.{ascii_at, ascii_end}
-use Rattle.csv_index.proofs.Bits.{role_places, role_places-append}
+use Rattle.csv_index.specs.Reading.{role_places}
+use Rattle.csv_index.proofs.Bits.{role_places-append}
 use Rattle.csv_index.proofs.FieldBytes.{raw_between_field, raw_between_return, utf8_before, utf8_behind, utf8_field}
 
 -- the file is parted behind a place

@@ -4,6 +4,7 @@ pub mod Fields
 pub mod Fault
 pub mod Blocks
 pub mod Widths
+pub mod Reading
 pub mod Structure
 pub use Rattle.csv_grammar.specs.Bytes
 pub use Rattle.csv_grammar.specs.Records

@@ -28,6 +28,10 @@ record_ended w at = record w {
   uneven = uneven_with w (at + 1 - w.start);
 }
 
+-- so many structural places more, none of which ends a record
+abbrev pub with_places : Widths → ℕ → Widths
+with_places w n = record w { places = w.places + n }
+
 -- behind one more byte of that role
 abbrev pub role_counted : Widths → Role → Widths
 role_counted w separator = record w { places = w.places + 1 }

@@ -10,6 +10,7 @@ mod fault;
 mod fields;
 mod index;
 mod raw;
+mod reading;
 mod structure;
 mod utf8;
 mod widths;

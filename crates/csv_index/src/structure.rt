@@ -1,4 +1,4 @@
-//! The structure of a whole file, read once in blocks of 64 bytes (RFC 4180, section 2).
+//! The structure of a whole file (RFC 4180, section 2).
 ghost use Rattle.std.specs.Prelude.{◌≡◌, ◌≤◌, ◌<◌, ◌+◌, ◌^◌, List, [], ◌∷◌, ◌++◌, length, Some, IfOk, IfErr, IsUtf8};
 ghost use Rattle.std.specs.Str.{IsCharBoundary};
 ghost use Rattle.csv_grammar.specs.Records.{Field};
@@ -9,10 +9,10 @@ ghost use Rattle.csv_index.specs.Structure.{ReadsAs, HasTextFault};
 
 use crate::blocks::Block;
 use crate::fault::TextFault;
+use crate::reading::Reading;
 use crate::widths::Widths;
-use csv_grammar::{one_structure, what_follows};
-use lane_class::{BLOCK, classify, load};
-use quote_parity::Carry;
+use csv_grammar::one_structure;
+use lane_class::BLOCK;
 use std::alloc::Global;
 
 /// What is known of a file that is records.
@@ -34,48 +34,33 @@ impl Structure {
         ensures fault { IfErr result (λ e. HasTextFault e file.now mark) }
     {
         one_structure();
-        what_follows();
         let text = &file[mark..];
-        let count = text.len().div_ceil(BLOCK);
-        let mut blocks = Vec::with_capacity(alloc, count).map_err(|_| TextFault::NoMemory)?;
-        let mut carry = Carry::start();
-        let mut widths = Widths::new();
-        let mut open = false;
-        for number in 0..count {
-            let at = number * BLOCK;
-            let len = (text.len() - at).min(BLOCK);
-            let (masks, behind) = carry.step(classify(load(text, at)), len as u32);
-            if masks.fault != 0 {
-                return Err(fault_at(text, at + masks.fault.trailing_zeros() as usize, mark));
-            }
-            let ends = masks.sep | masks.eol;
-            let before = widths.places;
-            keep(&mut blocks, Block { ends, before })?;
-            widths.add(ends, masks.eol);
-            open = (masks.eol >> (len - 1)) & 1 == 0;
-            carry = behind;
-        }
+        let blocks = Vec::with_capacity(alloc, text.len().div_ceil(BLOCK)).map_err(
+            |_| TextFault::NoMemory,
+        )?;
+        let reading = match Reading::of(blocks, text) {
+            Ok(reading) => reading,
+            Err(left) => return Err(fault_at(text, text.len() - left, mark)),
+        };
+        let Reading {
+            blocks,
+            carry,
+            mut widths,
+            unended,
+        } = reading;
         let Ok(()) = carry.finish() else {
             return Err(TextFault::Unfinished { at: file.len() });
         };
-        if open {
+        if unended {
             let at = widths.places;
             widths.end_record(at);
         }
         Ok(Structure {
             blocks,
-            last: open.then_some(file.len()),
+            last: unended.then_some(file.len()),
             widths,
         })
     }
-}
-
-/// Adds a block to the list.
-fn keep(blocks: &mut Vec<Block>, block: Block) -> Result<(), TextFault>
-    ensures kept { IfOk result (λ _. blocks.new.items ≡ blocks.old.items ++ block ∷ []) }
-    ensures fault { IfErr result (λ e. e ≡ TextFault.NoMemory) }
-{
-    blocks.push(block).map_err(|_| TextFault::NoMemory)
 }
 
 /// Why a byte of the text is refused, by that byte and the one before it.

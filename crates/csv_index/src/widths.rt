@@ -2,7 +2,8 @@
 //! (RFC 4180, section 2, rule 4).
 ghost use Rattle.std.specs.Prelude.{◌≡◌, ℕ, ◌+◌, ◌^◌, ◌<◌, ◌≤◌};
 ghost use Rattle.std.specs.Int.{bit_at};
-ghost use Rattle.csv_index.specs.Widths.{uncounted, width_with, uneven_with, record_ended, roles_counted, mask_roles};
+ghost use Rattle.std.specs.Int.RustNames.{count_ones};
+ghost use Rattle.csv_index.specs.Widths.{uncounted, width_with, uneven_with, record_ended, with_places, roles_counted, mask_roles};
 
 /// What is known of the records so far.
 #[derive(Clone, Copy)]
@@ -10,7 +11,7 @@ pub struct Widths {
     /// How many structural places there are.
     pub places: usize,
     /// How many of them stand before the record under way.
-    start: usize,
+    pub start: usize,
     /// How many records ended.
     pub records: usize,
     /// How many fields the first of these has.
@@ -33,7 +34,8 @@ impl Widths {
         }
     }
 
-    /// Counts the bytes of one more block: its structural places, and those of them that end records.
+    /// Counts the bytes of one more block: its structural places, and those of them that end records. In most blocks one record
+    /// ends or none does, which no branch can foresee: so there is none between the two, where it is as wide as the first.
     #[inline(always)]
     pub fn add(&mut self, ends: u64, eol: u64)
         requires start { self.old.start ≤ self.old.places }
@@ -42,6 +44,29 @@ impl Widths {
         requires within { (k : ℕ) → bit_at eol k ≡ 1 → bit_at ends k ≡ 1 }
         ensures { self.new ≡ roles_counted self.old (mask_roles ends eol 0 64) }
     {
+        let records = eol.count_ones() as usize;
+        // The places before the end of the one record, or all where none ends.
+        let before = (ends & eol.wrapping_sub(1)).count_ones() as usize;
+        let fields = self.places + before + 1 - self.start;
+        if records <= 1 && records * fields == records * self.width {
+            self.start += records * self.width;
+            self.records += records;
+        } else {
+            self.end_records(ends, eol);
+        }
+        self.places += ends.count_ones() as usize;
+    }
+
+    /// The records of a block end, one after another. Its structural places are not counted.
+    #[inline(always)]
+    fn end_records(&mut self, ends: u64, eol: u64)
+        requires start { self.old.start ≤ self.old.places }
+        requires places { self.old.places < 2 ^ 63 }
+        requires records { self.old.records < 2 ^ 63 }
+        requires within { (k : ℕ) → bit_at eol k ≡ 1 → bit_at ends k ≡ 1 }
+        ensures places { self.new.places ≡ self.old.places }
+        ensures ended { with_places self.new (count_ones ends) ≡ roles_counted self.old (mask_roles ends eol 0 64) }
+    {
         let mut left = eol;
         while left != 0 {
             let place = left.trailing_zeros();
@@ -49,7 +74,6 @@ impl Widths {
             self.end_record(self.places + before as usize);
             left &= !(1 << place);
         }
-        self.places += ends.count_ones() as usize;
     }
 
     /// The record under way ends at the structural place of that number, the first of which is 0.

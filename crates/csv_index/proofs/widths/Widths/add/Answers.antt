@@ -1,26 +1,18 @@
--- Each turn counts up to the end of a record.
-use Rattle.std.proofs.Common.{◌<◌, arith, refl, w64}
-use Rattle.std.proofs.lemmas.Nat.Bits.{bit_at-trailing_zeros}
-use Rattle.csv_index.proofs.Bits.{cleared_less}
-use Rattle.csv_index.proofs.WidthLemmas.{counting_more, counting_all}
+-- One record ends at most, or they end one after another.
+use Rattle.std.proofs.Common.{◌+◌, ◌%◌, arith, refl, bit_and}
+use Rattle.std.proofs.lemmas.Nat.{ones-le, and_le_l}
+use Rattle.std.specs.Int.RustNames.{count_ones}
+use Rattle.csv_index.proofs.WidthLemmas.{most_one_ended, ended_within}
+use Rattle.csv_index.proofs.widths.Widths.add.Goals.{then-records-le1+then-records-fields, else-records-le1}
 use Rattle.csv_index.proofs.widths.Widths.add.Goals as goal
 
-pub end_record-requires-clause-start : goal.end_record-requires-clause-start
-end_record-requires-clause-start c =
-    let some : 0 < c.loop-left.left = omega arith in
-    let m = counting_more c.args.self.now c.loop-left.self c.args.ends c.args.eol c.loop-left.left _ _ c.loop-left.invariant some (omega arith) refl refl c.requires.within in m.1
-
-pub loop-left-smaller : goal.loop-left-smaller
-loop-left-smaller c =
-    let some : 0 < c.loop-left.left = omega arith in
-    let low = bit_at-trailing_zeros w64 c.loop-left.left some (omega arith) in
-    cleared_less c.loop-left.left _ low.0 low.1
-
-pub loop-left-preserved : goal.loop-left-preserved
-loop-left-preserved c =
-    let some : 0 < c.loop-left.left = omega arith in
-    let m = counting_more c.args.self.now c.loop-left.self c.args.ends c.args.eol c.loop-left.left _ _ c.loop-left.invariant some (omega arith) refl refl c.requires.within in
-    rw c.end_record.ensures m.3
+pub overflow_add-self : goal.overflow_add-self
+overflow_add-self c =
+    let before = ones-le 64 (bit_and c.args.ends ((c.args.eol + 18446744073709551615) % 18446744073709551616)) (omega (arith, and_le_l c.args.ends ((c.args.eol + 18446744073709551615) % 18446744073709551616))) in
+    omega (arith, ended_within c.args.self.now (count_ones c.args.eol) _ c.if-records-le1.true c.if-records-fields.true (omega (arith, before)))
 
 pub returns : goal.returns
-returns c = counting_all c.args.self.now c.loop-left.self c.args.ends c.args.eol c.loop-left.left c.loop-left.invariant c.loop-left-test.false (omega arith)
+returns c = elim c.if-records-le1.branch [
+  | then-records-le1+then-records-fields w ↦ rw w.self-is (most_one_ended c.args.self.now c.args.ends c.args.eol _ c.requires.start (omega arith) (omega arith) c.requires.within w.if-records-le1.true refl w.if-records-fields.true)
+  | else-records-le1 w ↦ rw w.self-is w.end_records.ensures.ended
+]

@@ -1,5 +1,5 @@
 use Rattle.csv_index.proofs.WidthLemmas.{IsCounting}
-use Rattle.csv_index.proofs.widths.Widths.add.Given as goal
+use Rattle.csv_index.proofs.widths.Widths.end_records.Given as goal
 
 abbrev pub invariant-loop-left : goal.invariant-loop-left
 invariant-loop-left l = IsCounting l.fn.self l.self l.fn.ends l.fn.eol l.left

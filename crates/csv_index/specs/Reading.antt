@@ -1,0 +1,49 @@
+-- What is known of a text behind its first blocks of 64 bytes (RFC 4180, section 2), in the words of the grammar.
+use Rattle.std.specs.Prelude.{◌≡◌, ℕ, ◌+◌, ◌-◌, ◌*◌, ◌<◌, ◌≤◌, List, [], ◌∷◌, length, take, Bool, true, false}
+use Rattle.csv_grammar.specs.Faults.{IsViable, cause_at, HasFault}
+use Rattle.csv_grammar.specs.Structure.{Role, separator, record_end, inner, AreRoles}
+use Rattle.csv_grammar.specs.Following.{TextCarry, carry_of}
+use Rattle.csv_index.specs.Blocks.{block_places, AreRanked}
+use Rattle.csv_index.specs.Widths.{uncounted, roles_counted}
+use Rattle.csv_index.specs.declared.blocks.Block.{Block}
+use Rattle.csv_index.specs.declared.widths.Widths.{Widths}
+
+-- the structural places of bytes of these roles, the first of which stands at that place
+abbrev pub role_places : ℕ → List Role → List ℕ
+role_places at [] = []
+role_places at (separator ∷ roles) = at ∷ role_places (at + 1) roles
+role_places at (record_end ∷ roles) = at ∷ role_places (at + 1) roles
+role_places at (inner ∷ roles) = role_places (at + 1) roles
+
+-- a record is under way behind a byte of that role
+abbrev pub role_open : Role → Bool
+role_open separator = true
+role_open record_end = false
+role_open inner = true
+
+-- and behind bytes of these roles, where it says whether one is before them
+abbrev pub open_after : Bool → List Role → Bool
+open_after was [] = was
+open_after was (role ∷ roles) = open_after (role_open role) roles
+
+-- so many blocks are read, the last of which may be short: the text so far can be continued, its roles are those of each continuation, and the rest
+-- is told by them
+pub record HasRead (text : List ℕ) (n : ℕ) (carry : TextCarry) (blocks : List Block) (widths : Widths) (unended : Bool) : Type 0 where
+  pub carried : carry ≡ carry_of (take (64 * n) text)
+  pub viable : IsViable (take (64 * n) text)
+  pub roles : List Role
+  pub are : AreRoles (take (64 * n) text) roles
+  pub places : (mark : ℕ) → block_places mark blocks ≡ role_places mark roles
+  pub counted : widths ≡ roles_counted uncounted roles
+  pub count : length blocks ≡ n
+  pub ranked : AreRanked blocks
+  pub state : unended ≡ open_after false roles
+
+-- the whole text is read, of whose last block there is at least one byte
+abbrev pub IsReading : List ℕ → TextCarry → List Block → Widths → Bool → Type 0
+IsReading text carry blocks widths unended =
+    (n : ℕ) × (length text ≤ 64 * n) × (64 * n < length text + 64) × HasRead text n carry blocks widths unended
+
+-- so many bytes are left from the text's first fault on
+abbrev pub HasFaultFrom : List ℕ → ℕ → Type 0
+HasFaultFrom text left = (0 < left) × (left ≤ length text) × HasFault text (length text - left) (cause_at text (length text - left))

@@ -1,0 +1,90 @@
+//! A text, read in blocks of 64 bytes, one after another (RFC 4180, section 2).
+ghost use Rattle.std.specs.Prelude.{◌≡◌, ℕ, ◌+◌, ◌*◌, ◌^◌, ◌<◌, ◌≤◌, min, List, [], length, drop, IfOk, IfErr};
+ghost use Rattle.std.specs.Vec.{vec_len, vec_capacity};
+ghost use Rattle.csv_index.specs.Reading.{HasRead, IsReading, HasFaultFrom};
+
+use crate::blocks::Block;
+use crate::widths::Widths;
+use csv_grammar::{one_structure, what_follows};
+use lane_class::{BLOCK, classify, load};
+use quote_parity::Carry;
+
+/// What is known behind the blocks that are read.
+#[derive(Drop)]
+pub struct Reading {
+    pub blocks: Vec<Block>,
+    pub carry: Carry,
+    pub widths: Widths,
+    /// The last byte ends no record, so one is under way.
+    pub unended: bool,
+}
+
+impl Reading {
+    /// Reads a whole text, for whose blocks there is room. The error is how many bytes there are from its first fault on.
+    pub fn of(blocks: Vec<Block>, text: &[u8]) -> Result<Reading, usize>
+        requires none { (blocks.items ≡ []) × (vec_len blocks ≡ 0) }
+        requires room { length text.now ≤ 64 * vec_capacity blocks }
+        ensures read { IfOk result (λ r. IsReading text.now r.carry r.blocks.items r.widths r.unended) }
+        ensures fault { IfErr result (λ left. HasFaultFrom text.now left) }
+    {
+        one_structure();
+        what_follows();
+        let mut reading = Reading {
+            blocks,
+            carry: Carry::start(),
+            widths: Widths::new(),
+            unended: false,
+        };
+        let mut rest = text;
+        while rest.len() >= BLOCK {
+            reading = reading.read(rest, BLOCK)?;
+            rest = &rest[BLOCK..];
+        }
+        if !rest.is_empty() {
+            reading = reading.read(rest, rest.len())?;
+        }
+        Ok(reading)
+    }
+
+    /// Reads one more block, the first `len` bytes of those that are left: 64, or all where there are fewer. The error is how many
+    /// bytes there are from the first fault on.
+    #[inline(always)]
+    fn read(self, rest: &[u8], len: usize) -> Result<Reading, usize>
+        requires some { 0 < len }
+        requires len { len ≡ min (length rest.now) 64 }
+        requires room { vec_len self.blocks < vec_capacity self.blocks }
+        requires start { self.widths.start ≤ self.widths.places }
+        requires places { self.widths.places < 2 ^ 63 }
+        requires records { self.widths.records < 2 ^ 63 }
+        ensures read { (text : List ℕ) (n : ℕ) → rest.now ≡ drop (64 * n) text → HasRead text n self.carry self.blocks.items self.widths self.unended
+            → IfOk result (λ r. HasRead text (n + 1) r.carry r.blocks.items r.widths r.unended) }
+        ensures fault { (text : List ℕ) (n : ℕ) → rest.now ≡ drop (64 * n) text → HasRead text n self.carry self.blocks.items self.widths self.unended
+            → IfErr result (λ left. HasFaultFrom text left) }
+        ensures room { IfOk result (λ r. (vec_len r.blocks ≡ vec_len self.blocks + 1) × (vec_capacity r.blocks ≡ vec_capacity self.blocks)) }
+    {
+        one_structure();
+        let Reading {
+            mut blocks,
+            carry,
+            mut widths,
+            ..
+        } = self;
+        let (masks, carry) = carry.step(classify(load(rest, 0)), len as u32);
+        if masks.fault != 0 {
+            return Err(rest.len() - masks.fault.trailing_zeros() as usize);
+        }
+        let ends = masks.sep | masks.eol;
+        blocks.push_reserved(Block {
+            ends,
+            before: widths.places,
+        });
+        widths.add(ends, masks.eol);
+        let unended = (masks.eol >> (len - 1)) & 1 == 0;
+        Ok(Reading {
+            blocks,
+            carry,
+            widths,
+            unended,
+        })
+    }
+}
