@@ -60,9 +60,6 @@ pub record IsOne (w place : ℕ) : Type 0 where
   pub within : place < 64
   pub is : w ≡ 2 ^ place
 
-zero_below : (w k : ℕ) → count_ones (w % 2 ^ k) ≡ 0 → w % 2 ^ k ≡ 0
-zero_below w k h = zero_from_ones (w % 2 ^ k) h
-
 pub one_alone : (w : ℕ) → w < 2 ^ 64 → count_ones w ≡ 1 → IsOne w (trailing_zeros w64 w)
 one_alone w small one =
     let place : ℕ = trailing_zeros w64 w in
@@ -73,7 +70,7 @@ one_alone w small one =
     sym one ∙ ap count_ones split ∙ ones_cat (suc place) (w / 2 ^ suc place) (w % 2 ^ suc place) (mod-lt w (pow_pos (suc place))) in
     let next = ones_next w place in
     let above : w / 2 ^ suc place ≡ 0 = zero_from_ones (w / 2 ^ suc place) (omega (arith, sum, next, low.1)) in
-    let below : w % 2 ^ place ≡ 0 = zero_below w place (omega (arith, sum, next, low.1)) in
+    let below : w % 2 ^ place ≡ 0 = zero_from_ones (w % 2 ^ place) (omega (arith, sum, next, low.1)) in
     let here : w % 2 ^ suc place ≡ bit_at w place * 2 ^ place + w % 2 ^ place = ap (λ n. w % 2 ^ n) (sym (add-one place) ∙ add_comm place 1) ∙ mod-pow-add w 1 place in
     let bit : bit_at w place * 2 ^ place ≡ 2 ^ place = ap (λ b. b * 2 ^ place) low.1 ∙ omega arith in
     let none : w / 2 ^ suc place * 2 ^ suc place ≡ 0 = ap (λ a. a * 2 ^ suc place) above ∙ omega arith in record {

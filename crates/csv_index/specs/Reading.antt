@@ -21,13 +21,13 @@ role_open separator = true
 role_open record_end = false
 role_open inner = true
 
--- and behind bytes of these roles, where it says whether one is before them
+-- and behind bytes of these roles: behind none, as before them
 abbrev pub open_after : Bool → List Role → Bool
 open_after was [] = was
 open_after was (role ∷ roles) = open_after (role_open role) roles
 
--- so many blocks are read, the last of which may be short: the text so far can be continued, its roles are those of each continuation, and the rest
--- is told by them
+-- the first n blocks of the text are read, the last of which may be short: what is carried is the carry of their bytes, which have a continuation in
+-- the grammar; the roles of these bytes there say where the places of the blocks stand, what is counted, and whether a record is under way
 pub record HasRead (text : List ℕ) (n : ℕ) (carry : TextCarry) (blocks : List Block) (widths : Widths) (unended : Bool) : Type 0 where
   pub carried : carry ≡ carry_of (take (64 * n) text)
   pub viable : IsViable (take (64 * n) text)
