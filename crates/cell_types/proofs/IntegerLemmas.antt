@@ -10,7 +10,7 @@ use Rattle.std.proofs.lemmas.Fmt.{parse-signed_decimal}
 use Rattle.std.proofs.lemmas.Str.Parse.{IsNumeralModel, numerals_by_value, tells_all_ascii_digits}
 use Rattle.cell_types.specs.declared.cell.CellFault.TheVariants.{NotInteger, OutOfRange}
 use Rattle.cell_types.specs.Integer.{fits_64_bits, is_integer, integer_of}
-use Rattle.cell_types.specs.Value.{CellValue, int}
+use Rattle.cell_types.specs.Value.{CellValue, integer}
 use Rattle.cell_types.specs.declared.cell.CellFault.{CellFault}
 
 pub fits-true : (z : ℤ) → FitsSigned w64 z → fits_64_bits z ≡ true
@@ -25,7 +25,7 @@ pub list_all-digits : (ds : List ℕ) → list_all is_ascii_digit ds ≡ all_asc
 list_all-digits [] = refl
 list_all-digits (d ∷ ds) = ap (λ rest. is_ascii_digit d && rest) (list_all-digits ds)
 
-abbrev digits_model : IsNumeralModel (λ ds. all_ascii_digits ds ≡ true) (digits_value 10)
+abbrev pub digits_model : IsNumeralModel (λ ds. all_ascii_digits ds ≡ true) (digits_value 10)
 digits_model = numerals_by_value (λ ds. all_ascii_digits ds ≡ true) tells_all_ascii_digits
 
 -- the form, in std's words
@@ -37,9 +37,9 @@ numeral-is_integer bytes h =
 
 -- what `parse` reads, and what it does not
 pub integer-parsed : (bytes : List ℕ) (n : ℤ) → is_integer bytes ≡ true → FitsSigned w64 (signed_digits_value 10 bytes) → n ≡ signed_digits_value 10 bytes
-    → integer_of bytes ≡ Ok (int n)
+    → integer_of bytes ≡ Ok (integer n)
 unfolding integer_of
-integer-parsed bytes n form within is = let fits = fits-true (signed_digits_value 10 bytes) within in rw (form, fits) (ap (λ z. Ok (int z)) (sym is))
+integer-parsed bytes n form within is = let fits = fits-true (signed_digits_value 10 bytes) within in rw (form, fits) (ap (λ z. Ok (integer z)) (sym is))
 
 pub integer-out : {E : Type 0} (bytes : List ℕ) (e : E) → is_integer bytes ≡ true → ParsesSigned w64 10 bytes (Err e) → integer_of bytes ≡ Err OutOfRange
 unfolding integer_of
@@ -85,24 +85,24 @@ one_number m n e = cc
 
 -- and the definition's
 read_as : (form fits : Bool) (n z : ℤ) → ◌≡◌ {A = Result ℤ ℕ} (cond form (cond fits (Ok n) (Err 0)) (Err 0)) (Ok z)
-    → ◌≡◌ {A = Result CellValue CellFault} (cond form (cond fits (Ok (int n)) (Err OutOfRange)) (Err NotInteger)) (Ok (int z))
-read_as true true n z e = ap (λ k. Ok (int k)) (one_number n z e)
+    → ◌≡◌ {A = Result CellValue CellFault} (cond form (cond fits (Ok (integer n)) (Err OutOfRange)) (Err NotInteger)) (Ok (integer z))
+read_as true true n z e = ap (λ k. Ok (integer k)) (one_number n z e)
 read_as true false n z e = absurd (no_number z e)
 read_as false fits n z e = absurd (no_number z e)
 
-integer_of-parsed : (bytes : List ℕ) (z : ℤ) → parsed bytes ≡ Ok z → integer_of bytes ≡ Ok (int z)
+integer_of-parsed : (bytes : List ℕ) (z : ℤ) → parsed bytes ≡ Ok z → integer_of bytes ≡ Ok (integer z)
 unfolding integer_of
 integer_of-parsed bytes z e = read_as (is_integer bytes) (fits_64_bits (signed_digits_value 10 bytes)) (signed_digits_value 10 bytes) z e
 
-pub integer_of-signed_decimal : (z : ℤ) → FitsSigned w64 z → integer_of (signed_decimal z) ≡ Ok (int z)
+pub integer_of-signed_decimal : (z : ℤ) → FitsSigned w64 z → integer_of (signed_decimal z) ≡ Ok (integer z)
 integer_of-signed_decimal z fits =
     integer_of-parsed (signed_decimal z) z (parse-signed_decimal w64 z (signed_decimal z) (parsed (signed_decimal z)) fits fits.sfits refl (parsed-is (signed_decimal z)))
 
-pub integer_of-only : (bytes : List ℕ) (v : CellValue) → integer_of bytes ≡ Ok v → (z : ℤ) × FitsSigned w64 z × (v ≡ int z)
+pub integer_of-only : (bytes : List ℕ) (v : CellValue) → integer_of bytes ≡ Ok v → (z : ℤ) × FitsSigned w64 z × (v ≡ integer z)
 unfolding integer_of
 integer_of-only bytes v =
     let n = signed_digits_value 10 bytes in
-    let Only : Result CellValue CellFault → Type 0 = λ r. r ≡ Ok v → (z : ℤ) × FitsSigned w64 z × (v ≡ int z) in
-    cond_both (is_integer bytes) (cond (fits_64_bits n) (Ok (int n)) (Err OutOfRange)) (Err NotInteger) Only
-    (λ _. cond_both (fits_64_bits n) (Ok (int n)) (Err OutOfRange) Only (λ fits e. (n, true-fits n fits, cc)) (λ _ e. cc))
+    let Only : Result CellValue CellFault → Type 0 = λ r. r ≡ Ok v → (z : ℤ) × FitsSigned w64 z × (v ≡ integer z) in
+    cond_both (is_integer bytes) (cond (fits_64_bits n) (Ok (integer n)) (Err OutOfRange)) (Err NotInteger) Only
+    (λ _. cond_both (fits_64_bits n) (Ok (integer n)) (Err OutOfRange) Only (λ fits e. (n, true-fits n fits, cc)) (λ _ e. cc))
     (λ _ e. cc)

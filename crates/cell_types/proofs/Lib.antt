@@ -2,5 +2,8 @@ pub mod Lists
 pub mod WhiteSpaceLemmas
 pub mod IntegerLemmas
 pub mod DateLemmas
+pub mod DecimalLemmas
+pub mod DecimalTexts
+pub mod CodePoints
 pub mod CellLemmas
 pub mod ValueLemmas

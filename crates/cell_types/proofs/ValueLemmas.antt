@@ -15,7 +15,7 @@ use Rattle.std.proofs.lemmas.Map.Text.{is_eq-slice_cmp}
 use Rattle.jiff.specs.declared.civil.dates.Date.{Date}
 use Rattle.jiff.specs.Words.{epoch_day}
 use Rattle.jiff.proofs.Family.{epoch_day_injective, epoch_day_same, epoch_day-lt}
-use Rattle.cell_types.specs.Value.{CellValue, null, int, text, bool, date, value_cmp, value_eq, value_view}
+use Rattle.cell_types.specs.Value.{CellValue, null, integer, text, boolean, date, decimal, value_cmp, value_eq, value_view}
 use Rattle.cell_types.specs.declared.value.Value.{Value}
 use Rattle.cell_types.specs.declared.value.Value.TheVariants as V
 use Rattle.cell_types.specs.contracts.value.ValuePartialEq.TheImpl.{ghosts}
@@ -75,6 +75,7 @@ eq-view (V.Int a) V.Null = refl
 eq-view (V.Text a) V.Null = refl
 eq-view (V.Bool a) V.Null = refl
 eq-view (V.Date a) (V.Date b) = date_eq a b
+eq-view (V.Decimal a) V.Null = refl
 eq-view _ _ = refl
 
 pub cmp-view : (x y : Value) → (order.ghosts).cmp x y ≡ value_cmp (value_view x) (value_view y)
@@ -84,16 +85,18 @@ cmp-view (V.Int a) V.Null = refl
 cmp-view (V.Text a) V.Null = refl
 cmp-view (V.Bool a) V.Null = refl
 cmp-view (V.Date a) (V.Date b) = date_cmp a b (int_cmp a.year b.year) (int_ranked a.year b.year _ refl)
+cmp-view (V.Decimal a) V.Null = refl
 cmp-view _ _ = refl
 
 -- a value as a list of numbers
 abbrev key : CellValue → List ℤ
 key null = pos 0 ∷ []
-key (int z) = pos 1 ∷ z ∷ []
+key (integer z) = pos 1 ∷ z ∷ []
 key (text t) = pos 2 ∷ map pos t
-key (bool false) = pos 3 ∷ pos 0 ∷ []
-key (bool true) = pos 3 ∷ pos 1 ∷ []
+key (boolean false) = pos 3 ∷ pos 0 ∷ []
+key (boolean true) = pos 3 ∷ pos 1 ∷ []
 key (date y m d) = pos 4 ∷ y ∷ pos m ∷ pos d ∷ []
+key (decimal z) = pos 5 ∷ z ∷ []
 
 then-equal : (r : Ordering) → r ≡ ordering_then r Equal
 then-equal Less = refl
@@ -111,24 +114,27 @@ text-cmp (x ∷ xs) (y ∷ ys) = rw (pos-cmp x y, text-cmp xs ys) refl
 
 cmp-key : (a b : CellValue) → value_cmp a b ≡ slice_cmp int_cmp (key a) (key b)
 unfolding value_cmp
-cmp-key (int a) (int b) = then-equal (int_cmp a b)
+cmp-key (integer a) (integer b) = then-equal (int_cmp a b)
 cmp-key (text a) (text b) = text-cmp a b
-cmp-key (bool true) (bool true) = refl
-cmp-key (bool true) (bool false) = refl
-cmp-key (bool false) (bool true) = refl
-cmp-key (bool false) (bool false) = refl
+cmp-key (boolean true) (boolean true) = refl
+cmp-key (boolean true) (boolean false) = refl
+cmp-key (boolean false) (boolean true) = refl
+cmp-key (boolean false) (boolean false) = refl
 cmp-key (date y m d) (date z n e) = rw (pos-cmp m n, pos-cmp d e, ← then-equal (int_cmp (pos d) (pos e))) refl
+cmp-key (decimal a) (decimal b) = then-equal (int_cmp a b)
 cmp-key null null = refl
-cmp-key null (bool true) = refl
-cmp-key null (bool false) = refl
-cmp-key (int a) (bool true) = refl
-cmp-key (int a) (bool false) = refl
-cmp-key (text a) (bool true) = refl
-cmp-key (text a) (bool false) = refl
-cmp-key (date y m d) (bool true) = refl
-cmp-key (date y m d) (bool false) = refl
-cmp-key (bool true) _ = refl
-cmp-key (bool false) _ = refl
+cmp-key null (boolean true) = refl
+cmp-key null (boolean false) = refl
+cmp-key (integer a) (boolean true) = refl
+cmp-key (integer a) (boolean false) = refl
+cmp-key (text a) (boolean true) = refl
+cmp-key (text a) (boolean false) = refl
+cmp-key (date y m d) (boolean true) = refl
+cmp-key (date y m d) (boolean false) = refl
+cmp-key (decimal a) (boolean true) = refl
+cmp-key (decimal a) (boolean false) = refl
+cmp-key (boolean true) _ = refl
+cmp-key (boolean false) _ = refl
 cmp-key _ _ = refl
 
 keys_total : IsTotalOrder (λ (a b : CellValue). slice_cmp int_cmp (key a) (key b))
@@ -152,23 +158,26 @@ map_pos_injective (x ∷ xs) (y ∷ ys) e =
 
 key_injective : (a b : CellValue) → key a ≡ key b → a ≡ b
 key_injective null null e = refl
-key_injective (int a) (int b) e = cc
+key_injective (integer a) (integer b) e = cc
+key_injective (decimal a) (decimal b) e = cc
 key_injective (text s) (text t) e = let tail : map pos s ≡ map pos t = cc in ap text (map_pos_injective s t tail)
-key_injective (bool true) (bool true) e = refl
-key_injective (bool false) (bool false) e = refl
-key_injective (bool true) (bool false) e = cc
-key_injective (bool false) (bool true) e = cc
+key_injective (boolean true) (boolean true) e = refl
+key_injective (boolean false) (boolean false) e = refl
+key_injective (boolean true) (boolean false) e = cc
+key_injective (boolean false) (boolean true) e = cc
 key_injective (date y m d) (date z n f) e = cc
-key_injective null (bool true) e = cc
-key_injective null (bool false) e = cc
-key_injective (int a) (bool true) e = cc
-key_injective (int a) (bool false) e = cc
-key_injective (text a) (bool true) e = cc
-key_injective (text a) (bool false) e = cc
-key_injective (date y m d) (bool true) e = cc
-key_injective (date y m d) (bool false) e = cc
-key_injective (bool true) _ e = cc
-key_injective (bool false) _ e = cc
+key_injective null (boolean true) e = cc
+key_injective null (boolean false) e = cc
+key_injective (integer a) (boolean true) e = cc
+key_injective (integer a) (boolean false) e = cc
+key_injective (text a) (boolean true) e = cc
+key_injective (text a) (boolean false) e = cc
+key_injective (date y m d) (boolean true) e = cc
+key_injective (date y m d) (boolean false) e = cc
+key_injective (decimal a) (boolean true) e = cc
+key_injective (decimal a) (boolean false) e = cc
+key_injective (boolean true) _ e = cc
+key_injective (boolean false) _ e = cc
 key_injective _ _ e = cc
 
 pub value_cmp-Equal : (a b : CellValue) → value_cmp a b ≡ Equal → a ≡ b
@@ -193,12 +202,13 @@ nat-is_eq m n = grind (arith, nat_tests)
 eq-cmp : (a b : CellValue) → value_eq a b ≡ is_eq (value_cmp a b)
 unfolding value_eq value_cmp
 eq-cmp null null = refl
-eq-cmp (int a) (int b) = refl
+eq-cmp (integer a) (integer b) = refl
+eq-cmp (decimal a) (decimal b) = refl
 eq-cmp (text s) (text t) = sym (is_eq-slice_cmp s t)
-eq-cmp (bool true) (bool true) = refl
-eq-cmp (bool false) (bool false) = refl
-eq-cmp (bool true) (bool false) = refl
-eq-cmp (bool false) (bool true) = refl
+eq-cmp (boolean true) (boolean true) = refl
+eq-cmp (boolean false) (boolean false) = refl
+eq-cmp (boolean true) (boolean false) = refl
+eq-cmp (boolean false) (boolean true) = refl
 eq-cmp (date y m d) (date z n e) =
     ap (λ p. int_eq y z && p && (d == e)) (nat-is_eq m n) ∙ ap (λ p. int_eq y z && is_eq (nat_cmp m n) && p) (nat-is_eq d e)
     ∙ is_eq-then (int_cmp y z) (nat_cmp m n) (nat_cmp d e)

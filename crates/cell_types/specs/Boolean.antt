@@ -4,10 +4,10 @@ use Rattle.std.specs.List.{list_any}
 use Rattle.std.specs.Str.{bytes_eq}
 use Rattle.cell_types.specs.declared.cell.CellFault.{CellFault}
 use Rattle.cell_types.specs.declared.cell.CellFault.TheVariants.{NotBoolean}
-use Rattle.cell_types.specs.Value.{CellValue, bool}
+use Rattle.cell_types.specs.Value.{CellValue, boolean}
 
 -- true where the text is among those of true, false where it is among those of false
 abbrev pub boolean_of : List (List ℕ) → List (List ℕ) → List ℕ → Result CellValue CellFault
 boolean_of of_true of_false bytes =
-    if list_any (λ other. bytes_eq other bytes) of_true then Ok (bool true)
-    else (if list_any (λ other. bytes_eq other bytes) of_false then Ok (bool false) else Err NotBoolean)
+    if list_any (λ other. bytes_eq other bytes) of_true then Ok (boolean true)
+    else (if list_any (λ other. bytes_eq other bytes) of_false then Ok (boolean false) else Err NotBoolean)

@@ -3,19 +3,21 @@ use Rattle.std.specs.Prelude.{◌≡◌, ◌≢◌, ℕ, Bool, false, List, ◌=
 use Rattle.std.specs.List.{list_any}
 use Rattle.std.specs.Str.{bytes_eq}
 use Rattle.cell_types.specs.declared.cell.CellFault.{CellFault}
-use Rattle.cell_types.specs.declared.cell.CellFault.TheVariants.{NotInteger, OutOfRange, NotBoolean, NotDate, Missing, NoMemory}
+use Rattle.cell_types.specs.declared.cell.CellFault.TheVariants.{NotInteger, OutOfRange, NotBoolean, NotDate, Missing, NotDecimal, TooFine, NoMemory}
 use Rattle.cell_types.specs.declared.value.Value.{Value}
 use Rattle.cell_types.specs.Column.{ColumnOf}
-use Rattle.cell_types.specs.Datatype.{DatatypeOf, integer, string, boolean, date}
+use Rattle.cell_types.specs.Datatype as datatype
+use Rattle.cell_types.specs.Datatype.{DatatypeOf}
 use Rattle.cell_types.specs.Value.{CellValue, null, text, value_view}
 use Rattle.cell_types.specs.WhiteSpace.{normal_text}
 use Rattle.cell_types.specs.Integer.{integer_of}
 use Rattle.cell_types.specs.Boolean.{boolean_of}
 use Rattle.cell_types.specs.Date.{date_of}
+use Rattle.cell_types.specs.Decimal.{decimal_of}
 
 -- the text of a cell that a datatype reads: of `string` as it stands, else normalized
 abbrev pub content_of : DatatypeOf → List ℕ → List ℕ
-content_of string bytes = bytes
+content_of datatype.text bytes = bytes
 content_of _ bytes = normal_text bytes
 
 -- the default takes the place of an empty text
@@ -28,10 +30,11 @@ is_null_text column bytes = list_any (λ null_text. bytes_eq null_text bytes) co
 
 -- what a datatype reads a text as
 abbrev pub typed_value : DatatypeOf → List ℕ → Result CellValue CellFault
-typed_value integer bytes = integer_of bytes
-typed_value string bytes = Ok (text bytes)
-typed_value (boolean of_true of_false) bytes = boolean_of of_true of_false bytes
-typed_value (date form) bytes = date_of form bytes
+typed_value datatype.integer bytes = integer_of bytes
+typed_value datatype.text bytes = Ok (text bytes)
+typed_value (datatype.boolean of_true of_false) bytes = boolean_of of_true of_false bytes
+typed_value (datatype.date form) bytes = date_of form bytes
+typed_value datatype.decimal bytes = decimal_of bytes
 
 -- what a null is: no value is missing where the column does not require one
 abbrev pub null_reading : ColumnOf → Result CellValue CellFault
@@ -49,7 +52,7 @@ value_of column bytes = content_value column (content_of column.datatype bytes)
 -- a text is copied: an empty `string` where a default that is neither empty nor null takes its place, and a text of another
 -- datatype that is not normal
 abbrev pub IsCopied : DatatypeOf → ColumnOf → List ℕ → Type 0
-IsCopied string column bytes = (length bytes ≡ 0) × (0 < length column.default) × (is_null_text column column.default ≡ false)
+IsCopied datatype.text column bytes = (length bytes ≡ 0) × (0 < length column.default) × (is_null_text column column.default ≡ false)
 IsCopied _ column bytes = normal_text bytes ≢ bytes
 
 -- memory is needed for a text of a column only where it is copied
@@ -68,4 +71,6 @@ cell_fault_name OutOfRange = codes "OutOfRange"
 cell_fault_name NotBoolean = codes "NotBoolean"
 cell_fault_name NotDate = codes "NotDate"
 cell_fault_name Missing = codes "Missing"
+cell_fault_name NotDecimal = codes "NotDecimal"
+cell_fault_name TooFine = codes "TooFine"
 cell_fault_name NoMemory = codes "NoMemory"

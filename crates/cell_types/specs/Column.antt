@@ -1,7 +1,7 @@
 -- What a column says of its cells (Metadata Vocabulary for Tabular Data, sections 5.6 and 5.7).
 use Rattle.std.specs.Prelude.{ℕ, Bool, ◌&&◌, not, List, map, string_bytes}
 use Rattle.cell_types.specs.declared.column.Column.{Column}
-use Rattle.cell_types.specs.Datatype.{DatatypeOf, datatype_view, is_string}
+use Rattle.cell_types.specs.Datatype.{DatatypeOf, datatype_view, is_text}
 
 pub record ColumnOf : Type 0 where
   pub name : List ℕ
@@ -23,4 +23,4 @@ column_view column = record {
 
 -- each text has a value: it is read as it stands, and may be null
 abbrev pub takes_all_texts : ColumnOf → Bool
-takes_all_texts column = is_string column.datatype && not column.required
+takes_all_texts column = is_text column.datatype && not column.required

@@ -5,14 +5,15 @@ use Rattle.cell_types.specs.declared.datatype.BooleanForm.TheVariants.{Standard,
 use Rattle.cell_types.specs.declared.datatype.DateForm.{DateForm}
 use Rattle.cell_types.specs.declared.datatype.DateForm.TheVariants.{YearMonthDay, Compact, DayMonthYear, MonthDayYear, Dotted}
 use Rattle.cell_types.specs.declared.datatype.Datatype.{Datatype}
-use Rattle.cell_types.specs.declared.datatype.Datatype.TheVariants.{Integer, Text, Boolean, Date}
+use Rattle.cell_types.specs.declared.datatype.Datatype.TheVariants.{Integer, Text, Boolean, Date, Decimal}
 
 -- a boolean has the texts of true and the texts of false
 pub data DatatypeOf : Type 0 where
   integer : DatatypeOf
-  string : DatatypeOf
+  text : DatatypeOf
   boolean : List (List ℕ) → List (List ℕ) → DatatypeOf
   date : DateForm → DatatypeOf
+  decimal : DatatypeOf
 
 -- without a format `true` and `1`, `false` and `0`; with a format `T|F` those two texts alone
 abbrev pub boolean_view : BooleanForm → DatatypeOf
@@ -21,13 +22,14 @@ boolean_view (Texts of_true of_false) = boolean (string_bytes of_true ∷ []) (s
 
 abbrev pub datatype_view : Datatype → DatatypeOf
 datatype_view Integer = integer
-datatype_view Text = string
+datatype_view Text = text
 datatype_view (Boolean form) = boolean_view form
 datatype_view (Date form) = date form
+datatype_view Decimal = decimal
 
-abbrev pub is_string : DatatypeOf → Bool
-is_string string = true
-is_string _ = false
+abbrev pub is_text : DatatypeOf → Bool
+is_text text = true
+is_text _ = false
 
 -- the pattern of a form, in the letters of Unicode Technical Standard 35
 abbrev pub pattern_of : DateForm → List ℕ

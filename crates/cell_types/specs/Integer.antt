@@ -4,7 +4,7 @@ use Rattle.std.specs.Str.{all_ascii_digits}
 use Rattle.std.specs.Str.Parse.{signed_digits_value, without_leading_sign}
 use Rattle.cell_types.specs.declared.cell.CellFault.{CellFault}
 use Rattle.cell_types.specs.declared.cell.CellFault.TheVariants.{NotInteger, OutOfRange}
-use Rattle.cell_types.specs.Value.{CellValue, int}
+use Rattle.cell_types.specs.Value.{CellValue, integer}
 
 -- an optional sign, then one or more digits
 abbrev pub is_integer : List ℕ → Bool
@@ -18,4 +18,4 @@ fits_64_bits (negsuc n) = nat_lt n (2 ^ 63)
 -- the number that the digits say, with its sign
 unfoldable pub integer_of : List ℕ → Result CellValue CellFault
 integer_of bytes = let number = signed_digits_value 10 bytes in
-    if is_integer bytes then (if fits_64_bits number then Ok (int number) else Err OutOfRange) else Err NotInteger
+    if is_integer bytes then (if fits_64_bits number then Ok (integer number) else Err OutOfRange) else Err NotInteger

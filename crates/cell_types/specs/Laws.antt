@@ -1,9 +1,12 @@
 -- What holds of all texts and values.
 use Rattle.std.specs.Prelude.{◌≡◌, ◌≢◌, ◌↔◌, ℕ, ℤ, List, ◌+◌, ◌<◌, true, false, pos, IsTrue, Ok, Err, length, slice_index}
 use Rattle.std.specs.Cmp.{IsTotalOrder}
+use Rattle.std.specs.Cmp.Lexicographic.{slice_cmp}
 use Rattle.std.specs.Fmt.{signed_decimal}
 use Rattle.std.specs.Int.{w64}
 use Rattle.std.specs.Int.RustNames.{FitsSigned}
+use Rattle.std.specs.Ordering.{nat_cmp}
+use Rattle.std.specs.Str.{IsUtf8, chars}
 use Rattle.std.specs.declared.cmp.Ordering.TheVariants.{Equal, Less}
 use Rattle.jiff.specs.Words.{IsDate}
 use Rattle.cell_types.specs.declared.cell.CellFault.TheVariants.{NoMemory}
@@ -13,11 +16,12 @@ use Rattle.cell_types.specs.Column.{ColumnOf, takes_all_texts}
 use Rattle.cell_types.specs.Datatype as datatype
 use Rattle.cell_types.specs.Datatype.{DatatypeOf}
 use Rattle.cell_types.specs.Date.{IsDateText, date_of, date_text, is_date}
+use Rattle.cell_types.specs.Decimal.{decimal_of, decimal_text}
 use Rattle.cell_types.specs.Integer.{integer_of}
-use Rattle.cell_types.specs.Value.{CellValue, bool, date, int, null, text, value_cmp, value_eq}
+use Rattle.cell_types.specs.Value.{CellValue, boolean, date, decimal, integer, null, text, value_cmp, value_eq}
 use Rattle.cell_types.specs.WhiteSpace.{is_white, normal_text, words}
 
--- a text in a column has a value or one of five causes: want of memory is none of them
+-- a text in a column has a value or one of seven causes: want of memory is none of them
 abbrev pub MemoryIsNoCause : Type 0
 MemoryIsNoCause = (column : ColumnOf) (bytes : List ℕ) → value_of column bytes ≢ Err NoMemory
 
@@ -35,14 +39,19 @@ pub record NormalTexts : Type 0 where
 
 -- the text of each integer of 64 signed bits reads as that integer, and no text as another one
 pub record IntegersReadBack : Type 0 where
-  pub back : (z : ℤ) → FitsSigned w64 z → integer_of (signed_decimal z) ≡ Ok (int z)
-  pub only : (bytes : List ℕ) (v : CellValue) → integer_of bytes ≡ Ok v → (z : ℤ) × FitsSigned w64 z × (v ≡ int z)
+  pub back : (z : ℤ) → FitsSigned w64 z → integer_of (signed_decimal z) ≡ Ok (integer z)
+  pub only : (bytes : List ℕ) (v : CellValue) → integer_of bytes ≡ Ok v → (z : ℤ) × FitsSigned w64 z × (v ≡ integer z)
 
 -- in each form a text reads as a date just where it is that date's text; the dates are the calendar's days of the years 1 to 9999
 pub record DatesReadBack : Type 0 where
   pub back : (form : DateForm) (y m d : ℕ) → is_date y m d ≡ true → date_of form (date_text form y m d) ≡ Ok (date (pos y) m d)
   pub only : (form : DateForm) (bytes : List ℕ) (v : CellValue) → date_of form bytes ≡ Ok v → (y : ℕ) × (m : ℕ) × (d : ℕ) × IsDateText form bytes y m d × (v ≡ date (pos y) m d)
   pub calendar : (y m d : ℕ) → (is_date y m d ≡ true) ↔ ((0 < y) × IsDate (pos y) (pos m) (pos d))
+
+-- the text of each number of millionths of 64 signed bits reads as that decimal, and no text as another one
+pub record DecimalsReadBack : Type 0 where
+  pub back : (z : ℤ) → FitsSigned w64 z → decimal_of (decimal_text z) ≡ Ok (decimal z)
+  pub only : (bytes : List ℕ) (v : CellValue) → decimal_of bytes ≡ Ok v → (z : ℤ) × FitsSigned w64 z × (v ≡ decimal z)
 
 -- values are one where they are equal, the order of values is total, and null comes before all others
 pub record ValuesAreOrdered : Type 0 where
@@ -51,12 +60,19 @@ pub record ValuesAreOrdered : Type 0 where
   pub same : (a b : CellValue) → value_cmp a b ≡ Equal → a ≡ b
   pub null_first : (a : CellValue) → a ≢ null → value_cmp null a ≡ Less
 
--- a value of a datatype: an integer of 64 signed bits, a text, a truth value, a day of the calendar in the years 1 to 9999
+-- texts are in the order of their code points: the first character in which two texts differ decides, and their bytes in UTF-8 tell
+-- no other order
+abbrev pub TextsAreInOrder : Type 0
+TextsAreInOrder = (s t : List ℕ) → IsUtf8 s → IsUtf8 t → value_cmp (text s) (text t) ≡ slice_cmp nat_cmp (chars s) (chars t)
+
+-- a value of a datatype: an integer of 64 signed bits, a text, a truth value, a day of the calendar in the years 1 to 9999, millionths of
+-- 64 signed bits
 abbrev pub IsOfDatatype : DatatypeOf → CellValue → Type 0
-IsOfDatatype datatype.integer (int z) = FitsSigned w64 z
-IsOfDatatype datatype.string (text t) = Unit {0}
-IsOfDatatype (datatype.boolean of_true of_false) (bool b) = Unit {0}
+IsOfDatatype datatype.integer (integer z) = FitsSigned w64 z
+IsOfDatatype datatype.text (text t) = Unit {0}
+IsOfDatatype (datatype.boolean of_true of_false) (boolean b) = Unit {0}
 IsOfDatatype (datatype.date form) (date year month day) = (y : ℕ) × (year ≡ pos y) × (is_date y month day ≡ true)
+IsOfDatatype datatype.decimal (decimal z) = FitsSigned w64 z
 IsOfDatatype _ _ = ⊥
 
 -- a value that a column may have: null where it does not require one, or a value of its datatype

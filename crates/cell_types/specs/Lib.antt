@@ -5,5 +5,6 @@ pub mod WhiteSpace
 pub mod Integer
 pub mod Boolean
 pub mod Date
+pub mod Decimal
 pub mod Cell
 pub mod Laws

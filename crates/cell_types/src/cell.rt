@@ -3,7 +3,8 @@ ghost use Rattle.std.specs.Prelude.{◌≡◌, ◌⊎◌, ◌≢◌, ◌<◌, Ok
 ghost use Rattle.std.specs.List.{list_any};
 ghost use Rattle.std.specs.Str.{bytes_eq};
 ghost use Rattle.std.specs.Cow.{cow_str_bytes};
-ghost use Rattle.cell_types.specs.Datatype.{datatype_view, string};
+ghost use Rattle.cell_types.specs.Datatype as datatype;
+ghost use Rattle.cell_types.specs.Datatype.{datatype_view};
 ghost use Rattle.cell_types.specs.Column.{column_view};
 ghost use Rattle.cell_types.specs.Value.{value_view, text as text_value};
 ghost use Rattle.cell_types.specs.Cell.{NeedsMemory, cell_fault_name, content_value, is_null_text as is_null_text_of, null_reading, reading_view, text_or_default as text_or_default_of, value_of};
@@ -12,6 +13,7 @@ use crate::boolean::read_boolean;
 use crate::column::Column;
 use crate::datatype::Datatype;
 use crate::date::read_date;
+use crate::decimal::read_decimal;
 use crate::integer::read_integer;
 use crate::value::Value;
 use crate::white_space::{is_normal, normal_copy};
@@ -23,7 +25,7 @@ use std::borrow::CowStr;
 pub enum CellFault {
     /// The text of an integer is not an optional sign and one or more digits.
     NotInteger,
-    /// An integer does not fit 64 signed bits.
+    /// An integer, or the number of a decimal's millionths, does not fit 64 signed bits.
     OutOfRange,
     /// The text of a boolean is none of those of true and false.
     NotBoolean,
@@ -31,6 +33,10 @@ pub enum CellFault {
     NotDate,
     /// The value is null, and the column requires one.
     Missing,
+    /// The text of a decimal is not an optional sign and digits with at most one point before, among or behind them.
+    NotDecimal,
+    /// A decimal has a digit other than 0 behind the sixth decimal place.
+    TooFine,
     /// Memory ran out.
     NoMemory,
 }
@@ -46,6 +52,8 @@ impl CellFault {
             CellFault::NotBoolean => "NotBoolean",
             CellFault::NotDate => "NotDate",
             CellFault::Missing => "Missing",
+            CellFault::NotDecimal => "NotDecimal",
+            CellFault::TooFine => "TooFine",
             CellFault::NoMemory => "NoMemory",
         }
     }
@@ -89,10 +97,13 @@ fn text_or_default<'a>(column: &'a Column, text: &'a str) -> &'a str
 
 /// The value of a text in a column of texts. Memory is taken only where a default that is no null stands in for an empty text.
 fn read_string<'a>(alloc: Global, column: &Column, text: CowStr<'a>) -> Result<Value<'a>, CellFault>
-    requires { datatype_view column.now.datatype ≡ string }
-    ensures value { IfOk result (λ value. content_value (column_view column.now) (cow_str_bytes text.entry) ≡ Ok (value_view value)) }
-    ensures fault { IfErr result (λ e. (e ≡ CellFault.NoMemory) ⊎ (content_value (column_view column.now) (cow_str_bytes text.entry) ≡ Err e)) }
-    ensures memory { IsErrOf result CellFault.NoMemory → NeedsMemory (column_view column.now) (cow_str_bytes text.entry) }
+    requires { datatype_view column.now.datatype ≡ datatype.text }
+    ensures value { IfOk result (λ value.
+        content_value (column_view column.now) (cow_str_bytes text.entry) ≡ Ok (value_view value)) }
+    ensures fault { IfErr result (λ e. (e ≡ CellFault.NoMemory)
+        ⊎ (content_value (column_view column.now) (cow_str_bytes text.entry) ≡ Err e)) }
+    ensures memory { IsErrOf result CellFault.NoMemory
+        → NeedsMemory (column_view column.now) (cow_str_bytes text.entry) }
 {
     if is_null_text(column, text_or_default(column, text.as_str())) {
         return null_value(column);
@@ -108,7 +119,7 @@ fn read_string<'a>(alloc: Global, column: &Column, text: CowStr<'a>) -> Result<V
 
 /// The value of a normal text in a column of another datatype.
 fn read_content<'a>(column: &Column, text: &str) -> Result<Value<'a>, CellFault>
-    requires { datatype_view column.now.datatype ≢ string }
+    requires { datatype_view column.now.datatype ≢ datatype.text }
     ensures { reading_view result ≡ content_value (column_view column.now) text.now }
 {
     let content = text_or_default(column, text);
@@ -119,6 +130,7 @@ fn read_content<'a>(column: &Column, text: &str) -> Result<Value<'a>, CellFault>
         Datatype::Integer => read_integer(content),
         Datatype::Boolean(form) => read_boolean(form, content),
         Datatype::Date(form) => read_date(*form, content),
+        Datatype::Decimal => read_decimal(content),
         Datatype::Text => unreachable!(),
     }
 }
@@ -130,9 +142,12 @@ pub fn read_text<'a>(
     column: &Column,
     text: CowStr<'a>,
 ) -> Result<Value<'a>, CellFault>
-    ensures value { IfOk result (λ value. value_of (column_view column.now) (cow_str_bytes text.entry) ≡ Ok (value_view value)) }
-    ensures fault { IfErr result (λ e. (e ≡ CellFault.NoMemory) ⊎ (value_of (column_view column.now) (cow_str_bytes text.entry) ≡ Err e)) }
-    ensures memory { IsErrOf result CellFault.NoMemory → NeedsMemory (column_view column.now) (cow_str_bytes text.entry) }
+    ensures value { IfOk result (λ value.
+        value_of (column_view column.now) (cow_str_bytes text.entry) ≡ Ok (value_view value)) }
+    ensures fault { IfErr result (λ e. (e ≡ CellFault.NoMemory)
+        ⊎ (value_of (column_view column.now) (cow_str_bytes text.entry) ≡ Err e)) }
+    ensures memory { IsErrOf result CellFault.NoMemory
+        → NeedsMemory (column_view column.now) (cow_str_bytes text.entry) }
 {
     if matches!(column.datatype, Datatype::Text) {
         return read_string(alloc, column, text);
@@ -148,9 +163,12 @@ pub fn read_text<'a>(
 
 /// [`read_text`] of a borrowed text.
 pub fn read_cell<'a>(alloc: Global, column: &Column, text: &'a str) -> Result<Value<'a>, CellFault>
-    ensures value { IfOk result (λ value. value_of (column_view column.now) text.now ≡ Ok (value_view value)) }
-    ensures fault { IfErr result (λ e. (e ≡ CellFault.NoMemory) ⊎ (value_of (column_view column.now) text.now ≡ Err e)) }
-    ensures memory { IsErrOf result CellFault.NoMemory → NeedsMemory (column_view column.now) text.now }
+    ensures value { IfOk result
+        (λ value. value_of (column_view column.now) text.now ≡ Ok (value_view value)) }
+    ensures fault { IfErr result (λ e. (e ≡ CellFault.NoMemory)
+        ⊎ (value_of (column_view column.now) text.now ≡ Err e)) }
+    ensures memory { IsErrOf result CellFault.NoMemory
+        → NeedsMemory (column_view column.now) text.now }
 {
     read_text(alloc, column, CowStr::Borrowed(text))
 }

@@ -5,7 +5,7 @@ ghost use Rattle.cell_types.specs.Column.{column_view, takes_all_texts as takes_
 use crate::datatype::Datatype;
 
 /// A column (Metadata Vocabulary for Tabular Data, section 5.6) and what it inherits (section 5.7).
-#[derive(Debug, Drop)]
+#[derive(Drop)]
 pub struct Column {
     /// The name of its values in a reply, 1 to 128 characters.
     pub name: String,

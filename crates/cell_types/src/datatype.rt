@@ -4,7 +4,7 @@ ghost use Rattle.cell_types.specs.declared.datatype.DateForm.{DateForm};
 ghost use Rattle.cell_types.specs.Datatype.{pattern_of};
 
 /// The texts of the truth values.
-#[derive(Debug, PartialEq, Eq, Drop)]
+#[derive(PartialEq, Eq, Drop)]
 pub enum BooleanForm {
     /// `true` or `1`, and `false` or `0`.
     Standard,
@@ -13,7 +13,7 @@ pub enum BooleanForm {
 }
 
 /// How dates are written, in the letters of Unicode Technical Standard 35.
-#[derive(Clone, Copy, Debug, PartialEq, Eq)]
+#[derive(Clone, Copy, PartialEq, Eq)]
 pub enum DateForm {
     /// `yyyy-MM-dd`
     YearMonthDay,
@@ -30,7 +30,8 @@ pub enum DateForm {
 impl DateForm {
     /// The form of a pattern, of these five.
     pub fn of_pattern(pattern: &str) -> Option<DateForm>
-        ensures { MatchOption result ((form : DateForm) → pattern_of form ≢ pattern.now) (λ form. pattern_of form ≡ pattern.now) }
+        ensures { MatchOption result ((form : DateForm) → pattern_of form ≢ pattern.now)
+            (λ form. pattern_of form ≡ pattern.now) }
     {
         match pattern {
             "yyyy-MM-dd" => Some(DateForm::YearMonthDay),
@@ -44,7 +45,7 @@ impl DateForm {
 }
 
 /// What the cells of a column are.
-#[derive(Debug, PartialEq, Eq, Drop)]
+#[derive(PartialEq, Eq, Drop)]
 pub enum Datatype {
     /// `integer`: a whole number of 64 signed bits.
     Integer,
@@ -54,4 +55,6 @@ pub enum Datatype {
     Boolean(BooleanForm),
     /// `date`: a day of the years 1 to 9999, in no time zone.
     Date(DateForm),
+    /// `decimal`: a whole number of millionths of 64 signed bits.
+    Decimal,
 }

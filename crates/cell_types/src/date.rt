@@ -11,7 +11,8 @@ use jiff::civil::Date;
 
 /// The digits of the year, the month and the day in a text of a form.
 fn parts(form: DateForm, text: &[u8]) -> Option<([u8; 4], [u8; 2], [u8; 2])>
-    ensures { MatchOption result (HasNoParts form text.now) (λ p. HasParts form text.now p.0 p.1 p.2) }
+    ensures { MatchOption result (HasNoParts form text.now)
+        (λ p. HasParts form text.now p.0 p.1 p.2) }
 {
     match (form, text) {
         (DateForm::YearMonthDay, &[a, b, c, d, b'-', m, n, b'-', x, y])
@@ -29,7 +30,8 @@ fn parts(form: DateForm, text: &[u8]) -> Option<([u8; 4], [u8; 2], [u8; 2])>
 
 /// The number that two digits write.
 fn two_digit_number(digits: [u8; 2]) -> Option<u8>
-    ensures { MatchOption result ((n : ℕ) → n < 100 → digits ≢ two_digits n) (λ n. (n < 100) × (digits ≡ two_digits n)) }
+    ensures { MatchOption result ((n : ℕ) → n < 100 → digits ≢ two_digits n) (λ n. (n < 100)
+        × (digits ≡ two_digits n)) }
 {
     let [tens, ones] = digits;
     if tens.is_ascii_digit() && ones.is_ascii_digit() {
@@ -41,7 +43,8 @@ fn two_digit_number(digits: [u8; 2]) -> Option<u8>
 
 /// The number that four digits write.
 fn four_digit_number(digits: [u8; 4]) -> Option<u16>
-    ensures { MatchOption result ((n : ℕ) → n < 10_000 → digits ≢ four_digits n) (λ n. (n < 10_000) × (digits ≡ four_digits n)) }
+    ensures { MatchOption result ((n : ℕ) → n < 10_000 → digits ≢ four_digits n) (λ n. (n < 10_000)
+        × (digits ≡ four_digits n)) }
 {
     let [a, b, c, d] = digits;
     let hundreds = two_digit_number([a, b])?;
@@ -51,7 +54,8 @@ fn four_digit_number(digits: [u8; 4]) -> Option<u16>
 
 /// The year, the month and the day that a text writes in a form, whether the calendar has them or not.
 fn numbers(form: DateForm, text: &[u8]) -> Option<(u16, u8, u8)>
-    ensures { MatchOption result (HasNoNumbers form text.now) (λ p. HasNumbers form text.now p.0 p.1 p.2) }
+    ensures { MatchOption result (HasNoNumbers form text.now)
+        (λ p. HasNumbers form text.now p.0 p.1 p.2) }
 {
     let (year, month, day) = parts(form, text)?;
     let year = four_digit_number(year)?;
@@ -62,7 +66,8 @@ fn numbers(form: DateForm, text: &[u8]) -> Option<(u16, u8, u8)>
 
 /// The day that a text writes in a form.
 fn date_in(form: DateForm, text: &str) -> Option<Date>
-    ensures { MatchOption result (HasNoDate form text.now) (λ date. HasDate form text.now date.year date.month date.day) }
+    ensures { MatchOption result (HasNoDate form text.now)
+        (λ date. HasDate form text.now date.year date.month date.day) }
 {
     let (year, month, day) = numbers(form, text.as_bytes())?;
     if year == 0 {

@@ -10,7 +10,7 @@ use crate::cell::CellFault;
 use crate::value::Value;
 
 /// A text without its sign.
-fn without_sign(text: &[u8]) -> &[u8]
+pub fn without_sign(text: &[u8]) -> &[u8]
     ensures { result.now ≡ without_leading_sign text.now }
 {
     match text {
@@ -20,7 +20,7 @@ fn without_sign(text: &[u8]) -> &[u8]
 }
 
 /// Whether each byte is a digit.
-fn are_digits(text: &[u8]) -> bool
+pub fn are_digits(text: &[u8]) -> bool
     ensures { result ≡ list_all is_ascii_digit text.now }
 {
     text.iter().all(|byte| byte.is_ascii_digit())

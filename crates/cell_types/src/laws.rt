@@ -1,10 +1,11 @@
 //! The laws of the definitions of cells: each function is a theorem, and does nothing.
 ghost use Rattle.std.specs.Prelude.{◌≡◌};
 ghost use Rattle.cell_types.specs.declared.value.Value.{Value};
-ghost use Rattle.cell_types.specs.Laws.{DatesReadBack, IntegersReadBack, MemoryIsNoCause, NormalTexts, StringsHaveValues, ValuesAreOrdered, ValuesFitColumns};
+ghost use Rattle.cell_types.specs.Laws.{DatesReadBack, DecimalsReadBack, IntegersReadBack, MemoryIsNoCause, NormalTexts, StringsHaveValues, TextsAreInOrder, ValuesAreOrdered, ValuesFitColumns};
 ghost use Rattle.cell_types.specs.Value.{value_cmp, value_eq, value_view};
 
 use crate::value::Value as CellValue;
+use std::hash::Hash;
 
 /// A text in a column has a value, or one of five causes why it has none.
 pub fn memory_is_no_cause()
@@ -36,13 +37,27 @@ pub fn dates_read_back()
     ensures { DatesReadBack }
 {}
 
+/// The text of a decimal reads as that decimal.
+pub fn decimals_read_back()
+    ensures { DecimalsReadBack }
+{}
+
 /// Values are in one order, with null first.
 pub fn values_are_ordered()
     ensures { ValuesAreOrdered }
 {}
 
-/// `==` and the order of values are those of what they stand for, whichever memory keeps their texts.
+/// Texts are in the order of their code points, which is that of their bytes in UTF-8.
+pub fn texts_are_in_order()
+    ensures { TextsAreInOrder }
+{}
+
+/// `==`, the order and the hash of values go by what they stand for, whichever memory keeps their texts.
 pub fn values_compare_as_their_views()
-    ensures equal { (v w : Value) → ⟦<CellValue<'static> as PartialEq>⟧.eq v w ≡ value_eq (value_view v) (value_view w) }
-    ensures order { (v w : Value) → ⟦<CellValue<'static> as Ord>⟧.cmp v w ≡ value_cmp (value_view v) (value_view w) }
+    ensures equal { (v w : Value)
+        → ⟦<CellValue<'static> as PartialEq>⟧.eq v w ≡ value_eq (value_view v) (value_view w) }
+    ensures order { (v w : Value)
+        → ⟦<CellValue<'static> as Ord>⟧.cmp v w ≡ value_cmp (value_view v) (value_view w) }
+    ensures hash { (v w : Value) → value_view v ≡ value_view w
+        → ⟦<CellValue<'static> as Hash>⟧.hash_input v ≡ ⟦<CellValue<'static> as Hash>⟧.hash_input w }
 {}

@@ -7,6 +7,7 @@ mod cell;
 mod column;
 mod datatype;
 mod date;
+mod decimal;
 mod integer;
 mod laws;
 mod value;
@@ -16,7 +17,8 @@ pub use cell::{CellFault, read_cell, read_text};
 pub use column::Column;
 pub use datatype::{BooleanForm, Datatype, DateForm};
 pub use laws::{
-    dates_read_back, integers_read_back, memory_is_no_cause, normal_texts, strings_have_values,
-    values_are_ordered, values_compare_as_their_views, values_fit_columns,
+    dates_read_back, decimals_read_back, integers_read_back, memory_is_no_cause, normal_texts,
+    strings_have_values, texts_are_in_order, values_are_ordered, values_compare_as_their_views,
+    values_fit_columns,
 };
 pub use value::Value;

@@ -3,13 +3,15 @@
 use jiff::civil::Date;
 use std::borrow::CowStr;
 
-/// The value of a cell. Null comes before all values, then integers, texts, truth values and dates; texts are in the order of their
-/// code points, whichever memory keeps them, and false comes before true.
-#[derive(Clone, Debug, PartialEq, Eq, PartialOrd, Ord, Hash, Drop)]
+/// The value of a cell. Null comes before all values, then integers, texts, truth values, dates and decimals; texts are in the order of
+/// their code points, whichever memory keeps them, and false comes before true.
+#[derive(Clone, PartialEq, Eq, PartialOrd, Ord, Hash, Drop)]
 pub enum Value<'a> {
     Null,
     Int(i128),
     Text(CowStr<'a>),
     Bool(bool),
     Date(Date),
+    /// In millionths.
+    Decimal(i128),
 }

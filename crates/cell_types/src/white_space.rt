@@ -53,7 +53,8 @@ fn word_len(text: &[u8]) -> usize
 
 /// The first word of a text, and what follows it.
 fn first_word(text: &str) -> Option<(&str, &str)>
-    ensures words { MatchOption result (words text.now ≡ []) (λ p. words text.now ≡ p.0.now ∷ words p.1.now) }
+    ensures words { MatchOption result (words text.now ≡ [])
+        (λ p. words text.now ≡ p.0.now ∷ words p.1.now) }
     ensures word { IfSome result (λ p. 0 < length p.0.now) }
     ensures rest { IfSome result (λ p. length p.1.now < length text.now) }
 {

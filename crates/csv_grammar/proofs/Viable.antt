@@ -1,17 +1,15 @@
 -- The fronts that a run passes are the viable ones; where a run stops, there the text's fault is.
-use Rattle.std.proofs.Common.{◌≡◌, ℕ, zero, suc, ◌+◌, ◌-◌, ◌<◌, ◌≤◌, List, [], ◌∷◌, ◌++◌, length, take, drop, Option, Some, None, refl, sym, ap, ◌∙◌, subst, append_assoc, arith, ◌==◌, true, false, eq-eqb, ne_eqb, inl, inr, ◌⊎◌, le_refl}
-use Rattle.std.specs.Prelude.{option_and_then, slice_index, IsTrue, ⊤}
-use Rattle.std.specs.List.{flat_map, AllByRecursion}
+use Rattle.std.proofs.Common.{◌≡◌, ℕ, zero, suc, ◌+◌, ◌<◌, ◌≤◌, List, [], ◌∷◌, ◌++◌, length, take, drop, Option, Some, None, refl, sym, ap, ◌∙◌, arith, eq-eqb, inl, inr, ◌⊎◌, le_refl}
+use Rattle.std.specs.Prelude.{option_and_then, slice_index}
 use Rattle.std.proofs.lemmas.Bool.{cases_lt}
-use Rattle.std.proofs.lemmas.List.{take_all, take-take, take-append-drop, length-take-le, length_push, get_or-take, get_or_push}
+use Rattle.std.proofs.lemmas.List.{take_all, take-take, take-append-drop}
 use Rattle.std.proofs.lemmas.Option.{none-some, same_Some}
-use Rattle.csv_grammar.specs.Bytes.{double_quote, carriage_return, line_feed}
-use Rattle.csv_grammar.specs.Records.{Field, Line, CsvText, is_plain, doubled, print_field, print_line, AreRecords, records_of}
-use Rattle.csv_grammar.specs.Faults.{Cause, bare_cr, stray_quote, after_quote, unfinished, IsViable, cause_at, HasFault}
-use Rattle.csv_grammar.proofs.ByteKinds.{Kind, a_quote, a_comma, a_return, a_feed, an_other, kind_of}
+use Rattle.csv_grammar.specs.Bytes.{double_quote, line_feed}
+use Rattle.csv_grammar.specs.Records.{Field, Line, CsvText, AreRecords, records_of}
+use Rattle.csv_grammar.specs.Faults.{Cause, unfinished, IsViable, cause_at, HasFault}
 use Rattle.csv_grammar.proofs.Machine.{Mode, start, plain, inside, closed, returned, Progress, initial, step, run, finish}
-use Rattle.csv_grammar.proofs.Runs.{progress_at, run_on, run_on_none, run_front, run_take_more, printed_fields, printed_mode, reached, written}
-use Rattle.csv_grammar.proofs.ReadsBack.{read_text, tests-from_plain}
+use Rattle.csv_grammar.proofs.Runs.{progress_at, run_on, run_on_none, run_front, run_take_more, written}
+use Rattle.csv_grammar.proofs.ReadsBack.{read_text}
 
 -- ---- texts with records
 
@@ -137,93 +135,6 @@ first_stop p (b ∷ bytes) none = on (λ r. first_stop r bytes) (step p b) refl
     on later (Some r) e =
         let rest = later r (sym (ap (option_and_then (λ q. run q bytes)) e) ∙ none) in
         (suc rest.0, rest.1, omega (arith, rest.2), ap (option_and_then (λ q. run q (take rest.0 bytes))) e ∙ rest.3, rest.4)
-
--- ---- the cause, by the mode
-
--- the cause of a stop in this mode; at the start and inside quotes there is none
-abbrev pub stuck_as : Mode → Cause
-stuck_as start = unfinished
-stuck_as (plain bytes last) = stray_quote
-stuck_as (inside content) = unfinished
-stuck_as (closed content) = after_quote
-stuck_as (returned field) = bare_cr
-
--- at which byte a mode stops
-abbrev Stops : Mode → ℕ → Type 0
-Stops start b = ⊥
-Stops (plain bytes last) b = b == double_quote ≡ true
-Stops (inside content) b = ⊥
-Stops (closed content) b = b == double_quote ≡ false
-Stops (returned field) b = ⊤
-
--- a mode stops at no other byte
-stops : (lines : List Line) (fields : List Field) (m : Mode) (b : ℕ) → Kind b → step (progress_at lines fields m) b ≡ None → Stops m b
-stops ls fs start b a_quote e = cc
-stops ls fs start b a_comma e = cc
-stops ls fs start b a_return e = cc
-stops ls fs start b a_feed e = cc
-stops ls fs start b (an_other _ q c x n) e = let h = rw (q, c, x, n) at e in cc
-stops ls fs (plain bytes last) b a_quote e = refl
-stops ls fs (plain bytes last) b a_comma e = cc
-stops ls fs (plain bytes last) b a_return e = cc
-stops ls fs (plain bytes last) b a_feed e = cc
-stops ls fs (plain bytes last) b (an_other _ q c x n) e = let h = rw (q, c, x, n) at e in cc
-stops ls fs (inside content) b a_quote e = cc
-stops ls fs (inside content) b a_comma e = cc
-stops ls fs (inside content) b a_return e = cc
-stops ls fs (inside content) b a_feed e = cc
-stops ls fs (inside content) b (an_other _ q c x n) e = let h = rw q at e in cc
-stops ls fs (closed content) b a_quote e = cc
-stops ls fs (closed content) b a_comma e = refl
-stops ls fs (closed content) b a_return e = refl
-stops ls fs (closed content) b a_feed e = refl
-stops ls fs (closed content) b (an_other _ q c x n) e = q
-stops ls fs (returned f) b kind e = tt
-
--- the byte before a place is the last that was read
-last_read : (bytes : List ℕ) (n : ℕ) (ls : List Line) (fs : List Field) (m : Mode) (front : List ℕ) (b : ℕ) → n ≤ length bytes
-    → run initial (take n bytes) ≡ Some (progress_at ls fs m) → printed_mode m ≡ front ++ b ∷ [] → slice_index bytes (n - 1) ≡ b
-last_read bytes n ls fs m front b within e mode =
-    let read : take n bytes ≡ passed ++ b ∷ [] = (reached (take n bytes) (progress_at ls fs m) e).1 ∙ rw mode (regroup (flat_map print_line ls) (printed_fields fs)) in
-    let long = sym (length_push passed b) ∙ (ap length (sym read) ∙ length-take-le n bytes within) in
-    sym (get_or-take n bytes (n - 1) 0 (omega (arith, long)))
-    ∙ (ap (λ bytes. slice_index bytes (n - 1)) read ∙ get_or_push passed b 0 (n - 1) (omega (arith, long)))
-  where
-    passed : List ℕ
-    passed = flat_map print_line ls ++ (printed_fields fs ++ front)
-
-    regroup : (l f : List ℕ) → l ++ (f ++ (front ++ b ∷ [])) ≡ (l ++ (f ++ front)) ++ b ∷ []
-    regroup l f = simp append_assoc
-
--- what holds of each item holds of the last
-all_last : {X : Type 0} (P : X → Type 0) (xs : List X) (x : X) → AllByRecursion P (xs ++ x ∷ []) → P x
-all_last P [] x all = all.0
-all_last P (y ∷ ys) x all = all_last P ys x all.1
-
--- the cause at a place where a run stops
-pub stuck_cause : (bytes : List ℕ) (n : ℕ) (p : Progress) → n < length bytes → run initial (take n bytes) ≡ Some p
-    → step p (slice_index bytes n) ≡ None → cause_at bytes n ≡ stuck_as p.mode
-stuck_cause bytes n p less e stop = on p.lines p.fields p.mode e (stops p.lines p.fields p.mode (slice_index bytes n) (kind_of (slice_index bytes n)) stop)
-  where
-    short : n == length bytes ≡ false
-    short = ne_eqb n (length bytes) (λ same. omega (arith, less, same))
-
-    on : (ls : List Line) (fs : List Field) (m : Mode) → run initial (take n bytes) ≡ Some (progress_at ls fs m) → Stops m (slice_index bytes n)
-        → cause_at bytes n ≡ stuck_as m
-    on ls fs start e s = absurd s
-    on ls fs (plain front b) e s =
-        let valid = all_last (λ a. IsTrue (is_plain a)) front b (reached (take n bytes) (progress_at ls fs (plain front b)) e).0.mode in
-        rw (short, last_read bytes n ls fs (plain front b) front b (omega (arith, less)) e refl, (tests-from_plain b valid).2, s) refl
-    on ls fs (inside content) e s = absurd s
-    on ls fs (closed content) e s =
-        rw (short, last_read bytes n ls fs (closed content) (double_quote ∷ doubled content) double_quote (omega (arith, less)) e refl, s) refl
-    on ls fs (returned f) e s =
-        rw (short, last_read bytes n ls fs (returned f) (print_field f) carriage_return (omega (arith, less)) e refl) refl
-
--- the fault at such a place, with its cause
-pub stuck_fault : (bytes : List ℕ) (n : ℕ) (p : Progress) → n < length bytes → run initial (take n bytes) ≡ Some p
-    → step p (slice_index bytes n) ≡ None → HasFault bytes n (stuck_as p.mode)
-stuck_fault bytes n p less e stop = subst (HasFault bytes n) (stuck_cause bytes n p less e stop) (stuck bytes n p less e stop)
 
 -- ---- at most one fault
 

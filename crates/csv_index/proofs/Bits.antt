@@ -181,11 +181,6 @@ pub roles_one : (sep eol i : ℕ) → mask_roles sep eol i 1 ≡ mask_role sep e
 unfolding mask_roles
 roles_one sep eol i = refl
 
-pub length-mask_roles : (sep eol i n : ℕ) → length (mask_roles sep eol i n) ≡ n
-unfolding mask_roles
-length-mask_roles sep eol i zero = refl
-length-mask_roles sep eol i (suc n) = ap suc (length-mask_roles sep eol (i + 1) n)
-
 -- a byte that ends a record is none that parts fields
 role_by_ends : (s e : ℕ) → s < 2 → e < 2 → cond (e == 1) record_end (cond (max s e == 1) separator inner) ≡ cond (e == 1) record_end (cond (s == 1) separator inner)
 role_by_ends zero zero hs he = refl

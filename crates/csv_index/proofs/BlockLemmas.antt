@@ -40,11 +40,6 @@ block_places-around at to (first ∷ blocks) (suc number) block is e =
     ap (λ l. set_places at first.ends 0 64 ++ l) (block_places-around (at + 64) to blocks number block is (omega arith))
     ∙ sym (append_assoc (set_places at first.ends 0 64) (block_places (at + 64) (take number blocks)) _)
 
-pub slice_get-within : {A : Type 0} (xs : List A) (n : ℕ) (x : A) → slice_get xs n ≡ Some x → n < length xs
-slice_get-within [] n x e = absurd (cc)
-slice_get-within (y ∷ xs) zero x e = omega arith
-slice_get-within (y ∷ xs) (suc n) x e = omega (arith, slice_get-within xs n x e)
-
 -- an element that is read by `get`
 pub slice_get-read : {A : Type 0} (xs : List A) (n : ℕ) (x : A) → n < length xs → x ≡ get_or xs n x → slice_get xs n ≡ Some x
 slice_get-read xs n x h e = slice_get-get_or xs n x h ∙ ap Some (sym e)

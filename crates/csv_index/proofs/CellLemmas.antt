@@ -1,15 +1,12 @@
 -- Where the fields of a table stand among the places.
 use Rattle.std.proofs.Common.{◌≡◌, ℕ, suc, zero, ◌+◌, ◌*◌, ◌<◌, ◌≤◌, List, [], ◌∷◌, ◌++◌, length, map, drop, subst, Some, add-one, refl, ap, ◌∙◌, sym, arith, true}
-use Rattle.std.proofs.Math.Seq.{drop-append-add}
 use Rattle.std.proofs.Math.Nat.{mul-le-mul}
-use Rattle.std.specs.List.{slice_get, slice_index, slice_range, flat_map, AllByRecursion}
-use Rattle.std.specs.Option.{option_map, option_and_then}
+use Rattle.std.specs.List.{slice_get, slice_index, slice_range, AllByRecursion}
+use Rattle.std.specs.Option.{option_map}
 use Rattle.std.proofs.lemmas.Option.{slice_get-map}
 use Rattle.std.specs.Str.{is_utf8}
-use Rattle.csv_grammar.specs.Records.{Field}
-use Rattle.csv_grammar.specs.Files.{HasWidth}
-use Rattle.csv_index.specs.Raw.{RawField, raw_of, raw_between}
-use Rattle.csv_index.specs.Index.{Places, cut, raws, start_at, Rise, AreAscii, FitsFile, IsIndexOf, cell_at}
+use Rattle.csv_index.specs.Raw.{raw_between}
+use Rattle.csv_index.specs.Index.{Places, cut, raws, start_at, Rise, AreAscii, FitsFile}
 
 -- what is in a list behind a front
 pub slice_get-behind : {A : Type 0} (xs ys : List A) (n k : ℕ) → n ≡ length xs + k → slice_get (xs ++ ys) n ≡ slice_get ys k
@@ -22,18 +19,6 @@ pub slice_get-front : {A : Type 0} (xs ys : List A) (k : ℕ) → k < length xs 
 slice_get-front [] ys k h = absurd (omega arith)
 slice_get-front (x ∷ xs) ys zero h = refl
 slice_get-front (x ∷ xs) ys (suc k) h = slice_get-front xs ys k (omega arith)
-
--- the fields of records of one width, one after another
-pub slice_get-records : (width : ℕ) (records : List (List Field)) (row col n : ℕ) → n ≡ row * width + col → AllByRecursion (HasWidth width) records → col < width
-    → slice_get (flat_map (λ fields. fields) records) n ≡ option_and_then (λ fields. slice_get fields col) (slice_get records row)
-slice_get-records width [] row col n e widths h = refl
-slice_get-records width (fields ∷ records) zero col n e widths h =
-    let same : n ≡ col = omega arith in
-    let within : col < length fields = omega (arith, widths.0) in
-    rw same (slice_get-front fields (flat_map (λ fields. fields) records) col within)
-slice_get-records width (fields ∷ records) (suc row) col n e widths h =
-    slice_get-behind fields (flat_map (λ fields. fields) records) n (row * width + col) (omega (arith, widths.0))
-    ∙ slice_get-records width records row col (row * width + col) refl widths.1 h
 
 -- what holds of each element holds of one
 pub AllByRecursion-at : {A : Type 0} (P : A → Type 0) (xs : List A) (n : ℕ) (x : A) → AllByRecursion P xs → slice_get xs n ≡ Some x → P x
@@ -90,30 +75,6 @@ all_drop P zero xs all = all
 all_drop P (suc n) [] all = tt
 all_drop P (suc n) (x ∷ xs) all = all_drop P n xs all.1
 
--- the fields behind so many records of one width
-drop_records : (width row n : ℕ) (records : List (List Field)) → n ≡ row * width → AllByRecursion (HasWidth width) records
-    → drop n (flat_map (λ fields. fields) records) ≡ flat_map (λ fields. fields) (drop row records)
-drop_records width zero n records e widths = let none : n ≡ 0 = omega arith in ap (λ k. drop k (flat_map (λ fields. fields) records)) none
-drop_records width (suc row) n [] e widths = drop_none n
-  where
-    drop_none : (k : ℕ) → drop {A = Field} k [] ≡ []
-    drop_none zero = refl
-    drop_none (suc k) = refl
-drop_records width (suc row) n (fields ∷ records) e widths =
-    let size : n ≡ length fields + row * width = omega (arith, widths.0) in
-    ap (λ k. drop k (fields ++ flat_map (λ fields. fields) records)) size
-    ∙ drop-append-add fields (flat_map (λ fields. fields) records) (row * width)
-    ∙ drop_records width row (row * width) records refl widths.1
-
--- the fields from a row on
-pub fields_from : (places : Places) (bytes : List ℕ) (row : ℕ) (header : List Field) (rows : List (List Field)) → IsIndexOf places bytes header rows
-    → drop ((row + 1) * places.width) (raws places bytes) ≡ map raw_of (flat_map (λ fields. fields) (drop row rows))
-fields_from places bytes row header rows index =
-    let n : ℕ = (row + 1) * places.width in
-    ap (drop n) index.fields
-    ∙ sym (map-drop raw_of n (flat_map (λ fields. fields) (header ∷ rows)))
-    ∙ ap (map raw_of) (drop_records (length header) (suc row) n (header ∷ rows) (ap (λ w. (row + 1) * w) index.width ∙ ap (λ k. k * length header) (add-one row)) (refl, index.table.widths))
-
 -- the numbers of the fields are small
 pub cell_fits : (places : Places) (bytes : List ℕ) (row : ℕ) → FitsFile places bytes → row ≤ places.rows
     → (row + 1 ≤ (row + 1) * places.width) × ((row + 1) * places.width ≤ length places.ends) × (length places.ends ≤ length bytes + 1)
@@ -133,21 +94,6 @@ pub raw_is_text : (places : Places) (bytes : List ℕ) (n : ℕ) (piece : List �
 raw_is_text places bytes n piece fits e =
     AllByRecursion-at (λ raw. is_utf8 raw.bytes ≡ true) (raws places bytes) n (raw_between piece) fits.text
     (slice_get-map raw_between (cut places.start places.ends bytes) n ∙ ap (option_map raw_between) e)
-
--- an entry of the index, among the records
-pub record_from_raws : (places : Places) (bytes : List ℕ) (row col n : ℕ) (raw : RawField) (header : List Field) (rows : List (List Field))
-    → n ≡ row * places.width + col → col < places.width → slice_get (raws places bytes) n ≡ Some raw → IsIndexOf places bytes header rows
-    → option_map raw_of (option_and_then (λ fields. slice_get fields col) (slice_get (header ∷ rows) row)) ≡ Some raw
-record_from_raws places bytes row col n raw header rows at h e index =
-    let fields : List Field = flat_map (λ fields. fields) (header ∷ rows) in
-    let among = slice_get-records (length header) (header ∷ rows) row col n (rw (← index.width) at) (refl, index.table.widths) (omega (arith, index.width)) in
-    ap (option_map raw_of) (sym among) ∙ sym (slice_get-map raw_of fields n) ∙ sym (ap (λ xs. slice_get xs n) index.fields) ∙ e
-
--- an entry of the index is the field of a row and a column
-pub cell_from_raws : (places : Places) (bytes : List ℕ) (row col : ℕ) (raw : RawField) (header : List Field) (rows : List (List Field))
-    → col < places.width → slice_get (raws places bytes) ((row + 1) * places.width + col) ≡ Some raw → IsIndexOf places bytes header rows → cell_at rows row col ≡ Some raw
-cell_from_raws places bytes row col raw header rows h e index =
-    record_from_raws places bytes (suc row) col ((row + 1) * places.width + col) raw header rows (omega arith) h e index
 
 -- what follows the field before a row
 pub record FieldsBehind (places : Places) (bytes : List ℕ) (row start : ℕ) (ends : List ℕ) : Type 0 where

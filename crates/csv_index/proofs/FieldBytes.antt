@@ -89,7 +89,3 @@ pub utf8_field : (field : Field) → IsUtf8 (print_field field) → IsUtf8 (raw_
 utf8_field (unquoted bytes) utf8 = utf8
 utf8_field (quoted content) utf8 =
     utf8_before (doubled content) double_quote [] (omega arith) (utf8_behind double_quote (doubled content ++ double_quote ∷ []) (omega arith) utf8)
-
--- likewise with a CR behind
-pub utf8_return : (field : Field) → IsUtf8 (print_field field ++ carriage_return ∷ []) → IsUtf8 (raw_of field).bytes
-utf8_return field utf8 = utf8_field field (utf8_before (print_field field) carriage_return [] (omega arith) utf8)

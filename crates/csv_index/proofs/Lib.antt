@@ -3,6 +3,7 @@ pub mod FieldBytes
 pub mod Counting
 pub mod RawLemmas
 pub mod CellLemmas
+pub mod RowLemmas
 pub mod Boundaries
 pub mod Bits
 pub mod BlockLemmas

@@ -1,5 +1,6 @@
 -- Pairs of double quotes: what halving makes of a text, piece by piece.
-use Rattle.std.proofs.Common.{◌≡◌, ◌≢◌, ℕ, suc, ◌<◌, ◌≤◌, List, [], ◌∷◌, ◌++◌, length, length-append, take, drop, true, false, Bool, None, subst, ◌==◌, ◌||◌, append_assoc, refl, ap, ◌∙◌, sym, arith}
+use Rattle.std.proofs.Common.{◌≡◌, ◌≢◌, ℕ, suc, ◌<◌, ◌≤◌, List, [], ◌∷◌, ◌++◌, length, length-append, map, take, drop, true, false, Bool, None, subst, ◌==◌, append_assoc, refl, ap, ◌∙◌, sym, arith}
+use Rattle.std.proofs.lemmas.Bool.{or_parts}
 use Rattle.std.proofs.lemmas.Bool.Decides.{nat_tests}
 use Rattle.std.proofs.lemmas.List.{take-append-drop, length-take}
 use Rattle.std.specs.Bool.{MatchBool}
@@ -7,7 +8,7 @@ use Rattle.std.specs.List.{list_any}
 use Rattle.std.specs.Str.Pattern.{LacksTextAt, FindsText, SplitsAroundMatch, HasMatch}
 use Rattle.csv_grammar.specs.Bytes.{double_quote}
 use Rattle.csv_grammar.specs.Records.{Field, unquoted, quoted, content, doubled}
-use Rattle.csv_index.specs.Raw.{RawField, raw_of, raw_content, halved}
+use Rattle.csv_index.specs.Raw.{RawField, raw_of, field_of, raw_content, halved}
 
 -- a double quote as it is written inside a quoted field
 abbrev pub pair : List ℕ
@@ -85,18 +86,26 @@ pub pair_changes : (bytes : List ℕ) (b : Bool) → MatchBool b (HasMatch (Find
 pair_changes bytes true found = halved-differs bytes found
 pair_changes bytes false lacks = halved-whole bytes lacks
 
-neither : (s t : Bool) → s || t ≡ false → (s ≡ false) × (t ≡ false)
-neither true t h = absurd (cc)
-neither false t h = (refl, h)
-
 -- nor does a text with no double quote
 pub halved-no_quote : (bytes : List ℕ) → list_any (λ byte. byte == double_quote) bytes ≡ false → halved bytes ≡ bytes
 halved-no_quote [] none = refl
 halved-no_quote (b ∷ bytes) none =
-    let parts = neither (b == double_quote) (list_any (λ byte. byte == double_quote) bytes) none in
+    let parts = or_parts (b == double_quote) (list_any (λ byte. byte == double_quote) bytes) none in
     halved-other b bytes (λ e. let same : (34 == double_quote) ≡ false = subst (λ k. (k == double_quote) ≡ false) e parts.0 in absurd (cc)) ∙ ap (λ rest. b ∷ rest) (halved-no_quote bytes parts.1)
+
+-- what stands so is the field
+pub field_of-raw_of : (field : Field) → field_of (raw_of field) ≡ field
+field_of-raw_of (unquoted bytes) = refl
+field_of-raw_of (quoted inside) = ap (λ bytes. quoted bytes) (halved-doubled inside)
+
+pub fields_of-raw_of : (fields : List Field) → map field_of (map raw_of fields) ≡ fields
+fields_of-raw_of [] = refl
+fields_of-raw_of (field ∷ fields) = rw (field_of-raw_of field, fields_of-raw_of fields) refl
+
+pub rows_of-raw_of : (rows : List (List Field)) → map (map field_of) (map (map raw_of) rows) ≡ rows
+rows_of-raw_of [] = refl
+rows_of-raw_of (fields ∷ rows) = rw (fields_of-raw_of fields, rows_of-raw_of rows) refl
 
 -- the content of a field is that of how it stands
 pub content-from_raw : (field : Field) (raw : RawField) → raw_of field ≡ raw → raw_content raw ≡ content field
-content-from_raw (unquoted bytes) raw e = rw (← e) refl
-content-from_raw (quoted inside) raw e = rw (← e) (halved-doubled inside)
+content-from_raw field raw e = ap raw_content (sym e) ∙ ap content (field_of-raw_of field)

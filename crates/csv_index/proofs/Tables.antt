@@ -1,24 +1,21 @@
 -- A reading of a whole file is an index of its table, or shows that it is none.
-use Rattle.std.proofs.Common.{◌≡◌, ◌≢◌, ℕ, ◌+◌, ◌-◌, ◌*◌, ◌<◌, ◌≤◌, suc, List, [], ◌∷◌, ◌++◌, length, map, true, Option, Some, None, drop, inl, inr, refl, sym, ap, ◌∙◌, subst, arith, length-append}
+use Rattle.std.proofs.Common.{◌≡◌, ◌≢◌, ℕ, ◌+◌, ◌-◌, ◌*◌, ◌<◌, ◌≤◌, List, [], ◌∷◌, ◌++◌, length, map, true, Option, Some, None, drop, inl, inr, refl, sym, ap, ◌∙◌, subst, arith, length-append}
 use Rattle.std.specs.Prelude.{IsUtf8, option_to_list, IfSome}
 use Rattle.std.specs.List.{AllByRecursion}
 use Rattle.std.specs.Str.{is_utf8}
 use Rattle.std.proofs.lemmas.List.{length-map}
 use Rattle.csv_grammar.specs.Records.{Field, Line, IsRecord, IsLast, AreRecords}
 use Rattle.csv_grammar.specs.Faults.{HasFault}
-use Rattle.csv_grammar.specs.Files.{IsFileFault, mark_len, text_of, HasWidth}
+use Rattle.csv_grammar.specs.Files.{mark_len, text_of, HasWidth}
 use Rattle.csv_index.specs.Raw.{raw_of, raw_between}
-use Rattle.csv_index.specs.Index.{Places, cut, Rise, IsIndexOf}
+use Rattle.csv_index.specs.Index.{Places, cut, Rise, FitsFile, IsIndexOf}
 use Rattle.csv_index.specs.declared.blocks.Block.{Block}
 use Rattle.csv_index.specs.declared.widths.Widths.{Widths}
-use Rattle.csv_index.specs.Fault.{text_cause}
+use Rattle.csv_index.specs.Fault.{IsTextFault}
 use Rattle.csv_index.specs.Widths.{CountsWidths}
 use Rattle.csv_index.specs.Structure.{all_fields, ends_of, ReadsAs, HasTextFault}
 use Rattle.csv_index.specs.declared.fault.TextFault.{TextFault}
-
-pub length-cut : (start : ℕ) (ends : List ℕ) (file : List ℕ) → length (cut start ends file) ≡ length ends
-length-cut start [] file = refl
-length-cut start (end ∷ ends) file = ap suc (length-cut (end + 1) ends file)
+use Rattle.csv_index.proofs.RowLemmas.{length-cut, table_stands, raw_table-is, width-table_in, rows-table_in}
 
 length-all_fields : (width : ℕ) (records : List (List Field)) → AllByRecursion (HasWidth width) records → length (all_fields records) ≡ length records * width
 length-all_fields width [] all = omega arith
@@ -40,7 +37,7 @@ abbrev pub places_of : ℕ → List Block → Option ℕ → Widths → Places
 places_of mark blocks last w = record { start = mark; width = w.width; rows = w.records - 1; ends = ends_of mark blocks last }
 
 index_in : (file : List ℕ) (header : List Field) (rows : List (List Field)) (blocks : List Block) (last : Option ℕ) (w : Widths) → IsUtf8 file
-    → ReadsAs file (mark_len file) (header ∷ rows) blocks last w → w.uneven ≡ None → IsIndexOf (places_of (mark_len file) blocks last w) file header rows
+    → ReadsAs file (mark_len file) (header ∷ rows) blocks last w → w.uneven ≡ None → IsIndexOf (places_of (mark_len file) blocks last w) file
 index_in file header rows blocks last w utf8 read even =
     let ends : List ℕ = ends_of (mark_len file) blocks last in
     let widths : CountsWidths w.width None (header ∷ rows) = subst (λ u. CountsWidths w.width u (header ∷ rows)) even read.widths in
@@ -51,32 +48,31 @@ index_in file header rows blocks last w utf8 read even =
     ∙ ap length read.cuts.raws
     ∙ length-map (all_fields (header ∷ rows)) raw_of
     ∙ length-all_fields (length header) (header ∷ rows) (refl, widths.1) in
-    let more : w.records - 1 + 1 ≡ length (header ∷ rows) = omega (arith, read.count) in record {
-      table = record { utf8 = utf8; are = read.are; widths = widths.1 };
-      width = widths.0;
-      row_count = omega (arith, read.count);
-      fields = read.cuts.raws;
-      fits = record {
-        width = omega (arith, widths.0, some);
-        count = rw (more, widths.0) count;
-        rise = read.cuts.rise;
-        text = subst (AllByRecursion (λ raw. is_utf8 raw.bytes ≡ true)) (sym read.cuts.raws) read.cuts.text;
-        boundary = read.cuts.boundary;
-        ascii = read.cuts.ascii;
-      };
+    let more : w.records - 1 + 1 ≡ length (header ∷ rows) = omega (arith, read.count) in
+    let places : Places = places_of (mark_len file) blocks last w in
+    let fits : FitsFile places file = record {
+      width = omega (arith, widths.0, some);
+      count = rw (more, widths.0) count;
+      rise = read.cuts.rise;
+      text = subst (AllByRecursion (λ raw. is_utf8 raw.bytes ≡ true)) (sym read.cuts.raws) read.cuts.text;
+      boundary = read.cuts.boundary;
+      ascii = read.cuts.ascii;
+    } in record {
+      table = raw_table-is file header rows _ (record { utf8 = utf8; are = read.are; widths = widths.1 })
+          (table_stands places file header rows read.cuts.raws widths.0 (omega (arith, read.count)) widths.1);
+      width = width-table_in places file fits;
+      row_count = rows-table_in places file;
+      fits = fits;
     }
 
 -- where a record was read, and no row differs
 pub index_of : (file : List ℕ) (mark : ℕ) (blocks : List Block) (last : Option ℕ) (w : Widths) → IsUtf8 file → mark ≡ mark_len file
     → (records : List (List Field)) × ReadsAs file mark records blocks last w → w.uneven ≡ None → w.records ≢ 0
-    → (header : List Field) × (rows : List (List Field)) × IsIndexOf (places_of mark blocks last w) file header rows
+    → IsIndexOf (places_of mark blocks last w) file
 index_of file mark blocks last w utf8 m ([], read) even some = absurd (some read.count)
-index_of file mark blocks last w utf8 m (header ∷ rows, read) even some = (
-  header,
-  rows,
-  subst (λ n. IsIndexOf (places_of n blocks last w) file header rows) (sym m)
-      (index_in file header rows blocks last w utf8 (subst (λ n. ReadsAs file n (header ∷ rows) blocks last w) m read) even),
-)
+index_of file mark blocks last w utf8 m (header ∷ rows, read) even some =
+    subst (λ n. IsIndexOf (places_of n blocks last w) file) (sym m)
+    (index_in file header rows blocks last w utf8 (subst (λ n. ReadsAs file n (header ∷ rows) blocks last w) m read) even)
 
 -- the places are no further than the greatest number
 pub rise_wide : (start size wide : ℕ) (ends : List ℕ) → size ≤ wide → Rise start ends size → Rise start ends wide
@@ -84,7 +80,7 @@ rise_wide start size wide [] h rise = tt
 rise_wide start size wide (end ∷ ends) h rise = (rise.0, omega arith, rise_wide (end + 1) size wide ends h rise.2)
 
 -- the text's fault is the file's
-pub text_fault : (file : List ℕ) (mark : ℕ) (e : TextFault) → IsUtf8 file → mark ≡ mark_len file → HasTextFault e file mark → IfSome (text_cause e) (IsFileFault file)
+pub text_fault : (file : List ℕ) (mark : ℕ) (e : TextFault) → IsUtf8 file → mark ≡ mark_len file → HasTextFault e file mark → IsTextFault file e
 text_fault file mark e utf8 m (inl memory) = rw memory tt
 text_fault file mark e utf8 m (inr (place, cause, fault, tells)) =
     rw tells (record { utf8 = utf8; in_text = place; fault = subst (λ n. HasFault (drop n file) place cause) m fault; counted = ap (λ n. n + place) m })

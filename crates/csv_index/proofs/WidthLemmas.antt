@@ -84,19 +84,6 @@ pub record IsCounting (old now : Widths) (ends eol left : ℕ) : Type 0 where
   pub start : now.start ≤ now.places + count_ones (ends % 2 ^ next)
   pub records : now.records ≤ old.records + next
 
-pub counting_none : (old : Widths) (ends eol : ℕ) → old.start ≤ old.places → IsCounting old old ends eol eol
-counting_none old ends eol h =
-    let none : old.places + count_ones (ends % 2 ^ 0) ≡ old.places = omega (arith, ones_none ends) in record {
-      next = 0;
-      most = omega arith;
-      others = λ k h l. refl;
-      none = λ k h. absurd (omega arith);
-      counts = ap (λ k. roles_counted (record old { places = k }) (mask_roles ends eol 0 64)) none;
-      places = refl;
-      start = omega arith;
-      records = omega arith;
-    }
-
 not_below : (place next b : ℕ) → b ≡ 1 → (place < next → b ≡ 0) → next ≤ place
 not_below place next b set none = grind arith
 

@@ -1,8 +1,9 @@
 -- The fault of a file that an error is, and its text.
-use Rattle.std.specs.Prelude.{ℕ, List, ◌++◌, codes, Option, None, Some}
+use Rattle.std.specs.Prelude.{◌≡◌, ℕ, List, ◌++◌, codes, Option, None, Some, IfSome, IsUtf8}
 use Rattle.std.specs.Fmt.{decimal}
+use Rattle.std.specs.Str.Lossy.{utf8_valid_len}
 use Rattle.csv_grammar.specs.Faults.{bare_cr, stray_quote, after_quote, unfinished}
-use Rattle.csv_grammar.specs.Files.{FileCause, not_utf8, malformed, no_header, wrong_width}
+use Rattle.csv_grammar.specs.Files.{FileCause, not_utf8, malformed, no_header, wrong_width, IsFileFault}
 use Rattle.csv_index.specs.declared.fault.TextFault.{TextFault}
 use Rattle.csv_index.specs.declared.fault.TextFault.TheVariants.{NotUtf8, BareCr, StrayQuote, AfterQuote, Unfinished, NoHeader, Width, NoMemory}
 
@@ -27,3 +28,11 @@ text_fault_text (Unfinished at) = codes "Unfinished at " ++ decimal at
 text_fault_text NoHeader = codes "NoHeader"
 text_fault_text (Width row) = codes "Width row " ++ decimal row
 text_fault_text NoMemory = codes "NoMemory"
+
+-- the bytes are not UTF-8, and the error tells the length of their longest front that is
+abbrev pub IsNotUtf8 : List ℕ → TextFault → Type 0
+IsNotUtf8 bytes fault = ¬ (IsUtf8 bytes) × (fault ≡ NotUtf8 (utf8_valid_len bytes))
+
+-- the error is what is first wrong with the file, or want of memory
+abbrev pub IsTextFault : List ℕ → TextFault → Type 0
+IsTextFault bytes fault = IfSome (text_cause fault) (IsFileFault bytes)

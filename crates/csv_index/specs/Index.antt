@@ -1,11 +1,40 @@
--- What an index knows of a file: the structural places, which are the comma or the LF behind each field, or the end of the file.
-use Rattle.std.specs.Prelude.{◌≡◌, ℕ, zero, suc, ◌+◌, ◌*◌, ◌<◌, ◌≤◌, true, List, [], ◌∷◌, length, map, slice_get, slice_index, slice_range, Option, option_map, option_and_then}
+-- A table as it stands in its file, and what an index knows of that: the structural places, which are the comma or the LF behind each
+-- field, or the end of the file (RFC 4180, section 2).
+use Rattle.std.specs.Prelude.{◌≡◌, ℕ, zero, suc, ◌+◌, ◌*◌, ◌<◌, ◌≤◌, true, List, [], ◌∷◌, length, map, take, drop, slice_get, slice_index, slice_range, Option, option_and_then}
 use Rattle.std.specs.List.{flat_map, AllByRecursion}
 use Rattle.std.specs.Str.{is_utf8, IsCharBoundary}
 use Rattle.csv_grammar.specs.Records.{Field}
 use Rattle.csv_grammar.specs.Files.{IsTable}
-use Rattle.csv_index.specs.Raw.{RawField, raw_of, raw_between}
+use Rattle.csv_index.specs.Raw.{RawField, raw_of, field_of, raw_between}
 
+-- the fields of the header, and those of each row behind it, as they stand
+pub record RawTable : Type 0 where
+  pub header : List RawField
+  pub rows : List (List RawField)
+
+-- how a header and rows stand
+abbrev pub raw_table : List Field → List (List Field) → RawTable
+raw_table header rows = record { header = map raw_of header; rows = map (map raw_of) rows }
+
+-- the file is the table of the fields that stand so, and they do stand so in it
+pub record IsRawTable (bytes : List ℕ) (table : RawTable) : Type 0 where
+  pub is : IsTable bytes (map field_of table.header) (map (map field_of) table.rows)
+  pub stands : table ≡ raw_table (map field_of table.header) (map (map field_of) table.rows)
+
+-- the field of a row and a column
+abbrev pub cell_at : List (List RawField) → ℕ → ℕ → Option RawField
+cell_at rows row col = option_and_then (λ fields. slice_get fields col) (slice_get rows row)
+
+-- the fields of rows, one row after another
+abbrev pub row_fields : List (List RawField) → List RawField
+row_fields rows = flat_map (λ fields. fields) rows
+
+-- fields cut into so many rows of one width
+abbrev pub rows_of : ℕ → ℕ → List RawField → List (List RawField)
+rows_of zero width fields = []
+rows_of (suc n) width fields = take width fields ∷ rows_of n width (drop width fields)
+
+-- ---- the index
 pub record Places : Type 0 where
   -- where the first field begins
   pub start : ℕ
@@ -24,6 +53,13 @@ cut start (end ∷ ends) bytes = slice_range bytes start end ∷ cut (end + 1) e
 -- the fields between the places
 abbrev pub raws : Places → List ℕ → List RawField
 raws places bytes = map raw_between (cut places.start places.ends bytes)
+
+-- the table between the places
+abbrev pub table_in : Places → List ℕ → RawTable
+table_in places bytes = record {
+  header = take places.width (raws places bytes);
+  rows = rows_of places.rows places.width (drop places.width (raws places bytes));
+}
 
 -- where the field of that number begins
 abbrev pub start_at : ℕ → List ℕ → ℕ → ℕ
@@ -49,18 +85,9 @@ pub record FitsFile (places : Places) (bytes : List ℕ) : Type 0 where
   pub boundary : IsCharBoundary bytes places.start
   pub ascii : AreAscii bytes places.ends
 
--- the places are those of the file that is this header and these rows
-pub record IsIndexOf (places : Places) (bytes : List ℕ) (header : List Field) (rows : List (List Field)) : Type 0 where
-  pub table : IsTable bytes header rows
-  pub width : places.width ≡ length header
-  pub row_count : places.rows ≡ length rows
-  pub fields : raws places bytes ≡ map raw_of (flat_map (λ fields. fields) (header ∷ rows))
+-- the bytes are a table, and the places are those of its fields
+pub record IsIndexOf (places : Places) (bytes : List ℕ) : Type 0 where
+  pub table : IsRawTable bytes (table_in places bytes)
+  pub width : length (table_in places bytes).header ≡ places.width
+  pub row_count : length (table_in places bytes).rows ≡ places.rows
   pub fits : FitsFile places bytes
-
--- the header's field of that column
-abbrev pub header_at : List Field → ℕ → Option RawField
-header_at header col = option_map raw_of (slice_get header col)
-
--- the field of that row and column
-abbrev pub cell_at : List (List Field) → ℕ → ℕ → Option RawField
-cell_at rows row col = option_map raw_of (option_and_then (λ fields. slice_get fields col) (slice_get rows row))

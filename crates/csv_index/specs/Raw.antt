@@ -2,11 +2,15 @@
 -- rules 5 to 7).
 use Rattle.std.specs.Prelude.{ℕ, ◌-◌, Bool, true, false, ◌&&◌, List, [], ◌∷◌, length, slice_index, slice_range, if◌then◌else◌, ◌==◌}
 use Rattle.csv_grammar.specs.Bytes.{double_quote, carriage_return}
-use Rattle.csv_grammar.specs.Records.{Field, unquoted, quoted, doubled}
+use Rattle.csv_grammar.specs.Records.{Field, unquoted, quoted, doubled, content}
+use Rattle.csv_index.specs.declared.raw.Raw.{Raw}
 
 pub record RawField : Type 0 where
   pub bytes : List ℕ
   pub quoted : Bool
+
+abbrev pub raw_view : Raw → RawField
+raw_view raw = record { bytes = raw.bytes.now; quoted = raw.quoted }
 
 -- how a field stands
 abbrev pub raw_of : Field → RawField
@@ -19,9 +23,13 @@ halved [] = []
 halved (b ∷ []) = b ∷ []
 halved (b ∷ c ∷ bytes) = if b == double_quote && c == double_quote then double_quote ∷ halved bytes else b ∷ halved (c ∷ bytes)
 
+-- the field that stands so
+abbrev pub field_of : RawField → Field
+field_of raw = if raw.quoted then quoted (halved raw.bytes) else unquoted raw.bytes
+
 -- what it says
 abbrev pub raw_content : RawField → List ℕ
-raw_content raw = if raw.quoted then halved raw.bytes else raw.bytes
+raw_content raw = content (field_of raw)
 
 -- a CR at the end belongs to the line break
 abbrev pub without_return : List ℕ → List ℕ

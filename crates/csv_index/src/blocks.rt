@@ -18,7 +18,8 @@ pub struct Block {
 /// The structural place of number `n`, counted from 0: the number of its block, and its bit there.
 pub fn find(blocks: &[Block], n: usize) -> Option<(usize, u32)>
     requires { AreRanked blocks.now }
-    ensures { MatchOption result (length (block_places 0 blocks.now) ≤ n) (λ found. Stands blocks.now n found.0 found.1) }
+    ensures { MatchOption result (length (block_places 0 blocks.now) ≤ n)
+        (λ found. Stands blocks.now n found.0 found.1) }
 {
     if blocks.is_empty() {
         return None;

@@ -34,7 +34,8 @@ impl<'i> Ends<'i> {
     /// The next place.
     #[inline(always)]
     pub fn next(&mut self) -> Option<usize>
-        ensures { MatchOption result ((self.old ≡ []) × (self.new ≡ [])) (λ end. self.old ≡ end ∷ self.new) }
+        ensures { MatchOption result ((self.old ≡ []) × (self.new ≡ []))
+            (λ end. self.old ≡ end ∷ self.new) }
     {
         while self.word == 0 {
             let Some((block, rest)) = self.rest.split_first() else {

@@ -1,5 +1,6 @@
 //! The fields of a file in order.
 ghost use Rattle.std.specs.Prelude.{◌≡◌, [], ◌∷◌, MatchOption, drop};
+ghost use Rattle.csv_index.specs.Raw.{raw_view};
 
 use crate::ends::Ends;
 use crate::raw::Raw;
@@ -34,7 +35,7 @@ impl<'i, 'a> Fields<'i, 'a> {
     #[inline(always)]
     pub fn next_field(&mut self) -> Option<Raw<'a>>
         ensures { MatchOption result ((self.old ≡ []) × (self.new ≡ []))
-            (λ raw. self.old ≡ record { bytes = raw.bytes.now; quoted = raw.quoted } ∷ self.new) }
+            (λ raw. self.old ≡ raw_view raw ∷ self.new) }
     {
         let end = self.ends.next()?;
         let field = &self.bytes[self.start..end];

@@ -1,12 +1,9 @@
 //! The places of a file's fields.
-ghost use Rattle.std.specs.Prelude.{◌≡◌, ◌≤◌, ◌<◌, ◌+◌, ◌*◌, List, Some, IfOk, IfErr, IfSome, IsUtf8, slice_get, slice_range, length, drop, map};
-ghost use Rattle.std.specs.List.{flat_map};
+ghost use Rattle.std.specs.Prelude.{◌≡◌, ◌≤◌, ◌<◌, ◌+◌, Some, IfOk, IfErr, IsUtf8, slice_get, slice_range, length, drop};
 ghost use Rattle.std.specs.Str.{IsCharBoundary};
-ghost use Rattle.csv_grammar.specs.Records.{Field};
-ghost use Rattle.csv_grammar.specs.Files.{IsFileFault};
-ghost use Rattle.csv_index.specs.Raw.{raw_of};
-ghost use Rattle.csv_index.specs.Index.{FitsFile, IsIndexOf, raws, header_at, cell_at, start_at};
-ghost use Rattle.csv_index.specs.Fault.{text_cause};
+ghost use Rattle.csv_index.specs.Raw.{raw_view};
+ghost use Rattle.csv_index.specs.Index.{FitsFile, IsIndexOf, table_in, cell_at, row_fields, raws, start_at};
+ghost use Rattle.csv_index.specs.Fault.{IsTextFault};
 
 use crate::blocks::{Block, find};
 use crate::ends::Ends;
@@ -58,8 +55,8 @@ impl Model for Index {
 impl Index {
     /// Reads a file once. The bytes are a table, whose places the index has, or the error tells what is first wrong with them.
     pub fn build(alloc: Global, bytes: &[u8]) -> Result<Index, TextFault>
-        ensures table { IfOk result (λ index. (header : List Field) × (rows : List (List Field)) × IsIndexOf index bytes.now header rows) }
-        ensures fault { IfErr result (λ e. IfSome (text_cause e) (IsFileFault bytes.now)) }
+        ensures table { IfOk result (λ index. IsIndexOf index bytes.now) }
+        ensures fault { IfErr result (IsTextFault bytes.now) }
     {
         check_text(bytes)?;
         Index::of_utf8(alloc, bytes)
@@ -67,8 +64,8 @@ impl Index {
 
     /// [`Index::build`] of a text.
     pub fn of_text(alloc: Global, bytes: &str) -> Result<Index, TextFault>
-        ensures table { IfOk result (λ index. (header : List Field) × (rows : List (List Field)) × IsIndexOf index bytes.now header rows) }
-        ensures fault { IfErr result (λ e. IfSome (text_cause e) (IsFileFault bytes.now)) }
+        ensures table { IfOk result (λ index. IsIndexOf index bytes.now) }
+        ensures fault { IfErr result (IsTextFault bytes.now) }
     {
         Index::of_utf8(alloc, bytes.as_bytes())
     }
@@ -76,8 +73,8 @@ impl Index {
     /// [`Index::build`] of bytes that are known to be UTF-8.
     pub fn of_utf8(alloc: Global, bytes: &[u8]) -> Result<Index, TextFault>
         requires { IsUtf8 bytes.now }
-        ensures table { IfOk result (λ index. (header : List Field) × (rows : List (List Field)) × IsIndexOf index bytes.now header rows) }
-        ensures fault { IfErr result (λ e. IfSome (text_cause e) (IsFileFault bytes.now)) }
+        ensures table { IfOk result (λ index. IsIndexOf index bytes.now) }
+        ensures fault { IfErr result (IsTextFault bytes.now) }
     {
         let start = mark_len(bytes);
         let structure = Structure::of(alloc, bytes, start)?;
@@ -115,9 +112,7 @@ impl Index {
     pub fn header<'a>(&self, bytes: &'a str, col: usize) -> Raw<'a>
         requires bytes { FitsFile self.now bytes.now }
         requires col { col < self.now.width }
-        ensures raw { slice_get (raws self.now bytes.now) col ≡ Some (record { bytes = result.bytes.now; quoted = result.quoted }) }
-        ensures field { (header : List Field) (rows : List (List Field)) → IsIndexOf self.now bytes.now header rows
-            → header_at header col ≡ Some (record { bytes = result.bytes.now; quoted = result.quoted }) }
+        ensures { slice_get (table_in self.now bytes.now).header col ≡ Some (raw_view result) }
     {
         self.field(bytes, col)
     }
@@ -127,10 +122,7 @@ impl Index {
         requires bytes { FitsFile self.now bytes.now }
         requires row { row < self.now.rows }
         requires col { col < self.now.width }
-        ensures raw { slice_get (raws self.now bytes.now) ((row + 1) * self.now.width + col)
-            ≡ Some (record { bytes = result.bytes.now; quoted = result.quoted }) }
-        ensures field { (header : List Field) (rows : List (List Field)) → IsIndexOf self.now bytes.now header rows
-            → cell_at rows row col ≡ Some (record { bytes = result.bytes.now; quoted = result.quoted }) }
+        ensures { cell_at (table_in self.now bytes.now).rows row col ≡ Some (raw_view result) }
     {
         let width = self.width;
         self.field(bytes, (row + 1) * width + col)
@@ -141,9 +133,7 @@ impl Index {
     pub fn fields<'i, 'a>(&'i self, bytes: &'a str, row: usize) -> Fields<'i, 'a>
         requires bytes { FitsFile self.now bytes.now }
         requires row { row ≤ self.now.rows }
-        ensures raws { result ≡ drop ((row + 1) * self.now.width) (raws self.now bytes.now) }
-        ensures fields { (header : List Field) (rows : List (List Field)) → IsIndexOf self.now bytes.now header rows
-            → result ≡ map raw_of (flat_map (λ fields. fields) (drop row rows)) }
+        ensures { result ≡ row_fields (drop row (table_in self.now bytes.now).rows) }
     {
         let before = (row + 1) * self.width - 1;
         Fields {
@@ -157,7 +147,7 @@ impl Index {
     fn field<'a>(&self, bytes: &'a str, n: usize) -> Raw<'a>
         requires bytes { FitsFile self.now bytes.now }
         requires n { n < length self.now.ends }
-        ensures { slice_get (raws self.now bytes.now) n ≡ Some (record { bytes = result.bytes.now; quoted = result.quoted }) }
+        ensures { slice_get (raws self.now bytes.now) n ≡ Some (raw_view result) }
     {
         Raw::between(piece(bytes, self.start_of(n), self.end_of(n)))
     }

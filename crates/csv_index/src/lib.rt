@@ -1,7 +1,7 @@
 //! The places of the fields of a CSV file (RFC 4180, section 2). [`Index::build`] reads the file once, 64 bytes at a time, and keeps
 //! for each block of 64 bytes which of them part fields and end records, or answers the one thing that is first wrong with
 //! the file; [`Index::cell`] then gives a field as a slice of the bytes, [`Index::fields`] one field after another, and
-//! [`Raw::text`] what a field says.
+//! [`Raw::text`] what a field says. An [`IndexedText`] is a file with its index, seen as a header and rows of fields.
 #![tactic(auto)]
 
 mod blocks;
@@ -9,6 +9,7 @@ mod ends;
 mod fault;
 mod fields;
 mod index;
+mod indexed_text;
 mod raw;
 mod reading;
 mod structure;
@@ -18,5 +19,6 @@ mod widths;
 pub use fault::TextFault;
 pub use fields::Fields;
 pub use index::Index;
+pub use indexed_text::IndexedText;
 pub use raw::Raw;
 pub use utf8::text_of;

@@ -19,18 +19,22 @@ pub struct Raw<'a> {
 }
 
 impl<'a> Raw<'a> {
-    ghost use Rattle.csv_index.specs.Raw.{raw_content, raw_of, raw_between};
+    ghost use Rattle.csv_index.specs.Raw.{raw_view, raw_content, raw_of, raw_between};
     ghost use Rattle.csv_grammar.specs.Records.{Field, content};
 
     /// What the field says: each pair of double quotes inside a quoted field is one (RFC 4180, section 2, rule 7). It copies only
     /// where such a pair stands; an error is want of memory for that copy.
     #[inline(always)]
     pub fn text(self, alloc: Global) -> Result<CowStr<'a>, AllocError>
-        ensures content { IfOk result (λ text. cow_str_bytes text
-            ≡ raw_content (record { bytes = self.entry.bytes.now; quoted = self.entry.quoted })) }
-        ensures field { (field : Field) → raw_of field ≡ record { bytes = self.entry.bytes.now; quoted = self.entry.quoted }
+        ensures content { IfOk result
+            (λ text. cow_str_bytes text ≡ raw_content (raw_view self.entry)) }
+
+        // So it is the content of the field that stands so.
+        ensures field { (field : Field) → raw_of field ≡ raw_view self.entry
             → IfOk result (λ text. cow_str_bytes text ≡ content field) }
-        ensures borrowed { raw_content (record { bytes = self.entry.bytes.now; quoted = self.entry.quoted }) ≡ self.entry.bytes.now
+
+        // Where that is what stands there, no copy is made.
+        ensures borrowed { raw_content (raw_view self.entry) ≡ self.entry.bytes.now
             → IsOkAnd result (λ text. IsBorrowedStr text) }
     {
         if self.quoted && has_pair(self.bytes) {
@@ -44,7 +48,7 @@ impl<'a> Raw<'a> {
     #[inline(always)]
     pub(crate) fn between(piece: &'a str) -> Raw<'a>
         requires { is_utf8 (raw_between piece.now).bytes ≡ true }
-        ensures { raw_between piece.now ≡ record { bytes = result.bytes.now; quoted = result.quoted } }
+        ensures { raw_between piece.now ≡ raw_view result }
     {
         let field = without_return(piece);
         match field.as_bytes() {

@@ -24,7 +24,8 @@ impl Reading {
     pub fn of(blocks: Vec<Block>, text: &[u8]) -> Result<Reading, usize>
         requires none { (blocks.items ≡ []) × (vec_len blocks ≡ 0) }
         requires room { length text.now ≤ 64 * vec_capacity blocks }
-        ensures read { IfOk result (λ r. IsReading text.now r.carry r.blocks.items r.widths r.unended) }
+        ensures read { IfOk result
+            (λ r. IsReading text.now r.carry r.blocks.items r.widths r.unended) }
         ensures fault { IfErr result (λ left. HasFaultFrom text.now left) }
     {
         one_structure();
@@ -56,11 +57,14 @@ impl Reading {
         requires start { self.widths.start ≤ self.widths.places }
         requires places { self.widths.places < 2 ^ 63 }
         requires records { self.widths.records < 2 ^ 63 }
-        ensures read { (text : List ℕ) (n : ℕ) → rest.now ≡ drop (64 * n) text → HasRead text n self.carry self.blocks.items self.widths self.unended
+        ensures read { (text : List ℕ) (n : ℕ) → rest.now ≡ drop (64 * n) text
+            → HasRead text n self.carry self.blocks.items self.widths self.unended
             → IfOk result (λ r. HasRead text (n + 1) r.carry r.blocks.items r.widths r.unended) }
-        ensures fault { (text : List ℕ) (n : ℕ) → rest.now ≡ drop (64 * n) text → HasRead text n self.carry self.blocks.items self.widths self.unended
+        ensures fault { (text : List ℕ) (n : ℕ) → rest.now ≡ drop (64 * n) text
+            → HasRead text n self.carry self.blocks.items self.widths self.unended
             → IfErr result (λ left. HasFaultFrom text left) }
-        ensures room { IfOk result (λ r. (vec_len r.blocks ≡ vec_len self.blocks + 1) × (vec_capacity r.blocks ≡ vec_capacity self.blocks)) }
+        ensures room { IfOk result (λ r. (vec_len r.blocks ≡ vec_len self.blocks + 1)
+            × (vec_capacity r.blocks ≡ vec_capacity self.blocks)) }
     {
         one_structure();
         let Reading {

@@ -30,7 +30,8 @@ impl Structure {
         requires utf8 { IsUtf8 file.now }
         requires within { mark ≤ length file.now }
         requires boundary { IsCharBoundary file.now mark }
-        ensures records { IfOk result (λ s. (records : List (List Field)) × ReadsAs file.now mark records s.blocks.items s.last s.widths) }
+        ensures records { IfOk result (λ s. (records : List (List Field))
+            × ReadsAs file.now mark records s.blocks.items s.last s.widths) }
         ensures fault { IfErr result (λ e. HasTextFault e file.now mark) }
     {
         one_structure();

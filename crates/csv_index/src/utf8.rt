@@ -1,14 +1,13 @@
 //! Texts from bytes.
-ghost use Rattle.std.specs.Prelude.{◌≡◌, ◌≢◌, IfOk, IfErr, IfSome, IsUtf8, string_bytes};
-ghost use Rattle.csv_grammar.specs.Files.{IsFileFault};
-ghost use Rattle.csv_index.specs.Fault.{text_cause};
+ghost use Rattle.std.specs.Prelude.{◌≡◌, IfOk, IfErr, IsUtf8, string_bytes};
+ghost use Rattle.csv_index.specs.Fault.{IsNotUtf8};
 
 use crate::fault::TextFault;
 
 /// The bytes are UTF-8, or the error tells how many of them are.
 pub fn check_text(bytes: &[u8]) -> Result<(), TextFault>
     ensures utf8 { IfOk result (λ _. IsUtf8 bytes.now) }
-    ensures fault { IfErr result (λ e. IfSome (text_cause e) (IsFileFault bytes.now)) }
+    ensures fault { IfErr result (IsNotUtf8 bytes.now) }
 {
     match simdutf8::compat::from_utf8(bytes) {
         Ok(_) => Ok(()),
@@ -21,8 +20,7 @@ pub fn check_text(bytes: &[u8]) -> Result<(), TextFault>
 /// The bytes of a file as a text, which takes no memory; the error tells how many of them are UTF-8.
 pub fn text_of(bytes: Vec<u8>) -> Result<String, TextFault>
     ensures text { IfOk result (λ text. string_bytes text ≡ bytes.items) }
-    ensures fault { IfErr result (λ e. IfSome (text_cause e) (IsFileFault bytes.items)) }
-    ensures memory { IfErr result (λ e. e ≢ TextFault.NoMemory) }
+    ensures fault { IfErr result (IsNotUtf8 bytes.items) }
 {
     match String::from_utf8(bytes) {
         Ok(text) => Ok(text),

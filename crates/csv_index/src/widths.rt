@@ -65,7 +65,8 @@ impl Widths {
         requires records { self.old.records < 2 ^ 63 }
         requires within { (k : ℕ) → bit_at eol k ≡ 1 → bit_at ends k ≡ 1 }
         ensures places { self.new.places ≡ self.old.places }
-        ensures ended { with_places self.new (count_ones ends) ≡ roles_counted self.old (mask_roles ends eol 0 64) }
+        ensures ended { with_places self.new (count_ones ends)
+            ≡ roles_counted self.old (mask_roles ends eol 0 64) }
     {
         let mut left = eol;
         while left != 0 {

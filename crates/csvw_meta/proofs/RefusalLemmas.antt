@@ -7,6 +7,11 @@ use Rattle.serde_json.specs.declared.value.Value.{Value}
 use Rattle.csvw_meta.specs.Fault.{MetaCause}
 use Rattle.csvw_meta.specs.Refusal.{Condition, first_cause, each_conditions}
 
+-- of one condition
+pub first_cause-one : (x : Condition) → x ≡ first_cause (x ∷ [])
+first_cause-one None = refl
+first_cause-one (Some cause) = refl
+
 -- the first of both
 abbrev pub first_of_both : Condition → Condition → Condition
 first_of_both None d = d

@@ -9,21 +9,18 @@ use Rattle.cell_types.specs.declared.datatype.DateForm.{DateForm}
 use Rattle.cell_types.specs.declared.datatype.DateForm.TheVariants.{YearMonthDay, Compact, DayMonthYear, MonthDayYear, Dotted}
 use Rattle.cell_types.specs.Datatype as cell
 use Rattle.cell_types.specs.Datatype.{DatatypeOf, boolean_view, pattern_of}
-use Rattle.csvw_meta.specs.declared.datatype.Base.{Base}
-use Rattle.csvw_meta.specs.declared.datatype.Base.TheVariants.{Integer, Text, Boolean, Date}
-use Rattle.csvw_meta.specs.declared.datatype.Borrowed.{Borrowed}
-use Rattle.csvw_meta.specs.declared.datatype.Borrowed.TheVariants as borrowed
 use Rattle.csvw_meta.specs.Fault.{unsupported, bad_datatype, bad_format}
 use Rattle.csvw_meta.specs.Refusal.{Condition, ensure}
 use Rattle.csvw_meta.specs.Members.{member, has, absent}
 
--- the datatypes that are served, by their names
-abbrev pub base_named : List ℕ → Option Base
-base_named name =
-    if bytes_eq name (codes "integer") then Some Integer
-    else (if bytes_eq name (codes "string") then Some Text
-    else (if bytes_eq name (codes "boolean") then Some Boolean
-    else (if bytes_eq name (codes "date") then Some Date else None)))
+-- the datatypes that are served, by their names, as they are without a format
+abbrev pub datatype_named : List ℕ → Option DatatypeOf
+datatype_named name =
+    if bytes_eq name (codes "integer") then Some cell.integer
+    else (if bytes_eq name (codes "string") then Some cell.text
+    else (if bytes_eq name (codes "boolean") then Some (boolean_view Standard)
+    else (if bytes_eq name (codes "date") then Some (cell.date YearMonthDay)
+    else (if bytes_eq name (codes "decimal") then Some cell.decimal else None))))
 
 -- the name of a datatype: a text, or what an object has for `base`, which is `string` where it has none
 abbrev pub datatype_name : Data → Option (List ℕ)
@@ -31,14 +28,19 @@ datatype_name (string name) = Some name
 datatype_name (object ms) = as_str (unwrap_or (member (codes "base") (object ms)) (string (codes "string")))
 datatype_name d = None
 
-abbrev pub base_in : Data → Option Base
-base_in d = option_and_then base_named (datatype_name d)
+-- the datatype of that name, as it is without a format
+abbrev pub base_in : Data → Option DatatypeOf
+base_in d = option_and_then datatype_named (datatype_name d)
 
 -- a datatype whose texts have a format
-abbrev pub has_formats : Option Base → Bool
-has_formats (Some Boolean) = true
-has_formats (Some Date) = true
+abbrev pub has_formats : Option DatatypeOf → Bool
+has_formats (Some (cell.boolean of_true of_false)) = true
+has_formats (Some (cell.date form)) = true
 has_formats _ = false
+
+-- it has no format, or is a datatype whose texts have one
+abbrev pub may_have_format : Data → Bool
+may_have_format d = not (has (codes "format") d) || has_formats (base_in d)
 
 -- a vertical bar
 abbrev pub is_bar : ℕ → Bool
@@ -54,14 +56,16 @@ boolean_texts format = let of_true = before_first is_bar format in let of_false 
 abbrev pub date_form : List ℕ → Option DateForm
 date_form format = find (λ form. bytes_eq (pattern_of form) format) (YearMonthDay ∷ Compact ∷ DayMonthYear ∷ MonthDayYear ∷ Dotted ∷ [])
 
+-- a boolean with those texts of true and of false
+abbrev pub boolean_of_texts : List ℕ × List ℕ → DatatypeOf
+boolean_of_texts texts = cell.boolean (texts.0 ∷ []) (texts.1 ∷ [])
+
 -- a datatype with a format: of a boolean the texts of true and of false, of a date its form
-abbrev pub datatype_with : Base → Option Data → Option DatatypeOf
-datatype_with Integer format = Some cell.integer
-datatype_with Text format = Some cell.string
-datatype_with Boolean None = Some (boolean_view Standard)
-datatype_with Boolean (Some d) = option_map (λ (texts : List ℕ × List ℕ). cell.boolean (texts.0 ∷ []) (texts.1 ∷ [])) (option_and_then boolean_texts (as_str d))
-datatype_with Date None = Some (cell.date YearMonthDay)
-datatype_with Date (Some d) = option_map cell.date (option_and_then date_form (as_str d))
+abbrev pub datatype_with : DatatypeOf → Option Data → Option DatatypeOf
+datatype_with base None = Some base
+datatype_with (cell.boolean of_true of_false) (Some d) = option_map boolean_of_texts (option_and_then boolean_texts (as_str d))
+datatype_with (cell.date form) (Some d) = option_map cell.date (option_and_then date_form (as_str d))
+datatype_with base (Some d) = Some base
 
 -- the datatype that a value is, where it is one that is served
 abbrev pub datatype_in : Data → Option DatatypeOf
@@ -87,7 +91,7 @@ datatype_conditions d =
     ensure (is_some (datatype_name d)) bad_datatype
     ∷ ensure (is_some (base_in d)) (unsupported (unwrap_or (datatype_name d) []))
     ∷ constraint_conditions d
-    ++ ensure (not (has (codes "format") d) || has_formats (base_in d)) (unsupported (codes "format"))
+    ++ ensure (may_have_format d) (unsupported (codes "format"))
     ∷ ensure (is_some (datatype_in d)) bad_format
     ∷ []
 
@@ -98,12 +102,4 @@ datatype_member_conditions (Some d) = datatype_conditions d
 
 -- the datatype of a column, from the nearest level that says one; texts where none does
 abbrev pub datatype_of : Option Data → DatatypeOf
-datatype_of d = unwrap_or (option_and_then datatype_in d) cell.string
-
--- what a borrowed datatype is
-abbrev pub borrowed_view : Borrowed → DatatypeOf
-borrowed_view borrowed.Integer = cell.integer
-borrowed_view borrowed.Text = cell.string
-borrowed_view borrowed.Boolean = boolean_view Standard
-borrowed_view (borrowed.BooleanTexts of_true of_false) = cell.boolean (of_true.now ∷ []) (of_false.now ∷ [])
-borrowed_view (borrowed.Date form) = cell.date form
+datatype_of d = unwrap_or (option_and_then datatype_in d) cell.text

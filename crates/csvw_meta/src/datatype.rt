@@ -1,9 +1,11 @@
 //! The datatypes that metadata says, and their formats.
-ghost use Rattle.std.specs.Prelude.{◌≡◌, option_map, IfOk};
+ghost use Rattle.std.specs.Prelude.{◌≡◌, Some, option_map, is_some, IfOk};
 ghost use Rattle.serde_json.specs.View.{view};
 ghost use Rattle.cell_types.specs.Datatype.{datatype_view};
 ghost use Rattle.csvw_meta.specs.Refusal.{condition_of, first_cause};
-ghost use Rattle.csvw_meta.specs.Datatype.{base_named as base_named_of, datatype_name as datatype_name_of, base_in as base_of, has_formats as has_formats_of, boolean_texts as boolean_texts_of, date_form as date_form_of, datatype_with as datatype_with_of, datatype_in as datatype_in_of, constraint_conditions, datatype_conditions, datatype_member_conditions, datatype_of, borrowed_view};
+ghost use Rattle.csvw_meta.specs.Datatype.{base_in as base_of, boolean_of_texts, boolean_texts as boolean_texts_of, constraint_conditions, datatype_conditions};
+ghost use Rattle.csvw_meta.specs.Datatype.{datatype_in as datatype_in_of, datatype_member_conditions, datatype_name as datatype_name_of, datatype_named as datatype_named_of};
+ghost use Rattle.csvw_meta.specs.Datatype.{datatype_of, datatype_with, date_form as date_form_of, may_have_format as may_have_format_of};
 
 use crate::members::{absent, has, member};
 use crate::refusal::{Refusal, ensure};
@@ -11,35 +13,16 @@ use cell_types::{BooleanForm, Datatype, DateForm};
 use serde_json::Value;
 use std::alloc::{AllocError, Global};
 
-/// The datatypes that are served.
-#[derive(Clone, Copy)]
-pub(crate) enum Base {
-    Integer,
-    Text,
-    Boolean,
-    Date,
-}
-
-/// A datatype whose texts stand in the metadata.
-#[derive(Clone, Copy)]
-pub(crate) enum Borrowed<'v> {
-    Integer,
-    Text,
-    Boolean,
-    /// The text of true, then that of false.
-    BooleanTexts(&'v str, &'v str),
-    Date(DateForm),
-}
-
-/// The datatype of that name, where it is served.
-fn base_named(name: &str) -> Option<Base>
-    ensures { result ≡ base_named_of name.now }
+/// The datatype of that name, where it is served, as it is without a format.
+fn datatype_named(name: &str) -> Option<Datatype>
+    ensures { option_map datatype_view result ≡ datatype_named_of name.now }
 {
     match name {
-        "integer" => Some(Base::Integer),
-        "string" => Some(Base::Text),
-        "boolean" => Some(Base::Boolean),
-        "date" => Some(Base::Date),
+        "integer" => Some(Datatype::Integer),
+        "string" => Some(Datatype::Text),
+        "boolean" => Some(Datatype::Boolean(BooleanForm::Standard)),
+        "date" => Some(Datatype::Date(DateForm::YearMonthDay)),
+        "decimal" => Some(Datatype::Decimal),
         _ => None,
     }
 }
@@ -58,26 +41,38 @@ fn datatype_name(datatype: &Value) -> Option<&str>
     }
 }
 
-/// The datatype without its format, where it is served.
-fn base_in(datatype: &Value) -> Option<Base>
-    ensures { result ≡ base_of (view datatype.now) }
+/// The datatype of a value's name, where it is served, as it is without a format.
+fn base_in(datatype: &Value) -> Option<Datatype>
+    ensures { option_map datatype_view result ≡ base_of (view datatype.now) }
 {
     match datatype_name(datatype) {
-        Some(name) => base_named(name),
+        Some(name) => datatype_named(name),
         None => None,
     }
 }
 
-/// Whether the texts of a datatype have a format.
-fn has_formats(base: Option<Base>) -> bool
-    ensures { result ≡ has_formats_of base }
+/// Whether the datatype of a value's name is served.
+fn is_served(datatype: &Value) -> bool
+    ensures { result ≡ is_some (base_of (view datatype.now)) }
 {
-    matches!(base, Some(Base::Boolean | Base::Date))
+    base_in(datatype).is_some()
+}
+
+/// Whether a datatype has no format, or is one whose texts have one.
+fn may_have_format(datatype: &Value) -> bool
+    ensures { result ≡ may_have_format_of (view datatype.now) }
+{
+    !has(datatype, "format")
+        || matches!(
+            base_in(datatype),
+            Some(Datatype::Boolean(_) | Datatype::Date(_))
+        )
 }
 
 /// The text of true and that of false of a format `T|F`.
 fn boolean_texts(format: &str) -> Option<(&str, &str)>
-    ensures { option_map (λ texts. (texts.0.now, texts.1.now)) result ≡ boolean_texts_of format.now }
+    ensures { option_map (λ texts. (texts.0.now, texts.1.now)) result
+        ≡ boolean_texts_of format.now }
 {
     let (of_true, of_false) = format.split_once('|')?;
     if of_true.is_empty() || of_false.is_empty() || of_true == of_false {
@@ -96,40 +91,31 @@ fn date_form(format: &str) -> Option<DateForm>
     DateForm::of_pattern(format)
 }
 
-/// A boolean with a format.
-fn boolean_with<'v>(format: &'v Value) -> Option<Borrowed<'v>>
-    ensures { option_map borrowed_view result ≡ datatype_with_of Base.Boolean (Some (view format.now)) }
+/// Whether a datatype has that format.
+fn has_format(base: &Datatype, format: &Value) -> bool
+    ensures { result ≡ is_some (datatype_with (datatype_view base.now) (Some (view format.now))) }
 {
-    let (of_true, of_false) = boolean_texts(format.as_str()?)?;
-    Some(Borrowed::BooleanTexts(of_true, of_false))
-}
-
-/// A date with a format.
-fn date_with<'v>(format: &'v Value) -> Option<Borrowed<'v>>
-    ensures { option_map borrowed_view result ≡ datatype_with_of Base.Date (Some (view format.now)) }
-{
-    Some(Borrowed::Date(date_form(format.as_str()?)?))
-}
-
-/// A datatype with its format, where it has one.
-fn datatype_with<'v>(base: Base, format: Option<&'v Value>) -> Option<Borrowed<'v>>
-    ensures { option_map borrowed_view result ≡ datatype_with_of base (option_map (λ v. view v.now) format.entry) }
-{
-    match (base, format) {
-        (Base::Integer, _) => Some(Borrowed::Integer),
-        (Base::Text, _) => Some(Borrowed::Text),
-        (Base::Boolean, None) => Some(Borrowed::Boolean),
-        (Base::Boolean, Some(format)) => boolean_with(format),
-        (Base::Date, None) => Some(Borrowed::Date(DateForm::YearMonthDay)),
-        (Base::Date, Some(format)) => date_with(format),
+    match base {
+        Datatype::Boolean(_) => match format.as_str() {
+            Some(format) => boolean_texts(format).is_some(),
+            None => false,
+        },
+        Datatype::Date(_) => match format.as_str() {
+            Some(format) => date_form(format).is_some(),
+            None => false,
+        },
+        Datatype::Integer | Datatype::Text | Datatype::Decimal => true,
     }
 }
 
-/// The datatype that a value is, where it is one that is served.
-fn datatype_in(datatype: &Value) -> Option<Borrowed<'_>>
-    ensures { option_map borrowed_view result ≡ datatype_in_of (view datatype.now) }
+/// Whether a value is a datatype that is served.
+fn is_datatype(datatype: &Value) -> bool
+    ensures { result ≡ is_some (datatype_in_of (view datatype.now)) }
 {
-    datatype_with(base_in(datatype)?, member(datatype, "format"))
+    match (base_in(datatype), member(datatype, "format")) {
+        (Some(base), Some(format)) => has_format(&base, format),
+        (base, _) => base.is_some(),
+    }
 }
 
 /// That a datatype has none of the constraints, which are not served.
@@ -154,15 +140,14 @@ fn check_present<'v>(datatype: &'v Value) -> Result<(), Refusal<'v>>
     ensures { condition_of result ≡ first_cause (datatype_conditions (view datatype.now)) }
 {
     let name = datatype_name(datatype);
-    let base = base_in(datatype);
     ensure(name.is_some(), Refusal::BadDatatype)?;
-    ensure(base.is_some(), Refusal::Unsupported(name.unwrap_or("")))?;
-    check_constraints(datatype)?;
     ensure(
-        !has(datatype, "format") || has_formats(base),
-        Refusal::Unsupported("format"),
+        is_served(datatype),
+        Refusal::Unsupported(name.unwrap_or("")),
     )?;
-    ensure(datatype_in(datatype).is_some(), Refusal::BadFormat)
+    check_constraints(datatype)?;
+    ensure(may_have_format(datatype), Refusal::Unsupported("format"))?;
+    ensure(is_datatype(datatype), Refusal::BadFormat)
 }
 
 /// The conditions on what a level has for `datatype`.
@@ -177,29 +162,55 @@ pub(crate) fn check_datatype<'v>(datatype: Option<&'v Value>) -> Result<(), Refu
     }
 }
 
-/// The datatype with texts of its own.
-fn owned(alloc: Global, datatype: Borrowed<'_>) -> Result<Datatype, AllocError>
-    ensures { IfOk result (λ made. datatype_view made ≡ borrowed_view datatype.entry) }
+/// A boolean with the texts of a format.
+fn make_boolean(alloc: Global, format: &str) -> Result<Option<Datatype>, AllocError>
+    ensures { IfOk result (λ made.
+        option_map datatype_view made ≡ option_map boolean_of_texts (boolean_texts_of format.now)) }
 {
-    match datatype {
-        Borrowed::Integer => Ok(Datatype::Integer),
-        Borrowed::Text => Ok(Datatype::Text),
-        Borrowed::Boolean => Ok(Datatype::Boolean(BooleanForm::Standard)),
-        Borrowed::BooleanTexts(of_true, of_false) => {
-            let of_true = String::from_str(alloc, of_true)?;
-            let of_false = String::from_str(alloc, of_false)?;
-            Ok(Datatype::Boolean(BooleanForm::Texts(of_true, of_false)))
-        }
-        Borrowed::Date(form) => Ok(Datatype::Date(form)),
+    let Some((of_true, of_false)) = boolean_texts(format) else {
+        return Ok(None);
+    };
+    let of_true = String::from_str(alloc, of_true)?;
+    let of_false = String::from_str(alloc, of_false)?;
+    Ok(Some(Datatype::Boolean(BooleanForm::Texts(of_true, of_false))))
+}
+
+/// A datatype with a format, where it has that format.
+fn make_with(alloc: Global, base: Datatype, format: &Value) -> Result<Option<Datatype>, AllocError>
+    ensures { IfOk result (λ made.
+        option_map datatype_view made ≡ datatype_with (datatype_view base) (Some (view format.now))) }
+{
+    match base {
+        Datatype::Boolean(_) => match format.as_str() {
+            Some(format) => make_boolean(alloc, format),
+            None => Ok(None),
+        },
+        Datatype::Date(_) => match format.as_str() {
+            Some(format) => Ok(date_form(format).map(Datatype::Date)),
+            None => Ok(None),
+        },
+        base => Ok(Some(base)),
+    }
+}
+
+/// The datatype that a value is, where it is one that is served.
+fn make_served(alloc: Global, datatype: &Value) -> Result<Option<Datatype>, AllocError>
+    ensures { IfOk result
+        (λ made. option_map datatype_view made ≡ datatype_in_of (view datatype.now)) }
+{
+    match (base_in(datatype), member(datatype, "format")) {
+        (Some(base), Some(format)) => make_with(alloc, base, format),
+        (base, _) => Ok(base),
     }
 }
 
 /// The datatype of a column, from the nearest level that says one; texts where none does.
 pub(crate) fn make_datatype(alloc: Global, datatype: Option<&Value>) -> Result<Datatype, AllocError>
-    ensures { IfOk result (λ made. datatype_view made ≡ datatype_of (option_map (λ v. view v.now) datatype.entry)) }
+    ensures { IfOk result
+        (λ made. datatype_view made ≡ datatype_of (option_map (λ v. view v.now) datatype.entry)) }
 {
-    owned(
-        alloc,
-        datatype.and_then(datatype_in).unwrap_or(Borrowed::Text),
-    )
+    match datatype {
+        Some(datatype) => Ok(make_served(alloc, datatype)?.unwrap_or(Datatype::Text)),
+        None => Ok(Datatype::Text),
+    }
 }

@@ -24,7 +24,7 @@ use std::alloc::{AllocError, Global};
 pub(crate) const MOST_METADATA_BYTES: usize = 1_073_741_824;
 
 /// The schemas of a folder, in the order of its metadata.
-#[derive(Debug, Drop)]
+#[derive(Drop)]
 pub struct Schemas {
     pub tables: Vec<Schema>,
 }
@@ -100,7 +100,8 @@ fn check_metadata<'v>(
 
 /// What metadata says, table by table.
 fn make_schemas(alloc: Global, metadata: &Value) -> Result<Vec<Schema>, AllocError>
-    ensures { IfOk result (λ made. map schema_view made.items ≡ metadata_schemas (view metadata.now)) }
+    ensures { IfOk result
+        (λ made. map schema_view made.items ≡ metadata_schemas (view metadata.now)) }
 {
     if is_group(metadata) {
         return make_group(alloc, metadata);
@@ -114,8 +115,10 @@ impl Schemas {
     /// What a metadata text says, behind a byte order mark; or the first fault of the walk over it.
     #[tactic(auto, unfolding(crate::specs::Document::schemas_of_value))]
     pub fn read(alloc: Global, bytes: &[u8], limits: &Limits) -> Result<Schemas, MetaFault>
-        ensures schemas { IfOk result (λ schemas. schemas_of (limits_view limits.now) bytes.now ≡ Ok (schemas_view schemas)) }
-        ensures fault { IfErr result (λ e. IfSome (meta_cause e) (λ cause. schemas_of (limits_view limits.now) bytes.now ≡ Err cause)) }
+        ensures schemas { IfOk result
+            (λ schemas. schemas_of (limits_view limits.now) bytes.now ≡ Ok (schemas_view schemas)) }
+        ensures fault { IfErr result (λ e. IfSome (meta_cause e)
+            (λ cause. schemas_of (limits_view limits.now) bytes.now ≡ Err cause)) }
     {
         let metadata = read_document(alloc, bytes)?;
         if let Err(refusal) = check_metadata(limits, &Value::Null, &metadata) {

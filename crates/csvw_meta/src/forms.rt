@@ -25,7 +25,8 @@ fn is_url_byte(b: u8) -> bool
 
 /// Whether an ASCII letter comes first.
 fn begins_with_letter(bytes: &[u8]) -> bool
-    ensures { result ≡ (nat_lt 0 (length bytes.now) && is_ascii_alphabetic (slice_index bytes.now 0)) }
+    ensures { result ≡ (nat_lt 0 (length bytes.now) && is_ascii_alphabetic
+        (slice_index bytes.now 0)) }
 {
     match bytes.first() {
         Some(first) => first.is_ascii_alphabetic(),

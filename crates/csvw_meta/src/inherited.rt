@@ -30,7 +30,8 @@ pub(crate) fn check_inherited<'v>(level: &'v Value) -> Result<(), Refusal<'v>>
 
 /// The texts that stand for null: the empty one where no level says any.
 pub(crate) fn make_nulls(alloc: Global, nulls: Option<&Value>) -> Result<Vec<String>, AllocError>
-    ensures { IfOk result (λ made. map string_bytes made.items ≡ nulls_of (option_map (λ v. view v.now) nulls.entry)) }
+    ensures { IfOk result (λ made. map string_bytes made.items
+        ≡ nulls_of (option_map (λ v. view v.now) nulls.entry)) }
 {
     match nulls {
         Some(nulls) => make_texts(alloc, nulls),
@@ -44,7 +45,8 @@ pub(crate) fn make_nulls(alloc: Global, nulls: Option<&Value>) -> Result<Vec<Str
 
 /// What an empty text stands for: the empty text where no level says another.
 pub(crate) fn make_default(alloc: Global, default: Option<&Value>) -> Result<String, AllocError>
-    ensures { IfOk result (λ made. string_bytes made ≡ default_of (option_map (λ v. view v.now) default.entry)) }
+    ensures { IfOk result
+        (λ made. string_bytes made ≡ default_of (option_map (λ v. view v.now) default.entry)) }
 {
     String::from_str(alloc, default.and_then(Value::as_str).unwrap_or(""))
 }

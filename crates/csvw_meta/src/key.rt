@@ -39,7 +39,8 @@ fn are_different(values: &[Value]) -> bool
 
 /// Whether each text is the name of a column.
 fn are_names(columns: &[Value], values: &[Value]) -> bool
-    ensures { result ≡ list_all (has_name_among (map view columns.now)) (map text_in (map view values.now)) }
+    ensures { result ≡ list_all (has_name_among (map view columns.now))
+        (map text_in (map view values.now)) }
 {
     values.iter().all(|value| has_name(columns, text_of(value)))
 }
@@ -91,7 +92,8 @@ pub(crate) fn make_key(
     columns: &[Value],
     key: Option<&Value>,
 ) -> Result<Vec<usize>, AllocError>
-    ensures { IfOk result (λ made. made.items ≡ key_of (map view columns.now) (option_map (λ v. view v.now) key.entry)) }
+    ensures { IfOk result (λ made. made.items
+        ≡ key_of (map view columns.now) (option_map (λ v. view v.now) key.entry)) }
 {
     match key {
         Some(key) => make_places(alloc, columns, key),

@@ -12,7 +12,7 @@ pub const MOST_COLUMNS: u32 = 256;
 pub const MOST_TRANSFORMATIONS: u32 = 8;
 
 /// The limits of a folder, each at least 1.
-#[derive(Clone, Copy, Debug, PartialEq, Eq)]
+#[derive(Clone, Copy, PartialEq, Eq)]
 pub struct Limits {
     /// The most bytes of a file, at most [`MOST_FILE_BYTES`].
     pub file: u32,

@@ -65,7 +65,8 @@ pub(crate) fn check_count<'k>(
 
 /// That member at the first level that has it.
 pub(crate) fn nearest<'v>(levels: &[&'v Value], name: &str) -> Option<&'v Value>
-    ensures { option_map (λ v. view v.now) result ≡ nearest_of name.now (map (λ level. view level.now) levels.now) }
+    ensures { option_map (λ v. view v.now) result
+        ≡ nearest_of name.now (map (λ level. view level.now) levels.now) }
 {
     for level in levels {
         if let Some(found) = member(level, name) {

@@ -1,5 +1,6 @@
 //! What a condition on metadata fails with. No memory is taken for it.
-ghost use Rattle.std.specs.Prelude.{◌≡◌, IfSome};
+ghost use Rattle.std.specs.Prelude.{◌≡◌, ℕ, None, List, IfSome};
+ghost use Rattle.std.specs.Borrow.{Bor};
 ghost use Rattle.csvw_meta.specs.Fault.{meta_cause};
 ghost use Rattle.csvw_meta.specs.Refusal.{refusal_cause, condition_of, ensure as ensure_of};
 
@@ -29,9 +30,11 @@ pub(crate) enum Refusal<'a> {
 }
 
 impl<'a> Refusal<'a> {
-    /// The fault, with a name of its own.
+    /// The fault, with a name of its own: no memory is taken where it has none.
     pub(crate) fn fault(self, alloc: Global) -> MetaFault
-        ensures { IfSome (meta_cause result) (λ cause. cause ≡ refusal_cause self.entry) }
+        ensures fault { IfSome (meta_cause result) (λ cause. cause ≡ refusal_cause self.entry) }
+        ensures memory { meta_cause result ≡ None → (key : Bor (List ℕ))
+            × (self.entry ≡ Refusal.Unsupported key) }
     {
         match self {
             Refusal::NotObject => MetaFault::NotObject,
@@ -57,7 +60,8 @@ impl<'a> Refusal<'a> {
 
 /// The fault of a member that is not served.
 fn unsupported(alloc: Global, key: &str) -> MetaFault
-    ensures { IfSome (meta_cause result) (λ cause. cause ≡ refusal_cause (Refusal.Unsupported key.entry)) }
+    ensures { IfSome (meta_cause result)
+        (λ cause. cause ≡ refusal_cause (Refusal.Unsupported key.entry)) }
 {
     match String::from_str(alloc, key) {
         Ok(key) => MetaFault::Unsupported { key },

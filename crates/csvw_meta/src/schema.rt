@@ -20,7 +20,7 @@ use serde_json::Value;
 use std::alloc::{AllocError, Global};
 
 /// The schema of one table.
-#[derive(Debug, Drop)]
+#[derive(Drop)]
 pub struct Schema {
     /// The file of the table, at most 132 characters.
     pub url: String,
@@ -52,7 +52,8 @@ fn check_columns<'v>(columns: &'v [Value]) -> Result<(), Refusal<'v>>
 
 /// Whether a schema with those columns has no `primaryKey`, or one that is a key.
 fn has_key_or_none(schema: &Value, columns: &[Value]) -> bool
-    ensures { result ≡ fits (is_key_of (map view columns.now)) (member_of (codes "primaryKey") (view schema.now)) }
+    ensures { result ≡ fits (is_key_of (map view columns.now))
+        (member_of (codes "primaryKey") (view schema.now)) }
 {
     match member(schema, "primaryKey") {
         Some(key) => is_key(columns, key),
@@ -62,7 +63,8 @@ fn has_key_or_none(schema: &Value, columns: &[Value]) -> bool
 
 /// The places of the columns of a schema's key, none where it has no key.
 pub(crate) fn make_schema_key(alloc: Global, schema: &Value) -> Result<Vec<usize>, AllocError>
-    ensures { IfOk result (λ made. made.items ≡ key_of (columns_of (view schema.now)) (member_of (codes "primaryKey") (view schema.now))) }
+    ensures { IfOk result (λ made. made.items ≡ key_of (columns_of (view schema.now))
+        (member_of (codes "primaryKey") (view schema.now))) }
 {
     make_key(alloc, columns_in(schema), member(schema, "primaryKey"))
 }

@@ -84,7 +84,8 @@ pub(crate) fn check_table<'v>(
 
 /// What a table of that group says.
 pub(crate) fn make_table(alloc: Global, group: &Value, table: &Value) -> Result<Schema, AllocError>
-    ensures { IfOk result (λ schema. schema_view schema ≡ table_schema (view group.now) (view table.now)) }
+    ensures { IfOk result
+        (λ schema. schema_view schema ≡ table_schema (view group.now) (view table.now)) }
 {
     let url = url_of(table);
     let schema = schema_in(group, table).unwrap_or(&Value::Null);

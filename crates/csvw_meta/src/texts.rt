@@ -51,7 +51,8 @@ pub(crate) fn is_titles(value: &Value) -> bool
 
 /// Adds copies of the texts of a value.
 fn push_texts(alloc: Global, texts: &mut Vec<String>, value: &Value) -> Result<(), AllocError>
-    ensures { OnOk result (map string_bytes texts.new.items ≡ map string_bytes texts.old.items ++ texts_in (view value.now)) }
+    ensures { OnOk result (map string_bytes texts.new.items ≡ map string_bytes texts.old.items
+        ++ texts_in (view value.now)) }
 {
     for part in parts(value) {
         if let Some(text) = part.as_str() {
@@ -75,7 +76,8 @@ fn make_language_texts(
     alloc: Global,
     members: &Map<String, Value>,
 ) -> Result<Vec<String>, AllocError>
-    ensures { IfOk result (λ made. map string_bytes made.items ≡ flat_map texts_in (member_values (members_view members.now.entries))) }
+    ensures { IfOk result (λ made. map string_bytes made.items
+        ≡ flat_map texts_in (member_values (members_view members.now.entries))) }
 {
     let mut texts = Vec::new(alloc);
     for value in members.values() {
@@ -86,7 +88,8 @@ fn make_language_texts(
 
 /// Copies of all titles, none where there are none.
 pub(crate) fn make_titles(alloc: Global, titles: Option<&Value>) -> Result<Vec<String>, AllocError>
-    ensures { IfOk result (λ made. map string_bytes made.items ≡ titles_of (option_map (λ v. view v.now) titles.entry)) }
+    ensures { IfOk result (λ made. map string_bytes made.items
+        ≡ titles_of (option_map (λ v. view v.now) titles.entry)) }
 {
     match titles {
         Some(titles) => match titles.as_object() {

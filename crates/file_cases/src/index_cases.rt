@@ -1,322 +1,290 @@
 //! Files of a CSV table: rows, widths, cells and faults (RFC 4180, section 2).
-use crate::plain_reader::plain_table;
-use csv_index::{Index, TextFault, text_of};
+use csv_index::{Index, Raw, TextFault, text_of};
 use std::alloc::{AllocError, Global};
 use std::borrow::CowStr;
 use std::test::Fail;
 
-/// How many rows and columns the table has, or what is first wrong with the file.
-fn build(alloc: Global, file: &[u8]) -> Result<(usize, usize), TextFault> {
-    let index = Index::build(alloc, file)?;
-    Ok((index.rows(), index.width()))
+/// What the index has of a file.
+#[derive(Drop)]
+pub(crate) struct Answer {
+    /// How many fields a record has.
+    pub width: usize,
+    /// What the fields of the header say, and then those of each row.
+    pub texts: Vec<String>,
+    /// Whether the fields of the rows are the same one by one and in order.
+    pub in_order: bool,
 }
 
-/// The file behind a byte order mark.
-fn marked(alloc: Global, file: &[u8]) -> Result<Vec<u8>, AllocError> {
-    let mut all = Vec::from_slice(alloc, b"\xEF\xBB\xBF")?;
-    all.extend_from_slice(file)?;
-    Ok(all)
+/// Appends what a field says.
+fn push_text(alloc: Global, texts: &mut Vec<String>, raw: Raw) -> Result<(), TextFault> {
+    let Ok(text) = raw.text(alloc) else {
+        return Err(TextFault::NoMemory);
+    };
+    let Ok(text) = text.into_owned(alloc) else {
+        return Err(TextFault::NoMemory);
+    };
+    texts.push(text).or(Err(TextFault::NoMemory))
 }
 
-/// So many `x`, and a text behind them.
-fn behind_x(
-    alloc: Global,
-    front: &[u8],
-    count: usize,
-    behind: &[u8],
-) -> Result<Vec<u8>, AllocError> {
-    let mut file = Vec::from_slice(alloc, front)?;
-    for _ in 0..count {
-        file.push(b'x')?;
+/// What the index has of a file, or what is first wrong with it.
+pub(crate) fn table_of(alloc: Global, file: &str) -> Result<Answer, TextFault> {
+    let index = Index::build(alloc, file.as_bytes())?;
+    let width = index.width();
+    let mut texts = Vec::new(alloc);
+    for col in 0..width {
+        push_text(alloc, &mut texts, index.header(file, col))?;
     }
-    file.extend_from_slice(behind)?;
-    Ok(file)
-}
-
-/// What each cell says, row after row, as `cell` gives it and as `fields` does.
-fn cells(alloc: Global, file: &[u8]) -> Result<(Vec<String>, Vec<String>), Fail> {
-    let text = text_of(Vec::from_slice(alloc, file)?)?;
-    let index = Index::of_text(alloc, text.as_str())?;
-    let mut found = Vec::new(alloc);
+    let mut fields = index.fields(file, 0);
+    let mut in_order = true;
     for row in 0..index.rows() {
-        for col in 0..index.width() {
-            found.push(
-                index
-                    .cell(text.as_str(), row, col)
-                    .text(alloc)?
-                    .into_owned(alloc)?,
-            )?;
+        for col in 0..width {
+            let raw = index.cell(file, row, col);
+            let next = fields.next_field();
+            in_order &= next.is_some_and(|it| it.bytes == raw.bytes && it.quoted == raw.quoted);
+            push_text(alloc, &mut texts, raw)?;
         }
     }
-    let mut passed = Vec::new(alloc);
-    let mut fields = index.fields(text.as_str(), 0);
-    for _ in 0..found.len() {
-        let raw = fields.next_field().ok_or("a field is missing")?;
-        passed.push(raw.text(alloc)?.into_owned(alloc)?)?;
-    }
-    if fields.next_field().is_some() {
-        return Err("a field too many".into());
-    }
-    Ok((found, passed))
+    in_order &= fields.next_field().is_none();
+    Ok(Answer {
+        width,
+        texts,
+        in_order,
+    })
 }
 
+/// A file that is a table, the number of its columns, and what each field of its header and of its rows says.
+type Table = (&'static str, usize, &'static [&'static str]);
+
+const TABLES: &[Table] = &[
+    ("A\n\n", 1, &["A", ""]),
+    ("A", 1, &["A"]),
+    ("A\n\"\"", 1, &["A", ""]),
+    ("A\n", 1, &["A"]),
+    ("\n", 1, &[""]),
+    ("a\n\"b\"", 1, &["a", "b"]),
+    ("a,b\r\n1,2\r\n,\r\n", 2, &["a", "b", "1", "2", "", ""]),
+    ("\"\"\"A, B\"\"\",C\né, ", 2, &["\"A, B\"", "C", "é", " "]),
+];
+
+/// Line breaks and quoted fields that the end of a block of 64 bytes splits, and a field that has a block for itself. In the last file double quotes
+/// stand at 2 and 126, a pair of them at 63 and 64, a CR at 127 and its LF at 128.
+const TABLES_OVER_BLOCKS: &[Table] = &[
+    (
+        "xxxxxxxxxxxxxxxxxxxxxxxxxxxxxxxxxxxxxxxxxxxxxxxxxxxxxxxxxxxxxxx\r\n",
+        1,
+        &["xxxxxxxxxxxxxxxxxxxxxxxxxxxxxxxxxxxxxxxxxxxxxxxxxxxxxxxxxxxxxxx"],
+    ),
+    (
+        "\"xxxxxxxxxxxxxxxxxxxxxxxxxxxxxxxxxxxxxxxxxxxxxxxxxxxxxxxxxxxxxxx,\"\n",
+        1,
+        &["xxxxxxxxxxxxxxxxxxxxxxxxxxxxxxxxxxxxxxxxxxxxxxxxxxxxxxxxxxxxxxx,"],
+    ),
+    (
+        "A,B\n1,xxxxxxxxxxxxxxxxxxxxxxxxxxxxxxxxxxxxxxxxxxxxxxxxxxxxxxxxxxxxxxxxxxxxxxxxxxxxxxxxxxxxxxxxxxxxxxxxxxxxxxxxxxxxxxxxxxxxxxxxxxxxx\n2,3",
+        2,
+        &[
+            "A",
+            "B",
+            "1",
+            "xxxxxxxxxxxxxxxxxxxxxxxxxxxxxxxxxxxxxxxxxxxxxxxxxxxxxxxxxxxxxxxxxxxxxxxxxxxxxxxxxxxxxxxxxxxxxxxxxxxxxxxxxxxxxxxxxxxxxxxxxxxxx",
+            "2",
+            "3",
+        ],
+    ),
+    (
+        "T\n\"xxxxxxxxxxxxxxxxxxxxxxxxxxxxxxxxxxxxxxxxxxxxxxxxxxxxxxxxxxxx\"\"yyyyyyyyyyyyyyyyyyyyyyyyyyyyyyyyyyyyyyyyyyyyyyyyyyyyyyyyyyyyy\"\r\n",
+        1,
+        &[
+            "T",
+            "xxxxxxxxxxxxxxxxxxxxxxxxxxxxxxxxxxxxxxxxxxxxxxxxxxxxxxxxxxxx\"yyyyyyyyyyyyyyyyyyyyyyyyyyyyyyyyyyyyyyyyyyyyyyyyyyyyyyyyyyyyy",
+        ],
+    ),
+];
+
+/// Whether a file is a table of that width and those texts.
+fn is_table(alloc: Global, file: &str, width: usize, wanted: &[&str]) -> Result<bool, TextFault> {
+    let found = table_of(alloc, file)?;
+    let mut is_same = found.in_order && found.width == width && found.texts.len() == wanted.len();
+    for (text, want) in found.texts.iter().zip(wanted) {
+        is_same &= text.as_str() == *want;
+    }
+    Ok(is_same)
+}
+
+const ALL_TABLES: &[&[Table]] = &[TABLES, TABLES_OVER_BLOCKS];
+
+/// Each table, and the same behind a byte order mark.
 #[test]
-fn counts_records(rt: HostRuntime) -> Result<(), Fail> {
-    let cases = [
-        ("A\n\n", 1, 1),
-        ("A", 0, 1),
-        ("A\n\"\"", 1, 1),
-        ("A\n", 0, 1),
-        ("\n", 0, 1),
-        ("a\n\"b\"", 1, 1),
-        ("a,b\r\n1,2\r\n,\r\n", 2, 2),
-    ];
-    for (file, rows, width) in cases {
-        let file = file.as_bytes();
-        assert_eq!(rt; build(rt.alloc(), file), Ok((rows, width)));
-        assert_eq!(rt;
-            build(rt.alloc(), &marked(rt.alloc(), file)?),
-            Ok((rows, width))
+fn tables(rt: HostRuntime) -> Result<(), Fail> {
+    for tables in ALL_TABLES {
+        for (file, width, texts) in *tables {
+            let mut marked = String::from_str(rt.alloc(), "\u{feff}")?;
+            marked.push_str(file)?;
+            let is_right = is_table(rt.alloc(), file, *width, texts)?
+                && is_table(rt.alloc(), marked.as_str(), *width, texts)?;
+            assert!(rt; is_right, "{file}");
+        }
+    }
+    Ok(())
+}
+
+/// A file, what is first wrong with it, and what is first wrong with it behind a byte order mark: places count its three bytes, and rows do not.
+type Refused = (&'static [u8], TextFault, TextFault);
+
+/// What is no UTF-8 comes before all else, and a fault of the grammar before widths.
+const REFUSED: &[Refused] = &[
+    (b"", TextFault::NoHeader, TextFault::NoHeader),
+    (
+        b"a\"b",
+        TextFault::StrayQuote { at: 1 },
+        TextFault::StrayQuote { at: 4 },
+    ),
+    (
+        b"\"a\"b",
+        TextFault::AfterQuote { at: 3 },
+        TextFault::AfterQuote { at: 6 },
+    ),
+    (
+        b"a\r",
+        TextFault::Unfinished { at: 2 },
+        TextFault::Unfinished { at: 5 },
+    ),
+    (
+        b"a\rb",
+        TextFault::BareCr { at: 2 },
+        TextFault::BareCr { at: 5 },
+    ),
+    (
+        b"a\r\"",
+        TextFault::BareCr { at: 2 },
+        TextFault::BareCr { at: 5 },
+    ),
+    (
+        b"\"a",
+        TextFault::Unfinished { at: 2 },
+        TextFault::Unfinished { at: 5 },
+    ),
+    (
+        b"xxxxxxxxxxxxxxxxxxxxxxxxxxxxxxxxxxxxxxxxxxxxxxxxxxxxxxxxxxxxxxx\"",
+        TextFault::StrayQuote { at: 63 },
+        TextFault::StrayQuote { at: 66 },
+    ),
+    (
+        b"\"xxxxxxxxxxxxxxxxxxxxxxxxxxxxxxxxxxxxxxxxxxxxxxxxxxxxxxxxxxxxxx\"b",
+        TextFault::AfterQuote { at: 64 },
+        TextFault::AfterQuote { at: 67 },
+    ),
+    (
+        b"xxxxxxxxxxxxxxxxxxxxxxxxxxxxxxxxxxxxxxxxxxxxxxxxxxxxxxxxxxxxxxx\rb",
+        TextFault::BareCr { at: 64 },
+        TextFault::BareCr { at: 67 },
+    ),
+    (
+        b"\"xxxxxxxxxxxxxxxxxxxxxxxxxxxxxxxxxxxxxxxxxxxxxxxxxxxxxxxxxxxxxxx",
+        TextFault::Unfinished { at: 64 },
+        TextFault::Unfinished { at: 67 },
+    ),
+    (
+        b"\xFF",
+        TextFault::NotUtf8 { at: 0 },
+        TextFault::NotUtf8 { at: 3 },
+    ),
+    (
+        b"a\"b\xFF",
+        TextFault::NotUtf8 { at: 3 },
+        TextFault::NotUtf8 { at: 6 },
+    ),
+    (
+        b"a,b\nc\n\"d\"e",
+        TextFault::AfterQuote { at: 9 },
+        TextFault::AfterQuote { at: 12 },
+    ),
+    (
+        b"a,b\nc",
+        TextFault::Width { row: 0 },
+        TextFault::Width { row: 0 },
+    ),
+];
+
+#[test]
+fn faults(rt: HostRuntime) -> Result<(), Fail> {
+    for (file, fault, behind_mark) in REFUSED {
+        let mut marked = Vec::from_slice(rt.alloc(), b"\xEF\xBB\xBF")?;
+        marked.extend_from_slice(file)?;
+        let found = Index::build(rt.alloc(), file).err();
+        let found_behind = Index::build(rt.alloc(), &marked).err();
+        assert!(rt;
+            found == Some(*fault) && found_behind == Some(*behind_mark),
+            "{file:?}"
         );
     }
-    assert_eq!(rt; build(rt.alloc(), b""), Err(TextFault::NoHeader));
-    assert_eq!(rt;
-        build(rt.alloc(), b"\xEF\xBB\xBF"),
-        Err(TextFault::NoHeader)
-    );
     Ok(())
 }
 
-/// The fault of the same file behind a byte order mark: places count its three bytes, and rows do not.
-fn behind_mark(fault: TextFault) -> TextFault {
-    match fault {
-        TextFault::NotUtf8 { at } => TextFault::NotUtf8 {
-            at: at.saturating_add(3),
-        },
-        TextFault::BareCr { at } => TextFault::BareCr {
-            at: at.saturating_add(3),
-        },
-        TextFault::StrayQuote { at } => TextFault::StrayQuote {
-            at: at.saturating_add(3),
-        },
-        TextFault::AfterQuote { at } => TextFault::AfterQuote {
-            at: at.saturating_add(3),
-        },
-        TextFault::Unfinished { at } => TextFault::Unfinished {
-            at: at.saturating_add(3),
-        },
-        TextFault::NoHeader | TextFault::Width { .. } | TextFault::NoMemory => fault,
-    }
-}
-
-/// Whether that is first wrong with the file, and with the file behind a byte order mark.
-fn has_fault(alloc: Global, file: &[u8], fault: TextFault) -> Result<bool, Fail> {
-    let marked = marked(alloc, file)?;
-    Ok(build(alloc, file) == Err(fault) && build(alloc, &marked) == Err(behind_mark(fault)))
-}
-
-#[test]
-fn tells_the_first_fault(rt: HostRuntime) -> Result<(), Fail> {
-    let short = [
-        ("a\"b", TextFault::StrayQuote { at: 1 }),
-        ("\"a\"b", TextFault::AfterQuote { at: 3 }),
-        ("a\r", TextFault::Unfinished { at: 2 }),
-        ("a\rb", TextFault::BareCr { at: 2 }),
-        ("a\r\"", TextFault::BareCr { at: 2 }),
-        ("\"a", TextFault::Unfinished { at: 2 }),
-        ("a,b\nc", TextFault::Width { row: 0 }),
-    ];
-    for (file, fault) in short {
-        assert!(rt; has_fault(rt.alloc(), file.as_bytes(), fault)?);
-    }
-    let over_a_block = [
-        ("", 63, "\"", TextFault::StrayQuote { at: 63 }),
-        ("\"", 62, "\"b", TextFault::AfterQuote { at: 64 }),
-        ("", 63, "\rb", TextFault::BareCr { at: 64 }),
-        ("\"", 63, "", TextFault::Unfinished { at: 64 }),
-    ];
-    for (front, count, behind, fault) in over_a_block {
-        let file = behind_x(rt.alloc(), front.as_bytes(), count, behind.as_bytes())?;
-        assert!(rt; has_fault(rt.alloc(), &file, fault)?);
-    }
-    assert!(rt; has_fault(rt.alloc(), b"\xFF", TextFault::NotUtf8 { at: 0 })?);
-    Ok(())
-}
-
-/// Line breaks and quoted fields that the end of a block splits.
-#[test]
-fn reads_over_blocks(rt: HostRuntime) -> Result<(), Fail> {
-    let alloc = rt.alloc();
-    assert_eq!(rt;
-        build(alloc, &behind_x(alloc, b"", 63, b"\r\n")?),
-        Ok((0, 1))
-    );
-    assert_eq!(rt;
-        build(alloc, &behind_x(alloc, b"\"", 63, b",\"\n")?),
-        Ok((0, 1))
-    );
-    let long = behind_x(alloc, b"A,B\n1,", 300, b"\n2,3")?;
-    let (found, passed) = cells(alloc, &long)?;
-    assert_eq!(rt; found, passed);
-    assert_eq!(rt; found.len(), 4);
-    assert_eq!(rt; found[1].len(), 300);
-    assert_eq!(rt; found[3].as_str(), "3");
-    Ok(())
-}
-
-/// A double quote at 2, a pair at 63 and 64, a double quote at 126, CR at 127 and LF at 128.
-#[test]
-fn reads_past_128_bytes(rt: HostRuntime) -> Result<(), Fail> {
-    let file =
-        "T\n\"xxxxxxxxxxxxxxxxxxxxxxxxxxxxxxxxxxxxxxxxxxxxxxxxxxxxxxxxxxxx\"\"yyyyyyyyyyyyyyyyyyyyyyyyyyyyyyyyyyyyyyyyyyyyyyyyyyyyyyyyyyyyy\"\r\n";
-    let text =
-        "xxxxxxxxxxxxxxxxxxxxxxxxxxxxxxxxxxxxxxxxxxxxxxxxxxxxxxxxxxxx\"yyyyyyyyyyyyyyyyyyyyyyyyyyyyyyyyyyyyyyyyyyyyyyyyyyyyyyyyyyyyy";
-    assert_eq!(rt; file.len(), 129);
-    assert_eq!(rt; build(rt.alloc(), file.as_bytes()), Ok((1, 1)));
-    let (found, passed) = cells(rt.alloc(), file.as_bytes())?;
-    assert_eq!(rt; found, passed);
-    assert_eq!(rt; found.len(), 1);
-    assert_eq!(rt; found[0].as_str(), text);
-    Ok(())
-}
-
-/// A header and 200 empty records.
-#[test]
-fn reads_empty_records(rt: HostRuntime) -> Result<(), Fail> {
-    let mut file = Vec::from_slice(rt.alloc(), b"A\n")?;
-    for _ in 0..200 {
-        file.push(b'\n')?;
-    }
-    assert_eq!(rt; build(rt.alloc(), &file), Ok((200, 1)));
-    let (found, passed) = cells(rt.alloc(), &file)?;
-    assert_eq!(rt; found.len(), 200);
-    assert_eq!(rt; found, passed);
-    for cell in &found {
-        assert_eq!(rt; cell.as_str(), "");
-    }
-    Ok(())
-}
-
-/// The one cell of a file copies only where a pair of double quotes stands.
-#[test]
-fn borrows_where_no_pair_stands(rt: HostRuntime) -> Result<(), Fail> {
-    let cases = [
-        ("\u{feff}A\nx", "x", true),
-        ("A\n\n", "", true),
-        ("\"A, B\"\r\n\"a,\r\nb\"\r\n", "a,\r\nb", true),
-        ("A\n\"a\"\"b\"", "a\"b", false),
-        ("A\n\"\"\"\"\"é\"\"\"", "\"\"é\"", false),
-    ];
-    for (file, want, borrowed) in cases {
-        let index = Index::build(rt.alloc(), file.as_bytes())?;
-        if index.rows() == 0 || index.width() == 0 {
-            return Err("no row".into());
-        }
-        match index.cell(file, 0, 0).text(rt.alloc())? {
-            CowStr::Borrowed(content) => assert_eq!(rt; (content, true), (want, borrowed)),
-            CowStr::Owned(content) => assert_eq!(rt; (content.as_str(), false), (want, borrowed)),
-        }
-    }
-    Ok(())
-}
-
-/// Every second field of the rows, the others passed.
-fn second_fields(alloc: Global, file: &str) -> Result<Vec<String>, Fail> {
-    let index = Index::of_utf8(alloc, file.as_bytes())?;
-    let mut fields = index.fields(file, 0);
-    let mut found = Vec::new(alloc);
-    for _ in 0..=file.len() {
-        fields.pass();
-        let Some(raw) = fields.next_field() else {
-            return Ok(found);
-        };
-        found.push(raw.text(alloc)?.into_owned(alloc)?)?;
-    }
-    Err("more fields than bytes".into())
-}
-
-#[test]
-fn passes_fields(rt: HostRuntime) -> Result<(), Fail> {
-    let cases = [
-        ("A,B\n1,2\n3,4", ["2", "4"]),
-        ("A\n\"a\n\"\n\"b\"\"\"\n\nd\n", ["b\"", "d"]),
-        ("A\né\nè\n\nê", ["è", "ê"]),
-    ];
-    for (file, [first, second]) in cases {
-        let found = second_fields(rt.alloc(), file)?;
-        assert_eq!(rt; found.len(), 2);
-        assert_eq!(rt; (found[0].as_str(), found[1].as_str()), (first, second));
-    }
-    Ok(())
-}
+/// Bytes, and how many of them are UTF-8 where not all are.
+const BYTES: &[(&[u8], Option<usize>)] = &[
+    (b"A\n\xC3\xA9", None),
+    (b"A\n\xFF", Some(2)),
+    (b"\xC3", Some(0)),
+    (b"a\"b\xFF", Some(3)),
+];
 
 #[test]
 fn texts_of_bytes(rt: HostRuntime) -> Result<(), Fail> {
-    let text = text_of(Vec::from_slice(rt.alloc(), "A\né".as_bytes())?)?;
-    assert_eq!(rt; text.as_str(), "A\né");
-    assert_eq!(rt;
-        text_of(Vec::from_slice(rt.alloc(), b"A\n\xFF")?),
-        Err(TextFault::NotUtf8 { at: 2 })
-    );
-    assert_eq!(rt;
-        text_of(Vec::from_slice(rt.alloc(), b"\xC3")?),
-        Err(TextFault::NotUtf8 { at: 0 })
-    );
-    Ok(())
-}
-
-/// Whether the index answers of a file of ASCII as the plain reader does.
-fn agrees(alloc: Global, file: &[u8]) -> Result<bool, Fail> {
-    match plain_table(alloc, file)? {
-        Err(fault) => Ok(build(alloc, file) == Err(fault)),
-        Ok((width, texts)) => {
-            let (_, found_width) = build(alloc, file)?;
-            let (found, passed) = cells(alloc, file)?;
-            Ok(found_width == width && found == texts && passed == texts)
-        }
-    }
-}
-
-/// 2,000 files of 1 to 200 of the bytes that tell, by a fixed seed.
-#[test]
-fn files_of_telling_bytes(rt: HostRuntime) -> Result<(), Fail> {
-    let mut state = 0x9E37_79B9_7F4A_7C15u64;
-    for _ in 0..2000 {
-        let mut file = Vec::new(rt.alloc());
-        state = next(state);
-        for _ in 0..state % 200 + 1 {
-            state = next(state);
-            file.push(match state % 5 {
-                0 => b'"',
-                1 => b',',
-                2 => b'\r',
-                3 => b'\n',
-                _ => b'x',
-            })?;
-        }
-        assert!(rt; agrees(rt.alloc(), &file)?);
+    for (bytes, place) in BYTES {
+        let is_right = match text_of(Vec::from_slice(rt.alloc(), bytes)?) {
+            Ok(text) => place.is_none() && text.as_bytes() == *bytes,
+            Err(TextFault::NotUtf8 { at }) => *place == Some(at),
+            Err(_) => false,
+        };
+        assert!(rt; is_right, "{bytes:?}");
     }
     Ok(())
 }
 
-/// The next of a row of numbers that look like chance (xorshift).
-fn next(state: u64) -> u64 {
-    let a = state ^ (state << 13);
-    let b = a ^ (a >> 7);
-    b ^ (b << 17)
+/// A file of one cell, and whether its text is a copy: only where a pair of double quotes stands.
+const COPIES: &[(&str, bool)] = &[
+    ("\u{feff}A\nx", false),
+    ("A\n\n", false),
+    ("\"A, B\"\r\n\"a,\r\nb\"\r\n", false),
+    ("A\n\"a\"\"b\"", true),
+    ("A\n\"\"\"\"\"é\"\"\"", true),
+];
+
+/// Whether a field's text is a copy.
+fn is_copy(alloc: Global, raw: Raw) -> Result<bool, AllocError> {
+    Ok(matches!(raw.text(alloc)?, CowStr::Owned(_)))
 }
 
-/// Each telling byte at each place of files of `x`.
 #[test]
-fn each_telling_byte_at_each_place(rt: HostRuntime) -> Result<(), Fail> {
-    for len in [63usize, 64, 65, 127, 128, 129] {
-        for at in 0..len {
-            for byte in *b"\",\r\n" {
-                let behind = behind_x(rt.alloc(), &[byte], len - at - 1, b"")?;
-                let file = behind_x(rt.alloc(), b"", at, &behind)?;
-                assert!(rt; agrees(rt.alloc(), &file)?);
-            }
+fn copies(rt: HostRuntime) -> Result<(), Fail> {
+    for (file, wanted) in COPIES {
+        let index = Index::build(rt.alloc(), file.as_bytes())?;
+        let raw = index.fields(file, 0).next_field().ok_or("no row")?;
+        assert!(rt; is_copy(rt.alloc(), raw)? == *wanted, "{file}");
+    }
+    Ok(())
+}
+
+/// A file, and how every second field of its rows is written, the others passed.
+const SECOND_FIELDS: &[(&str, &[&str])] = &[
+    ("A,B\n1,2\n3,4", &["2", "4"]),
+    ("A\n\"a\n\"\n\"b\"\"\"\n\nd\n", &["b\"\"", "d"]),
+    ("A\né\nè\n\nê", &["è", "ê"]),
+];
+
+#[test]
+fn passes_fields(rt: HostRuntime) -> Result<(), Fail> {
+    for (file, seconds) in SECOND_FIELDS {
+        let index = Index::build(rt.alloc(), file.as_bytes())?;
+        let mut fields = index.fields(file, 0);
+        let mut is_right = true;
+        for second in *seconds {
+            fields.pass();
+            is_right &= fields.next_field().is_some_and(|raw| raw.bytes == *second);
         }
+        fields.pass();
+        assert!(rt; is_right && fields.next_field().is_none(), "{file}");
     }
     Ok(())
 }

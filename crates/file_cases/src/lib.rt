@@ -7,4 +7,6 @@ mod index_cases;
 #[cfg(test)]
 mod lane_cases;
 #[cfg(test)]
+mod made_cases;
+#[cfg(test)]
 mod plain_reader;

@@ -9,6 +9,18 @@ use table_store::{Catalog, LoadFault, NamedFile, Table};
 /// Texts, each with what it is answered with.
 pub(crate) type Cases = &'static [(&'static str, &'static str)];
 
+/// The texts of a list, one a line, and what each is answered with, behind ` => `.
+pub(crate) fn cases_in(
+    alloc: Global,
+    list: &'static str,
+) -> Result<Vec<(&'static str, &'static str)>, Fail> {
+    let mut cases = Vec::new(alloc);
+    for line in list.lines() {
+        cases.push(line.rsplit_once(" => ").ok_or("a line with no answer")?)?;
+    }
+    Ok(cases)
+}
+
 /// Why metadata is refused, or `accepted`.
 fn metadata_answer(alloc: Global, meta: &str) -> Result<String, AllocError> {
     match Schemas::read(alloc, meta.as_bytes(), &Limits::greatest()) {
@@ -53,6 +65,7 @@ fn value_text(alloc: Global, value: &Value<'_>) -> Result<String, AllocError> {
         }
         Value::Bool(truth) => format!(in alloc; "boolean {truth}"),
         Value::Date(date) => format!(in alloc; "date {date}"),
+        Value::Decimal(millionths) => format!(in alloc; "millionths {millionths}"),
     }
 }
 
@@ -108,7 +121,7 @@ fn push_table(alloc: Global, text: &mut String, table: &Table) -> Result<(), All
 }
 
 /// The tables of a folder, or why it is refused.
-fn load(
+pub(crate) fn load(
     alloc: Global,
     limits: Limits,
     meta: &str,
@@ -160,6 +173,6 @@ pub(crate) fn check_find(
 ) -> Result<(), Fail> {
     let catalog = load(rt.alloc(), Limits::greatest(), meta, files)?.or(Err("a refused folder"))?;
     let table = catalog.tables().first().ok_or("no table")?;
-    assert!(rt; table.find(key) == row, "{key:?} in {files:?}");
+    assert!(rt; table.find(key) == row, "the row {row:?} of {files:?}");
     Ok(())
 }

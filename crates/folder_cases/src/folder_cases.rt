@@ -2,7 +2,9 @@
 use crate::fixture::{Cases, check_find, check_folder};
 use cell_types::Value;
 use csvw_meta::Limits;
+use std::alloc::AllocError;
 use std::borrow::CowStr;
+use std::process::Abort;
 use std::test::Fail;
 
 /// The metadata of three tables.
@@ -88,6 +90,10 @@ const FILES_OF_TWO: Cases = &[
     (
         "Id,Since\n9223372036854775808,\n",
         "a.csv: Cell row 0 col 0 OutOfRange",
+    ),
+    (
+        "Id,Since\n9223372036854775807,\n-9223372036854775808,\n",
+        "a 2 2; integer 9223372036854775807; null; integer -9223372036854775808; null\n",
     ),
     (
         "Id,Since\r\n\" 7 \",\"2024-02-29\"\r\n",
@@ -178,27 +184,40 @@ fn folders(rt: HostRuntime) -> Result<(), Fail> {
     Ok(())
 }
 
+/// The metadata of one table, and files of it.
+const TABLES_OF_ONE_FILE: &[(&str, Cases)] = &[
+    (TWO, FILES_OF_TWO),
+    (REQUIRED, FILES_OF_REQUIRED),
+    (TITLES, FILES_OF_TITLES),
+    (KEY, FILES_OF_KEY),
+    (KEYS, FILES_OF_KEYS),
+];
+
+/// Checks what each file of one table is answered with.
+fn check_files(
+    rt: &(impl Abort + AllocGlobal),
+    limits: Limits,
+    meta: &str,
+    cases: &[(&str, &str)],
+) -> Result<(), AllocError> {
+    for (file, answer) in cases {
+        check_folder(rt, limits, meta, &[("a.csv", *file)], answer)?;
+    }
+    Ok(())
+}
+
 #[test]
 fn files(rt: HostRuntime) -> Result<(), Fail> {
-    let greatest = Limits::greatest();
+    for (meta, cases) in TABLES_OF_ONE_FILE {
+        check_files(&rt, Limits::greatest(), meta, cases)?;
+    }
     let nine_bytes = Limits {
         file: 9,
         tables: 1,
         columns: 2,
         transformations: 1,
     };
-    for (limits, meta, cases) in [
-        (greatest, TWO, FILES_OF_TWO),
-        (greatest, REQUIRED, FILES_OF_REQUIRED),
-        (greatest, TITLES, FILES_OF_TITLES),
-        (greatest, KEY, FILES_OF_KEY),
-        (greatest, KEYS, FILES_OF_KEYS),
-        (nine_bytes, TWO, FILES_AT_THE_LIMIT),
-    ] {
-        for (file, answer) in cases {
-            check_folder(&rt, limits, meta, &[("a.csv", *file)], answer)?;
-        }
-    }
+    check_files(&rt, nine_bytes, TWO, FILES_AT_THE_LIMIT)?;
     Ok(())
 }
 
@@ -216,11 +235,7 @@ fn keys(rt: HostRuntime) -> Result<(), Fail> {
         Value::Text(CowStr::Borrowed("1")),
     ];
     check_find(&rt, KEYS, &pairs, &key, Some(1))?;
-    check_find(
-        &rt,
-        TWO,
-        &[("a.csv", "Id,Since\n7,\n")],
-        &[Value::Int(7)],
-        None,
-    )
+    let seven = [("a.csv", "Id,Since\n7,\n")];
+    check_find(&rt, TWO, &seven, &[Value::Int(7)], None)?;
+    check_find(&rt, TWO, &seven, &[], None)
 }

@@ -7,6 +7,8 @@ mod cell_cases;
 #[cfg(test)]
 mod column_cases;
 #[cfg(test)]
+mod decimal_cases;
+#[cfg(test)]
 mod fixture;
 #[cfg(test)]
 mod folder_cases;

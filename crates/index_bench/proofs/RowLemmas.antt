@@ -6,7 +6,7 @@ use Rattle.csv_grammar.specs.Records.{Field}
 use Rattle.csv_grammar.specs.Files.{FileCause, not_utf8, malformed, no_header, wrong_width, IsFileFault}
 use Rattle.csv_grammar.specs.Faults.{bare_cr, stray_quote, after_quote, unfinished}
 use Rattle.csv_index.specs.Index.{Places, Rise, IsIndexOf}
-use Rattle.csv_index.specs.Fault.{text_cause}
+use Rattle.csv_index.specs.Fault.{IsTextFault}
 use Rattle.csv_index.specs.declared.fault.TextFault.{TextFault}
 use Rattle.csv_index.specs.declared.fault.TextFault.TheVariants.{NotUtf8, BareCr, StrayQuote, AfterQuote, Unfinished, NoHeader, Width, NoMemory}
 
@@ -21,8 +21,8 @@ start_within : (start : ℕ) (ends : List ℕ) (size : ℕ) → Rise start ends 
 start_within start [] size rise some = omega (arith, some)
 start_within start (end ∷ ends) size rise some = omega (arith, rise.0, rise.1)
 
-pub rows_within : (places : Places) (bytes : List ℕ) (header : List Field) (rows : List (List Field)) → IsIndexOf places bytes header rows → places.rows ≤ length bytes
-rows_within places bytes header rows index =
+pub rows_within : (places : Places) (bytes : List ℕ) → IsIndexOf places bytes → places.rows ≤ length bytes
+rows_within places bytes index =
     let most : (places.rows + 1) * 1 ≤ (places.rows + 1) * places.width = mul-le (places.rows + 1) 1 (places.rows + 1) places.width (omega arith) index.fits.width in
     let some : 0 < length places.ends = omega (arith, most, index.fits.count) in
     let start = start_within places.start places.ends (length bytes) index.fits.rise some in
@@ -31,11 +31,11 @@ rows_within places bytes header rows index =
 
 -- an index of bytes that fit a slice
 pub few_rows : (index : Result Places TextFault) (bytes : List ℕ) → length bytes < 2 ^ 63
-    → IfOk index (λ index. (header : List Field) × (rows : List (List Field)) × IsIndexOf index bytes header rows) → IfOk index (λ index. index.rows < 2 ^ 63)
-few_rows (Ok index) bytes small t = omega (arith, rows_within index bytes t.0 t.1 t.2)
+    → IfOk index (λ index. IsIndexOf index bytes) → IfOk index (λ index. index.rows < 2 ^ 63)
+few_rows (Ok index) bytes small t = omega (arith, rows_within index bytes t)
 few_rows (Err e) bytes small t = tt
 
-pub fault_told : (e : TextFault) (bytes : List ℕ) → e ≢ NoMemory → IfSome (text_cause e) (IsFileFault bytes) → (cause : FileCause) × IsFileFault bytes cause
+pub fault_told : (e : TextFault) (bytes : List ℕ) → e ≢ NoMemory → IsTextFault bytes e → (cause : FileCause) × IsFileFault bytes cause
 fault_told (NotUtf8 at) bytes other fault = (not_utf8 at, fault)
 fault_told (BareCr at) bytes other fault = (malformed bare_cr at, fault)
 fault_told (StrayQuote at) bytes other fault = (malformed stray_quote at, fault)

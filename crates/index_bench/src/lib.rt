@@ -2,11 +2,9 @@
 //! number of rows, and says of each negative answer what it means, exactly as [`csv_index::Index::build`] does.
 #![tactic(auto)]
 
-ghost use Rattle.std.specs.Prelude.{ℕ, ◌^◌, ◌<◌, List, IfOk, IfErr, IfSome, IsUtf8};
-ghost use Rattle.csv_grammar.specs.Records.{Field};
-ghost use Rattle.csv_grammar.specs.Files.{IsFileFault};
+ghost use Rattle.std.specs.Prelude.{ℕ, ◌^◌, ◌<◌, List, IfOk, IfErr, IsUtf8};
 ghost use Rattle.csv_index.specs.Index.{IsIndexOf};
-ghost use Rattle.csv_index.specs.Fault.{text_cause};
+ghost use Rattle.csv_index.specs.Fault.{IsTextFault};
 ghost use Rattle.index_bench.specs.Rows.{Answers};
 
 use csv_index::{Index, TextFault};
@@ -38,8 +36,8 @@ pub extern "C" fn utf8_rows(alloc: Global, bytes: &[u8]) -> i64
 /// What an index, or a fault, says of the file.
 fn rows_of(index: Result<Index, TextFault>) -> i64
     requires { IfOk index (λ index. index.rows < 2 ^ 63) }
-    ensures { (bytes : List ℕ) → IfOk index (λ index. (header : List Field) × (rows : List (List Field)) × IsIndexOf index bytes header rows)
-        → IfErr index (λ e. IfSome (text_cause e) (IsFileFault bytes)) → Answers bytes result }
+    ensures { (bytes : List ℕ) → IfOk index (λ index. IsIndexOf index bytes)
+        → IfErr index (IsTextFault bytes) → Answers bytes result }
 {
     match index {
         Ok(index) => index.rows() as i64,

@@ -11,7 +11,7 @@ use std::simd::prelude::*;
 pub const BLOCK: usize = 64;
 
 /// Which bytes of a block are of each kind: bit i speaks of byte i.
-#[derive(Clone, Copy, Debug, PartialEq, Eq)]
+#[derive(Clone, Copy, PartialEq, Eq)]
 pub struct Classes {
     pub quote: u64,
     pub comma: u64,

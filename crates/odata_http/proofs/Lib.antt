@@ -1,13 +1,7 @@
-pub mod DeviceLemmas
-pub mod HeadLemmas
-pub mod HeadFinds
-pub mod FieldsLemmas
-pub mod RouteLemmas
 pub mod ReplyLemmas
-pub mod StreamLemmas
-pub mod StreamFinds
-pub mod StreamFronts
+pub mod RepliesLemmas
 pub mod AnswerLemmas
+pub mod SinkLemmas
 pub mod OutputLemmas
 pub mod SessionLemmas
 pub mod RunLemmas

@@ -7,26 +7,25 @@ use Rattle.std.proofs.lemmas.Bool.Decides.{nat_tests}
 use Rattle.odata_http.specs.declared.runs.RunFault.{RunFault}
 use Rattle.odata_http.specs.declared.runs.RunFault.TheVariants.{NoMemory, Read, Write, TooManyReads}
 use Rattle.odata_http.specs.Device.{Counts}
-use Rattle.odata_http.specs.Head.{HeadOf}
-use Rattle.odata_http.specs.Reply.{ReplyOf, rest_reply}
-use Rattle.odata_http.specs.Stream.{AreReplies, last_reply}
-use Rattle.odata_http.specs.Runs.{Course, HasEnded, Finishes, StopsReading, AnswersAll, IsRun}
-use Rattle.odata_http.proofs.StreamLemmas.{all_join, rest_answered}
+use Rattle.http_heads.specs.Head.{HeadOf}
+use Rattle.odata_http.specs.Replies.{AreReplies}
+use Rattle.odata_http.specs.Laws.{Joins}
+use Rattle.odata_http.specs.Runs.{Course, HasEnded, Finishes, StopsReading, AnswersWhole, IsRun}
 use Rattle.odata_http.proofs.RunLemmas.{IsEnd}
 
 -- ---- the whole stream
 
 -- the replies of what was read are those of the stream: all of it was read, or a reply closed
-whole_replies : (reply : HeadOf → ReplyOf) (left after : Option (List ℕ)) (read wrote stream : List ℕ) (closed : Bool) → left ≡ Some stream
-    → Consumes left after read → (closed ≡ false → IsAtEnd after) → AreReplies reply read wrote closed → AreReplies reply stream wrote closed
-whole_replies reply None after read wrote stream closed e lost end x = absurd (cc)
-whole_replies reply (Some xs) None read wrote stream closed e lost end x = absurd lost
-whole_replies reply (Some xs) (Some ys) read wrote stream true e lost end x =
-    let P : List ℕ → Type 0 = λ s. AreReplies reply s wrote true in
+whole_replies : (R : HeadOf → List ℕ → Type 0) → Joins R → (left after : Option (List ℕ)) (read wrote stream : List ℕ) (closed : Bool) → left ≡ Some stream
+    → Consumes left after read → (closed ≡ false → IsAtEnd after) → AreReplies R read wrote closed → AreReplies R stream wrote closed
+whole_replies R j None after read wrote stream closed e lost end x = absurd (cc)
+whole_replies R j (Some xs) None read wrote stream closed e lost end x = absurd lost
+whole_replies R j (Some xs) (Some ys) read wrote stream true e lost end x =
+    let P : List ℕ → Type 0 = λ s. AreReplies R s wrote true in
     let same : xs ≡ stream = cc in
-    subst P (sym lost ∙ same) ((all_join reply).replies_closed read ys wrote x)
-whole_replies reply (Some xs) (Some ys) read wrote stream false e lost end x =
-    let P : List ℕ → Type 0 = λ s. AreReplies reply s wrote false in
+    subst P (sym lost ∙ same) (j.replies_closed read ys wrote x)
+whole_replies R j (Some xs) (Some ys) read wrote stream false e lost end x =
+    let P : List ℕ → Type 0 = λ s. AreReplies R s wrote false in
     let same : xs ≡ stream = cc in
     let none : ys ≡ [] = end refl in
     subst P (sym (append-nil read) ∙ ap (λ rest. read ++ rest) (sym none) ∙ sym lost ∙ same) x
@@ -35,21 +34,21 @@ ended_left : (c : Course) (closed : Bool) → MatchBool closed (HasEnded c false
 ended_left c true over e = absurd (cc)
 ended_left c false over e = over.1
 
-finishes_all : (reply : HeadOf → ReplyOf) (c : Course) → Finishes reply c → (stream : List ℕ) → c.source.left ≡ Some stream → AnswersAll reply c stream
-finishes_all reply c x stream e = record {
+finishes_all : (R : HeadOf → List ℕ → Type 0) → Joins R → (c : Course) → Finishes R c → (stream : List ℕ) → c.source.left ≡ Some stream → AnswersWhole R c stream
+finishes_all R j c x stream e = record {
   wrote = x.wrote;
   closed = x.closed;
-  replies = whole_replies reply c.source.left c.source_after.left x.read x.wrote stream x.closed e x.moved.lost (ended_left c x.closed x.over) x.replies;
+  replies = whole_replies R j c.source.left c.source_after.left x.read x.wrote stream x.closed e x.moved.lost (ended_left c x.closed x.over) x.replies;
   gained = x.moved.gained;
 }
 
 -- ---- the ends
 
-pub end_run : {reply : HeadOf → ReplyOf} {limit : ℕ} {c : Course} (r : Result (Unit {0}) RunFault) → IsEnd reply c r
+pub end_run : {R : HeadOf → List ℕ → Type 0} {limit : ℕ} {c : Course} → Joins R → (r : Result (Unit {0}) RunFault) → IsEnd R c r
     → c.sink.failed_writes < 2 ^ 63 → c.source_after.failed_reads ≡ c.source.failed_reads → c.source_after.reads ≤ c.source.reads + limit
-    → IsRun reply limit c r
-end_run {reply} {limit} {c} (Ok u) x small same within = record {
-  whole = finishes_all reply c x.0;
+    → IsRun R limit c r
+end_run {R} {limit} {c} j (Ok u) x small same within = record {
+  whole = finishes_all R j c x.0;
   ok = x.0;
   read_failed = ((λ e. absurd (cc)), (λ less. absurd (omega (arith, less, same))));
   write_failed = ((λ e. absurd (cc)), (λ less. let kept : c.sink_after.failed_writes ≡ c.sink.failed_writes = x.1 in absurd (omega (arith, less, kept))));
@@ -60,7 +59,7 @@ end_run {reply} {limit} {c} (Ok u) x small same within = record {
   no_memory = λ e. absurd (cc);
   reads = within;
 }
-end_run {reply} {limit} {c} (Err NoMemory) x small same within = record {
+end_run {R} {limit} {c} j (Err NoMemory) x small same within = record {
   whole = tt;
   ok = tt;
   read_failed = ((λ e. absurd (cc)), (λ less. absurd (omega (arith, less, same))));
@@ -72,8 +71,8 @@ end_run {reply} {limit} {c} (Err NoMemory) x small same within = record {
   no_memory = λ e. x.0;
   reads = within;
 }
-end_run {reply} {limit} {c} (Err Read) x small same within = absurd x
-end_run {reply} {limit} {c} (Err Write) x small same within = record {
+end_run {R} {limit} {c} j (Err Read) x small same within = absurd x
+end_run {R} {limit} {c} j (Err Write) x small same within = record {
   whole = tt;
   ok = tt;
   read_failed = ((λ e. absurd (cc)), (λ less. absurd (omega (arith, less, same))));
@@ -88,12 +87,12 @@ end_run {reply} {limit} {c} (Err Write) x small same within = record {
   no_memory = λ e. absurd (cc);
   reads = within;
 }
-end_run {reply} {limit} {c} (Err TooManyReads) x small same within = absurd x
+end_run {R} {limit} {c} j (Err TooManyReads) x small same within = absurd x
 
-pub read_fault_run : {reply : HeadOf → ReplyOf} {limit : ℕ} {c : Course} → StopsReading reply c
+pub read_fault_run : {R : HeadOf → List ℕ → Type 0} {limit : ℕ} {c : Course} → StopsReading R c
     → c.source.failed_reads < 2 ^ 63 → Counts c.source.failed_reads c.source_after.failed_reads
-    → c.sink_after.failed_writes ≡ c.sink.failed_writes → c.source_after.reads ≤ c.source.reads + limit → IsRun reply limit c (Err Read)
-read_fault_run {reply} {limit} {c} x small counts same within = record {
+    → c.sink_after.failed_writes ≡ c.sink.failed_writes → c.source_after.reads ≤ c.source.reads + limit → IsRun R limit c (Err Read)
+read_fault_run {R} {limit} {c} x small counts same within = record {
   whole = tt;
   ok = tt;
   read_failed = (
@@ -109,9 +108,9 @@ read_fault_run {reply} {limit} {c} x small counts same within = record {
   reads = within;
 }
 
-pub limit_run : {reply : HeadOf → ReplyOf} {limit : ℕ} {c : Course} → StopsReading reply c → c.source_after.failed_reads ≡ c.source.failed_reads
-    → c.sink_after.failed_writes ≡ c.sink.failed_writes → c.source_after.reads ≡ c.source.reads + limit → IsRun reply limit c (Err TooManyReads)
-limit_run {reply} {limit} {c} x same_reads same met = record {
+pub limit_run : {R : HeadOf → List ℕ → Type 0} {limit : ℕ} {c : Course} → StopsReading R c → c.source_after.failed_reads ≡ c.source.failed_reads
+    → c.sink_after.failed_writes ≡ c.sink.failed_writes → c.source_after.reads ≡ c.source.reads + limit → IsRun R limit c (Err TooManyReads)
+limit_run {R} {limit} {c} x same_reads same met = record {
   whole = tt;
   ok = tt;
   read_failed = ((λ e. absurd (cc)), (λ less. absurd (omega (arith, less, same_reads))));
@@ -149,13 +148,3 @@ read_more n buf a b some m = elim (cases_Bool ((n == 0) && nat_lt 0 (length buf)
   | inl holds ↦ absurd (grind (arith, nat_tests, holds, some))
   | inr breaks ↦ let P : Bool → Type 0 = λ v. MatchBool v (Counts a b) (b ≡ a) in subst P breaks m
 ]
-
--- ---- the rest
-
--- the reply to a rest comes exactly where there is one
-pub rest_line : {A : Type 0} (unreadable : Option A) (rest : List ℕ) → (IsSome unreadable ↔ (0 < length rest))
-    → (if is_some unreadable then rest_reply.bytes else []) ≡ last_reply rest false
-rest_line None [] e = refl
-rest_line None (b ∷ rest) e = let some : 0 < length (b ∷ rest) = omega arith in absurd (false≢true (e.1 some))
-rest_line (Some u) [] e = let none : 0 < length {A = ℕ} [] = e.0 refl in absurd (omega (arith, none))
-rest_line (Some u) (b ∷ rest) e = sym (rest_answered (b ∷ rest) (omega arith))

@@ -28,3 +28,10 @@ CountsEnd old new r buf = MatchResult r (λ n. MatchBool ((n == 0) && nat_lt 0 (
 -- some of a nonempty piece was taken
 abbrev pub TakesSome : {E : Type 0} → List ℕ → Result ℕ E → Type 0
 TakesSome bytes r = IfOk r (λ n. 0 < length bytes → 0 < n)
+
+-- so little was counted that no count of a run comes to its end
+pub record CountsFit (source : SourceOf) (sink : SinkOf) : Type 0 where
+  pub reads : source.reads < 2 ^ 63
+  pub ends : source.ends < 2 ^ 63
+  pub failed_reads : source.failed_reads < 2 ^ 63
+  pub failed_writes : sink.failed_writes < 2 ^ 63

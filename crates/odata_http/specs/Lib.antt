@@ -1,11 +1,9 @@
 pub mod Device
 pub mod Counted
-pub mod Head
-pub mod Fields
-pub mod Splitter
-pub mod Route
+pub mod Media
 pub mod Reply
-pub mod Stream
+pub mod Replies
+pub mod Laws
 pub mod Answer
 pub mod Runs
 pub mod RunFaults
@@ -14,3 +12,7 @@ pub mod Session
 pub mod States
 pub use Rattle.table_store.specs.Table
 pub use Rattle.table_store.specs.Catalog
+pub use Rattle.http_heads.specs.Head
+pub use Rattle.http_heads.specs.Checks
+pub use Rattle.http_heads.specs.Cut
+pub use Rattle.odata_request.specs.Request

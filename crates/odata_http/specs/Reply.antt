@@ -1,5 +1,5 @@
 -- The reply to the head of a request (RFC 9112, section 4; OData 4.01 Part 1, section 8).
-use Rattle.std.specs.Prelude.{ℕ, Bool, true, List, [], ◌∷◌, ◌++◌, ◌==◌, length, codes, if◌then◌else◌, unwrap_or}
+use Rattle.std.specs.Prelude.{◌≡◌, ℕ, Bool, true, List, [], ◌∷◌, ◌++◌, ◌==◌, length, codes, if◌then◌else◌, unwrap_or, Option, None, Some, slice_get}
 use Rattle.std.specs.Str.{bytes_eq}
 use Rattle.std.specs.Fmt.{decimal}
 use Rattle.http.specs.StatusCode.{reason_phrase}
@@ -11,18 +11,15 @@ use Rattle.reply_text.specs.Csv.{csv_text}
 use Rattle.odata_parse.specs.declared.format.Format.{Format}
 use Rattle.odata_parse.specs.declared.format.Format.TheVariants.{Json, Csv}
 use Rattle.reply_text.specs.Code.{status_of}
-use Rattle.odata_http.specs.declared.reply.Reply.{Reply}
 use Rattle.odata_http.specs.declared.reply.TheConstants.{OK}
-use Rattle.odata_http.specs.Head.{HeadOf}
-use Rattle.odata_http.specs.Route.{RouteOf, refused, service, rows, route_of, closes_after}
-
--- the bytes of a reply, and whether the connection closes behind it
-pub record ReplyOf : Type 0 where
-  pub bytes : List ℕ
-  pub closes : Bool
-
-abbrev pub reply_view : Reply → ReplyOf
-reply_view reply = record { bytes = reply.head.items ++ reply.body.items; closes = reply.closes }
+use Rattle.http_heads.specs.Head.{HeadOf}
+use Rattle.http_heads.specs.Checks.{head_fault, closes}
+use Rattle.odata_http.specs.declared.media.Media.{Media}
+use Rattle.odata_http.specs.declared.media.Media.TheVariants as media
+use Rattle.odata_http.specs.Media.{media_of, media_type}
+use Rattle.odata_request.specs.declared.request.Request.{Request}
+use Rattle.odata_request.specs.declared.request.Request.TheVariants.{Refused, Service, Rows}
+use Rattle.odata_request.specs.Request.{AsksFor}
 
 abbrev pub line_end : List ℕ
 line_end = 13 ∷ 10 ∷ []
@@ -42,22 +39,17 @@ allow_line status = if status == status_of MethodNotAllowed then field_line (cod
 abbrev pub closing_line : Bool → List ℕ
 closing_line closes = if closes then field_line (codes "Connection") (codes "close") else []
 
--- the media types of bodies
-abbrev pub media_type : Format → List ℕ
-media_type Json = codes "application/json;odata.metadata=none"
-media_type Csv = codes "text/csv;charset=utf-8"
-
--- the status line, and the fields of every reply with a body in that format
-abbrev pub first_lines : ℕ → Format → List ℕ
-first_lines status format =
+-- the status line, and the fields of every reply with a body of that media type
+abbrev pub first_lines : ℕ → Media → List ℕ
+first_lines status media =
     status_line status
-    ++ field_line (codes "Content-Type") (media_type format)
+    ++ field_line (codes "Content-Type") (media_type media)
     ++ field_line (codes "OData-Version") (codes "4.0")
 
 -- the lines before a body of so many bytes
-abbrev pub reply_lines : ℕ → Format → ℕ → Bool → List ℕ
-reply_lines status format size closes =
-    first_lines status format
+abbrev pub reply_lines : ℕ → Media → ℕ → Bool → List ℕ
+reply_lines status media size closes =
+    first_lines status media
     ++ allow_line status
     ++ field_line (codes "Content-Length") (decimal size)
     ++ closing_line closes
@@ -67,40 +59,44 @@ reply_lines status format size closes =
 abbrev pub body_for : List ℕ → List ℕ → List ℕ
 body_for method body = if bytes_eq method (codes "HEAD") then [] else body
 
--- the reply with that status and a body in that format, to a request of that method
-abbrev pub reply_with : List ℕ → ℕ → Format → List ℕ → Bool → ReplyOf
-reply_with method status format body closes = record {
-  bytes = reply_lines status format (length body) closes ++ body_for method body;
-  closes = closes;
-}
+-- the reply with that status and a body of that media type, to a request of that method
+abbrev pub reply_with : List ℕ → ℕ → Media → List ℕ → Bool → List ℕ
+reply_with method status media body closes = reply_lines status media (length body) closes ++ body_for method body
 
-abbrev pub route_status : RouteOf → ℕ
-route_status (refused code) = status_of code
-route_status service = OK
-route_status (rows table format) = OK
+abbrev pub request_status : Request → ℕ
+request_status (Refused code) = status_of code
+request_status request = OK
 
-abbrev pub route_format : RouteOf → Format
-route_format (refused code) = Json
-route_format service = Json
-route_format (rows table format) = format
+-- errors and the service document are in JSON
+abbrev pub request_media : Request → Media
+request_media (Rows number format) = media_of format
+request_media request = media.Json
 
 abbrev pub rows_body : RowsOf → Format → List ℕ
 rows_body answer Json = rows_text answer
 rows_body answer Csv = csv_text answer
 
-abbrev pub route_body : List TableOf → RouteOf → List ℕ
-route_body tables (refused code) = error_text code
-route_body tables service = service_text tables
-route_body tables (rows table format) = rows_body (rows_of_table table) format
+-- the rows of a table in a format; a request has the number of one
+abbrev pub table_body : Option TableOf → Format → List ℕ
+table_body (Some table) format = rows_body (rows_of_table table) format
+table_body None format = []
 
--- the reply to a request of that method, for that route
-abbrev pub route_reply : List TableOf → List ℕ → RouteOf → Bool → ReplyOf
-route_reply tables method route closes = reply_with method (route_status route) (route_format route) (route_body tables route) closes
+abbrev pub request_body : List TableOf → Request → List ℕ
+request_body tables (Refused code) = error_text code
+request_body tables Service = service_text tables
+request_body tables (Rows number format) = table_body (slice_get tables number) format
 
--- the reply to a head
-unfoldable pub reply_of : List TableOf → HeadOf → ReplyOf
-reply_of tables head = route_reply tables head.method (route_of tables head) (closes_after head)
+-- the reply to a request by that method
+abbrev pub request_reply : List TableOf → List ℕ → Request → Bool → List ℕ
+request_reply tables method request closing =
+    reply_with method (request_status request) (request_media request) (request_body tables request) closing
+
+-- The bytes are the reply to the head: that of what it asks for. Whether the connection closes behind it hangs on the head alone.
+pub record IsReply (tables : List TableOf) (head : HeadOf) (reply : List ℕ) : Type 0 where
+  pub request : Request
+  pub asks : AsksFor tables (head_fault head) head.target request
+  pub reply_is : reply ≡ request_reply tables head.method request (closes head)
 
 -- the reply to a rest that is no head, which closes; no method is known, so it has its body
-unfoldable pub rest_reply : ReplyOf
-rest_reply = reply_with [] (status_of BadRequest) Json (error_text BadRequest) true
+unfoldable pub rest_reply : List ℕ
+rest_reply = reply_with [] (status_of BadRequest) media.Json (error_text BadRequest) true

@@ -4,9 +4,8 @@ use Rattle.std.specs.Io.KnownBytes.{Appends, Consumes, IsAtEnd}
 use Rattle.odata_http.specs.declared.runs.RunFault.{RunFault}
 use Rattle.odata_http.specs.declared.runs.RunFault.TheVariants.{NoMemory, Read, Write, TooManyReads}
 use Rattle.odata_http.specs.Device.{SourceOf, SinkOf}
-use Rattle.odata_http.specs.Head.{HeadOf}
-use Rattle.odata_http.specs.Reply.{ReplyOf}
-use Rattle.odata_http.specs.Stream.{IsCertain, AreReplies, AreFirstReplies, IsFrontOfReplies}
+use Rattle.http_heads.specs.Head.{HeadOf}
+use Rattle.odata_http.specs.Replies.{IsCertain, AreReplies, AreFirstReplies, IsFrontOfReplies}
 
 -- a source and a sink, before and after a call
 pub record Course : Type 0 where
@@ -35,55 +34,55 @@ HasEnded c ended = MatchBool ended
     (c.source_after.ends ≡ c.source.ends)
 
 -- A reply closed, or the end of the stream was read; what was written is the replies of what was read.
-pub record Finishes (reply : HeadOf → ReplyOf) (c : Course) : Type 0 where
+pub record Finishes (R : HeadOf → List ℕ → Type 0) (c : Course) : Type 0 where
   pub read : List ℕ
   pub wrote : List ℕ
   pub closed : Bool
   pub moved : HasMoved c read wrote
-  pub replies : AreReplies reply read wrote closed
+  pub replies : AreReplies R read wrote closed
   pub over : MatchBool closed (HasEnded c false) (HasEnded c true)
 
 -- No end of the stream was read and no reply closed; what was written is the replies that are certain behind what was read.
-pub record StopsReading (reply : HeadOf → ReplyOf) (c : Course) : Type 0 where
+pub record StopsReading (R : HeadOf → List ℕ → Type 0) (c : Course) : Type 0 where
   pub read : List ℕ
   pub wrote : List ℕ
   pub rest : List ℕ
   pub moved : HasMoved c read wrote
-  pub certain : IsCertain reply read wrote rest false
+  pub certain : IsCertain R read wrote rest false
   pub over : HasEnded c false
 
 -- What was written is a front of the replies of what was read, with none to a rest unless the end was read.
-pub record StopsWriting (reply : HeadOf → ReplyOf) (c : Course) : Type 0 where
+pub record StopsWriting (R : HeadOf → List ℕ → Type 0) (c : Course) : Type 0 where
   pub read : List ℕ
   pub wrote : List ℕ
   pub ended : Bool
   pub moved : HasMoved c read wrote
-  pub front : IsFrontOfReplies reply read wrote ended
+  pub front : IsFrontOfReplies R read wrote ended
   pub over : HasEnded c ended
 
 -- What was written is some of the first replies of what was read, each of them whole.
-pub record StopsReplying (reply : HeadOf → ReplyOf) (c : Course) : Type 0 where
+pub record StopsReplying (R : HeadOf → List ℕ → Type 0) (c : Course) : Type 0 where
   pub read : List ℕ
   pub wrote : List ℕ
   pub moved : HasMoved c read wrote
-  pub first : AreFirstReplies reply read wrote
+  pub first : AreFirstReplies R read wrote
 
 -- What was written is the replies of the whole stream that the source held.
-pub record AnswersAll (reply : HeadOf → ReplyOf) (c : Course) (stream : List ℕ) : Type 0 where
+pub record AnswersWhole (R : HeadOf → List ℕ → Type 0) (c : Course) (stream : List ℕ) : Type 0 where
   pub wrote : List ℕ
   pub closed : Bool
-  pub replies : AreReplies reply stream wrote closed
+  pub replies : AreReplies R stream wrote closed
   pub gained : Appends c.sink.taken c.sink_after.taken wrote
 
 -- How a run of at most so many reads ended. `Read` and `Write` come exactly where a read or a write failed.
-pub record IsRun (reply : HeadOf → ReplyOf) (limit : ℕ) (c : Course) (r : Result ⊤ RunFault) : Type 0 where
-  pub whole : OnOk r ((stream : List ℕ) → c.source.left ≡ Some stream → AnswersAll reply c stream)
-  pub ok : OnOk r (Finishes reply c)
+pub record IsRun (R : HeadOf → List ℕ → Type 0) (limit : ℕ) (c : Course) (r : Result ⊤ RunFault) : Type 0 where
+  pub whole : OnOk r ((stream : List ℕ) → c.source.left ≡ Some stream → AnswersWhole R c stream)
+  pub ok : OnOk r (Finishes R c)
   pub read_failed : (r ≡ Err Read) ↔ (c.source.failed_reads < c.source_after.failed_reads)
   pub write_failed : (r ≡ Err Write) ↔ (c.sink.failed_writes < c.sink_after.failed_writes)
-  pub read : r ≡ Err Read → StopsReading reply c
-  pub write : r ≡ Err Write → StopsWriting reply c
-  pub too_many_reads : r ≡ Err TooManyReads → StopsReading reply c
+  pub read : r ≡ Err Read → StopsReading R c
+  pub write : r ≡ Err Write → StopsWriting R c
+  pub too_many_reads : r ≡ Err TooManyReads → StopsReading R c
   pub limit_met : r ≡ Err TooManyReads → c.source_after.reads ≡ c.source.reads + limit
-  pub no_memory : r ≡ Err NoMemory → StopsReplying reply c
+  pub no_memory : r ≡ Err NoMemory → StopsReplying R c
   pub reads : c.source_after.reads ≤ c.source.reads + limit

@@ -1,10 +1,9 @@
 -- A connection's part of a service: what it holds, and what each call makes of it.
-use Rattle.std.specs.Prelude.{◌≡◌, ℕ, List, [], ◌++◌, Bool, true, false, length, take, drop, min, MatchBool, Result, Ok, Err, ⊤}
+use Rattle.std.specs.Prelude.{◌≡◌, ℕ, List, [], ◌++◌, Bool, true, false, ◌||◌, nat_lt, length, take, drop, min, MatchBool, Result, Ok, Err, ⊤}
 use Rattle.odata_http.specs.declared.session.SessionFault.{SessionFault}
 use Rattle.odata_http.specs.declared.session.SessionFault.TheVariants.{Failed, Ended, NoMemory}
-use Rattle.odata_http.specs.Head.{HeadOf}
-use Rattle.odata_http.specs.Reply.{ReplyOf}
-use Rattle.odata_http.specs.Stream.{IsCertain, AreFirstReplies, last_reply}
+use Rattle.http_heads.specs.Head.{HeadOf}
+use Rattle.odata_http.specs.Replies.{IsCertain, AreFirstReplies, last_reply}
 
 -- the rest of the stream, the output that waits, and whether a reply closed, it ended, or it failed
 pub record SessionOf : Type 0 where
@@ -22,41 +21,52 @@ new_session = record { rest = []; output = []; closed = false; ended = false; fa
 abbrev pub IsLive : SessionOf → Type 0
 IsLive s = (s.failed ≡ false) × (s.ended ≡ false)
 
+-- it is live, or the fault says why not
+abbrev pub IsLiveOr : SessionOf → Result ⊤ SessionFault → Type 0
+IsLiveOr s (Ok u) = IsLive s
+IsLiveOr s (Err Failed) = s.failed ≡ true
+IsLiveOr s (Err Ended) = (s.failed ≡ false) × (s.ended ≡ true)
+IsLiveOr s (Err NoMemory) = ⊥
+
 -- the replies that are certain behind the rest and the piece were added, and the rest of that is kept
-pub record TakesIn (reply : HeadOf → ReplyOf) (piece : List ℕ) (old new : SessionOf) : Type 0 where
+pub record TakesIn (R : HeadOf → List ℕ → Type 0) (piece : List ℕ) (old new : SessionOf) : Type 0 where
   pub certain : List ℕ
   pub rest : List ℕ
   pub closed : Bool
-  pub is : IsCertain reply (old.rest ++ piece) certain rest closed
-  pub new_is : new ≡ record { rest = rest; output = old.output ++ certain; closed = closed; ended = false; failed = false }
+  pub is : IsCertain R (old.rest ++ piece) certain rest closed
+  pub new_is : new ≡ record old { rest = rest; output = old.output ++ certain; closed = closed }
 
 -- the session failed with this output; what rest it keeps is not said, since nothing reads it any more
-abbrev pub HasFailed : SessionOf → List ℕ → Type 0
-HasFailed new output = (rest : List ℕ) × (new ≡ record { rest = rest; output = output; closed = false; ended = false; failed = true })
+abbrev pub HasFailed : SessionOf → SessionOf → List ℕ → Type 0
+HasFailed old new output = (rest : List ℕ) × (new ≡ record old { rest = rest; output = output; failed = true })
 
 -- some first replies were added, each of them whole, and the session failed
-pub record FailsIn (reply : HeadOf → ReplyOf) (stream : List ℕ) (old new : SessionOf) : Type 0 where
-  pub wrote : List ℕ
-  pub first : AreFirstReplies reply stream wrote
-  pub failed : HasFailed new (old.output ++ wrote)
+pub record FailsIn (R : HeadOf → List ℕ → Type 0) (stream : List ℕ) (old new : SessionOf) : Type 0 where
+  pub some : List ℕ
+  pub first : AreFirstReplies R stream some
+  pub failed : HasFailed old new (old.output ++ some)
 
 -- what feeding a piece makes of a session: nothing, once a reply closed
-abbrev pub IsFed : (HeadOf → ReplyOf) → List ℕ → SessionOf → SessionOf → Result ⊤ SessionFault → Type 0
-IsFed reply piece old new (Ok u) = IsLive old × MatchBool old.closed (new ≡ old) (TakesIn reply piece old new)
-IsFed reply piece old new (Err Failed) = (old.failed ≡ true) × (new ≡ old)
-IsFed reply piece old new (Err Ended) = (old.failed ≡ false) × (old.ended ≡ true) × (new ≡ old)
-IsFed reply piece old new (Err NoMemory) = IsLive old × (old.closed ≡ false) × FailsIn reply (old.rest ++ piece) old new
+abbrev pub IsFed : (HeadOf → List ℕ → Type 0) → List ℕ → SessionOf → SessionOf → Result ⊤ SessionFault → Type 0
+IsFed R piece old new (Ok u) = IsLive old × MatchBool old.closed (new ≡ old) (TakesIn R piece old new)
+IsFed R piece old new (Err Failed) = (old.failed ≡ true) × (new ≡ old)
+IsFed R piece old new (Err Ended) = (old.failed ≡ false) × (old.ended ≡ true) × (new ≡ old)
+IsFed R piece old new (Err NoMemory) = IsLive old × (old.closed ≡ false) × FailsIn R (old.rest ++ piece) old new
 
--- the end of the stream: the reply to a rest that is not empty is added, where no reply closed
+-- there is a rest, to which the end of the stream brings a reply
+abbrev pub has_rest : SessionOf → Bool
+has_rest s = nat_lt 0 (length s.rest)
+
+-- the end of the stream: the reply to a rest that is not empty is added, and it closes
 abbrev pub IsOver : SessionOf → SessionOf → Type 0
-IsOver old new = new ≡ record { rest = []; output = old.output ++ last_reply old.rest old.closed; closed = old.closed; ended = true; failed = false }
+IsOver old new = new ≡ record old { rest = []; output = old.output ++ last_reply old.rest; closed = old.closed || has_rest old; ended = true }
 
--- what the end of the stream makes of a session
+-- What the end of the stream makes of a session. Memory is wanted for the reply to a rest alone.
 abbrev pub IsEnded : SessionOf → SessionOf → Result ⊤ SessionFault → Type 0
 IsEnded old new (Ok u) = IsLive old × IsOver old new
 IsEnded old new (Err Failed) = (old.failed ≡ true) × (new ≡ old)
 IsEnded old new (Err Ended) = (old.failed ≡ false) × (old.ended ≡ true) × (new ≡ old)
-IsEnded old new (Err NoMemory) = IsLive old × (old.closed ≡ false) × HasFailed new old.output
+IsEnded old new (Err NoMemory) = IsLive old × (has_rest old ≡ true) × HasFailed old new old.output
 
 -- the first bytes of the output, as many as wait or fit, were moved into the front of a buffer, and the rest of that stays
 pub record Takes (old new : SessionOf) (count : ℕ) (buf buf_after : List ℕ) : Type 0 where

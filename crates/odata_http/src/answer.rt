@@ -1,28 +1,17 @@
-//! The replies to heads, written one after another.
-ghost use Rattle.std.specs.Prelude.{◌≡◌, ◌≤◌, ℕ, [], IfOk, OnErr, OnOk, if◌then◌else◌, is_some, length, map, take};
-ghost use Rattle.std.specs.Io.KnownBytes.{Appends};
-ghost use Rattle.odata_http.specs.Device.{CountsFailure};
-ghost use Rattle.odata_http.specs.Head.{head_view};
-ghost use Rattle.odata_http.specs.Reply.{reply_of, reply_view, rest_reply};
-ghost use Rattle.odata_http.specs.Answer.{IsAnswered, IsSent, has_closed};
+//! The engine: a piece of a stream is cut into heads, and these are answered in turn, one reply made and given away before the next.
+ghost use Rattle.std.specs.Prelude.{◌≡◌, ◌++◌, [], ℕ, List, Result, ⊤, map};
+ghost use Rattle.http_heads.specs.Head.{head_view};
+ghost use Rattle.odata_http.specs.declared.answer.AnswerFault.{AnswerFault};
+ghost use Rattle.odata_http.specs.Answer.{IsAnswered, IsRestAnswered, IsSent, IsTakenIn};
+ghost use Rattle.odata_http.specs.Reply.{IsReply};
 
-use crate::device::{DeviceFault, Sink, send};
-use crate::head::Head;
-use crate::reply::{Reply, reply_to, reply_to_rest};
-use crate::splitter::Unreadable;
+use crate::device::{Sink, send};
+use crate::reply::{reply_to, reply_to_rest};
+use http_heads::{Head, Splitter, Unreadable, one_cut};
 use std::alloc::{AllocError, Global};
 use table_store::Catalog;
 
-/// Whether a stream goes on.
-#[derive(Clone, Copy)]
-pub enum Flow {
-    /// More heads may follow.
-    Open,
-    /// A reply closed the connection.
-    Closed,
-}
-
-/// Why not all replies were written.
+/// Why not all replies were given away.
 #[derive(Clone, Copy)]
 pub enum AnswerFault {
     /// Memory ran out.
@@ -41,67 +30,76 @@ impl From<AllocError> for AnswerFault {
     }
 }
 
-/// Writes a whole reply. At an `Err` a front of it was taken.
-fn send_reply<W: Sink>(out: &mut W, reply: &Reply) -> Result<(), DeviceFault>
-    ensures ok { OnOk result (Appends (W.sink out.old).taken (W.sink out.new).taken (reply_view reply.now).bytes) }
-    ensures err { OnErr result ((n : ℕ) × (n ≤ length (reply_view reply.now).bytes)
-        × Appends (W.sink out.old).taken (W.sink out.new).taken (take n (reply_view reply.now).bytes)) }
-    ensures failed { CountsFailure (W.sink out.old).failed_writes (W.sink out.new).failed_writes result }
-{
-    send(out, reply.head.as_slice())?;
-    send(out, reply.body.as_slice())
+/// Where replies go, one after another.
+pub(crate) trait Outlet {
+    /// What giving it a reply makes of it, by how that ended.
+    ghost takes: { Self → List ℕ → Result ⊤ AnswerFault → Self → Type 0 };
+
+    /// Gives it a reply.
+    fn put(&mut self, reply: &[u8]) -> Result<(), AnswerFault>
+        ensures { takes self.old reply.now result self.new };
 }
 
-/// Makes the reply to a head, and then writes it.
-fn answer_head<W: Sink>(
-    alloc: Global,
-    catalog: &Catalog,
-    head: &Head,
-    out: &mut W,
-) -> Result<Flow, AnswerFault>
-    ensures sent { IsSent result (W.sink out.old) (W.sink out.new) (reply_of catalog.now.tables (head_view head.now)).bytes }
-    ensures flow { IfOk result (λ flow. has_closed flow ≡ (reply_of catalog.now.tables (head_view head.now)).closes) }
-{
-    let reply = reply_to(alloc, catalog, head)?;
-    match send_reply(out, &reply) {
-        Err(_) => Err(AnswerFault::Write),
-        Ok(()) if reply.closes => Ok(Flow::Closed),
-        Ok(()) => Ok(Flow::Open),
+impl<W: Sink> Outlet for W {
+    ghost takes = { λ old reply result new. IsSent (W.sink old) reply result (W.sink new) };
+
+    fn put(&mut self, reply: &[u8]) -> Result<(), AnswerFault> {
+        match send(self, reply) {
+            Ok(()) => Ok(()),
+            Err(_) => Err(AnswerFault::Write),
+        }
     }
 }
 
-/// Answers heads in turn, up to one whose reply closes.
-pub fn answer_heads<W: Sink>(
+/// Answers heads in turn.
+fn answer_heads<O: Outlet>(
     alloc: Global,
     catalog: &Catalog,
     heads: &[Head],
-    out: &mut W,
-) -> Result<Flow, AnswerFault>
-    ensures { IsAnswered (reply_of catalog.now.tables) (map head_view heads.now) result (W.sink out.old) (W.sink out.new) }
+    out: &mut O,
+) -> Result<(), AnswerFault>
+    ensures { IsAnswered (IsReply catalog.now.tables) O.takes
+        (map head_view heads.now) out.old out.new result }
 {
     for head in heads {
-        match answer_head(alloc, catalog, head, out)? {
-            Flow::Closed => return Ok(Flow::Closed),
-            Flow::Open => {}
-        }
+        let reply = reply_to(alloc, catalog, head)?;
+        out.put(reply.as_slice())?;
     }
-    Ok(Flow::Open)
+    Ok(())
 }
 
-/// Answers the rest of a stream that ended, where there is one.
-pub fn answer_rest<W: Sink>(
+/// Takes in a piece of a stream: answers the heads that are whole with it. Whether one closed the connection.
+pub(crate) fn take_in<O: Outlet>(
     alloc: Global,
-    rest: Option<Unreadable>,
-    out: &mut W,
-) -> Result<(), AnswerFault>
-    ensures { IsSent result (W.sink out.old) (W.sink out.new) (if is_some rest then rest_reply.bytes else []) }
+    catalog: &Catalog,
+    splitter: &mut Splitter,
+    piece: &[u8],
+    out: &mut O,
+) -> Result<bool, AnswerFault>
+    ensures { IsTakenIn (IsReply catalog.now.tables) O.takes
+        (splitter.old ++ piece.now) splitter.new out.old out.new result }
 {
-    if rest.is_none() {
-        return Ok(());
-    }
-    let reply = reply_to_rest(alloc)?;
-    match send_reply(out, &reply) {
-        Err(_) => Err(AnswerFault::Write),
-        Ok(()) => Ok(()),
+    one_cut();
+    let cut = splitter.cut(alloc, piece)?;
+    answer_heads(alloc, catalog, cut.heads.as_slice(), out)?;
+    Ok(cut.closed)
+}
+
+/// Answers the rest of a stream that ended. Whether there was one.
+pub(crate) fn answer_rest<O: Outlet>(
+    alloc: Global,
+    splitter: &mut Splitter,
+    out: &mut O,
+) -> Result<bool, AnswerFault>
+    ensures answered { IsRestAnswered O.takes splitter.old out.old out.new result }
+    ensures none { splitter.new ≡ [] }
+{
+    match splitter.end() {
+        None => Ok(false),
+        Some(Unreadable) => {
+            let reply = reply_to_rest(alloc)?;
+            out.put(reply.as_slice())?;
+            Ok(true)
+        }
     }
 }

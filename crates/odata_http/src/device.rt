@@ -19,7 +19,8 @@ pub trait Source {
         ensures bytes { ReadConsumes (source self.old).left (source self.new).left result buf.new }
         ensures reads { Counts (source self.old).reads (source self.new).reads }
         ensures ends { CountsEnd (source self.old).ends (source self.new).ends result buf.new }
-        ensures failed { CountsFailure (source self.old).failed_reads (source self.new).failed_reads result };
+        ensures failed { CountsFailure (source self.old).failed_reads
+            (source self.new).failed_reads result };
 }
 
 /// What bytes are written to.
@@ -32,7 +33,8 @@ pub trait Sink {
         ensures bound { WritesAtMost result bytes.now }
         ensures some { TakesSome bytes.now result }
         ensures bytes { WriteAppends (sink self.old).taken (sink self.new).taken result bytes.now }
-        ensures failed { CountsFailure (sink self.old).failed_writes (sink self.new).failed_writes result };
+        ensures failed { CountsFailure (sink self.old).failed_writes
+            (sink self.new).failed_writes result };
 }
 
 /// Writes the whole piece. At an `Err` a front of it was taken.
@@ -40,7 +42,8 @@ pub fn send<W: Sink>(out: &mut W, bytes: &[u8]) -> Result<(), DeviceFault>
     ensures ok { OnOk result (Appends (W.sink out.old).taken (W.sink out.new).taken bytes.now) }
     ensures err { OnErr result ((n : ℕ) × (n ≤ length bytes.now)
         × Appends (W.sink out.old).taken (W.sink out.new).taken (take n bytes.now)) }
-    ensures failed { CountsFailure (W.sink out.old).failed_writes (W.sink out.new).failed_writes result }
+    ensures failed { CountsFailure (W.sink out.old).failed_writes
+        (W.sink out.new).failed_writes result }
 {
     let mut at = 0;
     while at < bytes.len() {

@@ -5,21 +5,17 @@
 mod answer;
 mod counted;
 mod device;
-mod fields;
-mod head;
+mod laws;
+mod media;
 mod output;
 mod reply;
-mod route;
 mod runs;
 mod session;
-mod splitter;
-mod stream;
 
 pub use counted::Counted;
 pub use device::{DeviceFault, Sink, Source, send};
-pub use head::{Field, Head, MAX_FIELDS, MAX_HEAD};
-pub use reply::{Reply, reply_to, reply_to_rest};
+pub use http_heads::{Field, Head, MAX_FIELDS, MAX_HEAD, Splitter, Unreadable};
+pub use laws::{joins, one_reading, one_reply};
+pub use reply::{reply_to, reply_to_rest};
 pub use runs::{RunFault, run};
 pub use session::{Session, SessionFault};
-pub use splitter::{Splitter, Unreadable};
-pub use stream::{joins, one_reading};

@@ -2,15 +2,17 @@
 ghost use Rattle.std.specs.Prelude.{◌≡◌, ◌++◌, IfOk, OnOk, codes, decimal, unwrap_or};
 ghost use Rattle.http.specs.StatusCode.{IsStatusCode, reason_phrase};
 ghost use Rattle.query_exec.specs.Rows.{rows_of_table};
-ghost use Rattle.odata_http.specs.Head.{head_view};
-ghost use Rattle.odata_http.specs.Route.{route_view};
-ghost use Rattle.odata_http.specs.Reply.{allow_line, body_for, closing_line, field_line, first_lines, media_type, reply_lines, reply_of, reply_view, reply_with, rest_reply, route_body, route_format, route_status, rows_body, status_line};
+ghost use Rattle.http_heads.specs.Head.{head_view};
+ghost use Rattle.odata_http.specs.Media.{media_type};
+ghost use Rattle.odata_request.specs.Request.{IsInside};
+ghost use Rattle.odata_http.specs.Reply.{IsReply, allow_line, body_for, closing_line, field_line, first_lines, reply_lines, reply_with, rest_reply, request_body, request_media, request_status, rows_body, status_line};
 
-use crate::head::Head;
-use crate::route::{Route, closes_after, route_of};
+use crate::media::Media;
 use http::StatusCode;
+use http_heads::{Head, check_head};
 use itoa::Buffer;
 use odata_parse::Format;
+use odata_request::{Request, request_of};
 use query_exec::Rows;
 use reply_text::{Code, csv_body, error_body, json_body, service_body};
 use std::alloc::{AllocError, Global};
@@ -18,16 +20,6 @@ use table_store::{Catalog, Table};
 
 /// The status of a reply that has what was asked for (RFC 9110, section 15.3.1).
 pub const OK: u16 = 200;
-
-/// A reply (RFC 9112, section 4), in two parts so that the body is not copied.
-#[derive(Debug, Drop)]
-pub struct Reply {
-    /// The status line, the fields and the empty line.
-    pub head: Vec<u8>,
-    pub body: Vec<u8>,
-    /// Whether the connection closes behind it.
-    pub closes: bool,
-}
 
 /// The phrase that the HTTP standards give a status.
 fn phrase_of(status: u16) -> &'static str
@@ -82,7 +74,8 @@ fn push_allow(out: &mut Vec<u8>, status: u16) -> Result<(), AllocError>
 
 /// Appends the field of a body's length in bytes.
 fn push_length(out: &mut Vec<u8>, size: usize) -> Result<(), AllocError>
-    ensures { OnOk result (out.new.items ≡ out.old.items ++ field_line (codes "Content-Length") (decimal size)) }
+    ensures { OnOk result
+        (out.new.items ≡ out.old.items ++ field_line (codes "Content-Length") (decimal size)) }
 {
     out.extend_from_slice(b"Content-Length: ")?;
     push_number(out, size as u64)?;
@@ -100,44 +93,44 @@ fn push_closing(out: &mut Vec<u8>, closes: bool) -> Result<(), AllocError>
     }
 }
 
-/// The media type of a body.
-fn media_type(format: Format) -> &'static [u8]
-    ensures { result.now ≡ media_type format }
-{
-    match format {
-        Format::Json => b"application/json;odata.metadata=none",
-        Format::Csv => b"text/csv;charset=utf-8",
-    }
-}
-
-/// Appends the status line and the fields of every reply with a body in that format.
-fn push_first_lines(out: &mut Vec<u8>, status: u16, format: Format) -> Result<(), AllocError>
+/// Appends the status line and the fields of every reply with a body of that media type.
+fn push_first_lines(out: &mut Vec<u8>, status: u16, media: Media) -> Result<(), AllocError>
     requires { IsStatusCode status }
-    ensures { OnOk result (out.new.items ≡ out.old.items ++ first_lines status format) }
+    ensures { OnOk result (out.new.items ≡ out.old.items ++ first_lines status media) }
 {
     push_status_line(out, status)?;
-    push_field(out, b"Content-Type", media_type(format))?;
+    push_field(out, b"Content-Type", media.name())?;
     push_field(out, b"OData-Version", b"4.0")
 }
 
-/// The lines before a body of so many bytes in a format.
+/// The lines before a body of so many bytes.
 fn lines_before(
     alloc: Global,
     status: u16,
-    format: Format,
+    media: Media,
     size: usize,
     closes: bool,
 ) -> Result<Vec<u8>, AllocError>
     requires { IsStatusCode status }
-    ensures { IfOk result (λ head. head.items ≡ reply_lines status format size closes) }
+    ensures { IfOk result (λ head. head.items ≡ reply_lines status media size closes) }
 {
     let mut head = Vec::new(alloc);
-    push_first_lines(&mut head, status, format)?;
+    push_first_lines(&mut head, status, media)?;
     push_allow(&mut head, status)?;
     push_length(&mut head, size)?;
     push_closing(&mut head, closes)?;
     head.extend_from_slice(b"\r\n")?;
     Ok(head)
+}
+
+/// A head and the body behind it, in the body's buffer, so that no row is copied a second time.
+fn laid_before(head: &[u8], body: Vec<u8>) -> Result<Vec<u8>, AllocError>
+    ensures { IfOk result (λ reply. reply.items ≡ head.now ++ body.items) }
+{
+    let mut reply = body;
+    reply.extend_from_slice(head)?;
+    reply.rotate_right(head.len());
+    Ok(reply)
 }
 
 /// The body, which is left out if the method is HEAD (RFC 9110, section 9.3.2).
@@ -151,44 +144,41 @@ fn body_for(alloc: Global, method: &[u8], body: Vec<u8>) -> Vec<u8>
     }
 }
 
-/// The reply with that status and a body in that format, to a request of that method.
+/// The reply with that status and a body of that media type, to a request of that method.
 fn reply_with(
     alloc: Global,
     method: &[u8],
     status: u16,
-    format: Format,
+    media: Media,
     body: Vec<u8>,
     closes: bool,
-) -> Result<Reply, AllocError>
+) -> Result<Vec<u8>, AllocError>
     requires { IsStatusCode status }
-    ensures { IfOk result (λ reply. reply_view reply ≡ reply_with method.now status format body.items closes) }
+    ensures { IfOk result
+        (λ reply. reply.items ≡ reply_with method.now status media body.items closes) }
 {
-    let head = lines_before(alloc, status, format, body.len(), closes)?;
-    Ok(Reply {
-        head,
-        body: body_for(alloc, method, body),
-        closes,
-    })
+    let head = lines_before(alloc, status, media, body.len(), closes)?;
+    laid_before(head.as_slice(), body_for(alloc, method, body))
 }
 
-/// The status of a route.
-fn route_status(route: Route<'_>) -> u16
-    ensures status { result ≡ route_status (route_view route.entry) }
+/// The status of the reply to a request.
+fn request_status(request: Request) -> u16
+    ensures status { result ≡ request_status request }
     ensures known { IsStatusCode result }
 {
-    match route {
-        Route::Refused(code) => code.status(),
-        Route::Service | Route::Rows(_, _) => OK,
+    match request {
+        Request::Refused(code) => code.status(),
+        Request::Service | Request::Rows(_, _) => OK,
     }
 }
 
-/// The format of a route's body.
-fn route_format(route: Route<'_>) -> Format
-    ensures { result ≡ route_format (route_view route.entry) }
+/// The media type of the reply to a request.
+fn request_media(request: Request) -> Media
+    ensures { result ≡ request_media request }
 {
-    match route {
-        Route::Refused(_) | Route::Service => Format::Json,
-        Route::Rows(_, format) => format,
+    match request {
+        Request::Refused(_) | Request::Service => Media::Json,
+        Request::Rows(_, format) => Media::of(format),
     }
 }
 
@@ -203,45 +193,46 @@ fn rows_body(alloc: Global, table: &Table, format: Format) -> Result<Vec<u8>, Al
     }
 }
 
-/// The body of a route.
-fn route_body(alloc: Global, catalog: &Catalog, route: Route<'_>) -> Result<Vec<u8>, AllocError>
-    ensures { IfOk result (λ body. body.items ≡ route_body catalog.now.tables (route_view route.entry)) }
+/// The body of the reply to a request, whose table is one of the catalog.
+fn request_body(alloc: Global, catalog: &Catalog, request: Request) -> Result<Vec<u8>, AllocError>
+    requires { IsInside catalog.now.tables request }
+    ensures { IfOk result (λ body. body.items ≡ request_body catalog.now.tables request) }
 {
-    match route {
-        Route::Refused(code) => error_body(alloc, code),
-        Route::Service => service_body(alloc, catalog),
-        Route::Rows(table, format) => rows_body(alloc, table, format),
+    match request {
+        Request::Refused(code) => error_body(alloc, code),
+        Request::Service => service_body(alloc, catalog),
+        Request::Rows(number, format) => rows_body(alloc, &catalog.tables()[number], format),
     }
 }
 
-/// The reply to a head.
-#[tactic(auto, unfolding(crate::specs::Reply::reply_of))]
-pub fn reply_to(alloc: Global, catalog: &Catalog, head: &Head) -> Result<Reply, AllocError>
-    ensures { IfOk result (λ reply. reply_view reply ≡ reply_of catalog.now.tables (head_view head.now)) }
+/// The reply to a head: what the engine calls, head by head.
+pub fn reply_to(alloc: Global, catalog: &Catalog, head: &Head) -> Result<Vec<u8>, AllocError>
+    ensures { IfOk result (λ reply. IsReply catalog.now.tables (head_view head.now) reply.items) }
 {
-    let route = route_of(alloc, catalog, head)?;
-    let body = route_body(alloc, catalog, route)?;
+    let checks = check_head(head);
+    let request = request_of(alloc, catalog, checks.fault, head.target.as_slice())?;
+    let body = request_body(alloc, catalog, request)?;
     reply_with(
         alloc,
         head.method.as_slice(),
-        route_status(route),
-        route_format(route),
+        request_status(request),
+        request_media(request),
         body,
-        closes_after(head),
+        checks.closes,
     )
 }
 
 /// The reply to a rest of a stream that is no head. It closes.
 #[tactic(auto, unfolding(crate::specs::Reply::rest_reply))]
-pub fn reply_to_rest(alloc: Global) -> Result<Reply, AllocError>
-    ensures { IfOk result (λ reply. reply_view reply ≡ rest_reply) }
+pub fn reply_to_rest(alloc: Global) -> Result<Vec<u8>, AllocError>
+    ensures { IfOk result (λ reply. reply.items ≡ rest_reply) }
 {
     let body = error_body(alloc, Code::BadRequest)?;
     reply_with(
         alloc,
         b"",
         Code::BadRequest.status(),
-        Format::Json,
+        Media::Json,
         body,
         true,
     )

@@ -1,12 +1,13 @@
 //! Streams of requests and their replies, over devices.
-ghost use Rattle.std.specs.Prelude.{◌≡◌, ◌<◌, ◌^◌};
-ghost use Rattle.odata_http.specs.Reply.{reply_of};
+ghost use Rattle.std.specs.Prelude.{◌≡◌};
+ghost use Rattle.odata_http.specs.Device.{CountsFit};
+ghost use Rattle.odata_http.specs.Reply.{IsReply};
 ghost use Rattle.odata_http.specs.Runs.{IsRun, course};
 
-use crate::answer::{AnswerFault, Flow, answer_heads, answer_rest};
+use crate::answer::{AnswerFault, answer_rest, take_in};
 use crate::device::{Sink, Source};
-use crate::splitter::Splitter;
-use std::alloc::{AllocError, Global};
+use http_heads::{Splitter, cuts_join, one_cut};
+use std::alloc::Global;
 use table_store::Catalog;
 
 /// How many bytes are read at once.
@@ -25,16 +26,6 @@ pub enum RunFault {
     TooManyReads,
 }
 
-impl From<AllocError> for RunFault {
-    ghost use Rattle.odata_http.specs.declared.runs.RunFault.TheVariants.{NoMemory};
-
-    ghost from_gives = { λ _ fault. fault ≡ NoMemory };
-
-    fn from(_error: AllocError) -> RunFault {
-        RunFault::NoMemory
-    }
-}
-
 impl From<AnswerFault> for RunFault {
     ghost use Rattle.odata_http.specs.RunFaults.{run_fault};
 
@@ -49,7 +40,7 @@ impl From<AnswerFault> for RunFault {
 }
 
 /// Answers a stream: before each read the replies to all whole heads that were read are written, and at the end of the stream the
-/// reply to a rest. It ends behind a reply that closes, and makes at most `limit` reads.
+/// reply to a rest. It ends behind a reply that closes, makes at most `limit` reads, and holds one reply at a time.
 pub fn run<R: Source, W: Sink>(
     alloc: Global,
     catalog: &Catalog,
@@ -57,13 +48,12 @@ pub fn run<R: Source, W: Sink>(
     out: &mut W,
     limit: u32,
 ) -> Result<(), RunFault>
-    requires reads { (R.source input.old).reads < 2 ^ 63 }
-    requires ends { (R.source input.old).ends < 2 ^ 63 }
-    requires failed_reads { (R.source input.old).failed_reads < 2 ^ 63 }
-    requires failed_writes { (W.sink out.old).failed_writes < 2 ^ 63 }
-    ensures { IsRun (reply_of catalog.now.tables) limit
+    requires { CountsFit (R.source input.old) (W.sink out.old) }
+    ensures { IsRun (IsReply catalog.now.tables) limit
         (course (R.source input.old) (R.source input.new) (W.sink out.old) (W.sink out.new)) result }
 {
+    one_cut();
+    cuts_join();
     let mut splitter = Splitter::new(alloc);
     let mut piece = [0u8; PIECE];
     for _turn in 0..limit {
@@ -72,13 +62,12 @@ pub fn run<R: Source, W: Sink>(
             Err(_) => return Err(RunFault::Read),
         };
         if n == 0 {
-            answer_rest(alloc, splitter.end(), out)?;
+            answer_rest(alloc, &mut splitter, out)?;
             return Ok(());
         }
-        let heads = splitter.feed(alloc, &piece[..n])?;
-        match answer_heads(alloc, catalog, heads.as_slice(), out)? {
-            Flow::Closed => return Ok(()),
-            Flow::Open => {}
+        let closed = take_in(alloc, catalog, &mut splitter, &piece[..n], out)?;
+        if closed {
+            return Ok(());
         }
     }
     Err(RunFault::TooManyReads)

@@ -1,14 +1,12 @@
 //! A connection's part of a service, without devices: bytes go in by pieces, and the replies wait to be taken.
 ghost use Rattle.std.specs.Prelude.{◌≡◌};
-ghost use Rattle.odata_http.specs.Output.{IsRestPushed};
-ghost use Rattle.odata_http.specs.Reply.{reply_of};
-ghost use Rattle.odata_http.specs.Session.{IsEnded, IsFed, Takes, new_session};
+ghost use Rattle.odata_http.specs.Reply.{IsReply};
+ghost use Rattle.odata_http.specs.Session.{IsEnded, IsFed, IsLiveOr, Takes, new_session};
 
-use crate::answer::Flow;
-use crate::output::{Output, take_in};
-use crate::reply::reply_to_rest;
-use crate::splitter::Splitter;
-use std::alloc::{AllocError, Global};
+use crate::answer::{answer_rest, take_in};
+use crate::output::Output;
+use http_heads::Splitter;
+use std::alloc::Global;
 use std::marker::Model;
 use table_store::Catalog;
 
@@ -24,7 +22,7 @@ pub enum SessionFault {
 }
 
 /// Whether a session takes pieces.
-#[derive(Clone, Copy, Debug, PartialEq, Eq)]
+#[derive(Clone, Copy)]
 enum State {
     Live,
     Ended,
@@ -33,7 +31,7 @@ enum State {
 
 /// The answers to one stream that comes in pieces. It is seen as the rest of the stream, the output that waits, and whether a reply closed, it
 /// ended, or it failed.
-#[derive(Debug, Drop)]
+#[derive(Drop)]
 pub struct Session {
     splitter: Splitter,
     output: Output,
@@ -50,17 +48,6 @@ impl Model for Session {
     ghost view = { λ s. record { rest = s.splitter; output = s.output; closed = s.closed; ended = has_ended s.state; failed = has_failed s.state } };
 }
 
-/// The reply to a rest, where there is one.
-fn push_rest(alloc: Global, splitter: &mut Splitter, output: &mut Output) -> Result<(), AllocError>
-    ensures { IsRestPushed splitter.old splitter.new output.old output.new result }
-{
-    if splitter.end().is_some() {
-        let reply = reply_to_rest(alloc)?;
-        output.push(&reply)?;
-    }
-    Ok(())
-}
-
 impl Session {
     /// Before the first byte of a stream.
     pub fn new(alloc: Global) -> Session
@@ -74,6 +61,17 @@ impl Session {
         }
     }
 
+    /// Whether it takes what comes, or why not.
+    fn check_live(&self) -> Result<(), SessionFault>
+        ensures { IsLiveOr self.now result }
+    {
+        match self.state {
+            State::Live => Ok(()),
+            State::Ended => Err(SessionFault::Ended),
+            State::Failed => Err(SessionFault::Failed),
+        }
+    }
+
     /// Takes a piece of the stream in, and adds the replies that are certain with it. Once a reply closed, pieces change nothing.
     pub fn feed(
         &mut self,
@@ -81,21 +79,15 @@ impl Session {
         catalog: &Catalog,
         piece: &[u8],
     ) -> Result<(), SessionFault>
-        ensures { IsFed (reply_of catalog.now.tables) piece.now self.old self.new result }
+        ensures { IsFed (IsReply catalog.now.tables) piece.now self.old self.new result }
     {
-        match self.state {
-            State::Failed => return Err(SessionFault::Failed),
-            State::Ended => return Err(SessionFault::Ended),
-            State::Live => {}
-        }
+        self.check_live()?;
         if self.closed {
             return Ok(());
         }
-        match take_in(alloc, catalog, &mut self.splitter, &mut self.output, piece) {
-            Ok(Flow::Open) => Ok(()),
-            Ok(Flow::Closed) => {
-                self.closed = true;
-                let _ = self.splitter.end();
+        match take_in(alloc, catalog, &mut self.splitter, piece, &mut self.output) {
+            Ok(closed) => {
+                self.closed = closed;
                 Ok(())
             }
             Err(_) => {
@@ -105,22 +97,14 @@ impl Session {
         }
     }
 
-    /// The end of the stream: adds the reply to a rest, where no reply closed and the rest is not empty.
+    /// The end of the stream: adds the reply to a rest, where the rest is not empty. It closes.
     pub fn end(&mut self, alloc: Global) -> Result<(), SessionFault>
         ensures { IsEnded self.old self.new result }
     {
-        match self.state {
-            State::Failed => return Err(SessionFault::Failed),
-            State::Ended => return Err(SessionFault::Ended),
-            State::Live => {}
-        }
-        if self.closed {
-            let _ = self.splitter.end();
-            self.state = State::Ended;
-            return Ok(());
-        }
-        match push_rest(alloc, &mut self.splitter, &mut self.output) {
-            Ok(()) => {
+        self.check_live()?;
+        match answer_rest(alloc, &mut self.splitter, &mut self.output) {
+            Ok(answered) => {
+                self.closed = self.closed || answered;
                 self.state = State::Ended;
                 Ok(())
             }
@@ -138,7 +122,7 @@ impl Session {
         self.output.take(buf)
     }
 
-    /// Whether a reply closed.
+    /// Whether a reply closed: that to a head, or that to a rest at the end.
     pub fn closed(&self) -> bool
         ensures { result ≡ self.now.closed }
     {

@@ -1,33 +1,25 @@
 -- The token that a text begins with is the one that `first_token` gives.
-use Rattle.std.proofs.Common.{◌≡◌, ℕ, suc, ◌≤◌, ◌<◌, Bool, true, false, ◌&&◌, ◌==◌, if◌then◌else◌, List, [], ◌∷◌, ◌++◌, length, take, drop, Option, None, Some, refl, ap, ◌∙◌, sym, arith, nat_le, length-take-le, append_assoc, add-one}
-use Rattle.std.proofs.lemmas.Bool.Decides.{nat_tests, Decides-eqb, Decides-and}
+use Rattle.std.proofs.Common.{◌≡◌, ℕ, suc, ◌<◌, Bool, true, false, ◌&&◌, ◌==◌, if◌then◌else◌, List, [], ◌∷◌, ◌++◌, length, take, drop, Option, None, Some, refl, ap, ◌∙◌, sym, arith, nat_le, length-take-le, append_assoc, length-append, add-one, ◌+◌}
+use Rattle.std.proofs.lemmas.Bool.Decides.{Decides-eqb, Decides-and}
 use Rattle.std.proofs.lemmas.List.{take-append-drop, take_at, drop_at, length_push}
 use Rattle.std.specs.Bool.{Decides}
-use Rattle.std.specs.Char.{is_ascii_digit}
+use Rattle.std.specs.Char.{digit_value, is_ascii_digit}
 use Rattle.std.specs.List.{list_all}
 use Rattle.std.specs.Option.{option_map}
-use Rattle.odata_lex.specs.Token.{quote, minus, dollar, doubled, begins_word, IsText, IsNumber, IsWord, word, IsDollar, IsDateForm, IsDateText, IsOfKind, may_follow, EndsBefore}
-use Rattle.odata_lex.specs.First.{text_len, word_len, ends_word, is_day, begins_date, date_token, number_token, dollar_token, sign_token, first_token}
-use Rattle.odata_lex.specs.Lexer.{Begins, BeginsDate}
+use Rattle.odata_lex.specs.Token.{quote, minus, point, dollar, doubled, begins_word, AreDigits, IsText, IsDecimal, IsNumber, IsWord, word, IsDollar, IsDateForm, IsDateText, IsOfKind, may_follow, EndsBefore}
+use Rattle.odata_lex.specs.First.{text_len, word_len, ends_word, is_day, begins_date, date_token, begins_decimal, decimal_token, number_token, digit_token, dollar_token, sign_token, first_token}
+use Rattle.odata_lex.specs.Lexer.{Begins, BeginsDate, BeginsDecimal}
 use Rattle.odata_lex.specs.declared.token.TheConstants.{MAX_DIGITS}
 use Rattle.odata_lex.specs.declared.token.TokenKind.{TokenKind}
-use Rattle.odata_lex.specs.declared.token.TokenKind.TheVariants.{Text, Date, Number, Word, Dollar, OpenParenthesis, CloseParenthesis, Comma, Slash, Minus, Star, EqualsSign}
+use Rattle.odata_lex.specs.declared.token.TokenKind.TheVariants.{Text, Date, Decimal, Number, Word, Dollar, OpenParenthesis, CloseParenthesis, Comma, Slash, Minus, Star, EqualsSign}
 use Rattle.odata_lex.proofs.Digits.{Decides-digits, Decides-digit}
 use Rattle.odata_lex.proofs.Dates.{Decides-date_form, Decides-day}
-use Rattle.odata_lex.proofs.Runs.{run_ends, run_word, run_within, word_len-append, word_len-yes, word_byte_of_digit, word_bytes_of_digits, ends_before, ends_word_before, from_not, word_byte_of_begin}
+use Rattle.odata_lex.proofs.Runs.{run_ends, run_word, run_within, word_len-append, digit_begins, word_bytes_of_digits, ends_before, ends_word_before, from_not, word_byte_of_begin}
+use Rattle.odata_lex.proofs.Decimals.{decimal_there, decimal_back, no_date_here, few_decides, decimal_given}
+use Rattle.odata_lex.proofs.Finds.{Finds, FindsIn}
+use Rattle.odata_lex.proofs.DecimalFound.{decimal_found}
 use Rattle.odata_lex.proofs.Texts.{ClosesAt, closes, text_len-found}
 use Rattle.odata_lex.proofs.FirstLemmas.{first-quote, first-digit, first-word, first-dollar}
-
--- a token of this kind and length begins the text
-pub record Finds (text : List ℕ) (kind : TokenKind) (n : ℕ) : Type 0 where
-  pub front : List ℕ
-  pub after : List ℕ
-  pub begins : Begins text kind front after
-  pub len : n ≡ length front
-
-abbrev pub FindsIn : List ℕ → Option (TokenKind × ℕ) → Type 0
-FindsIn text None = Unit {0}
-FindsIn text (Some found) = Finds text found.0 found.1
 
 -- ---- what is given begins the text
 
@@ -41,6 +33,7 @@ text_found b text (Some n) is h = record {
     form = record { content = h.content; printed = rw is (ap (λ l. quote ∷ l) h.printed) };
     ends = h.ends;
     no_date = λ e. absurd (cc);
+    no_decimal = λ e. absurd (cc);
   };
   len = ap suc h.len;
 }
@@ -69,17 +62,14 @@ date_found text true begins day =
     record {
       front = take 10 text;
       after = drop 10 text;
-      begins = record { split = sym (take-append-drop 10 text); form = (Decides-day (take 10 text) form).0 day; ends = ends_before _ ends; no_date = λ e. absurd (cc) };
+      begins = record { split = sym (take-append-drop 10 text); form = (Decides-day (take 10 text) form).0 day; ends = ends_before _ ends; no_date = λ e. absurd (cc); no_decimal = λ e. absurd (cc) };
       len = sym form.ten;
     }
 
-fits_decides : (n : ℕ) → Decides (nat_le n MAX_DIGITS) (n ≤ MAX_DIGITS)
-fits_decides n = ((λ is. grind (arith, nat_tests)), (λ le. grind (arith, nat_tests)))
-
-number_found : (text : List ℕ) (q : Bool) → 0 < word_len text → begins_date text ≡ false → (nat_le (word_len text) MAX_DIGITS && list_all is_ascii_digit (take (word_len text) text)) ≡ q → FindsIn text (if q then Some (Number, word_len text) else None)
-number_found text false positive no_date is = tt
-number_found text true positive no_date is =
-    let both = (Decides-and _ _ (fits_decides (word_len text)) (Decides-digits (take (word_len text) text))).0 is in
+number_found : (text : List ℕ) (q : Bool) → 0 < word_len text → begins_date text ≡ false → begins_decimal text ≡ false → (nat_le (word_len text) MAX_DIGITS && list_all is_ascii_digit (take (word_len text) text)) ≡ q → FindsIn text (if q then Some (Number, word_len text) else None)
+number_found text false positive no_date no_decimal is = tt
+number_found text true positive no_date no_decimal is =
+    let both = (Decides-and _ _ (few_decides (word_len text) MAX_DIGITS) (Decides-digits (take (word_len text) text))).0 is in
     let len : length (take (word_len text) text) ≡ word_len text = length-take-le (word_len text) text (run_within text) in
     record {
       front = take (word_len text) text;
@@ -89,6 +79,7 @@ number_found text true positive no_date is =
         form = record { digits = both.1; nonempty = rw len positive; short = rw len both.0 };
         ends = ends_before _ (run_ends text);
         no_date = λ _ begins. let there : begins_date text ≡ true = (Decides-begins_date text).1 begins in cc;
+        no_decimal = λ _ begins. let there : begins_decimal text ≡ true = decimal_back text begins in cc;
       };
       len = sym len;
     }
@@ -102,6 +93,7 @@ word_found b text begins = record {
     form = run_word b text begins;
     ends = ends_before _ (run_ends (b ∷ text));
     no_date = λ e. absurd (cc);
+    no_decimal = λ e. absurd (cc);
   };
   len = sym (length-take-le (word_len (b ∷ text)) (b ∷ text) (run_within (b ∷ text)));
 }
@@ -116,6 +108,7 @@ dollar_found_at d b text true is begins = record {
     form = record { name = take (word_len (b ∷ text)) (b ∷ text); is_word = run_word b text begins; printed = rw is refl };
     ends = ends_before _ (run_ends (b ∷ text));
     no_date = λ e. absurd (cc);
+    no_decimal = λ e. absurd (cc);
   };
   len = ap suc (sym (length-take-le (word_len (b ∷ text)) (b ∷ text) (run_within (b ∷ text))));
 }
@@ -132,7 +125,7 @@ one_byte : (kind : TokenKind) (b : ℕ) (text : List ℕ) → IsOfKind kind (b �
 one_byte kind b text form all other = record {
   front = b ∷ [];
   after = text;
-  begins = record { split = refl; form = form; ends = any_after kind text all; no_date = λ e. absurd (other e) };
+  begins = record { split = refl; form = form; ends = any_after kind text all; no_date = λ e. absurd (other e); no_decimal = λ e. absurd (other e) };
   len = refl;
 }
 
@@ -157,16 +150,15 @@ sign_found b text false false false false false true _ _ _ _ _ _ is _ = one_byte
 sign_found b text false false false false false false true _ _ _ _ _ _ is = one_byte EqualsSign b text (is_byte b 61 is) (λ _. refl) (λ q. cc)
 sign_found b text false false false false false false false _ _ _ _ _ _ _ = tt
 
-digit_found : (b : ℕ) (text : List ℕ) (q : Bool) → is_ascii_digit b ≡ true → begins_date (b ∷ text) ≡ q → FindsIn (b ∷ text) (if q then date_token (b ∷ text) else number_token (b ∷ text))
-digit_found b text true digit begins = date_found (b ∷ text) _ begins refl
-digit_found b text false digit begins =
-    let more : word_len (b ∷ text) ≡ suc (word_len text) = word_len-yes b text (word_byte_of_digit b ((Decides-digit b).0 digit)) in
-    number_found (b ∷ text) _ (omega (arith, more)) begins refl
+digit_found : (text : List ℕ) (q r : Bool) → 0 < word_len text → begins_date text ≡ q → begins_decimal text ≡ r → FindsIn text (if q then date_token text else (if r then decimal_token text else number_token text))
+digit_found text true r some date decimal = date_found text _ date refl
+digit_found text false true some date decimal = decimal_found text _ some decimal refl
+digit_found text false false some date decimal = number_found text _ some date decimal refl
 
-found_at : (b : ℕ) (text : List ℕ) (q d w s : Bool) → (b == quote) ≡ q → is_ascii_digit b ≡ d → begins_word b ≡ w → (b == dollar) ≡ s → FindsIn (b ∷ text) (if q then option_map (λ n. (Text, suc n)) (text_len false text) else (if d then (if begins_date (b ∷ text) then date_token (b ∷ text) else number_token (b ∷ text)) else (if w then Some (Word, word_len (b ∷ text)) else (if s then dollar_token text else sign_token b))))
+found_at : (b : ℕ) (text : List ℕ) (q d w s : Bool) → (b == quote) ≡ q → is_ascii_digit b ≡ d → begins_word b ≡ w → (b == dollar) ≡ s → FindsIn (b ∷ text) (if q then option_map (λ n. (Text, suc n)) (text_len false text) else (if d then digit_token (b ∷ text) else (if w then Some (Word, word_len (b ∷ text)) else (if s then dollar_token text else sign_token b))))
 unfolding sign_of
 found_at b text true _ _ _ is _ _ _ = text_found b text _ ((Decides-eqb b quote).0 is) (closes text false)
-found_at b text false true _ _ _ is _ _ = digit_found b text _ is refl
+found_at b text false true _ _ _ is _ _ = digit_found (b ∷ text) _ _ (digit_begins (b ∷ text) b text refl ((Decides-digit b).0 is)) refl refl
 found_at b text false false true _ _ _ is _ = word_found b text is
 found_at b text false false false true _ _ _ is = dollar_found b text ((Decides-eqb b dollar).0 is)
 found_at b text false false false false _ _ _ _ = sign_found b text _ _ _ _ _ _ _ refl refl refl refl refl refl refl
@@ -188,16 +180,39 @@ given_text front after form ends =
 number_token-digits : (text front : List ℕ) (n : ℕ) → word_len text ≡ n → take n text ≡ front → list_all is_ascii_digit front ≡ true → nat_le n MAX_DIGITS ≡ true → number_token text ≡ Some (Number, n)
 number_token-digits text front n len taken digits short = rw (len, taken, digits, short) refl
 
-given_number : (front after : List ℕ) → IsNumber front → EndsBefore Number after → ¬ (BeginsDate (front ++ after)) → first_token (front ++ after) ≡ Some (Number, length front)
-given_number [] after form ends no_date = absurd (omega (arith, form.nonempty))
-given_number (b ∷ front) after form ends no_date =
+given_decimal_at : (b : ℕ) (whole fraction after : List ℕ) → digit_value b < 10 → BeginsDecimal (b ∷ whole ++ point ∷ (fraction ++ after)) → decimal_token (b ∷ whole ++ point ∷ (fraction ++ after)) ≡ Some (Decimal, length (b ∷ whole) + 1 + length fraction) → first_token (b ∷ whole ++ point ∷ (fraction ++ after)) ≡ Some (Decimal, length (b ∷ whole) + 1 + length fraction)
+given_decimal_at b whole fraction after small begins token =
+    let other : begins_date (b ∷ whole ++ point ∷ (fraction ++ after)) ≡ false = from_not _ (λ is. no_date_here _ begins ((Decides-begins_date _).0 is)) in
+    rw (first-digit b (whole ++ point ∷ (fraction ++ after)) ((Decides-digit b).1 small), other, decimal_back _ begins) token
+
+decimal_begins : (whole fraction after : List ℕ) → AreDigits whole → AreDigits fraction → 0 < length whole → 0 < length fraction → BeginsDecimal (whole ++ point ∷ (fraction ++ after))
+decimal_begins whole [] after before behind some some_behind = absurd (omega arith)
+decimal_begins whole (d ∷ fraction) after before behind some some_behind =
+    record { whole = whole; digit = d; after = fraction ++ after; split = refl; before = before; some_before = some; behind = (behind.0, tt) }
+
+given_decimal : (front after : List ℕ) → IsDecimal front → EndsBefore Decimal after → first_token (front ++ after) ≡ Some (Decimal, length front)
+given_decimal front after form ends =
+    let token = decimal_given form.whole form.fraction after form.before form.behind form.few_before form.few_behind (ends_word_before after ends) in
+    let begins = decimal_begins form.whole form.fraction after form.before form.behind form.some_before form.some_behind in
+    let seam : front ++ after ≡ form.whole ++ point ∷ (form.fraction ++ after) = ap (λ l. l ++ after) form.printed ∙ append_assoc form.whole (point ∷ form.fraction) after in
+    let len : length form.whole + 1 + length form.fraction ≡ length front = omega (arith, ap length form.printed, length-append form.whole (point ∷ form.fraction)) in
+    rw (seam, ← len) (given_whole form.whole form.fraction after form.before form.some_before begins token)
+  where
+    given_whole : (whole fraction rest : List ℕ) → AreDigits whole → 0 < length whole → BeginsDecimal (whole ++ point ∷ (fraction ++ rest)) → decimal_token (whole ++ point ∷ (fraction ++ rest)) ≡ Some (Decimal, length whole + 1 + length fraction) → first_token (whole ++ point ∷ (fraction ++ rest)) ≡ Some (Decimal, length whole + 1 + length fraction)
+    given_whole [] fraction rest digits some begins token = absurd (omega arith)
+    given_whole (b ∷ whole) fraction rest digits some begins token = given_decimal_at b whole fraction rest digits.0 begins token
+
+given_number : (front after : List ℕ) → IsNumber front → EndsBefore Number after → ¬ (BeginsDate (front ++ after)) → ¬ (BeginsDecimal (front ++ after)) → first_token (front ++ after) ≡ Some (Number, length front)
+given_number [] after form ends no_date no_decimal = absurd (omega (arith, form.nonempty))
+given_number (b ∷ front) after form ends no_date no_decimal =
     let digit : is_ascii_digit b ≡ true = (Decides-digit b).1 form.digits.0 in
     let other : begins_date (b ∷ front ++ after) ≡ false = from_not _ (λ is. no_date ((Decides-begins_date _).0 is)) in
+    let whole : begins_decimal (b ∷ front ++ after) ≡ false = from_not _ (λ is. no_decimal (decimal_there _ (digit_begins _ b (front ++ after) refl form.digits.0) is)) in
     let len : word_len (b ∷ front ++ after) ≡ suc (length front) = word_len-append (b ∷ front) after (word_bytes_of_digits (b ∷ front) form.digits) (ends_word_before after ends) in
     let taken : take (suc (length front)) (b ∷ front ++ after) ≡ b ∷ front = take_at (b ∷ front) after _ refl in
     let digits : list_all is_ascii_digit (b ∷ front) ≡ true = (Decides-digits (b ∷ front)).1 form.digits in
-    let short : nat_le (suc (length front)) MAX_DIGITS ≡ true = (fits_decides _).1 form.short in
-    rw (first-digit b (front ++ after) digit, other) (number_token-digits (b ∷ front ++ after) (b ∷ front) (suc (length front)) len taken digits short)
+    let short : nat_le (suc (length front)) MAX_DIGITS ≡ true = (few_decides _ MAX_DIGITS).1 form.short in
+    rw (first-digit b (front ++ after) digit, other, whole) (number_token-digits (b ∷ front ++ after) (b ∷ front) (suc (length front)) len taken digits short)
 
 date_token-day : (text front : List ℕ) → take 10 text ≡ front → is_day front ≡ true → date_token text ≡ Some (Date, 10)
 date_token-day text front taken day = ap (λ (t : List ℕ). if is_day t then Some (Date, 10) else None) taken ∙ ap (λ (q : Bool). if q then Some (Date, 10) else None) day
@@ -236,21 +251,22 @@ given_dollar front after form ends =
 given_sign : (kind : TokenKind) (b : ℕ) (front after : List ℕ) → front ≡ b ∷ [] → first_token (b ∷ after) ≡ Some (kind, 1) → first_token (front ++ after) ≡ Some (kind, length front)
 given_sign kind b front after is given = rw (is, given) refl
 
-given : (kind : TokenKind) (front after : List ℕ) → IsOfKind kind front → EndsBefore kind after → (kind ≡ Number → ¬ (BeginsDate (front ++ after))) → first_token (front ++ after) ≡ Some (kind, length front)
+given : (kind : TokenKind) (front after : List ℕ) → IsOfKind kind front → EndsBefore kind after → (kind ≡ Number → ¬ (BeginsDate (front ++ after))) → (kind ≡ Number → ¬ (BeginsDecimal (front ++ after))) → first_token (front ++ after) ≡ Some (kind, length front)
 unfolding first_token
-given Text front after form ends no_date = given_text front after form ends
-given Date front after form ends no_date = given_date front after form ends
-given Number front after form ends no_date = given_number front after form ends (no_date refl)
-given Word front after form ends no_date = given_word front after form ends
-given Dollar front after form ends no_date = given_dollar front after form ends
-given OpenParenthesis front after form ends no_date = given_sign _ _ front after form refl
-given CloseParenthesis front after form ends no_date = given_sign _ _ front after form refl
-given Comma front after form ends no_date = given_sign _ _ front after form refl
-given Slash front after form ends no_date = given_sign _ _ front after form refl
-given Minus front after form ends no_date = given_sign _ _ front after form refl
-given Star front after form ends no_date = given_sign _ _ front after form refl
-given EqualsSign front after form ends no_date = given_sign _ _ front after form refl
+given Text front after form ends no_date no_decimal = given_text front after form ends
+given Date front after form ends no_date no_decimal = given_date front after form ends
+given Decimal front after form ends no_date no_decimal = given_decimal front after form ends
+given Number front after form ends no_date no_decimal = given_number front after form ends (no_date refl) (no_decimal refl)
+given Word front after form ends no_date no_decimal = given_word front after form ends
+given Dollar front after form ends no_date no_decimal = given_dollar front after form ends
+given OpenParenthesis front after form ends no_date no_decimal = given_sign _ _ front after form refl
+given CloseParenthesis front after form ends no_date no_decimal = given_sign _ _ front after form refl
+given Comma front after form ends no_date no_decimal = given_sign _ _ front after form refl
+given Slash front after form ends no_date no_decimal = given_sign _ _ front after form refl
+given Minus front after form ends no_date no_decimal = given_sign _ _ front after form refl
+given Star front after form ends no_date no_decimal = given_sign _ _ front after form refl
+given EqualsSign front after form ends no_date no_decimal = given_sign _ _ front after form refl
 
 pub first_token_given : (text : List ℕ) (kind : TokenKind) (front after : List ℕ) → Begins text kind front after → first_token text ≡ Some (kind, length front)
 first_token_given text kind front after begins =
-    ap first_token begins.split ∙ given kind front after begins.form begins.ends (λ number date. begins.no_date number (rw begins.split date))
+    ap first_token begins.split ∙ given kind front after begins.form begins.ends (λ number date. begins.no_date number (rw begins.split date)) (λ number decimal. begins.no_decimal number (rw begins.split decimal))

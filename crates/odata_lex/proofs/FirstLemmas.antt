@@ -1,11 +1,11 @@
 -- The function that gives the token that a text begins with, by the first byte.
-use Rattle.std.proofs.Common.{◌≡◌, ℕ, suc, ◌+◌, ◌<◌, true, false, ◌==◌, if◌then◌else◌, List, [], ◌∷◌, length, take, drop, Option, None, Some, refl, ap, ◌∙◌, sym, arith, add-one, get_or, ◌≢◌, is_some, MatchOption, ◌-◌}
+use Rattle.std.proofs.Common.{◌≡◌, ℕ, suc, ◌+◌, ◌<◌, true, false, ◌==◌, List, [], ◌∷◌, length, take, drop, Option, None, Some, refl, ap, ◌∙◌, sym, arith, add-one, get_or, ◌≢◌, is_some, MatchOption, ◌-◌}
 use Rattle.std.proofs.lemmas.Bool.Decides.{nat_tests, Decides-and}
 use Rattle.std.proofs.lemmas.List.{take_rest}
 use Rattle.std.specs.Char.{is_ascii_digit}
 use Rattle.std.specs.Option.{option_map}
 use Rattle.odata_lex.specs.Token.{quote, dollar, begins_word, IsDateForm, IsDateText}
-use Rattle.odata_lex.specs.First.{text_len, word_len, is_day, begins_date, date_token, number_token, dollar_token, sign_token, first_token}
+use Rattle.odata_lex.specs.First.{text_len, word_len, is_day, begins_date, date_token, digit_token, dollar_token, sign_token, first_token}
 use Rattle.odata_lex.specs.Lexer.{is_blank}
 use Rattle.odata_lex.specs.declared.token.TokenKind.TheVariants.{Text, Word}
 use Rattle.odata_lex.proofs.Dates.{Decides-date_form, Decides-day}
@@ -15,7 +15,7 @@ pub first-quote : (text : List ℕ) → first_token (quote ∷ text) ≡ option_
 unfolding first_token
 first-quote text = refl
 
-pub first-digit : (b : ℕ) (text : List ℕ) → is_ascii_digit b ≡ true → first_token (b ∷ text) ≡ (if begins_date (b ∷ text) then date_token (b ∷ text) else number_token (b ∷ text))
+pub first-digit : (b : ℕ) (text : List ℕ) → is_ascii_digit b ≡ true → first_token (b ∷ text) ≡ digit_token (b ∷ text)
 unfolding first_token
 first-digit b text digit = let other : (b == quote) ≡ false = grind (arith, nat_tests) in rw (other, digit) refl
 
@@ -40,7 +40,7 @@ pub at_quote : (text : List ℕ) → 0 < length text → get_or text 0 0 ≡ 39 
 at_quote [] long is = absurd (omega arith)
 at_quote (b ∷ text) long is = rw is (first-quote text)
 
-pub at_digit : (text : List ℕ) → 0 < length text → is_ascii_digit (get_or text 0 0) ≡ true → first_token text ≡ (if begins_date text then date_token text else number_token text)
+pub at_digit : (text : List ℕ) → 0 < length text → is_ascii_digit (get_or text 0 0) ≡ true → first_token text ≡ digit_token text
 at_digit [] long is = absurd (omega arith)
 at_digit (b ∷ text) long is = first-digit b text is
 

@@ -2,7 +2,7 @@
 use Rattle.std.proofs.Common.{◌≡◌, ℕ, zero, suc, ◌+◌, ◌≤◌, ◌<◌, Bool, true, false, List, [], ◌∷◌, length, take, drop, Option, None, Some, ◌⊎◌, inl, inr, refl, ap, ◌∙◌, sym, arith, subst, get_or, nat_le, length-append, Result, Ok, Err, IfOk, IfErr, IsErrAnd}
 use Rattle.std.proofs.lemmas.Bool.Decides.{nat_tests}
 use Rattle.std.proofs.lemmas.List.{take_at, drop_at}
-use Rattle.odata_lex.specs.Token.{IsOfKind, word}
+use Rattle.odata_lex.specs.Token.{point, IsOfKind, word}
 use Rattle.odata_lex.specs.First.{first_token}
 use Rattle.odata_lex.specs.Lexer.{Begins, is_blank, Reads, reads_end, reads_blank, reads_token, IsBadPlace, ReadsAll, AreTokens, IsBad, IsTooMany, IsFault, HasTokens}
 use Rattle.odata_lex.specs.declared.fault.LexFault.{LexFault}
@@ -10,14 +10,16 @@ use Rattle.odata_lex.specs.declared.fault.LexFault.TheVariants.{Bad, TooMany, No
 use Rattle.odata_lex.specs.declared.token.TheConstants.{MAX_TOKENS}
 use Rattle.odata_lex.specs.declared.token.Token.{Token}
 use Rattle.odata_lex.specs.declared.token.TokenKind.{TokenKind}
-use Rattle.odata_lex.specs.declared.token.TokenKind.TheVariants.{Text, Date, Number, Word, Dollar, OpenParenthesis, CloseParenthesis, Comma, Slash, Minus, Star, EqualsSign}
+use Rattle.odata_lex.specs.declared.token.TokenKind.TheVariants.{Text, Date, Decimal, Number, Word, Dollar, OpenParenthesis, CloseParenthesis, Comma, Slash, Minus, Star, EqualsSign}
 use Rattle.odata_lex.proofs.FirstLemmas.{first_token-blank}
-use Rattle.odata_lex.proofs.BeginsLemmas.{first_token_given, first_token_found, FindsIn}
+use Rattle.odata_lex.proofs.BeginsLemmas.{first_token_given, first_token_found}
+use Rattle.odata_lex.proofs.Finds.{FindsIn}
 
 -- a text of some kind is not empty
 pub kind_nonempty : (kind : TokenKind) (front : List ℕ) → IsOfKind kind front → 0 < length front
 kind_nonempty Text front form = rw form.printed (omega arith)
 kind_nonempty Date front form = omega (arith, form.form.ten)
+kind_nonempty Decimal front form = rw form.printed (omega (arith, length-append form.whole (point ∷ form.fraction)))
 kind_nonempty Number front form = form.nonempty
 kind_nonempty Word front (word begins others) = omega arith
 kind_nonempty Dollar front form = rw form.printed (omega arith)

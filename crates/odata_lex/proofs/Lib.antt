@@ -2,6 +2,9 @@ pub mod Digits
 pub mod Dates
 pub mod Runs
 pub mod Texts
+pub mod Decimals
+pub mod Finds
+pub mod DecimalFound
 pub mod FirstLemmas
 pub mod BeginsLemmas
 pub mod LexerLemmas

@@ -1,7 +1,7 @@
 -- Each token is a slice of its source, between two boundaries of characters, and each begins where the one before it ends, or later.
 use Rattle.std.proofs.Common.{◌≡◌, ℕ, zero, suc, ◌+◌, ◌-◌, ◌≤◌, ◌<◌, List, [], ◌∷◌, ◌++◌, length, take, drop, get_or, refl, ap, ◌∙◌, sym, subst, arith, length-append, length-drop, length-take, IsUtf8, true, add-zero}
 use Rattle.std.proofs.lemmas.Bool.Decides.{nat_tests}
-use Rattle.std.proofs.lemmas.List.{take_at, drop_at, get_or-drop, get_or-take, get_or_append_left, drop-drop, length_push}
+use Rattle.std.proofs.lemmas.List.{take_at, drop_at, get_or-drop, get_or-take, get_or_append_left, get_or-append-add, drop-drop, length_push}
 use Rattle.std.proofs.lemmas.List.Elements.{All-cons, All-nil}
 use Rattle.std.proofs.lemmas.Str.{IsCharBoundary-before_ascii, IsCharBoundary-after_ascii}
 use Rattle.std.proofs.lemmas.Str.Parse.{digit_at}
@@ -9,10 +9,10 @@ use Rattle.std.proofs.Math.Seq.{get_or-append_seam}
 use Rattle.std.specs.List.{All}
 use Rattle.std.specs.Str.Parse.{AllDigits}
 use Rattle.odata_lex.specs.Lexer.{Begins, Reads, reads_end, reads_blank, reads_token, IsTokenAt, AreInOrder}
-use Rattle.odata_lex.specs.Token.{quote, dollar, doubled, IsOfKind, IsWord, word, is_word_byte, token_text}
+use Rattle.odata_lex.specs.Token.{quote, point, dollar, doubled, IsOfKind, IsWord, word, is_word_byte, token_text}
 use Rattle.odata_lex.specs.declared.token.Token.{Token}
 use Rattle.odata_lex.specs.declared.token.TokenKind.{TokenKind}
-use Rattle.odata_lex.specs.declared.token.TokenKind.TheVariants.{Text, Date, Number, Word, Dollar, OpenParenthesis, CloseParenthesis, Comma, Slash, Minus, Star, EqualsSign}
+use Rattle.odata_lex.specs.declared.token.TokenKind.TheVariants.{Text, Date, Decimal, Number, Word, Dollar, OpenParenthesis, CloseParenthesis, Comma, Slash, Minus, Star, EqualsSign}
 use Rattle.odata_lex.proofs.Runs.{AreWordBytes, word_byte_of_begin}
 use Rattle.odata_lex.proofs.LexerLemmas.{kind_nonempty}
 
@@ -49,6 +49,16 @@ last_of : (xs : List ℕ) (y : ℕ) → get_or (xs ++ y ∷ []) (length (xs ++ y
 last_of xs y =
     let e : length (xs ++ y ∷ []) - 1 ≡ length xs = omega (arith, length_push xs y) in rw e (get_or-append_seam xs y [] 0)
 
+decimal_ends : (whole fraction : List ℕ) → AllDigits 10 whole → AllDigits 10 fraction → 0 < length whole → 0 < length fraction → AsciiEnds (whole ++ point ∷ fraction)
+decimal_ends whole fraction before behind some_before some_behind =
+    let long = length-append whole (point ∷ fraction) in
+    let k : length (whole ++ point ∷ fraction) - 1 ≡ length whole + suc (length fraction - 1) = omega (arith, long) in
+    let first_is = get_or_append_left whole (point ∷ fraction) 0 0 some_before in
+    let last_is = get_or-append-add whole (point ∷ fraction) (suc (length fraction - 1)) 0 in
+    let first = digit_ascii whole 0 before some_before in
+    let last = digit_ascii fraction (length fraction - 1) behind (omega (arith, some_behind)) in
+    record { first = omega (arith, first, first_is); last = rw (k, last_is) last }
+
 ascii_ends : (kind : TokenKind) (front : List ℕ) → IsOfKind kind front → AsciiEnds front
 ascii_ends Text front form =
     let last_is : get_or front (length front - 1) 0 ≡ quote = ap (λ (f : List ℕ). get_or f (length f - 1) 0) form.printed ∙ last_of (quote ∷ doubled form.content) quote in
@@ -61,6 +71,7 @@ ascii_ends Date front form =
     let first_is = get_or-take 4 front 0 0 (omega arith) in
     let last_is = get_or-take 2 (drop 8 front) 1 0 (omega arith) ∙ get_or-drop 8 front 1 0 in
     record { first = omega (arith, first, first_is); last = rw end (omega (arith, last, last_is)) }
+ascii_ends Decimal front form = rw form.printed (decimal_ends form.whole form.fraction form.before form.behind form.some_before form.some_behind)
 ascii_ends Number front form = record {
   first = digit_ascii front 0 form.digits form.nonempty;
   last = digit_ascii front (length front - 1) form.digits (omega (arith, form.nonempty));

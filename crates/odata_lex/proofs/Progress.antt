@@ -6,7 +6,8 @@ use Rattle.odata_lex.specs.Lexer.{is_blank, Reads, reads_end, reads_blank, reads
 use Rattle.odata_lex.specs.declared.token.TheConstants.{MAX_TOKENS}
 use Rattle.odata_lex.specs.declared.token.Token.{Token}
 use Rattle.odata_lex.specs.declared.token.TokenKind.{TokenKind}
-use Rattle.odata_lex.proofs.BeginsLemmas.{first_token_found, FindsIn, Finds}
+use Rattle.odata_lex.proofs.BeginsLemmas.{first_token_found}
+use Rattle.odata_lex.proofs.Finds.{FindsIn, Finds}
 use Rattle.odata_lex.proofs.LexerLemmas.{reading, no_place, kind_nonempty}
 use Rattle.odata_lex.proofs.Places.{placed}
 

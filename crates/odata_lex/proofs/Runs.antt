@@ -79,3 +79,7 @@ ends_before (b ∷ after) ends = ends
 pub ends_word_before : (after : List ℕ) → EndsBefore Word after → ends_word after ≡ true
 ends_word_before [] ends = refl
 ends_word_before (b ∷ after) ends = ends
+
+-- a digit begins a run
+pub digit_begins : (text : List ℕ) (d : ℕ) (after : List ℕ) → text ≡ d ∷ after → digit_value d < 10 → 0 < word_len text
+digit_begins text d after is small = rw (is, word_len-yes d after (word_byte_of_digit d small)) (omega arith)

@@ -1,15 +1,15 @@
 -- The token that a text begins with, as a function: what the private calls compute. The public ones speak of `Begins`, and each
 -- token that it allows is the one that this function gives.
-use Rattle.std.specs.Prelude.{ℕ, suc, Bool, true, false, ◌==◌, ◌&&◌, not, nat_le, if◌then◌else◌, List, [], ◌∷◌, length, take, drop, slice_index, Option, None, Some, pos}
+use Rattle.std.specs.Prelude.{ℕ, suc, Bool, true, false, ◌==◌, ◌&&◌, not, ◌+◌, nat_le, if◌then◌else◌, List, [], ◌∷◌, length, take, drop, slice_index, Option, None, Some, pos}
 use Rattle.std.specs.List.{slice_range, list_all, prefix_len}
 use Rattle.std.specs.Option.{option_map}
 use Rattle.std.specs.Int.{is_in_range}
 use Rattle.std.specs.Char.{is_ascii_digit}
 use Rattle.jiff.specs.Words.{days_in_month}
-use Rattle.odata_lex.specs.Token.{quote, minus, dollar, begins_word, is_word_byte, year_of, month_of, day_of}
-use Rattle.odata_lex.specs.declared.token.TheConstants.{MAX_DIGITS}
+use Rattle.odata_lex.specs.Token.{quote, minus, point, dollar, begins_word, is_word_byte, year_of, month_of, day_of}
+use Rattle.odata_lex.specs.declared.token.TheConstants.{MAX_DIGITS, MAX_WHOLE_DIGITS, MAX_FRACTION_DIGITS}
 use Rattle.odata_lex.specs.declared.token.TokenKind.{TokenKind}
-use Rattle.odata_lex.specs.declared.token.TokenKind.TheVariants.{Text, Date, Number, Word, Dollar, OpenParenthesis, CloseParenthesis, Comma, Slash, Minus, Star, EqualsSign}
+use Rattle.odata_lex.specs.declared.token.TokenKind.TheVariants.{Text, Date, Decimal, Number, Word, Dollar, OpenParenthesis, CloseParenthesis, Comma, Slash, Minus, Star, EqualsSign}
 
 -- the letters, digits and `_` at the front
 abbrev pub word_len : List ℕ → ℕ
@@ -47,9 +47,37 @@ is_day text =
 abbrev pub date_token : List ℕ → Option (TokenKind × ℕ)
 date_token text = if is_day (take 10 text) then Some (Date, 10) else None
 
+-- `.` and a digit begin here
+abbrev pub begins_fraction : List ℕ → Bool
+begins_fraction [] = false
+begins_fraction (_ ∷ []) = false
+begins_fraction (b ∷ c ∷ _) = (b == point) && is_ascii_digit c
+
+-- digits, `.` and a digit begin here
+abbrev pub begins_decimal : List ℕ → Bool
+begins_decimal text = list_all is_ascii_digit (take (word_len text) text) && begins_fraction (drop (word_len text) text)
+
+-- what stands behind the digits and `.`
+abbrev pub behind_point : List ℕ → List ℕ
+behind_point text = drop (word_len text + 1) text
+
+-- the fraction ends with a digit, and neither part is too long
+abbrev pub fits_decimal : ℕ → List ℕ → Bool
+fits_decimal whole fraction =
+    nat_le whole MAX_WHOLE_DIGITS && nat_le (word_len fraction) MAX_FRACTION_DIGITS && list_all is_ascii_digit (take (word_len fraction) fraction)
+
+abbrev pub decimal_token : List ℕ → Option (TokenKind × ℕ)
+decimal_token text =
+    if fits_decimal (word_len text) (behind_point text) then Some (Decimal, word_len text + 1 + word_len (behind_point text)) else None
+
 abbrev pub number_token : List ℕ → Option (TokenKind × ℕ)
 number_token text =
     if nat_le (word_len text) MAX_DIGITS && list_all is_ascii_digit (take (word_len text) text) then Some (Number, word_len text) else None
+
+-- what begins with a digit
+abbrev pub digit_token : List ℕ → Option (TokenKind × ℕ)
+digit_token text =
+    if begins_date text then date_token text else (if begins_decimal text then decimal_token text else number_token text)
 
 abbrev pub dollar_token : List ℕ → Option (TokenKind × ℕ)
 dollar_token [] = None
@@ -71,7 +99,7 @@ unfoldable pub first_token : List ℕ → Option (TokenKind × ℕ)
 first_token [] = None
 first_token (b ∷ text) =
     if b == quote then option_map (λ n. (Text, suc n)) (text_len false text)
-    else (if is_ascii_digit b then (if begins_date (b ∷ text) then date_token (b ∷ text) else number_token (b ∷ text))
+    else (if is_ascii_digit b then digit_token (b ∷ text)
     else (if begins_word b then Some (Word, word_len (b ∷ text))
     else (if b == dollar then dollar_token text
     else sign_token b)))

@@ -3,7 +3,7 @@
 use Rattle.std.specs.Prelude.{◌≡◌, ℕ, ◌+◌, ◌≤◌, ◌<◌, Bool, ◌==◌, ◌||◌, IsTrue, List, [], ◌∷◌, ◌++◌, length, ◌⊎◌}
 use Rattle.std.specs.List.{All}
 use Rattle.std.specs.Str.{IsCharBoundary}
-use Rattle.odata_lex.specs.Token.{IsDateForm, IsOfKind, EndsBefore, token_text}
+use Rattle.odata_lex.specs.Token.{point, AreDigits, IsDateForm, IsOfKind, EndsBefore, token_text}
 use Rattle.odata_lex.specs.declared.fault.LexFault.{LexFault}
 use Rattle.odata_lex.specs.declared.fault.LexFault.TheVariants.{Bad, TooMany, NoMemory}
 use Rattle.odata_lex.specs.declared.token.TheConstants.{MAX_TOKENS}
@@ -23,13 +23,24 @@ pub record BeginsDate (text : List ℕ) : Type 0 where
   pub form : IsDateForm front
   pub ends : EndsBefore Date after
 
+-- digits, `.` and a digit begin here, whether they are too many for a Decimal or not
+pub record BeginsDecimal (text : List ℕ) : Type 0 where
+  pub whole : List ℕ
+  pub digit : ℕ
+  pub after : List ℕ
+  pub split : text ≡ whole ++ point ∷ digit ∷ after
+  pub before : AreDigits whole
+  pub some_before : 0 < length whole
+  pub behind : AreDigits (digit ∷ [])
+
 -- The text is a token of this kind with this text, and then what is after it. No other two kinds begin alike: a digit begins a Number
--- only where no text of the form of a date begins.
+-- only where neither a text of the form of a date nor one of the form of a decimal begins.
 pub record Begins (text : List ℕ) (kind : TokenKind) (front after : List ℕ) : Type 0 where
   pub split : text ≡ front ++ after
   pub form : IsOfKind kind front
   pub ends : EndsBefore kind after
   pub no_date : kind ≡ Number → ¬ (BeginsDate text)
+  pub no_decimal : kind ≡ Number → ¬ (BeginsDecimal text)
 
 -- The text that stands at a place is these tokens, with spaces and tabs before and between them, and then the rest.
 pub data Reads : ℕ → List ℕ → List Token → List ℕ → Type 0 where
@@ -68,6 +79,10 @@ abbrev pub IsFault : List ℕ → LexFault → Type 0
 IsFault source Bad = IsBad source
 IsFault source TooMany = IsTooMany source
 IsFault source NoMemory = Unit {0}
+
+-- this fault, or want of memory
+abbrev pub IsOrNoMemory : LexFault → LexFault → Type 0
+IsOrNoMemory fault e = (e ≡ fault) ⊎ (e ≡ NoMemory)
 
 -- a token of the source: a nonempty slice between two boundaries of characters, with the form of its kind
 pub record IsTokenAt (source : List ℕ) (token : Token) : Type 0 where

@@ -1,14 +1,15 @@
 -- The form of each kind of token (OData 4.01 URL Conventions, section 5.1.1; OData ABNF Construction Rules, sections 6 and 7), and a token
 -- with its text. Letters and digits are those of ASCII; any other character stands inside a Text alone.
-use Rattle.std.specs.Prelude.{◌≡◌, ℕ, ◌≤◌, ◌<◌, Bool, true, ◌==◌, ◌||◌, not, IsTrue, if◌then◌else◌, List, [], ◌∷◌, ◌++◌, length, map, take, slice_index, pos}
+use Rattle.std.specs.Prelude.{◌≡◌, ℕ, ◌≤◌, ◌<◌, Bool, true, ◌==◌, ◌||◌, not, IsTrue, if◌then◌else◌, List, [], ◌∷◌, ◌++◌, length, map, take, slice_index, pos, Option, MatchOption}
 use Rattle.std.specs.List.{AllByRecursion, slice_range}
 use Rattle.std.specs.Char.{is_ascii_alphabetic, is_ascii_alphanumeric}
 use Rattle.std.specs.Str.Parse.{AllDigits, digits_value}
-use Rattle.jiff.specs.Words.{IsDate}
-use Rattle.odata_lex.specs.declared.token.TheConstants.{MAX_DIGITS}
+use Rattle.jiff.specs.Words.{IsDate, IsYmd}
+use Rattle.jiff.specs.declared.civil.dates.Date.{Date as Day}
+use Rattle.odata_lex.specs.declared.token.TheConstants.{MAX_DIGITS, MAX_WHOLE_DIGITS, MAX_FRACTION_DIGITS}
 use Rattle.odata_lex.specs.declared.token.Token.{Token}
 use Rattle.odata_lex.specs.declared.token.TokenKind.{TokenKind}
-use Rattle.odata_lex.specs.declared.token.TokenKind.TheVariants.{Text, Date, Number, Word, Dollar, OpenParenthesis, CloseParenthesis, Comma, Slash, Minus, Star, EqualsSign}
+use Rattle.odata_lex.specs.declared.token.TokenKind.TheVariants.{Text, Date, Decimal, Number, Word, Dollar, OpenParenthesis, CloseParenthesis, Comma, Slash, Minus, Star, EqualsSign}
 
 -- `'`
 abbrev pub quote : ℕ
@@ -17,6 +18,10 @@ quote = 39
 -- `-`
 abbrev pub minus : ℕ
 minus = 45
+
+-- `.`
+abbrev pub point : ℕ
+point = 46
 
 -- `$`
 abbrev pub dollar : ℕ
@@ -75,6 +80,28 @@ pub record IsDateText (text : List ℕ) : Type 0 where
   pub form : IsDateForm text
   pub day : IsDayFromOne (year_of text) (month_of text) (day_of text)
 
+-- the day that three numbers name, in the years from 1; none where the calendar has no such day
+abbrev pub IsDayOrNone : ℕ → ℕ → ℕ → Option Day → Type 0
+IsDayOrNone year month day found =
+    MatchOption found (¬ (IsDayFromOne year month day)) (λ date. IsDayFromOne year month day × IsYmd (pos year) (pos month) (pos day) date)
+
+-- the day that a text writes; none where it is no Date
+abbrev pub IsDayOfText : List ℕ → Option Day → Type 0
+IsDayOfText text found =
+    MatchOption found (¬ (IsDateText text)) (λ date. IsDateText text × IsYmd (pos (year_of text)) (pos (month_of text)) (pos (day_of text)) date)
+
+-- a Decimal: digits, `.`, digits
+pub record IsDecimal (text : List ℕ) : Type 0 where
+  pub whole : List ℕ
+  pub fraction : List ℕ
+  pub printed : text ≡ whole ++ point ∷ fraction
+  pub before : AreDigits whole
+  pub behind : AreDigits fraction
+  pub some_before : 0 < length whole
+  pub some_behind : 0 < length fraction
+  pub few_before : length whole ≤ MAX_WHOLE_DIGITS
+  pub few_behind : length fraction ≤ MAX_FRACTION_DIGITS
+
 -- a Number: digits
 pub record IsNumber (text : List ℕ) : Type 0 where
   pub digits : AreDigits text
@@ -95,6 +122,7 @@ pub record IsDollar (text : List ℕ) : Type 0 where
 abbrev pub IsOfKind : TokenKind → List ℕ → Type 0
 IsOfKind Text text = IsText text
 IsOfKind Date text = IsDateText text
+IsOfKind Decimal text = IsDecimal text
 IsOfKind Number text = IsNumber text
 IsOfKind Word text = IsWord text
 IsOfKind Dollar text = IsDollar text
@@ -106,10 +134,12 @@ IsOfKind Minus text = text ≡ minus ∷ []
 IsOfKind Star text = text ≡ 42 ∷ []
 IsOfKind EqualsSign text = text ≡ 61 ∷ []
 
--- whether a byte may follow a token of the kind: no `'` follows a Text; no letter, digit or `_` a Date, Number, Word or Dollar
+-- whether a byte may follow a token of the kind: no `'` follows a Text; no letter, digit or `_` a Date, Decimal, Number, Word
+-- or Dollar
 abbrev pub may_follow : TokenKind → ℕ → Bool
 may_follow Text b = not (b == quote)
 may_follow Date b = not (is_word_byte b)
+may_follow Decimal b = not (is_word_byte b)
 may_follow Number b = not (is_word_byte b)
 may_follow Word b = not (is_word_byte b)
 may_follow Dollar b = not (is_word_byte b)

@@ -1,12 +1,11 @@
 //! Dates as texts (OData ABNF Construction Rules, section 7: `dateValue`): four digits, `-`, two digits, `-`, two digits, and a day
 //! of the calendar in the years 0001 to 9999.
 
-ghost use Rattle.std.specs.Prelude.{◌≡◌, ◌≤◌, ◌<◌, length, MatchOption, pos};
+ghost use Rattle.std.specs.Prelude.{◌≡◌, ◌≤◌, ◌<◌, length};
 ghost use Rattle.std.specs.List.{list_all};
 ghost use Rattle.std.specs.Char.{is_ascii_digit};
 ghost use Rattle.std.specs.Str.Parse.{digits_value};
-ghost use Rattle.jiff.specs.Words.{IsYmd};
-ghost use Rattle.odata_lex.specs.Token.{AreDigits, IsDayFromOne, IsDateText, year_of, month_of, day_of};
+ghost use Rattle.odata_lex.specs.Token.{AreDigits, IsDayOrNone, IsDayOfText};
 ghost use Rattle.odata_lex.specs.First.{is_date_form};
 
 use jiff::civil::Date;
@@ -51,7 +50,7 @@ fn calendar_day(year: u16, month: u16, day: u16) -> Option<Date>
     requires year { year < 10000 }
     requires month { month < 100 }
     requires day { day < 100 }
-    ensures { MatchOption result (¬ (IsDayFromOne year month day)) (λ date. IsDayFromOne year month day × IsYmd (pos year) (pos month) (pos day) date) }
+    ensures { IsDayOrNone year month day result }
 {
     if year == 0 {
         return None;
@@ -61,8 +60,7 @@ fn calendar_day(year: u16, month: u16, day: u16) -> Option<Date>
 
 /// The day that a text `YYYY-MM-DD` writes; none where the calendar has no such day in the years 0001 to 9999.
 pub fn date_in(text: &[u8]) -> Option<Date>
-    ensures { MatchOption result (¬ (IsDateText text.now)) (λ date. IsDateText text.now
-        × IsYmd (pos (year_of text.now)) (pos (month_of text.now)) (pos (day_of text.now)) date) }
+    ensures { IsDayOfText text.now result }
 {
     if !is_date_form(text) {
         return None;

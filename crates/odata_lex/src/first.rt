@@ -1,12 +1,12 @@
-//! The token that a text begins with. The kinds differ in their first byte, but for a date and a number: where the form of a date
-//! begins, a date is read and no number.
+//! The token that a text begins with. The kinds differ in their first byte, but for dates, decimals and numbers: where the form of a
+//! date or of a decimal begins, that is read and no number.
 
 ghost use Rattle.std.specs.Prelude.{◌≡◌, ◌≤◌, ◌<◌, length, false, IsTrue, IfSome};
 ghost use Rattle.odata_lex.specs.Token.{is_word_byte, begins_word};
-ghost use Rattle.odata_lex.specs.First.{ends_word, word_len, text_len, begins_date, date_token, number_token, dollar_token, sign_token, first_token};
+ghost use Rattle.odata_lex.specs.First.{ends_word, word_len, text_len, begins_date, date_token, begins_fraction, begins_decimal, decimal_token, number_token, digit_token, dollar_token, sign_token, first_token};
 
 use crate::date::{DATE_LEN, are_digits, date_in, is_date_form};
-use crate::token::{MAX_DIGITS, TokenKind};
+use crate::token::{MAX_DIGITS, MAX_FRACTION_DIGITS, MAX_WHOLE_DIGITS, TokenKind};
 
 // A letter or `_`.
 fn begins_word(b: u8) -> bool
@@ -77,6 +77,38 @@ fn date_token(text: &[u8]) -> Option<(TokenKind, usize)>
     }
 }
 
+// Whether `.` and a digit begin the text.
+fn begins_fraction(text: &[u8]) -> bool
+    ensures { result ≡ begins_fraction text.now }
+{
+    match text {
+        [point, digit, ..] => *point == b'.' && digit.is_ascii_digit(),
+        _ => false,
+    }
+}
+
+// Whether digits, `.` and a digit begin the text.
+fn begins_decimal(text: &[u8]) -> bool
+    ensures { result ≡ begins_decimal text.now }
+{
+    let len = word_len(text);
+    are_digits(&text[..len]) && begins_fraction(&text[len..])
+}
+
+fn decimal_token(text: &[u8]) -> Option<(TokenKind, usize)>
+    requires { IsTrue (begins_decimal text.now) }
+    ensures { result ≡ decimal_token text.now }
+{
+    let whole = word_len(text);
+    let fraction = &text[whole + 1..];
+    let len = word_len(fraction);
+    if whole <= MAX_WHOLE_DIGITS && len <= MAX_FRACTION_DIGITS && are_digits(&fraction[..len]) {
+        Some((TokenKind::Decimal, whole + 1 + len))
+    } else {
+        None
+    }
+}
+
 fn number_token(text: &[u8]) -> Option<(TokenKind, usize)>
     ensures { result ≡ number_token text.now }
 {
@@ -85,6 +117,19 @@ fn number_token(text: &[u8]) -> Option<(TokenKind, usize)>
         Some((TokenKind::Number, len))
     } else {
         None
+    }
+}
+
+// What begins with a digit.
+fn digit_token(text: &[u8]) -> Option<(TokenKind, usize)>
+    ensures { result ≡ digit_token text.now }
+{
+    if begins_date(text) {
+        date_token(text)
+    } else if begins_decimal(text) {
+        decimal_token(text)
+    } else {
+        number_token(text)
     }
 }
 
@@ -126,11 +171,7 @@ pub fn first_token(text: &[u8]) -> Option<(TokenKind, usize)>
         return Some((TokenKind::Text, len + 1));
     }
     if first.is_ascii_digit() {
-        return if begins_date(text) {
-            date_token(text)
-        } else {
-            number_token(text)
-        };
+        return digit_token(text);
     }
     if begins_word(*first) {
         return Some((TokenKind::Word, word_len(text)));

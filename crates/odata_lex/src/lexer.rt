@@ -1,7 +1,7 @@
 //! Reads a text once, token by token.
 
-ghost use Rattle.std.specs.Prelude.{◌≡◌, ◌⊎◌, IfOk, IfErr, IsErrAnd, IsUtf8};
-ghost use Rattle.odata_lex.specs.Lexer.{is_blank, AreTokens, HasTokens, IsBad, IsTooMany, IsFault};
+ghost use Rattle.std.specs.Prelude.{◌≡◌, IfOk, IfErr, IsErrAnd, IsUtf8};
+ghost use Rattle.odata_lex.specs.Lexer.{is_blank, AreTokens, HasTokens, IsBad, IsTooMany, IsFault, IsOrNoMemory};
 
 use crate::fault::LexFault;
 use crate::first::first_token;
@@ -54,8 +54,8 @@ pub fn lex(alloc: Global, source: &str) -> Result<Vec<Token>, LexFault>
 
     // The other way round: memory may be wanting for each.
     ensures has_tokens { HasTokens source.now → IfErr result (λ e. e ≡ LexFault.NoMemory) }
-    ensures is_bad { IsBad source.now → IsErrAnd result (λ e. (e ≡ LexFault.Bad) ⊎ (e ≡ LexFault.NoMemory)) }
-    ensures is_too_many { IsTooMany source.now → IsErrAnd result (λ e. (e ≡ LexFault.TooMany) ⊎ (e ≡ LexFault.NoMemory)) }
+    ensures is_bad { IsBad source.now → IsErrAnd result (IsOrNoMemory LexFault.Bad) }
+    ensures is_too_many { IsTooMany source.now → IsErrAnd result (IsOrNoMemory LexFault.TooMany) }
 {
     read_tokens(alloc, source.as_bytes())
 }

@@ -12,6 +12,6 @@ mod token;
 
 pub use date::date_in;
 pub use fault::LexFault;
-pub use law::{one_first_token, one_list_of_tokens, tokens_or_fault};
+pub use law::{limits, one_first_token, one_list_of_tokens, tokens_or_fault};
 pub use lexer::lex;
-pub use token::{MAX_DIGITS, MAX_TOKENS, Token, TokenKind};
+pub use token::{MAX_DIGITS, MAX_FRACTION_DIGITS, MAX_TOKENS, MAX_WHOLE_DIGITS, Token, TokenKind};

@@ -6,6 +6,12 @@ pub const MAX_TOKENS: usize = 1024;
 /// A number has at most so many digits.
 pub const MAX_DIGITS: usize = 38;
 
+/// A decimal has at most so many digits before its point.
+pub const MAX_WHOLE_DIGITS: usize = 32;
+
+/// A decimal has at most so many digits behind its point: it is read in millionths.
+pub const MAX_FRACTION_DIGITS: usize = 6;
+
 /// What a token is. Letters and digits are those of ASCII.
 #[derive(Clone, Copy, Debug, PartialEq, Eq)]
 pub enum TokenKind {
@@ -13,6 +19,8 @@ pub enum TokenKind {
     Text,
     /// Four digits, `-`, two digits, `-`, two digits: a day of the calendar in the years 0001 to 9999.
     Date,
+    /// One to [`MAX_WHOLE_DIGITS`] digits, `.`, one to [`MAX_FRACTION_DIGITS`] digits.
+    Decimal,
     /// One to [`MAX_DIGITS`] digits.
     Number,
     /// A letter or `_`, then letters, digits and `_`.
@@ -29,7 +37,7 @@ pub enum TokenKind {
 }
 
 /// A token of a text: its kind, and its bytes in the text from `start` up to `end`, both boundaries of characters.
-#[derive(Clone, Copy, Debug, PartialEq, Eq)]
+#[derive(Clone, Copy, PartialEq, Eq)]
 pub struct Token {
     pub kind: TokenKind,
     pub start: usize,

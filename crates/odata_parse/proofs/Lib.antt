@@ -3,7 +3,9 @@ pub mod DepthLemmas
 pub mod KeywordLemmas
 pub mod ListLemmas
 pub mod LiteralLemmas
+pub mod DecimalLemmas
 pub mod OneTreeLemmas
 pub mod OptionLemmas
+pub mod ParsedLemmas
 pub mod PhraseLemmas
 pub mod PrimaryLemmas

@@ -2,7 +2,7 @@
 use Rattle.std.proofs.Common.{◌≡◌, ◌≢◌, ◌<◌, List, [], ◌∷◌, ◌++◌, length, refl, sym, arith, append-nil, append_assoc, ap, subst, ◌∙◌}
 use Rattle.odata_lex.specs.Token.{TokenOf}
 use Rattle.odata_lex.specs.declared.token.TokenKind.{TokenKind}
-use Rattle.odata_lex.specs.declared.token.TokenKind.TheVariants.{Text, Date, Number, Word, Dollar, OpenParenthesis, CloseParenthesis, Comma, Slash, Minus, Star, EqualsSign}
+use Rattle.odata_lex.specs.declared.token.TokenKind.TheVariants.{Text, Date, Decimal, Number, Word, Dollar, OpenParenthesis, CloseParenthesis, Comma, Slash, Minus, Star, EqualsSign}
 use Rattle.odata_parse.specs.List.{Separated, last_item, more_items, Enclosed, enclosed}
 use Rattle.odata_parse.specs.Parsing.{IsSeparator, IsCloseOrSeparator, IsAfterItem, IsAfterList}
 
@@ -24,6 +24,7 @@ separator_ends Comma h = tt
 separator_ends Slash h = tt
 separator_ends Text h = absurd h
 separator_ends Date h = absurd h
+separator_ends Decimal h = absurd h
 separator_ends Number h = absurd h
 separator_ends Word h = absurd h
 separator_ends Dollar h = absurd h

@@ -12,10 +12,13 @@ use Rattle.std.specs.Str.{IsCharBoundary}
 use Rattle.std.specs.Str.Parse.{AllDigits, digits_value, ParsesSigned}
 use Rattle.odata_lex.specs.Token.{quote, doubled, IsText, IsNumber, TokenOf}
 use Rattle.odata_lex.specs.declared.token.TokenKind.{TokenKind}
-use Rattle.odata_lex.specs.declared.token.TokenKind.TheVariants.{Text, Date, Number, Word, Dollar, OpenParenthesis, CloseParenthesis, Comma, Slash, Minus, Star, EqualsSign}
+use Rattle.odata_lex.specs.declared.token.TokenKind.TheVariants.{Text, Date, Decimal, Number, Word, Dollar, OpenParenthesis, CloseParenthesis, Comma, Slash, Minus, Star, EqualsSign}
 use Rattle.odata_parse.proofs.KeywordLemmas.{one_keyword, null_word, true_word, false_word}
-use Rattle.odata_parse.specs.Literal.{Quotes, IsWordLiteral, IsLiteralOfKind, IsLiteral, ReadsLiteral, one_token, negative}
-use Rattle.odata_parse.specs.Tree.{LiteralOf, null, boolean, number, text, date}
+use Rattle.odata_parse.specs.Literal.{Quotes, IsWordLiteral, IsLiteralOfKind, IsLiteral, ReadsLiteral, one_token, behind_minus, ReadsNegative, negative_number, negative_decimal}
+use Rattle.odata_parse.specs.Parsing.{Finds}
+use Rattle.odata_parse.specs.declared.fault.PhraseFault.{PhraseFault}
+use Rattle.odata_parse.specs.declared.tree.Literal.{Literal}
+use Rattle.odata_parse.specs.Tree.{literal_view, LiteralOf, null, boolean, number, text, date, decimal}
 use mir.Syntax.{w128}
 
 own : IsNumeralModel (AllDigits 10) (digits_value 10)
@@ -142,21 +145,25 @@ IsWordLiteral-unique bytes null (boolean false) h k = absurd (let e = one_keywor
 IsWordLiteral-unique bytes null (number n) h k = absurd k
 IsWordLiteral-unique bytes null (text t) h k = absurd k
 IsWordLiteral-unique bytes null (date y m d) h k = absurd k
+IsWordLiteral-unique bytes null (decimal n) h k = absurd k
 IsWordLiteral-unique bytes (boolean true) null h k = absurd (let e = one_keyword true_word null_word h k in cc)
 IsWordLiteral-unique bytes (boolean true) (boolean true) h k = refl
 IsWordLiteral-unique bytes (boolean true) (boolean false) h k = absurd (let e = one_keyword true_word false_word h k in cc)
 IsWordLiteral-unique bytes (boolean true) (number n) h k = absurd k
 IsWordLiteral-unique bytes (boolean true) (text t) h k = absurd k
 IsWordLiteral-unique bytes (boolean true) (date y m d) h k = absurd k
+IsWordLiteral-unique bytes (boolean true) (decimal n) h k = absurd k
 IsWordLiteral-unique bytes (boolean false) null h k = absurd (let e = one_keyword false_word null_word h k in cc)
 IsWordLiteral-unique bytes (boolean false) (boolean true) h k = absurd (let e = one_keyword false_word true_word h k in cc)
 IsWordLiteral-unique bytes (boolean false) (boolean false) h k = refl
 IsWordLiteral-unique bytes (boolean false) (number n) h k = absurd k
 IsWordLiteral-unique bytes (boolean false) (text t) h k = absurd k
 IsWordLiteral-unique bytes (boolean false) (date y m d) h k = absurd k
+IsWordLiteral-unique bytes (boolean false) (decimal n) h k = absurd k
 IsWordLiteral-unique bytes (number n) w h k = absurd h
 IsWordLiteral-unique bytes (text t) w h k = absurd h
 IsWordLiteral-unique bytes (date y m d) w h k = absurd h
+IsWordLiteral-unique bytes (decimal n) w h k = absurd h
 
 -- contents that are doubled alike are one
 doubled_empty : (c : List ℕ) → 1 ≡ length (doubled c ++ 39 ∷ []) → [] ≡ c
@@ -185,6 +192,7 @@ Quotes-unique c d bytes h k = doubled_injective c d (let e : quote ∷ (doubled 
 IsLiteralOfKind-unique : (kind : TokenKind) (bytes : List ℕ) (v w : LiteralOf) → IsLiteralOfKind kind bytes v → IsLiteralOfKind kind bytes w → v ≡ w
 IsLiteralOfKind-unique Number bytes v w h k = h ∙ sym k
 IsLiteralOfKind-unique Date bytes v w h k = h ∙ sym k
+IsLiteralOfKind-unique Decimal bytes v w h k = h ∙ sym k
 IsLiteralOfKind-unique Text bytes v w h k = h.2 ∙ ap text (Quotes-unique h.0 k.0 bytes h.1 k.1) ∙ sym k.2
 IsLiteralOfKind-unique Word bytes v w h k = IsWordLiteral-unique bytes v w h k
 IsLiteralOfKind-unique Dollar bytes v w h k = absurd h
@@ -199,10 +207,31 @@ IsLiteralOfKind-unique EqualsSign bytes v w h k = absurd h
 pub IsLiteral-unique : (t : TokenOf) (v w : LiteralOf) → IsLiteral t v → IsLiteral t w → v ≡ w
 IsLiteral-unique t v w h k = IsLiteralOfKind-unique t.kind t.text v w h k
 
-pub ReadsLiteral-sign : {sign : TokenOf} {before after : List TokenOf} {v : LiteralOf} → ReadsLiteral (sign ∷ before) v after → sign.kind ≡ Minus → (t : TokenOf) × (before ≡ t ∷ after) × (t.kind ≡ Number) × (v ≡ number (neg_ℤ (pos (digits_value 10 t.text))))
-ReadsLiteral-sign {sign} {v} (one_token h) is = absurd (subst (λ (k : TokenKind). IsLiteralOfKind k sign.text v) is h)
-ReadsLiteral-sign (negative {t} s n e) is = (t, refl, n, ap number e)
-
 pub ReadsLiteral-one : {t : TokenOf} {before after : List TokenOf} {v : LiteralOf} → ReadsLiteral (t ∷ before) v after → t.kind ≢ Minus → IsLiteral t v × (before ≡ after)
 ReadsLiteral-one (one_token h) other = (h, refl)
-ReadsLiteral-one (negative s n e) other = absurd (other s)
+ReadsLiteral-one (behind_minus s r) other = absurd (other s)
+
+no_minus : (t : TokenOf) (v : LiteralOf) → IsLiteral t v → t.kind ≢ Minus
+no_minus t v h m = absurd (subst (λ (kind : TokenKind). IsLiteralOfKind kind t.text v) m h)
+
+pub ReadsLiteral-minus : {t : TokenOf} {before after : List TokenOf} {v : LiteralOf} → ReadsLiteral (t ∷ before) v after → t.kind ≡ Minus → ReadsNegative before v after
+ReadsLiteral-minus {t} {v = v} (one_token h) is = absurd (no_minus t v h is)
+ReadsLiteral-minus (behind_minus s r) is = r
+
+not_both : (kind : TokenKind) → kind ≡ Number → kind ≡ Decimal → ⊥
+not_both kind n d = let e : Number ≡ Decimal = sym n ∙ d in cc
+
+-- tokens are one value, and end behind it
+pub negative_only : {old now after : List TokenOf} {v w : LiteralOf} → ReadsNegative old v now → ReadsNegative old w after → (v ≡ w) × (now ≡ after)
+negative_only (negative_number n e) (negative_number k d) = (rw (e, d) refl, refl)
+negative_only (negative_number {t = t} n e) (negative_decimal k d) = absurd (not_both t.kind n k)
+negative_only (negative_decimal {t = t} n e) (negative_number k d) = absurd (not_both t.kind k n)
+negative_only (negative_decimal n e) (negative_decimal k d) = (rw (e, d) refl, refl)
+
+pub value_only : {old now after : List TokenOf} {v w : LiteralOf} → ReadsLiteral old v now → ReadsLiteral old w after → (v ≡ w) × (now ≡ after)
+value_only {w} (one_token {t} {v} h) s = let q = ReadsLiteral-one s (no_minus t v h) in (IsLiteral-unique t v w h q.0, q.1)
+value_only (behind_minus m r) s = negative_only r (ReadsLiteral-minus s m)
+
+pub found_behind_minus : (sign : TokenOf) (before : List TokenOf) (r : Result Literal PhraseFault) (new : List TokenOf) → sign.kind ≡ Minus → Finds literal_view ReadsNegative before r new → Finds literal_view ReadsLiteral (sign ∷ before) r new
+found_behind_minus sign before (Ok v) new is h = behind_minus is h
+found_behind_minus sign before (Err e) new is h = tt

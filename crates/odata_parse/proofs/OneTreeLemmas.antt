@@ -1,8 +1,7 @@
 -- Phrases that begin alike, and can end where they do, are one.
 use Rattle.std.proofs.Common.{◌≡◌, ◌≢◌, ℕ, zero, suc, ◌≤◌, List, [], ◌∷◌, None, Some, codes, refl, sym, ap, ◌∙◌, subst, arith}
 use Rattle.odata_lex.specs.Token.{TokenOf}
-use Rattle.odata_lex.specs.declared.token.TokenKind.{TokenKind}
-use Rattle.odata_lex.specs.declared.token.TokenKind.TheVariants.{Minus, OpenParenthesis, CloseParenthesis, Comma, Slash}
+use Rattle.odata_lex.specs.declared.token.TokenKind.TheVariants.{OpenParenthesis, CloseParenthesis, Comma, Slash}
 use Rattle.odata_parse.specs.declared.tree.UnaryOperator.{UnaryOperator}
 use Rattle.odata_parse.specs.declared.tree.UnaryFunction.{UnaryFunction}
 use Rattle.odata_parse.specs.declared.tree.BinaryFunction.{BinaryFunction}
@@ -10,27 +9,19 @@ use Rattle.odata_parse.specs.Apply.{ReadsName, a_word, ReadsAlias, an_alias, Rea
 use Rattle.odata_parse.specs.Expression.{Reads, read_group, read_literal, read_name, read_unary_call, read_binary_call, read_in, read_unary, read_binary, read_tighter, IsUnaryOperator, top}
 use Rattle.odata_parse.specs.Keyword.{IsKeyword, IsName, unary_function_text, binary_function_text}
 use Rattle.odata_parse.specs.List.{Separated, Enclosed}
-use Rattle.odata_parse.specs.Literal.{ReadsLiteral, one_token, negative, IsLiteral, IsLiteralOfKind}
+use Rattle.odata_parse.specs.Literal.{ReadsLiteral}
 use Rattle.odata_parse.specs.Options.{ReadsOrderItem, order_alone, order_ascending, order_descending, ReadsSelectItem, select_all, select_name, ReadsKeyPair, key_value, IsKey, key_single, key_named}
 use Rattle.odata_parse.specs.Parsing.{CanEnd, IsAfterItem}
 use Rattle.odata_parse.specs.Tree.{LiteralOf, ExprOf, name, unary, in_list, unary_call, binary_call, OrderItemOf, SelectItemOf, selected, KeyPairOf, KeyOf, single, named, AggregateItemOf, counted, TransformationOf, filter_by, aggregate, group_by}
 use Rattle.odata_parse.proofs.ApplyLemmas.{name_no_dollar, method_unique, aggregate_keyword, filter_parts, GroupTail, group_alone, group_with, group_parts, only_aggregate}
 use Rattle.odata_parse.proofs.KeywordLemmas.{Keyword, keyword_text, filter_word, aggregate_word, groupby_word}
 use Rattle.odata_parse.proofs.ListLemmas.{HasOnlyItems, Separated-only, Enclosed-only}
-use Rattle.odata_parse.proofs.LiteralLemmas.{IsLiteral-unique, ReadsLiteral-one}
+use Rattle.odata_parse.proofs.LiteralLemmas.{value_only}
 use Rattle.odata_parse.proofs.OptionLemmas.{asc_follows, desc_follows, order_tail, no_word_after, OrderTail-alone, OrderTail-ascending, OrderTail-descending, select_star, select_word, pairs_have_equals, literal_no_equals}
 use Rattle.odata_parse.proofs.PhraseLemmas.{level_from_three, keyword_unique, in_follows, operator_follows, CanEnd-pred, item_ends, close_ends, comma_ends, IsOnly, GoesFrom, front_goes, operand_goes, Goes-stop}
 use Rattle.odata_parse.proofs.PrimaryLemmas.{no_sign, Reads-sign, Reads-unsigned, member_tail, Tail-stop, Tail-in, Reads-group, literal_only, name_no_value, word_is_name, word_is_call, unary_no_value, binary_no_value, Calls-unary, Calls-binary, same_rest}
 
 -- values
-no_minus : (t : TokenOf) (v : LiteralOf) → IsLiteral t v → t.kind ≢ Minus
-no_minus t v h m = absurd (subst (λ (kind : TokenKind). IsLiteralOfKind kind t.text v) m h)
-
-value_only : {old now after : List TokenOf} {v w : LiteralOf} → ReadsLiteral old v now → ReadsLiteral old w after → (v ≡ w) × (now ≡ after)
-value_only {w} (one_token {t} {v} h) s = let q = ReadsLiteral-one s (no_minus t v h) in (IsLiteral-unique t v w h q.0, q.1)
-value_only (negative m n e) (one_token {t} {v} h) = absurd (no_minus t v h m)
-value_only (negative m n e) (negative j k d) = (rw (e, d) refl, refl)
-
 values_only : HasOnlyItems ReadsLiteral
 values_only old now v r end w after s h = value_only r s
 

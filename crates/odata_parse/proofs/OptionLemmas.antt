@@ -1,11 +1,11 @@
 -- What the items of options are by their first tokens.
 use Rattle.std.proofs.Common.{◌≡◌, ◌≢◌, ℕ, true, false, List, [], ◌∷◌, codes, refl, sym, ap, ◌∙◌, subst}
 use Rattle.odata_lex.specs.Token.{TokenOf}
-use Rattle.odata_lex.specs.declared.token.TokenKind.TheVariants.{Number, Word, Comma, Star, EqualsSign}
+use Rattle.odata_lex.specs.declared.token.TokenKind.TheVariants.{Decimal, Number, Word, Comma, Star, EqualsSign}
 use Rattle.odata_parse.specs.Expression.{Reads, top}
 use Rattle.odata_parse.specs.Keyword.{IsKeyword}
 use Rattle.odata_parse.specs.List.{Separated, last_item, more_items}
-use Rattle.odata_parse.specs.Literal.{ReadsLiteral, one_token, negative}
+use Rattle.odata_parse.specs.Literal.{ReadsLiteral, one_token, behind_minus, negative_number, negative_decimal}
 use Rattle.odata_parse.specs.Options.{ReadsOrderItem, order_alone, order_ascending, order_descending, ReadsSelectItem, select_all, select_name, ReadsKeyPair, key_value, IsKey, key_single, key_named}
 use Rattle.odata_parse.specs.Parsing.{CanEnd, MayFollow, IsAfterItem, IsCloseOrSeparator, HasEqualsSign}
 use Rattle.odata_parse.specs.Tree.{LiteralOf, ExprOf, OrderItemOf, order_item, SelectItemOf, all_columns, selected, KeyPairOf, key_pair, KeyOf, single, named}
@@ -105,7 +105,8 @@ pairs_have_equals (more_items (key_value k e q r) c s) = q
 
 pub literal_no_equals : {tokens : List TokenOf} {v : LiteralOf} → ReadsLiteral tokens v [] → HasEqualsSign tokens → ⊥
 literal_no_equals (one_token h) e = e
-literal_no_equals (negative m n p) e = let w : Number ≡ EqualsSign = sym n ∙ e in cc
+literal_no_equals (behind_minus m (negative_number n p)) e = let w : Number ≡ EqualsSign = sym n ∙ e in cc
+literal_no_equals (behind_minus m (negative_decimal n p)) e = let w : Decimal ≡ EqualsSign = sym n ∙ e in cc
 
 pub key_by_pairs : {tokens : List TokenOf} {key : KeyOf} → HasEqualsSign tokens → IsKey tokens key → (pairs : List KeyPairOf) × Separated ReadsKeyPair Comma tokens pairs [] × (named pairs ≡ key)
 key_by_pairs h (key_single r) = absurd (literal_no_equals r h)

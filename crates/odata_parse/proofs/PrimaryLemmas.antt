@@ -12,7 +12,7 @@ use Rattle.odata_parse.specs.Keyword.{IsKeyword, IsName, lower, unary_function_t
 use Rattle.odata_parse.specs.Literal.{IsLiteral, IsLiteralOfKind, IsWordLiteral, ReadsLiteral}
 use Rattle.odata_parse.specs.List.{Enclosed}
 use Rattle.odata_parse.specs.Parsing.{CanEnd, Calls, calls_unary, calls_binary}
-use Rattle.odata_parse.specs.Tree.{LiteralOf, null, boolean, number, text, date, ExprOf, literal, name, unary, in_list, unary_call, binary_call}
+use Rattle.odata_parse.specs.Tree.{LiteralOf, null, boolean, number, text, date, decimal, ExprOf, literal, name, unary, in_list, unary_call, binary_call}
 use Rattle.odata_parse.proofs.KeywordLemmas.{Keyword, keyword_text, one_keyword, unary_function, binary_function, not_word, true_word, false_word, null_word}
 use Rattle.odata_parse.proofs.LiteralLemmas.{IsLiteral-unique}
 use Rattle.odata_parse.proofs.PhraseLemmas.{level_from_three, keyword_unique, word_no_open, word_no_minus, in_follows, CanEnd-pred}
@@ -25,6 +25,7 @@ literal_keyword bytes (boolean false) h = (false_word, h, inr (inl refl))
 literal_keyword bytes (number n) h = absurd h
 literal_keyword bytes (text t) h = absurd h
 literal_keyword bytes (date y m d) h = absurd h
+literal_keyword bytes (decimal n) h = absurd h
 
 is_value_word : (j k : Keyword) → j ≡ k → (k ≡ true_word) ⊎ ((k ≡ false_word) ⊎ (k ≡ null_word)) → (j ≡ true_word) ⊎ ((j ≡ false_word) ⊎ (j ≡ null_word))
 is_value_word j k e h = rw e h
@@ -166,6 +167,7 @@ name_no_value t bytes (boolean false) n h = n.not_false h
 name_no_value t bytes (number m) n h = h
 name_no_value t bytes (text m) n h = h
 name_no_value t bytes (date y m d) n h = h
+name_no_value t bytes (decimal n) n' h = h
 
 value_literal : (t : TokenOf) (v : LiteralOf) → t.kind ≡ Word → IsWordLiteral t.text v → IsLiteral t v
 value_literal t v h l = subst (λ (kind : TokenKind). IsLiteralOfKind kind t.text v) (sym h) l

@@ -23,6 +23,10 @@ pub record OpensTooMany (tokens : List TokenOf) : Type 0 where
   pub place : ℕ
   pub many : MAX_OPEN < open_after 0 (take place tokens)
 
+-- a token is `-` or `not`
+abbrev pub IsPrefixToken : TokenOf → Type 0
+IsPrefixToken t = (o : UnaryOperator) × IsUnaryOperator o t
+
 -- n tokens `-` or `not` stand first
 pub data BeginsWithOperators : ℕ → List TokenOf → Type 0 where
   no_operators : {tokens : List TokenOf} → BeginsWithOperators zero tokens

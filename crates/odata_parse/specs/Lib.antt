@@ -10,6 +10,8 @@ pub mod Apply
 pub mod Depth
 pub mod Cursor
 pub mod Parsing
+pub mod ParsingList
+pub mod ParsingApply
 pub mod Format
 pub mod Flag
 pub mod Number

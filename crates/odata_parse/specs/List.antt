@@ -12,3 +12,7 @@ pub data Separated {A : Type 0} (Item : List TokenOf → A → List TokenOf → 
 -- such items in parentheses
 pub data Enclosed {A : Type 0} (Item : List TokenOf → A → List TokenOf → Type 0) (sign : TokenKind) : List TokenOf → List A → List TokenOf → Type 0 where
   enclosed : {o c : TokenOf} {before after : List TokenOf} {xs : List A} → o.kind ≡ OpenParenthesis → Separated Item sign before xs (c ∷ after) → c.kind ≡ CloseParenthesis → Enclosed Item sign (o ∷ before) xs after
+
+-- all the tokens are such items
+abbrev pub IsListOf : {A : Type 0} → (List TokenOf → A → List TokenOf → Type 0) → TokenKind → List TokenOf → List A → Type 0
+IsListOf Item sign tokens xs = Separated Item sign tokens xs []

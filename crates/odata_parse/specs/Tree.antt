@@ -1,7 +1,7 @@
 -- The trees as values that keep no memory: the texts of a tree are lists of bytes.
 use Rattle.std.specs.Prelude.{ℕ, ℤ, Bool, List, Option, Some, None, map, string_bytes, Vec}
 use Rattle.odata_parse.specs.declared.tree.Literal.{Literal}
-use Rattle.odata_parse.specs.declared.tree.Literal.TheVariants.{Null, Boolean, Number, Text, Date}
+use Rattle.odata_parse.specs.declared.tree.Literal.TheVariants.{Null, Boolean, Number, Text, Date, Decimal}
 use Rattle.odata_parse.specs.declared.tree.UnaryOperator.{UnaryOperator}
 use Rattle.odata_parse.specs.declared.tree.BinaryOperator.{BinaryOperator}
 use Rattle.odata_parse.specs.declared.tree.UnaryFunction.{UnaryFunction}
@@ -20,13 +20,14 @@ use Rattle.odata_parse.specs.declared.tree.Key.{Key}
 use Rattle.odata_parse.specs.declared.tree.Key.TheVariants.{Single, Named}
 use Rattle.odata_parse.specs.declared.tree.Expr.TheVariants.{Literal as LiteralVariant, Name, Unary', Binary', In', UnaryCall', BinaryCall'}
 
--- a value written in an expression; a date is its year, month and day
+-- a value written in an expression; a date is its year, month and day, a decimal its millionths
 pub data LiteralOf : Type 0 where
   null : LiteralOf
   boolean : Bool → LiteralOf
   number : ℤ → LiteralOf
   text : List ℕ → LiteralOf
   date : ℤ → ℕ → ℕ → LiteralOf
+  decimal : ℤ → LiteralOf
 
 abbrev pub literal_view : Literal → LiteralOf
 literal_view Null = null
@@ -34,6 +35,7 @@ literal_view (Boolean b) = boolean b
 literal_view (Number n) = number n
 literal_view (Text t) = text (string_bytes t)
 literal_view (Date d) = date d.year d.month d.day
+literal_view (Decimal n) = decimal n
 
 -- an expression
 pub data ExprOf : Type 0 where
@@ -61,6 +63,9 @@ pub data OrderItemOf : Type 0 where
 abbrev pub order_item_view : OrderItem → OrderItemOf
 order_item_view i = order_item (expr_view i.expression) i.descending
 
+abbrev pub order_view : {A : Type 0} → Vec OrderItem A → List OrderItemOf
+order_view items = map order_item_view items.items
+
 -- an item of `$select`
 pub data SelectItemOf : Type 0 where
   all_columns : SelectItemOf
@@ -70,6 +75,9 @@ abbrev pub select_item_view : SelectItem → SelectItemOf
 select_item_view All = all_columns
 select_item_view (SelectedName t) = selected (string_bytes t)
 
+abbrev pub selection_view : {A : Type 0} → Vec SelectItem A → List SelectItemOf
+selection_view items = map select_item_view items.items
+
 -- an item of `aggregate`: a column, its method and the alias, or the alias of the count
 pub data AggregateItemOf : Type 0 where
   aggregated : List ℕ → AggregationMethod → List ℕ → AggregateItemOf
@@ -78,6 +86,9 @@ pub data AggregateItemOf : Type 0 where
 abbrev pub aggregate_item_view : AggregateItem → AggregateItemOf
 aggregate_item_view (Column column m alias) = aggregated (string_bytes column) m (string_bytes alias)
 aggregate_item_view (Count alias) = counted (string_bytes alias)
+
+abbrev pub aggregation_view : {A : Type 0} → Vec AggregateItem A → List AggregateItemOf
+aggregation_view items = map aggregate_item_view items.items
 
 -- a transformation of `$apply`
 pub data TransformationOf : Type 0 where
@@ -93,6 +104,9 @@ abbrev pub transformation_view : Transformation → TransformationOf
 transformation_view (Filter e) = filter_by (expr_view e)
 transformation_view (Aggregate items) = aggregate (map aggregate_item_view items.items)
 transformation_view (GroupBy names items) = group_by (map string_bytes names.items) (aggregate_view items)
+
+abbrev pub apply_view : {A : Type 0} → Vec Transformation A → List TransformationOf
+apply_view transformations = map transformation_view transformations.items
 
 -- a column of a key and its value
 pub data KeyPairOf : Type 0 where

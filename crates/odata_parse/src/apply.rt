@@ -1,18 +1,14 @@
 //! `$apply` (OData Data Aggregation 4.0, section 3).
 
-ghost use Rattle.std.specs.Prelude.{◌≡◌, ◌≢◌, ◌<◌, ◌≤◌, ◌↔◌, ℕ, List, ◌∷◌, length, codes, string_bytes, IfOk, OnOk, OnErr, IsErrOf};
+ghost use Rattle.std.specs.Prelude.{◌<◌, length, codes, string_bytes, IfOk, OnOk, OnErr, List, ℕ};
 ghost use Rattle.odata_lex.specs.Lexer.{AreTokens};
-ghost use Rattle.odata_lex.specs.Token.{TokenOf, token_views};
-ghost use Rattle.odata_lex.specs.declared.token.TokenKind.TheVariants.{Dollar};
-ghost use Rattle.odata_parse.specs.declared.tree.AggregationMethod.{AggregationMethod};
-ghost use Rattle.odata_parse.specs.Apply.{ReadsName, ReadsAlias, ReadsAggregateItem, ReadsAggregate, ReadsTransformation, IsApply};
-ghost use Rattle.odata_parse.specs.Depth.{IsTooDeepForApply};
-ghost use Rattle.odata_parse.specs.Keyword.{IsKeyword, method_text};
-ghost use Rattle.odata_parse.specs.Parsing.{Gives, item_trees};
-ghost use Rattle.odata_parse.specs.Tree.{AggregateItemOf, aggregate_item_view, TransformationOf, transformation_view};
+ghost use Rattle.odata_parse.specs.Apply.{ReadsName, ReadsAlias, ReadsAggregateItem, ReadsAggregate, ReadsTransformation};
+ghost use Rattle.odata_parse.specs.Parsing.{Finds, ParsesAll, IsParsedApply};
+ghost use Rattle.odata_parse.specs.ParsingApply.{TakesMethod, NoMethod, ParsesColumn, FindsBehind, ParsesBehind};
+ghost use Rattle.odata_parse.specs.Tree.{aggregate_item_view, aggregation_view, AggregateItemOf, TransformationOf, transformation_view};
 
 use crate::cursor::Cursor;
-use crate::depth::{has_slashes, is_too_deep};
+use crate::depth::has_slashes;
 use crate::expression::{TOP, phrase};
 use crate::fault::{ParseFault, PhraseFault};
 use crate::keyword::{aggregation_method, spells};
@@ -24,8 +20,8 @@ use std::alloc::Global;
 
 /// A name.
 fn name(alloc: Global, tokens: &mut Cursor<'_>) -> Result<String, PhraseFault>
-    ensures found { IfOk result (λ name. ReadsName tokens.old (string_bytes name) tokens.new) }
-    ensures each { (name : List ℕ) (after : List TokenOf) → ReadsName tokens.old name after → Gives string_bytes name after result tokens.new }
+    ensures found { Finds string_bytes ReadsName tokens.old result tokens.new }
+    ensures each { ParsesAll string_bytes ReadsName tokens.old result tokens.new }
     ensures shorter { OnOk result (length tokens.new < length tokens.old) }
 {
     let word = tokens.expect(TokenKind::Word)?;
@@ -33,9 +29,6 @@ fn name(alloc: Global, tokens: &mut Cursor<'_>) -> Result<String, PhraseFault>
 }
 
 impl Item for String {
-    ghost use Rattle.std.specs.Prelude.{List, ℕ, string_bytes};
-    ghost use Rattle.odata_parse.specs.Apply.{ReadsName};
-
     ghost Tree = { List ℕ };
 
     ghost tree = { string_bytes };
@@ -49,8 +42,8 @@ impl Item for String {
 
 /// `as` and a name.
 fn alias(alloc: Global, tokens: &mut Cursor<'_>) -> Result<String, PhraseFault>
-    ensures found { IfOk result (λ name. ReadsAlias tokens.old (string_bytes name) tokens.new) }
-    ensures each { (name : List ℕ) (after : List TokenOf) → ReadsAlias tokens.old name after → Gives string_bytes name after result tokens.new }
+    ensures found { Finds string_bytes ReadsAlias tokens.old result tokens.new }
+    ensures each { ParsesAll string_bytes ReadsAlias tokens.old result tokens.new }
     ensures shorter { OnOk result (length tokens.new < length tokens.old) }
 {
     tokens.expect_keyword("as")?;
@@ -59,8 +52,8 @@ fn alias(alloc: Global, tokens: &mut Cursor<'_>) -> Result<String, PhraseFault>
 
 /// The method that comes next.
 fn method(tokens: &mut Cursor<'_>) -> Result<AggregationMethod, PhraseFault>
-    ensures found { IfOk result (λ m. (t : TokenOf) × (tokens.old ≡ t ∷ tokens.new) × IsKeyword (method_text m) t) }
-    ensures none { OnErr result ((t : TokenOf) (rest : List TokenOf) (m : AggregationMethod) → tokens.old ≡ t ∷ rest → ¬ (IsKeyword (method_text m) t)) }
+    ensures found { IfOk result (λ m. TakesMethod m tokens.old tokens.new) }
+    ensures none { OnErr result (NoMethod tokens.old) }
 {
     let word = tokens.expect(TokenKind::Word)?;
     aggregation_method(word.text).ok_or(PhraseFault::Syntax)
@@ -68,8 +61,8 @@ fn method(tokens: &mut Cursor<'_>) -> Result<AggregationMethod, PhraseFault>
 
 /// A column with its method and alias.
 fn aggregated(alloc: Global, tokens: &mut Cursor<'_>) -> Result<AggregateItem, PhraseFault>
-    ensures found { IfOk result (λ x. ReadsAggregateItem tokens.old (aggregate_item_view x) tokens.new) }
-    ensures each { (x : AggregateItemOf) (after : List TokenOf) → ReadsAggregateItem tokens.old x after → ((t : TokenOf) (rest : List TokenOf) → tokens.old ≡ t ∷ rest → t.kind ≢ Dollar) → Gives aggregate_item_view x after result tokens.new }
+    ensures found { Finds aggregate_item_view ReadsAggregateItem tokens.old result tokens.new }
+    ensures each { ParsesColumn tokens.old result tokens.new }
     ensures shorter { OnOk result (length tokens.new < length tokens.old) }
 {
     let column = name(alloc, tokens)?;
@@ -84,9 +77,6 @@ fn aggregated(alloc: Global, tokens: &mut Cursor<'_>) -> Result<AggregateItem, P
 }
 
 impl Item for AggregateItem {
-    ghost use Rattle.odata_parse.specs.Apply.{ReadsAggregateItem};
-    ghost use Rattle.odata_parse.specs.Tree.{AggregateItemOf, aggregate_item_view};
-
     ghost Tree = { AggregateItemOf };
 
     ghost tree = { aggregate_item_view };
@@ -107,8 +97,8 @@ impl Item for AggregateItem {
 
 /// `aggregate` and its items.
 fn aggregate(alloc: Global, tokens: &mut Cursor<'_>) -> Result<Vec<AggregateItem>, PhraseFault>
-    ensures found { IfOk result (λ items. ReadsAggregate tokens.old (item_trees aggregate_item_view items) tokens.new) }
-    ensures each { (items : List AggregateItemOf) (after : List TokenOf) → ReadsAggregate tokens.old items after → Gives (item_trees aggregate_item_view) items after result tokens.new }
+    ensures found { Finds aggregation_view ReadsAggregate tokens.old result tokens.new }
+    ensures each { ParsesAll aggregation_view ReadsAggregate tokens.old result tokens.new }
     ensures shorter { OnOk result (length tokens.new < length tokens.old) }
 {
     tokens.expect_keyword("aggregate")?;
@@ -117,8 +107,8 @@ fn aggregate(alloc: Global, tokens: &mut Cursor<'_>) -> Result<Vec<AggregateItem
 
 /// What stands behind `filter`.
 fn filter(alloc: Global, tokens: &mut Cursor<'_>) -> Result<Transformation, PhraseFault>
-    ensures found { (t : TokenOf) → IsKeyword (codes "filter") t → IfOk result (λ x. ReadsTransformation (t ∷ tokens.old) (transformation_view x) tokens.new) }
-    ensures each { (t : TokenOf) (x : TransformationOf) (after : List TokenOf) → IsKeyword (codes "filter") t → ReadsTransformation (t ∷ tokens.old) x after → Gives transformation_view x after result tokens.new }
+    ensures found { FindsBehind (codes "filter") tokens.old result tokens.new }
+    ensures each { ParsesBehind (codes "filter") tokens.old result tokens.new }
     ensures shorter { OnOk result (length tokens.new < length tokens.old) }
 {
     tokens.expect(TokenKind::OpenParenthesis)?;
@@ -129,8 +119,8 @@ fn filter(alloc: Global, tokens: &mut Cursor<'_>) -> Result<Transformation, Phra
 
 /// What stands behind `groupby`.
 fn group(alloc: Global, tokens: &mut Cursor<'_>) -> Result<Transformation, PhraseFault>
-    ensures found { (t : TokenOf) → IsKeyword (codes "groupby") t → IfOk result (λ x. ReadsTransformation (t ∷ tokens.old) (transformation_view x) tokens.new) }
-    ensures each { (t : TokenOf) (x : TransformationOf) (after : List TokenOf) → IsKeyword (codes "groupby") t → ReadsTransformation (t ∷ tokens.old) x after → Gives transformation_view x after result tokens.new }
+    ensures found { FindsBehind (codes "groupby") tokens.old result tokens.new }
+    ensures each { ParsesBehind (codes "groupby") tokens.old result tokens.new }
     ensures shorter { OnOk result (length tokens.new < length tokens.old) }
 {
     tokens.expect(TokenKind::OpenParenthesis)?;
@@ -151,9 +141,6 @@ fn group(alloc: Global, tokens: &mut Cursor<'_>) -> Result<Transformation, Phras
 }
 
 impl Item for Transformation {
-    ghost use Rattle.odata_parse.specs.Apply.{ReadsTransformation};
-    ghost use Rattle.odata_parse.specs.Tree.{TransformationOf, transformation_view};
-
     ghost Tree = { TransformationOf };
 
     ghost tree = { transformation_view };
@@ -180,12 +167,10 @@ pub fn parse_apply(
     limit: u32,
 ) -> Result<Vec<Transformation>, ParseFault>
     requires { AreTokens source.now tokens.now }
-    ensures tree { IfOk result (λ transformations. IsApply (token_views source.now tokens.now) (item_trees transformation_view transformations)) }
-    ensures too_deep { IsErrOf result ParseFault.TooDeep ↔ IsTooDeepForApply limit (token_views source.now tokens.now) }
-    ensures syntax { IsErrOf result ParseFault.Syntax → (transformations : List TransformationOf) → ¬ (IsApply (token_views source.now tokens.now) transformations) }
+    ensures { IsParsedApply limit source.now tokens.now result }
 {
-    if is_too_deep(source, tokens) || has_slashes(source, tokens, limit) {
+    if has_slashes(source, tokens, limit) {
         return Err(ParseFault::TooDeep);
     }
-    Ok(whole_list::<Transformation>(alloc, source, tokens, TokenKind::Slash)?)
+    whole_list::<Transformation>(alloc, source, tokens, TokenKind::Slash)
 }

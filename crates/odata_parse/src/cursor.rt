@@ -1,10 +1,11 @@
 //! The tokens that are left to read.
 
-ghost use Rattle.std.specs.Prelude.{◌≡◌, ◌≢◌, ◌↔◌, List, [], ◌∷◌, drop, IfSome, IfNone, IfOk, IfErr, OnOk, OnErr, IsTrue};
-ghost use Rattle.odata_lex.specs.Lexer.{AreTokens};
+ghost use Rattle.std.specs.Prelude.{◌≡◌, ◌≢◌, List, [], ◌∷◌, drop, IfSome, IfNone, IfOk, IfErr, OnOk, OnErr};
+ghost use Rattle.std.specs.List.{All};
+ghost use Rattle.odata_lex.specs.Lexer.{AreTokens, IsTokenAt};
 ghost use Rattle.odata_lex.specs.Token.{IsOfKind, TokenOf, token_views};
 ghost use Rattle.odata_parse.specs.Keyword.{IsKeyword, lower};
-ghost use Rattle.odata_parse.specs.Cursor.{lexeme_view};
+ghost use Rattle.odata_parse.specs.Cursor.{lexeme_view, NotFirst, TakesKind, StaysNoKind, TakesKeyword, StaysNoKeyword};
 
 use crate::fault::PhraseFault;
 use crate::keyword::spells;
@@ -26,11 +27,6 @@ pub(crate) struct Cursor<'a> {
 }
 
 impl<'a> Model for Cursor<'a> {
-    ghost use Rattle.std.specs.Prelude.{List};
-    ghost use Rattle.std.specs.List.{All};
-    ghost use Rattle.odata_lex.specs.Lexer.{IsTokenAt};
-    ghost use Rattle.odata_lex.specs.Token.{TokenOf, token_views};
-
     ghost Value = { List TokenOf };
 
     ghost view = { λ c. token_views c.source.now c.rest.now };
@@ -85,9 +81,9 @@ impl<'a> Cursor<'a> {
 
     /// Takes the next token if it is of a kind.
     pub(crate) fn take(&mut self, kind: TokenKind) -> Option<Lexeme<'a>>
-        ensures some { IfSome result (λ l. (self.old ≡ lexeme_view l ∷ self.new) × (l.kind ≡ kind)) }
+        ensures some { IfSome result (λ l. TakesKind kind l self.old self.new) }
         ensures form { IfSome result (λ l. IsOfKind l.kind l.text.now) }
-        ensures none { IfNone result ((self.new ≡ self.old) × ((t : TokenOf) (rest : List TokenOf) → self.old ≡ t ∷ rest → t.kind ≢ kind)) }
+        ensures none { IfNone result (StaysNoKind kind self.old self.new) }
     {
         let first = self.peek()?;
         if first.kind != kind {
@@ -99,8 +95,8 @@ impl<'a> Cursor<'a> {
 
     /// Takes the next token if it is a keyword.
     pub(crate) fn take_keyword(&mut self, keyword: &str) -> Option<Lexeme<'a>>
-        ensures some { IfSome result (λ l. (self.old ≡ lexeme_view l ∷ self.new) × IsKeyword (lower keyword.now) (lexeme_view l)) }
-        ensures none { IfNone result ((self.new ≡ self.old) × ((t : TokenOf) (rest : List TokenOf) → self.old ≡ t ∷ rest → ¬ (IsKeyword (lower keyword.now) t))) }
+        ensures some { IfSome result (λ l. TakesKeyword (lower keyword.now) l self.old self.new) }
+        ensures none { IfNone result (StaysNoKeyword (lower keyword.now) self.old self.new) }
     {
         let first = self.peek()?;
         if first.kind != TokenKind::Word || !spells(first.text, keyword) {
@@ -112,9 +108,9 @@ impl<'a> Cursor<'a> {
 
     /// Takes the next token, which has to be of a kind.
     pub(crate) fn expect(&mut self, kind: TokenKind) -> Result<Lexeme<'a>, PhraseFault>
-        ensures ok { IfOk result (λ l. (self.old ≡ lexeme_view l ∷ self.new) × (l.kind ≡ kind)) }
+        ensures ok { IfOk result (λ l. TakesKind kind l self.old self.new) }
         ensures form { IfOk result (λ l. IsOfKind l.kind l.text.now) }
-        ensures err { OnErr result ((t : TokenOf) (rest : List TokenOf) → self.old ≡ t ∷ rest → t.kind ≢ kind) }
+        ensures err { OnErr result (NotFirst (λ t. t.kind ≡ kind) self.old) }
         ensures fault { IfErr result (λ e. e ≡ PhraseFault.Syntax) }
     {
         self.take(kind).ok_or(PhraseFault::Syntax)
@@ -122,8 +118,8 @@ impl<'a> Cursor<'a> {
 
     /// Takes the next token, which has to be a keyword.
     pub(crate) fn expect_keyword(&mut self, keyword: &str) -> Result<Lexeme<'a>, PhraseFault>
-        ensures ok { IfOk result (λ l. (self.old ≡ lexeme_view l ∷ self.new) × IsKeyword (lower keyword.now) (lexeme_view l)) }
-        ensures err { OnErr result ((t : TokenOf) (rest : List TokenOf) → self.old ≡ t ∷ rest → ¬ (IsKeyword (lower keyword.now) t)) }
+        ensures ok { IfOk result (λ l. TakesKeyword (lower keyword.now) l self.old self.new) }
+        ensures err { OnErr result (NotFirst (IsKeyword (lower keyword.now)) self.old) }
         ensures fault { IfErr result (λ e. e ≡ PhraseFault.Syntax) }
     {
         self.take_keyword(keyword).ok_or(PhraseFault::Syntax)

@@ -6,7 +6,7 @@ ghost use Rattle.odata_lex.specs.Lexer.{AreTokens};
 ghost use Rattle.odata_lex.specs.Token.{token_views};
 ghost use Rattle.odata_parse.specs.declared.tree.UnaryOperator.{UnaryOperator};
 ghost use Rattle.odata_parse.specs.Cursor.{lexeme_view};
-ghost use Rattle.odata_parse.specs.Depth.{OpensTooMany, RepeatsOperators, IsTooDeep, open_behind, slashes};
+ghost use Rattle.odata_parse.specs.Depth.{OpensTooMany, RepeatsOperators, IsTooDeep, IsPrefixToken, open_behind, slashes};
 ghost use Rattle.odata_parse.specs.Expression.{IsUnaryOperator};
 
 use crate::cursor::{Cursor, Lexeme};
@@ -49,14 +49,10 @@ fn opens_too_many(source: &str, tokens: &[Token]) -> bool
 
 /// Whether a token is `-` or `not`.
 fn is_operator(token: Lexeme<'_>) -> bool
-    ensures yes { IsTrue result → (o : UnaryOperator) × IsUnaryOperator o (lexeme_view token.entry) }
+    ensures yes { IsTrue result → IsPrefixToken (lexeme_view token.entry) }
     ensures no { (o : UnaryOperator) → IsUnaryOperator o (lexeme_view token.entry) → IsTrue result }
 {
-    match token.kind {
-        TokenKind::Minus => true,
-        TokenKind::Word => spells(token.text, "not"),
-        _ => false,
-    }
+    token.kind == TokenKind::Minus || token.kind == TokenKind::Word && spells(token.text, "not")
 }
 
 /// Whether more than [`MAX_OPERATORS`] tokens `-` or `not` follow each other.
@@ -95,9 +91,8 @@ pub(crate) fn has_slashes(source: &str, tokens: &[Token], limit: u32) -> bool
     let mut rest = Cursor::new(source, tokens);
     let mut left = limit;
     while let Some(token) = rest.next() {
-        match token.kind {
-            TokenKind::Slash => left = left.saturating_sub(1),
-            _ => {}
+        if token.kind == TokenKind::Slash {
+            left = left.saturating_sub(1);
         }
     }
     left == 0

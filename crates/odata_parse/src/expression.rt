@@ -2,22 +2,15 @@
 //! is a loop, so the depth of calls does not grow with the number of operators, but with parentheses and operators before an
 //! operand alone.
 
-ghost use Rattle.std.specs.Prelude.{◌≡◌, ◌≢◌, ◌<◌, ◌≤◌, ◌↔◌, List, ◌∷◌, length, codes, IfOk, IfErr, IfSome, IfNone, IsErrOf, OnOk};
+ghost use Rattle.std.specs.Prelude.{◌≡◌, ◌<◌, ◌≤◌, ◌∷◌, length, IfSome, IfNone, OnOk};
 ghost use Rattle.odata_lex.specs.Lexer.{AreTokens};
-ghost use Rattle.odata_lex.specs.Token.{IsOfKind, TokenOf, token_views};
-ghost use Rattle.odata_lex.specs.declared.token.TokenKind.TheVariants.{OpenParenthesis, Word};
-ghost use Rattle.odata_parse.specs.declared.tree.BinaryOperator.{BinaryOperator};
-ghost use Rattle.odata_parse.specs.declared.tree.UnaryOperator.{UnaryOperator};
-ghost use Rattle.odata_parse.specs.Cursor.{lexeme_view};
-ghost use Rattle.odata_parse.specs.Depth.{IsTooDeep};
-ghost use Rattle.odata_parse.specs.Expression.{Reads, IsFilter, IsUnaryOperator, level_of};
-ghost use Rattle.odata_parse.specs.Keyword.{IsKeyword, operator_text};
-ghost use Rattle.odata_parse.specs.Literal.{IsLiteral};
-ghost use Rattle.odata_parse.specs.Parsing.{Calls, CanEnd, Gives};
-ghost use Rattle.odata_parse.specs.Tree.{ExprOf, LiteralOf, expr_view, unary, binary};
+ghost use Rattle.odata_lex.specs.declared.token.TokenKind.TheVariants.{Word};
+ghost use Rattle.odata_parse.specs.Cursor.{lexeme_view, TakesOperator, NoOperator, TakesUnaryOperator, NoUnaryOperator};
+ghost use Rattle.odata_parse.specs.Expression.{IsFilter, level_of, Reads, top};
+ghost use Rattle.odata_parse.specs.Parsing.{FindsExpr, ParsesExpr, FindsCall, ParsesCall, IsParsed};
+ghost use Rattle.odata_parse.specs.Tree.{expr_view, ExprOf};
 
 use crate::cursor::{Cursor, Lexeme};
-use crate::depth::is_too_deep;
 use crate::fault::{ParseFault, PhraseFault};
 use crate::keyword::{binary_function, binary_operator, spells, unary_function};
 use crate::list::{Item, enclosed};
@@ -28,7 +21,7 @@ use crate::tree::{
 };
 use crate::whole::whole_item;
 use odata_lex::{Token, TokenKind};
-use std::alloc::{AllocError, Global};
+use std::alloc::Global;
 
 /// The level of a whole expression.
 pub(crate) const TOP: usize = 8;
@@ -41,14 +34,10 @@ fn level(operator: BinaryOperator) -> usize
     ensures { result ≡ level_of operator }
 {
     match operator {
-        BinaryOperator::Arithmetic(operator) => match operator {
-            ArithmeticOperator::Mul | ArithmeticOperator::Div | ArithmeticOperator::Mod => 3,
-            ArithmeticOperator::Add | ArithmeticOperator::Sub => 4,
-        },
-        BinaryOperator::Comparison(operator) => match operator {
-            ComparisonOperator::Equal | ComparisonOperator::NotEqual => 6,
-            _ => 5,
-        },
+        BinaryOperator::Arithmetic(ArithmeticOperator::Add | ArithmeticOperator::Sub) => 4,
+        BinaryOperator::Arithmetic(_) => 3,
+        BinaryOperator::Comparison(ComparisonOperator::Equal | ComparisonOperator::NotEqual) => 6,
+        BinaryOperator::Comparison(_) => 5,
         BinaryOperator::Logic(LogicOperator::And) => 7,
         BinaryOperator::Logic(LogicOperator::Or) => TOP,
     }
@@ -56,8 +45,8 @@ fn level(operator: BinaryOperator) -> usize
 
 /// Takes the next token if it is an operator of a level.
 fn take_operator(tokens: &mut Cursor<'_>, wanted: usize) -> Option<BinaryOperator>
-    ensures some { IfSome result (λ o. (t : TokenOf) × (tokens.old ≡ t ∷ tokens.new) × IsKeyword (operator_text o) t × (level_of o ≡ wanted)) }
-    ensures none { IfNone result ((tokens.new ≡ tokens.old) × ((t : TokenOf) (rest : List TokenOf) (o : BinaryOperator) → tokens.old ≡ t ∷ rest → IsKeyword (operator_text o) t → level_of o ≢ wanted)) }
+    ensures some { IfSome result (λ o. TakesOperator wanted o tokens.old tokens.new) }
+    ensures none { IfNone result ((tokens.new ≡ tokens.old) × NoOperator wanted tokens.old) }
 {
     let first = tokens.peek()?;
     if first.kind != TokenKind::Word {
@@ -73,8 +62,8 @@ fn take_operator(tokens: &mut Cursor<'_>, wanted: usize) -> Option<BinaryOperato
 
 /// Takes the next token if it is an operator before its operand.
 fn take_unary_operator(tokens: &mut Cursor<'_>) -> Option<UnaryOperator>
-    ensures some { IfSome result (λ o. (t : TokenOf) × (tokens.old ≡ t ∷ tokens.new) × IsUnaryOperator o t) }
-    ensures none { IfNone result ((tokens.new ≡ tokens.old) × ((t : TokenOf) (rest : List TokenOf) (o : UnaryOperator) → tokens.old ≡ t ∷ rest → ¬ (IsUnaryOperator o t))) }
+    ensures some { IfSome result (λ o. TakesUnaryOperator o tokens.old tokens.new) }
+    ensures none { IfNone result ((tokens.new ≡ tokens.old) × NoUnaryOperator tokens.old) }
 {
     if let Some(_) = tokens.take(TokenKind::Minus) {
         return Some(UnaryOperator::Negate);
@@ -83,18 +72,6 @@ fn take_unary_operator(tokens: &mut Cursor<'_>) -> Option<UnaryOperator>
         return Some(UnaryOperator::Not);
     }
     None
-}
-
-/// Two operands and their operator.
-fn join(
-    alloc: Global,
-    operator: BinaryOperator,
-    left: Expr,
-    right: Expr,
-) -> Result<Expr, AllocError>
-    ensures { IfOk result (λ e. expr_view e ≡ binary operator (expr_view left) (expr_view right)) }
-{
-    Ok(Expr::Binary(operator, Box::new(alloc, left)?, Box::new(alloc, right)?))
 }
 
 /// A phrase of a level, as long as it can be.
@@ -106,8 +83,8 @@ pub(crate) fn phrase(
 ) -> Result<Expr, PhraseFault>
     requires above { 2 ≤ level }
     requires within { level ≤ 8 }
-    ensures found { IfOk result (λ e. Reads level tokens.old (expr_view e) tokens.new) }
-    ensures each { (e : ExprOf) (after : List TokenOf) → Reads level tokens.old e after → CanEnd level after → Gives expr_view e after result tokens.new }
+    ensures found { FindsExpr level tokens.old result tokens.new }
+    ensures each { ParsesExpr level tokens.old result tokens.new }
     ensures shorter { OnOk result (length tokens.new < length tokens.old) }
 {
     if level == UNARY {
@@ -116,7 +93,7 @@ pub(crate) fn phrase(
     let mut left = phrase(alloc, tokens, level - 1)?;
     while let Some(operator) = take_operator(tokens, level) {
         let right = phrase(alloc, tokens, level - 1)?;
-        left = join(alloc, operator, left, right)?;
+        left = Expr::Binary(operator, Box::new(alloc, left)?, Box::new(alloc, right)?);
     }
     Ok(left)
 }
@@ -124,8 +101,8 @@ pub(crate) fn phrase(
 /// `-` and `not`, and their operand.
 #[cycle(expression)]
 fn signed(alloc: Global, tokens: &mut Cursor<'_>) -> Result<Expr, PhraseFault>
-    ensures found { IfOk result (λ e. Reads 2 tokens.old (expr_view e) tokens.new) }
-    ensures each { (e : ExprOf) (after : List TokenOf) → Reads 2 tokens.old e after → CanEnd 2 after → Gives expr_view e after result tokens.new }
+    ensures found { FindsExpr 2 tokens.old result tokens.new }
+    ensures each { ParsesExpr 2 tokens.old result tokens.new }
     ensures shorter { OnOk result (length tokens.new < length tokens.old) }
 {
     let Some(operator) = take_unary_operator(tokens) else {
@@ -138,8 +115,8 @@ fn signed(alloc: Global, tokens: &mut Cursor<'_>) -> Result<Expr, PhraseFault>
 /// A primary, and the list that it may be in.
 #[cycle(expression)]
 fn member(alloc: Global, tokens: &mut Cursor<'_>) -> Result<Expr, PhraseFault>
-    ensures found { IfOk result (λ e. Reads 1 tokens.old (expr_view e) tokens.new) }
-    ensures each { (e : ExprOf) (after : List TokenOf) → Reads 1 tokens.old e after → CanEnd 1 after → Gives expr_view e after result tokens.new }
+    ensures found { FindsExpr 1 tokens.old result tokens.new }
+    ensures each { ParsesExpr 1 tokens.old result tokens.new }
     ensures shorter { OnOk result (length tokens.new < length tokens.old) }
 {
     let value = primary(alloc, tokens)?;
@@ -153,8 +130,8 @@ fn member(alloc: Global, tokens: &mut Cursor<'_>) -> Result<Expr, PhraseFault>
 /// A value, a name, a call, or an expression in parentheses.
 #[cycle(expression)]
 fn primary(alloc: Global, tokens: &mut Cursor<'_>) -> Result<Expr, PhraseFault>
-    ensures found { IfOk result (λ e. Reads 0 tokens.old (expr_view e) tokens.new) }
-    ensures each { (e : ExprOf) (after : List TokenOf) → Reads 0 tokens.old e after → CanEnd 0 after → Gives expr_view e after result tokens.new }
+    ensures found { FindsExpr 0 tokens.old result tokens.new }
+    ensures each { ParsesExpr 0 tokens.old result tokens.new }
     ensures shorter { OnOk result (length tokens.new < length tokens.old) }
 {
     let Some(first) = tokens.next() else {
@@ -175,8 +152,8 @@ fn primary(alloc: Global, tokens: &mut Cursor<'_>) -> Result<Expr, PhraseFault>
 #[cycle(expression)]
 fn word(alloc: Global, tokens: &mut Cursor<'_>, first: Lexeme<'_>) -> Result<Expr, PhraseFault>
     requires { first.kind ≡ Word }
-    ensures found { IfOk result (λ e. Reads 0 (lexeme_view first.entry ∷ tokens.old) (expr_view e) tokens.new) }
-    ensures each { (e : ExprOf) (after : List TokenOf) → Reads 0 (lexeme_view first.entry ∷ tokens.old) e after → CanEnd 0 after → Gives expr_view e after result tokens.new }
+    ensures found { FindsExpr 0 (lexeme_view first.entry ∷ tokens.old) result tokens.new }
+    ensures each { ParsesExpr 0 (lexeme_view first.entry ∷ tokens.old) result tokens.new }
     ensures shorter { OnOk result (length tokens.new ≤ length tokens.old) }
 {
     if let Some(literal) = word_literal(first.text) {
@@ -195,8 +172,8 @@ fn word(alloc: Global, tokens: &mut Cursor<'_>, first: Lexeme<'_>) -> Result<Exp
 #[cycle(expression)]
 fn call(alloc: Global, tokens: &mut Cursor<'_>, function: Lexeme<'_>) -> Result<Expr, PhraseFault>
     requires { function.kind ≡ Word }
-    ensures found { IfOk result (λ e. Calls (lexeme_view function.entry) tokens.old (expr_view e) tokens.new) }
-    ensures each { (e : ExprOf) (after : List TokenOf) → Calls (lexeme_view function.entry) tokens.old e after → Gives expr_view e after result tokens.new }
+    ensures found { FindsCall (lexeme_view function.entry) tokens.old result tokens.new }
+    ensures each { ParsesCall (lexeme_view function.entry) tokens.old result tokens.new }
     ensures shorter { OnOk result (length tokens.new ≤ length tokens.old) }
 {
     if let Some(function) = unary_function(function.text) {
@@ -215,9 +192,6 @@ fn call(alloc: Global, tokens: &mut Cursor<'_>, function: Lexeme<'_>) -> Result<
 }
 
 impl Item for Expr {
-    ghost use Rattle.odata_parse.specs.Expression.{Reads, top};
-    ghost use Rattle.odata_parse.specs.Tree.{ExprOf, expr_view};
-
     ghost Tree = { ExprOf };
 
     ghost tree = { expr_view };
@@ -232,12 +206,7 @@ impl Item for Expr {
 /// The expression that all the tokens are.
 pub fn parse_filter(alloc: Global, source: &str, tokens: &[Token]) -> Result<Expr, ParseFault>
     requires { AreTokens source.now tokens.now }
-    ensures tree { IfOk result (λ e. IsFilter (token_views source.now tokens.now) (expr_view e)) }
-    ensures too_deep { IsErrOf result ParseFault.TooDeep ↔ IsTooDeep (token_views source.now tokens.now) }
-    ensures syntax { IsErrOf result ParseFault.Syntax → (e : ExprOf) → ¬ (IsFilter (token_views source.now tokens.now) e) }
+    ensures { IsParsed expr_view IsFilter source.now tokens.now result }
 {
-    if is_too_deep(source, tokens) {
-        return Err(ParseFault::TooDeep);
-    }
-    Ok(whole_item::<Expr>(alloc, source, tokens)?)
+    whole_item::<Expr>(alloc, source, tokens)
 }

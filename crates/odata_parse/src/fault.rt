@@ -1,5 +1,9 @@
 //! Why tokens have no tree, and texts no value.
 
+ghost use Rattle.std.specs.Prelude.{◌≡◌};
+ghost use Rattle.odata_parse.specs.declared.fault.PhraseFault.TheVariants.{NoMemory};
+ghost use Rattle.odata_parse.specs.Parsing.{parse_fault};
+
 use std::alloc::{AllocError, AllocFailed};
 
 /// Why tokens are not parsed, in the order in which it is looked for.
@@ -25,9 +29,6 @@ pub(crate) enum PhraseFault {
 }
 
 impl From<AllocError> for PhraseFault {
-    ghost use Rattle.std.specs.Prelude.{◌≡◌};
-    ghost use Rattle.odata_parse.specs.declared.fault.PhraseFault.TheVariants.{NoMemory};
-
     ghost from_gives = { λ _ e. e ≡ NoMemory };
 
     fn from(_: AllocError) -> PhraseFault {
@@ -36,9 +37,6 @@ impl From<AllocError> for PhraseFault {
 }
 
 impl<T: Drop> From<AllocFailed<T>> for PhraseFault {
-    ghost use Rattle.std.specs.Prelude.{◌≡◌};
-    ghost use Rattle.odata_parse.specs.declared.fault.PhraseFault.TheVariants.{NoMemory};
-
     ghost from_gives = { λ _ e. e ≡ NoMemory };
 
     fn from(_: AllocFailed<T>) -> PhraseFault {
@@ -47,9 +45,6 @@ impl<T: Drop> From<AllocFailed<T>> for PhraseFault {
 }
 
 impl From<PhraseFault> for ParseFault {
-    ghost use Rattle.std.specs.Prelude.{◌≡◌};
-    ghost use Rattle.odata_parse.specs.Parsing.{parse_fault};
-
     ghost from_gives = { λ fault e. e ≡ parse_fault fault };
 
     fn from(fault: PhraseFault) -> ParseFault {

@@ -1,7 +1,7 @@
 //! The value of the option `$count`.
 
-ghost use Rattle.std.specs.Prelude.{◌≡◌, None, Some, MatchResult};
 ghost use Rattle.odata_parse.specs.Flag.{flag_of};
+ghost use Rattle.odata_parse.specs.Format.{IsValueOrSyntax};
 
 use crate::fault::Syntax;
 use crate::keyword::spells;
@@ -9,7 +9,7 @@ use crate::keyword::spells;
 /// The truth value that a value of `$count` names (OData 4.01 URL Conventions, section 5.1.7): `true` or `false`, in any case of ASCII
 /// letters.
 pub fn parse_flag(text: &str) -> Result<bool, Syntax>
-    ensures { MatchResult result (λ flag. flag_of text.now ≡ Some flag) (λ _. flag_of text.now ≡ None) }
+    ensures { IsValueOrSyntax (flag_of text.now) result }
 {
     if spells(text, "true") {
         Ok(true)

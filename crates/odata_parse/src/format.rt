@@ -1,7 +1,6 @@
 //! The value of the option `$format`.
 
-ghost use Rattle.std.specs.Prelude.{◌≡◌, None, Some, MatchResult};
-ghost use Rattle.odata_parse.specs.Format.{format_of};
+ghost use Rattle.odata_parse.specs.Format.{IsValueOrSyntax, format_of};
 
 use crate::fault::Syntax;
 use crate::keyword::spells;
@@ -18,7 +17,7 @@ pub enum Format {
 /// The format that a value of `$format` names (OData 4.01 URL Conventions, section 5.1.10): `json` or `application/json`, or `text/csv`, in any case
 /// of ASCII letters.
 pub fn parse_format(text: &str) -> Result<Format, Syntax>
-    ensures { MatchResult result (λ format. format_of text.now ≡ Some format) (λ _. format_of text.now ≡ None) }
+    ensures { IsValueOrSyntax (format_of text.now) result }
 {
     if spells(text, "json") || spells(text, "application/json") {
         Ok(Format::Json)

@@ -25,6 +25,6 @@ pub use expression::parse_filter;
 pub use fault::{ParseFault, Syntax};
 pub use flag::parse_flag;
 pub use format::{Format, parse_format};
-pub use law::one_tree;
+pub use law::{limits, one_tree};
 pub use number::{MAX_NUMBER, MAX_NUMBER_DIGITS, parse_number};
 pub use options::{parse_key, parse_orderby, parse_select};

@@ -1,9 +1,9 @@
 //! Lists of items with a sign between each two.
 
-ghost use Rattle.std.specs.Prelude.{◌<◌, List, length, map, IfOk, OnOk, vec_len};
+ghost use Rattle.std.specs.Prelude.{◌<◌, List, length, OnOk};
 ghost use Rattle.odata_lex.specs.Token.{TokenOf};
-ghost use Rattle.odata_parse.specs.List.{Separated, Enclosed};
-ghost use Rattle.odata_parse.specs.Parsing.{IsSeparator, IsAfterItem, IsAfterList, Gives, item_trees};
+ghost use Rattle.odata_parse.specs.Parsing.{IsSeparator, IsAfterItem, Finds, Parses};
+ghost use Rattle.odata_parse.specs.ParsingList.{FindsList, ParsesList, FindsEnclosed, ParsesEnclosed};
 
 use crate::cursor::Cursor;
 use crate::fault::PhraseFault;
@@ -20,8 +20,8 @@ pub(crate) trait Item: Sized {
 
     /// Reads an item.
     fn read(alloc: Global, tokens: &mut Cursor<'_>) -> Result<Self, PhraseFault>
-        ensures found { IfOk result (λ x. reads tokens.old (tree x) tokens.new) }
-        ensures each { (x : Tree) (after : List TokenOf) → reads tokens.old x after → IsAfterItem after → Gives tree x after result tokens.new }
+        ensures found { Finds tree reads tokens.old result tokens.new }
+        ensures each { Parses tree reads IsAfterItem tokens.old result tokens.new }
         ensures shorter { OnOk result (length tokens.new < length tokens.old) };
 }
 
@@ -32,8 +32,8 @@ pub(crate) fn list<T: Item + Drop>(
     separator: TokenKind,
 ) -> Result<Vec<T>, PhraseFault>
     requires { IsSeparator separator }
-    ensures found { IfOk result (λ items. Separated T.reads separator tokens.old (map T.tree items.items) tokens.new) }
-    ensures each { (xs : List T.Tree) (after : List TokenOf) → Separated T.reads separator tokens.old xs after → IsAfterList after → Gives (item_trees T.tree) xs after result tokens.new }
+    ensures found { FindsList T.tree T.reads separator tokens.old result tokens.new }
+    ensures each { ParsesList T.tree T.reads separator tokens.old result tokens.new }
     ensures shorter { OnOk result (length tokens.new < length tokens.old) }
 {
     let mut items = Vec::new(alloc);
@@ -51,8 +51,8 @@ pub(crate) fn enclosed<T: Item + Drop>(
     separator: TokenKind,
 ) -> Result<Vec<T>, PhraseFault>
     requires { IsSeparator separator }
-    ensures found { IfOk result (λ items. Enclosed T.reads separator tokens.old (map T.tree items.items) tokens.new) }
-    ensures each { (xs : List T.Tree) (after : List TokenOf) → Enclosed T.reads separator tokens.old xs after → Gives (item_trees T.tree) xs after result tokens.new }
+    ensures found { FindsEnclosed T.tree T.reads separator tokens.old result tokens.new }
+    ensures each { ParsesEnclosed T.tree T.reads separator tokens.old result tokens.new }
     ensures shorter { OnOk result (length tokens.new < length tokens.old) }
 {
     tokens.expect(TokenKind::OpenParenthesis)?;

@@ -1,22 +1,23 @@
 //! Values written in expressions (OData 4.01 URL Conventions, section 5.1.1.14.1).
 
-ghost use Rattle.std.specs.Prelude.{◌≡◌, ◌<◌, ◌∷◌, List, pos, length, string_bytes, IfOk, IfErr, OnOk, IfSome, IfNone};
+ghost use Rattle.std.specs.Prelude.{◌≡◌, ◌<◌, pos, length, string_bytes, IfOk, IfErr, OnOk, IfSome, IfNone};
 ghost use Rattle.std.specs.Str.Parse.{digits_value};
-ghost use Rattle.odata_lex.specs.Token.{IsNumber, IsText, IsDateText, IsOfKind, year_of, month_of, day_of, TokenOf};
-ghost use Rattle.odata_lex.specs.declared.token.TokenKind.TheVariants.{Minus};
+ghost use Rattle.odata_lex.specs.Token.{IsDecimal, IsNumber, IsText, IsDateText, IsOfKind};
 ghost use Rattle.odata_parse.specs.Cursor.{lexeme_view};
-ghost use Rattle.odata_parse.specs.Keyword.{lower};
-ghost use Rattle.odata_parse.specs.Literal.{IsLiteral, IsWordLiteral, Quotes, ReadsLiteral};
-ghost use Rattle.odata_parse.specs.Parsing.{Gives};
-ghost use Rattle.odata_parse.specs.Tree.{LiteralOf, literal_view, date as date_value};
+ghost use Rattle.odata_parse.specs.Literal.{IsLiteral, IsLiteralOfKind, FailsLiteral, IsWordLiteral, Quotes, ReadsNegative, millionths_of, ReadsLiteral};
+ghost use Rattle.odata_parse.specs.Parsing.{Finds, ParsesAll};
+ghost use Rattle.odata_parse.specs.Tree.{LiteralOf, literal_view};
 
 use crate::cursor::{Cursor, Lexeme};
 use crate::fault::PhraseFault;
 use crate::keyword::spells;
 use crate::list::Item;
 use crate::tree::Literal;
-use odata_lex::{TokenKind, date_in};
+use odata_lex::{MAX_FRACTION_DIGITS, TokenKind, date_in};
 use std::alloc::{AllocError, Global};
+
+/// One, in millionths.
+const MILLION: i128 = 1_000_000;
 
 /// The number that digits write.
 fn number(digits: &str) -> i128
@@ -26,10 +27,20 @@ fn number(digits: &str) -> i128
     digits.parse::<i128>().unwrap()
 }
 
+/// The millionths that a decimal writes.
+fn millionths(text: &str) -> i128
+    requires { IsDecimal text.now }
+    ensures { result ≡ pos (millionths_of text.now) }
+{
+    let (whole, fraction) = text.split_once('.').unwrap();
+    let scale = 10_u32.pow((MAX_FRACTION_DIGITS - fraction.len()) as u32);
+    number(whole) * MILLION + number(fraction) * i128::from(scale)
+}
+
 /// The day that a date writes.
 fn date(text: &str) -> Literal
     requires { IsDateText text.now }
-    ensures { literal_view result ≡ date_value (pos (year_of text.now)) (month_of text.now) (day_of text.now) }
+    ensures { IsLiteralOfKind TokenKind.Date text.now (literal_view result) }
 {
     Literal::Date(date_in(text.as_bytes()).unwrap())
 }
@@ -69,10 +80,11 @@ pub(crate) fn word_literal(text: &str) -> Option<Literal>
 pub(crate) fn literal_of(alloc: Global, lexeme: Lexeme<'_>) -> Result<Literal, PhraseFault>
     requires { IsOfKind lexeme.kind lexeme.text.now }
     ensures found { IfOk result (λ v. IsLiteral (lexeme_view lexeme.entry) (literal_view v)) }
-    ensures none { IfErr result (λ e. (v : LiteralOf) → IsLiteral (lexeme_view lexeme.entry) v → e ≡ PhraseFault.NoMemory) }
+    ensures none { IfErr result (FailsLiteral (lexeme_view lexeme.entry)) }
 {
     match lexeme.kind {
         TokenKind::Number => Ok(Literal::Number(number(lexeme.text))),
+        TokenKind::Decimal => Ok(Literal::Decimal(millionths(lexeme.text))),
         TokenKind::Date => Ok(date(lexeme.text)),
         TokenKind::Text => Ok(Literal::Text(content(alloc, lexeme.text)?)),
         TokenKind::Word => word_literal(lexeme.text).ok_or(PhraseFault::Syntax),
@@ -80,20 +92,20 @@ pub(crate) fn literal_of(alloc: Global, lexeme: Lexeme<'_>) -> Result<Literal, P
     }
 }
 
-/// A number behind `-`.
+/// A number or a decimal behind `-`.
 fn negative(tokens: &mut Cursor<'_>) -> Result<Literal, PhraseFault>
-    ensures found { IfOk result (λ v. (sign : TokenOf) → sign.kind ≡ Minus → ReadsLiteral (sign ∷ tokens.old) (literal_view v) tokens.new) }
-    ensures each { (sign : TokenOf) (v : LiteralOf) (after : List TokenOf) → sign.kind ≡ Minus → ReadsLiteral (sign ∷ tokens.old) v after → Gives literal_view v after result tokens.new }
+    ensures found { Finds literal_view ReadsNegative tokens.old result tokens.new }
+    ensures each { ParsesAll literal_view ReadsNegative tokens.old result tokens.new }
     ensures shorter { OnOk result (length tokens.new < length tokens.old) }
 {
+    if let Some(decimal) = tokens.take(TokenKind::Decimal) {
+        return Ok(Literal::Decimal(-millionths(decimal.text)));
+    }
     let digits = tokens.expect(TokenKind::Number)?;
     Ok(Literal::Number(-number(digits.text)))
 }
 
 impl Item for Literal {
-    ghost use Rattle.odata_parse.specs.Literal.{ReadsLiteral};
-    ghost use Rattle.odata_parse.specs.Tree.{LiteralOf, literal_view};
-
     ghost Tree = { LiteralOf };
 
     ghost tree = { literal_view };

@@ -1,16 +1,14 @@
 //! `$orderby`, `$select` and keys (OData 4.01 URL Conventions, sections 5.1.6, 5.1.3 and 4.3.1; OData ABNF Construction Rules,
 //! section 1).
 
-ghost use Rattle.std.specs.Prelude.{◌↔◌, List, IfOk, IsErrOf, IsTrue};
+ghost use Rattle.std.specs.Prelude.{◌↔◌, IsTrue};
 ghost use Rattle.odata_lex.specs.Lexer.{AreTokens};
 ghost use Rattle.odata_lex.specs.Token.{token_views};
-ghost use Rattle.odata_parse.specs.Depth.{IsTooDeep};
-ghost use Rattle.odata_parse.specs.Options.{IsOrder, IsSelection, IsKey};
-ghost use Rattle.odata_parse.specs.Parsing.{GivesWhole, HasEqualsSign, item_trees};
-ghost use Rattle.odata_parse.specs.Tree.{OrderItemOf, order_item_view, SelectItemOf, select_item_view, KeyOf, key_view};
+ghost use Rattle.odata_parse.specs.Options.{IsOrder, IsSelection, IsKey, ReadsOrderItem, ReadsSelectItem, ReadsKeyPair};
+ghost use Rattle.odata_parse.specs.Parsing.{HasEqualsSign, IsParsed};
+ghost use Rattle.odata_parse.specs.Tree.{order_view, selection_view, key_view, OrderItemOf, order_item_view, SelectItemOf, select_item_view, KeyPairOf, key_pair_view};
 
 use crate::cursor::Cursor;
-use crate::depth::is_too_deep;
 use crate::expression::{TOP, phrase};
 use crate::fault::{ParseFault, PhraseFault};
 use crate::list::Item;
@@ -20,9 +18,6 @@ use odata_lex::{Token, TokenKind};
 use std::alloc::Global;
 
 impl Item for OrderItem {
-    ghost use Rattle.odata_parse.specs.Options.{ReadsOrderItem};
-    ghost use Rattle.odata_parse.specs.Tree.{OrderItemOf, order_item_view};
-
     ghost Tree = { OrderItemOf };
 
     ghost tree = { order_item_view };
@@ -57,20 +52,12 @@ pub fn parse_orderby(
     tokens: &[Token],
 ) -> Result<Vec<OrderItem>, ParseFault>
     requires { AreTokens source.now tokens.now }
-    ensures tree { IfOk result (λ items. IsOrder (token_views source.now tokens.now) (item_trees order_item_view items)) }
-    ensures too_deep { IsErrOf result ParseFault.TooDeep ↔ IsTooDeep (token_views source.now tokens.now) }
-    ensures syntax { IsErrOf result ParseFault.Syntax → (items : List OrderItemOf) → ¬ (IsOrder (token_views source.now tokens.now) items) }
+    ensures { IsParsed order_view IsOrder source.now tokens.now result }
 {
-    if is_too_deep(source, tokens) {
-        return Err(ParseFault::TooDeep);
-    }
-    Ok(whole_list::<OrderItem>(alloc, source, tokens, TokenKind::Comma)?)
+    whole_list::<OrderItem>(alloc, source, tokens, TokenKind::Comma)
 }
 
 impl Item for SelectItem {
-    ghost use Rattle.odata_parse.specs.Options.{ReadsSelectItem};
-    ghost use Rattle.odata_parse.specs.Tree.{SelectItemOf, select_item_view};
-
     ghost Tree = { SelectItemOf };
 
     ghost tree = { select_item_view };
@@ -96,20 +83,12 @@ pub fn parse_select(
     tokens: &[Token],
 ) -> Result<Vec<SelectItem>, ParseFault>
     requires { AreTokens source.now tokens.now }
-    ensures tree { IfOk result (λ items. IsSelection (token_views source.now tokens.now) (item_trees select_item_view items)) }
-    ensures too_deep { IsErrOf result ParseFault.TooDeep ↔ IsTooDeep (token_views source.now tokens.now) }
-    ensures syntax { IsErrOf result ParseFault.Syntax → (items : List SelectItemOf) → ¬ (IsSelection (token_views source.now tokens.now) items) }
+    ensures { IsParsed selection_view IsSelection source.now tokens.now result }
 {
-    if is_too_deep(source, tokens) {
-        return Err(ParseFault::TooDeep);
-    }
-    Ok(whole_list::<SelectItem>(alloc, source, tokens, TokenKind::Comma)?)
+    whole_list::<SelectItem>(alloc, source, tokens, TokenKind::Comma)
 }
 
 impl Item for KeyPair {
-    ghost use Rattle.odata_parse.specs.Options.{ReadsKeyPair};
-    ghost use Rattle.odata_parse.specs.Tree.{KeyPairOf, key_pair_view};
-
     ghost Tree = { KeyPairOf };
 
     ghost tree = { key_pair_view };
@@ -137,11 +116,10 @@ fn names_columns(source: &str, tokens: &[Token]) -> bool
     rest.take(TokenKind::EqualsSign).is_some()
 }
 
-/// A value alone, or columns and their values.
-fn key(alloc: Global, source: &str, tokens: &[Token]) -> Result<Key, PhraseFault>
+/// The key that all the tokens are: a value alone, or columns and their values.
+pub fn parse_key(alloc: Global, source: &str, tokens: &[Token]) -> Result<Key, ParseFault>
     requires { AreTokens source.now tokens.now }
-    ensures found { IfOk result (λ key. IsKey (token_views source.now tokens.now) (key_view key)) }
-    ensures each { (key : KeyOf) → IsKey (token_views source.now tokens.now) key → GivesWhole key_view key result }
+    ensures { IsParsed key_view IsKey source.now tokens.now result }
 {
     if names_columns(source, tokens) {
         let pairs = whole_list::<KeyPair>(alloc, source, tokens, TokenKind::Comma)?;
@@ -149,17 +127,4 @@ fn key(alloc: Global, source: &str, tokens: &[Token]) -> Result<Key, PhraseFault
     }
     let value = whole_item::<Literal>(alloc, source, tokens)?;
     Ok(Key::Single(value))
-}
-
-/// The key that all the tokens are.
-pub fn parse_key(alloc: Global, source: &str, tokens: &[Token]) -> Result<Key, ParseFault>
-    requires { AreTokens source.now tokens.now }
-    ensures tree { IfOk result (λ key. IsKey (token_views source.now tokens.now) (key_view key)) }
-    ensures too_deep { IsErrOf result ParseFault.TooDeep ↔ IsTooDeep (token_views source.now tokens.now) }
-    ensures syntax { IsErrOf result ParseFault.Syntax → (key : KeyOf) → ¬ (IsKey (token_views source.now tokens.now) key) }
-{
-    if is_too_deep(source, tokens) {
-        return Err(ParseFault::TooDeep);
-    }
-    Ok(key(alloc, source, tokens)?)
 }

@@ -4,7 +4,7 @@
 use jiff::civil::Date;
 
 /// A value written in an expression (section 5.1.1.14.1).
-#[derive(Debug, Drop)]
+#[derive(Drop)]
 pub enum Literal {
     Null,
     Boolean(bool),
@@ -14,24 +14,26 @@ pub enum Literal {
     Text(String),
     /// A day of the years 1 to 9999.
     Date(Date),
+    /// In millionths: at most 32 digits before the point and six behind it, so its size is below 10 to the 38.
+    Decimal(i128),
 }
 
 /// An operator before its operand: `-` and `not` (sections 5.1.1.1.9 and 5.1.1.2.6).
-#[derive(Clone, Copy, Debug, PartialEq, Eq)]
+#[derive(Clone, Copy, PartialEq, Eq)]
 pub enum UnaryOperator {
     Negate,
     Not,
 }
 
 /// `and` and `or` (sections 5.1.1.1.7 and 5.1.1.1.8).
-#[derive(Clone, Copy, Debug, PartialEq, Eq)]
+#[derive(Clone, Copy, PartialEq, Eq)]
 pub enum LogicOperator {
     And,
     Or,
 }
 
 /// `eq`, `ne`, `gt`, `ge`, `lt` and `le` (sections 5.1.1.1.1 to 5.1.1.1.6).
-#[derive(Clone, Copy, Debug, PartialEq, Eq)]
+#[derive(Clone, Copy, PartialEq, Eq)]
 pub enum ComparisonOperator {
     Equal,
     NotEqual,
@@ -42,7 +44,7 @@ pub enum ComparisonOperator {
 }
 
 /// `add`, `sub`, `mul`, `div` and `mod` (section 5.1.1.2).
-#[derive(Clone, Copy, Debug, PartialEq, Eq)]
+#[derive(Clone, Copy, PartialEq, Eq)]
 pub enum ArithmeticOperator {
     Add,
     Sub,
@@ -52,7 +54,7 @@ pub enum ArithmeticOperator {
 }
 
 /// An operator between two operands.
-#[derive(Clone, Copy, Debug, PartialEq, Eq)]
+#[derive(Clone, Copy, PartialEq, Eq)]
 pub enum BinaryOperator {
     Logic(LogicOperator),
     Comparison(ComparisonOperator),
@@ -60,7 +62,7 @@ pub enum BinaryOperator {
 }
 
 /// A canonical function of one argument (sections 5.1.1.5 and 5.1.1.8).
-#[derive(Clone, Copy, Debug, PartialEq, Eq)]
+#[derive(Clone, Copy, PartialEq, Eq)]
 pub enum UnaryFunction {
     Length,
     Year,
@@ -69,7 +71,7 @@ pub enum UnaryFunction {
 }
 
 /// A canonical function of two arguments (sections 5.1.1.5 and 5.1.1.7).
-#[derive(Clone, Copy, Debug, PartialEq, Eq)]
+#[derive(Clone, Copy, PartialEq, Eq)]
 pub enum BinaryFunction {
     Contains,
     StartsWith,
@@ -79,7 +81,7 @@ pub enum BinaryFunction {
 }
 
 /// An expression (section 5.1.1).
-#[derive(Debug, Drop)]
+#[derive(Drop)]
 pub enum Expr {
     Literal(Literal),
     /// A column, by its name.
@@ -93,14 +95,14 @@ pub enum Expr {
 }
 
 /// An item of `$orderby` (section 5.1.6): ascending without `desc`.
-#[derive(Debug, Drop)]
+#[derive(Drop)]
 pub struct OrderItem {
     pub expression: Expr,
     pub descending: bool,
 }
 
 /// An item of `$select` (section 5.1.3).
-#[derive(Debug, Drop)]
+#[derive(Drop)]
 pub enum SelectItem {
     /// `*`
     All,
@@ -109,7 +111,7 @@ pub enum SelectItem {
 }
 
 /// A standard aggregation method (OData Data Aggregation, section 3.2.1.2).
-#[derive(Clone, Copy, Debug, PartialEq, Eq)]
+#[derive(Clone, Copy, PartialEq, Eq)]
 pub enum AggregationMethod {
     Sum,
     Min,
@@ -118,7 +120,7 @@ pub enum AggregationMethod {
 }
 
 /// An item of `aggregate` (OData Data Aggregation, section 3.2.1). The alias names the column of the result.
-#[derive(Debug, Drop)]
+#[derive(Drop)]
 pub enum AggregateItem {
     /// `column with method as alias`
     Column {
@@ -133,7 +135,7 @@ pub enum AggregateItem {
 }
 
 /// A transformation of `$apply` (OData Data Aggregation, section 3.2). Its lists of names and of items are not empty.
-#[derive(Debug, Drop)]
+#[derive(Drop)]
 pub enum Transformation {
     Filter(Expr),
     Aggregate(Vec<AggregateItem>),
@@ -144,14 +146,14 @@ pub enum Transformation {
 }
 
 /// A column of a key and its value (OData ABNF Construction Rules, section 1, `keyValuePair`).
-#[derive(Debug, Drop)]
+#[derive(Drop)]
 pub struct KeyPair {
     pub name: String,
     pub value: Literal,
 }
 
 /// What stands between the parentheses behind a set's name (OData 4.01 URL Conventions, section 4.3.1).
-#[derive(Debug, Drop)]
+#[derive(Drop)]
 pub enum Key {
     /// A value alone.
     Single(Literal),

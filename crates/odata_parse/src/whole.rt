@@ -1,13 +1,12 @@
 //! What all the tokens are.
 
-ghost use Rattle.std.specs.Prelude.{List, [], map, IfOk};
 ghost use Rattle.odata_lex.specs.Lexer.{AreTokens};
-ghost use Rattle.odata_lex.specs.Token.{token_views};
-ghost use Rattle.odata_parse.specs.List.{Separated};
-ghost use Rattle.odata_parse.specs.Parsing.{IsSeparator, GivesWhole, item_trees};
+ghost use Rattle.odata_parse.specs.List.{IsListOf};
+ghost use Rattle.odata_parse.specs.Parsing.{IsSeparator, AreAll, IsParsed, item_trees};
 
 use crate::cursor::Cursor;
-use crate::fault::PhraseFault;
+use crate::depth::is_too_deep;
+use crate::fault::ParseFault;
 use crate::list::{Item, list};
 use odata_lex::{Token, TokenKind};
 use std::alloc::Global;
@@ -17,11 +16,13 @@ pub(crate) fn whole_item<T: Item + Drop>(
     alloc: Global,
     source: &str,
     tokens: &[Token],
-) -> Result<T, PhraseFault>
+) -> Result<T, ParseFault>
     requires { AreTokens source.now tokens.now }
-    ensures found { IfOk result (λ x. T.reads (token_views source.now tokens.now) (T.tree x) []) }
-    ensures each { (x : T.Tree) → T.reads (token_views source.now tokens.now) x [] → GivesWhole T.tree x result }
+    ensures { IsParsed T.tree (AreAll T.reads) source.now tokens.now result }
 {
+    if is_too_deep(source, tokens) {
+        return Err(ParseFault::TooDeep);
+    }
     let mut rest = Cursor::new(source, tokens);
     let item = T::read(alloc, &mut rest)?;
     rest.end()?;
@@ -33,15 +34,17 @@ pub(crate) fn whole_list<T: Item + Drop>(
     alloc: Global,
     source: &str,
     tokens: &[Token],
-    separator: TokenKind,
-) -> Result<Vec<T>, PhraseFault>
+    sign: TokenKind,
+) -> Result<Vec<T>, ParseFault>
     requires tokens { AreTokens source.now tokens.now }
-    requires separator { IsSeparator separator }
-    ensures found { IfOk result (λ items. Separated T.reads separator (token_views source.now tokens.now) (map T.tree items.items) []) }
-    ensures each { (xs : List T.Tree) → Separated T.reads separator (token_views source.now tokens.now) xs [] → GivesWhole (item_trees T.tree) xs result }
+    requires sign { IsSeparator sign }
+    ensures { IsParsed (item_trees T.tree) (IsListOf T.reads sign) source.now tokens.now result }
 {
+    if is_too_deep(source, tokens) {
+        return Err(ParseFault::TooDeep);
+    }
     let mut rest = Cursor::new(source, tokens);
-    let items = list::<T>(alloc, &mut rest, separator)?;
+    let items = list::<T>(alloc, &mut rest, sign)?;
     rest.end()?;
     Ok(items)
 }

@@ -1,4 +1,5 @@
 pub mod DiskLemmas
+pub mod EndLemmas
 pub mod Disks
 pub mod FolderLemmas
 pub mod LineLemmas

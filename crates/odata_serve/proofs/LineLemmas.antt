@@ -1,6 +1,7 @@
 -- Lines that are written one after another.
 use Rattle.std.proofs.Common.{◌≡◌, ◌≤◌, ◌<◌, ◌+◌, ℕ, List, [], ◌∷◌, ◌++◌, length, take, drop, get_or, Option, Some, None, refl, sym, ap, ◌∙◌, append_assoc, append-nil, suc, drop-cons, add-one}
 use Rattle.std.specs.Io.KnownBytes.{Appends}
+use Rattle.std.proofs.KnownBytes.{Appends-nil, Appends-trans}
 use Rattle.std.proofs.lemmas.List.{take-append-drop, take-append-le, take_more}
 use Rattle.std.proofs.lemmas.Grind.{flat_map-append}
 use Rattle.std.proofs.Math.Seq.{take-append-add}
@@ -9,19 +10,8 @@ use Rattle.odata_http.specs.Device.{Counts, SinkOf}
 use Rattle.odata_http.specs.Answer.{HasWritten, HasFailed}
 use Rattle.odata_serve.specs.Check.{table_line, table_lines}
 
--- one write after another
-Appends-step : (a b c : Option (List ℕ)) (xs ys : List ℕ) → Appends a b xs → Appends b c ys → Appends a c (xs ++ ys)
-Appends-step None b c xs ys p q = tt
-Appends-step (Some a) None c xs ys p q = absurd p
-Appends-step (Some a) (Some b) None xs ys p q = absurd q
-Appends-step (Some a) (Some b) (Some c) xs ys p q = rw (q, p) (append_assoc a xs ys)
-
-Appends-none : (a : Option (List ℕ)) → Appends a a []
-Appends-none None = tt
-Appends-none (Some a) = sym (append-nil a)
-
 pub no_lines : (s : SinkOf) → HasWritten s s []
-no_lines s = record { gained = Appends-none s.taken; failed = refl }
+no_lines s = record { gained = Appends-nil s.taken; failed = refl }
 
 -- the lines of the tables up to one, its own, and those of the tables behind it
 lines_at : (tables : List TableOf) (i : ℕ) (table : TableOf) → i < length tables → table ≡ get_or tables i table
@@ -46,7 +36,7 @@ module _ (tables : List TableOf) (i : ℕ) (table : TableOf) (less : i < length 
       → d.failed_writes ≡ b.failed_writes → HasWritten a d (table_lines (take (i + 1) tables))
   listed_more {a} {b} {d} p gained failed = record {
     gained = rw (lines_more tables i table less at)
-        (Appends-step a.taken b.taken d.taken (table_lines (take i tables)) (table_line table) p.gained gained);
+        (Appends-trans a.taken b.taken d.taken (table_lines (take i tables)) (table_line table) p.gained gained);
     failed = failed ∙ p.failed;
   }
 
@@ -63,7 +53,7 @@ module _ (tables : List TableOf) (i : ℕ) (table : TableOf) (less : i < length 
       ∙ ap (λ (xs : List ℕ). before ++ xs) (take-append-le front.0 (table_line table) behind front.1) in (
         length before + front.0,
         record {
-          gained = rw same (Appends-step a.taken b.taken d.taken before (take front.0 (table_line table)) p.gained front.2);
+          gained = rw same (Appends-trans a.taken b.taken d.taken before (take front.0 (table_line table)) p.gained front.2);
           failed = rw p.failed at counts;
         },
       )

@@ -1,6 +1,6 @@
 -- What a typed getter says of a number, and which numbers `clap` takes.
-use Rattle.std.proofs.Common.{◌≡◌, ◌<◌, ◌^◌, ◌==◌, ℕ, Bool, true, false, cond, List, [], ◌∷◌, drop, Option, Some, None, Result, Ok, Err, IfSome, refl, sym, ap, subst, arith}
-use Rattle.std.specs.Prelude.{IfNone, pos, unwrap_or}
+use Rattle.std.proofs.Common.{◌≡◌, ◌<◌, ◌^◌, ◌==◌, ℕ, Bool, true, false, cond, List, [], ◌∷◌, drop, Option, Some, None, Result, Ok, Err, refl, sym, ap, subst, arith}
+use Rattle.std.specs.Prelude.{pos, unwrap_or}
 use Rattle.std.specs.Str.Parse.{IsNumeral, ParsesUnsigned, digits_value, starts_with_minus, without_leading_plus}
 use Rattle.std.proofs.lemmas.Bool.{ne_eqb}
 use Rattle.std.proofs.lemmas.Int.{ints}
@@ -8,23 +8,15 @@ use Rattle.std.proofs.lemmas.Str.Parse.{digit_from_value}
 use Rattle.clap.specs.Lexer.{without_minus}
 use Rattle.clap.specs.Values.{IsSignedIn}
 use Rattle.clap.specs.Words.{ReadsOne, Text}
-use Rattle.odata_serve.specs.Words.{IsNumberOf}
+use Rattle.odata_serve.specs.Words.{IsNumberOf, ReadsNumber}
 
 module _ {E : Type 0} (bits : ℕ) (gives : List ℕ → Result ℕ E → Type 0)
     (only : (bs : List ℕ) (r : Result ℕ E) → gives bs r → ParsesUnsigned bits 10 bs r) where
-  pub number_read : (o : Option Text) (r : Option ℕ) → (o ≡ None → r ≡ None) → ((t : Text) → o ≡ Some t → ReadsOne gives t r)
-      → IfSome r (IsNumberOf bits o)
-  number_read None None a b = tt
-  number_read None (Some n) a b = let bad : Some n ≡ None = a refl in absurd (cc bad)
-  number_read (Some t) None a b = tt
-  number_read (Some t) (Some n) a b = only t (Ok n) (b t refl)
-
-  pub no_number : (o : Option Text) (r : Option ℕ) → (o ≡ None → r ≡ None) → ((t : Text) → o ≡ Some t → ReadsOne gives t r)
-      → IfNone r ((n : ℕ) → IsNumberOf bits o n → ⊥)
-  no_number None None a b = λ n h. h
-  no_number None (Some n) a b = tt
-  no_number (Some t) None a b = λ n h. let e = b t refl in only t (Err e.0) e.1 h.0
-  no_number (Some t) (Some n) a b = tt
+  pub reads_number : (o : Option Text) (r : Option ℕ) → (o ≡ None → r ≡ None) → ((t : Text) → o ≡ Some t → ReadsOne gives t r) → ReadsNumber bits o r
+  reads_number None None a b = λ n h. h
+  reads_number None (Some n) a b = let bad : Some n ≡ None = a refl in absurd (cc bad)
+  reads_number (Some t) None a b = λ n h. let e = b t refl in only t (Err e.0) e.1 h.0
+  reads_number (Some t) (Some n) a b = only t (Ok n) (b t refl)
 
 without_minus-cond : (t : Text) → without_minus t ≡ cond (starts_with_minus t) (drop 1 t) t
 without_minus-cond [] = refl

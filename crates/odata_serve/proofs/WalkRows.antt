@@ -5,7 +5,7 @@ use Rattle.std.specs.Prelude.{encode_utf8, slice_get}
 use Rattle.std.specs.List.{find, fold, list_any}
 use Rattle.std.specs.Option.{option_map_or}
 use Rattle.std.specs.Str.{bytes_eq, chars}
-use Rattle.std.proofs.lemmas.Bool.{eqb-true}
+use Rattle.std.proofs.lemmas.Bool.{eqb-true, or_parts}
 use Rattle.std.proofs.lemmas.List.{append-nil}
 use Rattle.std.proofs.lemmas.Slice.Eq.{bytes_eq-Decides}
 use Rattle.clap.specs.Lexer.{long_of, short_of}
@@ -71,10 +71,6 @@ pub both_none : (a b : Kinds) → or_else a b ≡ [] → (a ≡ []) × (b ≡ []
 both_none [] b e = (refl, e)
 both_none (k ∷ ks) b e = absurd (some_kind e)
 
-neither : (a b : Bool) → (a || b) ≡ false → (a ≡ false) × (b ≡ false)
-neither true b e = absurd (true≢false e)
-neither false b e = (refl, e)
-
 passed : (b : Bool) (k : ErrorKind) → cond b [] (k ∷ []) ≡ [] → b ≡ true
 passed true k e = refl
 passed false k e = absurd (some_kind e)
@@ -98,7 +94,7 @@ append_fits c (x ∷ xs) ys h k = (h.0, append_fits c xs ys h.1 k)
 at_none : (id : Text) (change : Row → List Row) (missing rows : List Row) → has_row id rows ≡ false → at_row id change missing rows ≡ rows ++ missing
 at_none id change missing [] none = refl
 at_none id change missing (r ∷ rows) none =
-    let parts = neither (bytes_eq r.id id) (has_row id rows) none in
+    let parts = or_parts (bytes_eq r.id id) (has_row id rows) none in
     let first : bytes_eq r.id id ≡ false = parts.0 in
     rw first (ap (λ xs. r ∷ xs) (at_none id change missing rows parts.1))
 
@@ -389,7 +385,7 @@ each_one : (c rules : List Rule) (rows : List Row) → ArePlain c rules → AllF
     → list_any (λ a. a.required && not (is_given a.id rows)) rules ≡ false → EachHasOne rules rows
 each_one c [] rows h fit e = tt
 each_one c (a ∷ rules) rows h fit e =
-    let parts = neither _ _ e in
+    let parts = or_parts _ _ e in
     ((λ wanted. one_row c rows a fit h.0.own (given a.required (is_given a.id rows) wanted parts.0)), each_one c rules rows h.1 fit parts.1)
   where
     given : (wanted got : Bool) → wanted ≡ true → (wanted && not got) ≡ false → got ≡ true

@@ -8,7 +8,7 @@ use Rattle.table_store.specs.Catalog.{CatalogOf}
 use Rattle.odata_http.specs.Device.{SinkOf}
 use Rattle.odata_http.specs.Answer.{HasWritten, HasFailed}
 use Rattle.odata_serve.specs.declared.program.ProgramFault.{ProgramFault}
-use Rattle.odata_serve.specs.declared.program.ProgramFault.TheVariants.{Folder, Run, Device, NoMemory}
+use Rattle.odata_serve.specs.declared.program.ProgramFault.TheVariants.{Folder, Device, NoMemory}
 use Rattle.odata_serve.specs.Program.{Loading, IsFolderFault, IsLoaded}
 
 -- the line of a table: its name, its number of rows and its number of columns
@@ -25,8 +25,7 @@ abbrev pub AreListed : List TableOf → SinkOf → SinkOf → Result ⊤ Program
 AreListed tables old new (Ok u) = HasWritten old new (table_lines tables)
 AreListed tables old new (Err Device) = (n : ℕ) × HasFailed old new (take n (table_lines tables))
 AreListed tables old new (Err NoMemory) = (n : ℕ) × HasWritten old new (table_lines (take n tables))
-AreListed tables old new (Err (Folder fault)) = ⊥
-AreListed tables old new (Err (Run fault)) = ⊥
+AreListed tables old new r = ⊥
 
 -- the lines of the tables that the folder means were written so
 pub record Lists (l : Loading) (old new : SinkOf) (r : Result ⊤ ProgramFault) : Type 0 where

@@ -18,6 +18,10 @@ pub record FoldersOf : Type 0 where
   pub no_metadata : ℕ
   pub device : ℕ
 
+-- folders that were asked for nothing yet, which tell this of a name
+abbrev pub unasked : (List ℕ → Option FolderOf) → FoldersOf
+unasked took = record { took = took; loads = 0; no_metadata = 0; device = 0 }
+
 -- the greatest limits
 abbrev pub greatest_limits : LimitsOf
 greatest_limits = record { file = MOST_FILE_BYTES; tables = MOST_TABLES; columns = MOST_COLUMNS; transformations = MOST_TRANSFORMATIONS }
@@ -42,6 +46,10 @@ folder_cause NoMetadata = Some no_metadata
 folder_cause (Load fault) = load_cause fault
 folder_cause Device = None
 folder_cause NoMemory = None
+
+-- the cause that a fault is, if it is one, is why the folder that was taken is refused
+abbrev pub IsRefusalOf : Option FolderOf → FolderFault → Type 0
+IsRefusalOf taken fault = IfSome (folder_cause fault) (RefusesTaken taken)
 
 -- both counts of answers stay
 abbrev pub KeepsCounts : FoldersOf → FoldersOf → Type 0

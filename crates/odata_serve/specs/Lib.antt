@@ -3,7 +3,7 @@ pub mod Disk
 pub mod Program
 pub mod Check
 pub mod Listener
-pub mod Serve
-pub mod FaultLine
+pub mod Serving
+pub mod FaultText
 pub mod Words
-pub mod Main
+pub mod Command

@@ -1,14 +1,13 @@
 -- What a listener tells and counts, and how one connection was answered.
-use Rattle.std.specs.Prelude.{◌≡◌, ◌≢◌, ℕ, Option, Result, Ok, Err, ⊤}
+use Rattle.std.specs.Prelude.{◌≡◌, ◌≢◌, ℕ, List, Option, None, Result, Ok, Err, ⊤}
 use Rattle.odata_http.specs.declared.runs.RunFault.{RunFault}
 use Rattle.odata_http.specs.declared.runs.RunFault.TheVariants as run
 use Rattle.odata_http.specs.Device.{Counts}
-use Rattle.odata_http.specs.Head.{HeadOf}
-use Rattle.odata_http.specs.Reply.{ReplyOf}
+use Rattle.http_heads.specs.Head.{HeadOf}
 use Rattle.odata_http.specs.Runs.{Course, IsRun}
 use Rattle.odata_serve.specs.declared.program.TheConstants.{MAX_READS}
 use Rattle.odata_serve.specs.declared.program.ProgramFault.{ProgramFault}
-use Rattle.odata_serve.specs.declared.program.ProgramFault.TheVariants.{Folder, Run, Device, NoMemory}
+use Rattle.odata_serve.specs.declared.program.ProgramFault.TheVariants.{Device, NoMemory}
 
 -- a listener: the port that it told last, if it did; how many connections were answered to their ends, and how many calls failed
 pub record ListenerOf : Type 0 where
@@ -16,18 +15,19 @@ pub record ListenerOf : Type 0 where
   pub answered : ℕ
   pub failed : ℕ
 
+-- a listener that told and counted nothing yet
+abbrev pub new_listener : ListenerOf
+new_listener = record { port = None; answered = 0; failed = 0 }
+
 -- a connection that was answered is counted, and so is a call that failed
 abbrev pub CountsAnswer : ListenerOf → ListenerOf → Result ⊤ ProgramFault → Type 0
 CountsAnswer old new (Ok u) = Counts old.answered new.answered × (new.failed ≡ old.failed)
 CountsAnswer old new (Err Device) = (new.answered ≡ old.answered) × Counts old.failed new.failed
 CountsAnswer old new (Err NoMemory) = (new.answered ≡ old.answered) × (new.failed ≡ old.failed)
-CountsAnswer old new (Err (Folder fault)) = ⊥
-CountsAnswer old new (Err (Run fault)) = ⊥
+CountsAnswer old new r = ⊥
 
 -- how answering the stream of a connection ended: by a run, whose fault is the connection's alone but for want of memory
-abbrev pub IsConnection : (HeadOf → ReplyOf) → Course → Result ⊤ ProgramFault → Type 0
-IsConnection reply c (Ok u) = (end : Result ⊤ RunFault) × (end ≢ Err run.NoMemory) × IsRun reply MAX_READS c end
-IsConnection reply c (Err NoMemory) = IsRun reply MAX_READS c (Err run.NoMemory)
-IsConnection reply c (Err Device) = ⊥
-IsConnection reply c (Err (Folder fault)) = ⊥
-IsConnection reply c (Err (Run fault)) = ⊥
+abbrev pub IsConnection : (HeadOf → List ℕ → Type 0) → Course → Result ⊤ ProgramFault → Type 0
+IsConnection R c (Ok u) = (end : Result ⊤ RunFault) × (end ≢ Err run.NoMemory) × IsRun R MAX_READS c end
+IsConnection R c (Err NoMemory) = IsRun R MAX_READS c (Err run.NoMemory)
+IsConnection R c r = ⊥

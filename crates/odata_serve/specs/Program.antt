@@ -3,11 +3,11 @@ use Rattle.std.specs.Prelude.{◌≡◌, ℕ, List, ◌++◌, codes, IfSome, Res
 use Rattle.table_store.specs.Catalog.{CatalogOf}
 use Rattle.odata_http.specs.declared.runs.RunFault.{RunFault}
 use Rattle.odata_http.specs.Device.{Counts}
-use Rattle.odata_http.specs.Reply.{field_line, line_end, reply_of}
+use Rattle.odata_http.specs.Reply.{field_line, line_end, IsReply}
 use Rattle.odata_http.specs.Runs.{Course, IsRun}
 use Rattle.odata_serve.specs.declared.program.TheConstants.{MAX_READS}
 use Rattle.odata_serve.specs.declared.program.ProgramFault.{ProgramFault}
-use Rattle.odata_serve.specs.declared.program.ProgramFault.TheVariants.{Folder, Run, Device, NoMemory}
+use Rattle.odata_serve.specs.declared.program.ProgramFault.TheVariants.{Folder, Run}
 use Rattle.odata_serve.specs.declared.folders.FolderFault.{FolderFault}
 use Rattle.odata_serve.specs.Folders.{FoldersOf, MeansTaken, RefusesTaken, folder_cause, KeepsCounts, CountsFault}
 
@@ -36,7 +36,7 @@ pub record IsLoaded (l : Loading) (catalog : CatalogOf) : Type 0 where
 pub record RunsOver (l : Loading) (c : Course) (r : Result ⊤ RunFault) : Type 0 where
   pub catalog : CatalogOf
   pub loaded : IsLoaded l catalog
-  pub run : IsRun (reply_of catalog.tables) MAX_READS c r
+  pub run : IsRun (IsReply catalog.tables) MAX_READS c r
 
 -- nothing was read and nothing written
 abbrev pub IsStill : Course → Type 0
@@ -47,8 +47,7 @@ abbrev pub IsAnswer : Loading → Course → Result ⊤ ProgramFault → Type 0
 IsAnswer l c (Ok u) = RunsOver l c (Ok u)
 IsAnswer l c (Err (Run fault)) = RunsOver l c (Err fault)
 IsAnswer l c (Err (Folder fault)) = IsFolderFault l fault × IsStill c
-IsAnswer l c (Err Device) = ⊥
-IsAnswer l c (Err NoMemory) = ⊥
+IsAnswer l c r = ⊥
 
 -- what follows the target in the request of a query: one GET, behind which the connection closes
 abbrev pub request_end : List ℕ

@@ -36,7 +36,7 @@ serve_app = with_rule (with_rule (folder_app (codes "serve")) port_rule) connect
 
 -- the command without its subcommands; `help` is none of them
 abbrev pub top_app : App
-top_app = record { top = record (new_app (codes "odata_serve")).top { disable_help_subcommand = true }; subs = [] }
+top_app = record { top = record (new_app (codes "magpiecoffer")).top { disable_help_subcommand = true }; subs = [] }
 
 -- the whole command: `check FOLDER`, `query FOLDER TARGET`, `answer FOLDER FILE`, `serve FOLDER --port P --connections N`
 abbrev pub program_app : App
@@ -55,6 +55,11 @@ abbrev pub IsNumberOf : ℕ → Option Text → ℕ → Type 0
 IsNumberOf bits None n = ⊥
 IsNumberOf bits (Some t) n =
     (IsNumeral 10 (without_leading_plus t) × (digits_value 10 (without_leading_plus t) < 2 ^ bits)) × (n ≡ digits_value 10 (without_leading_plus t))
+
+-- the number of so many bits that the text is, or none where it is no such number
+abbrev pub ReadsNumber : ℕ → Option Text → Option ℕ → Type 0
+ReadsNumber bits t (Some n) = IsNumberOf bits t n
+ReadsNumber bits t None = (n : ℕ) → IsNumberOf bits t n → ⊥
 
 -- what a subcommand with these arguments asks for
 abbrev pub SubcommandSays : Words → Text → List Row → Type 0

@@ -44,7 +44,8 @@ pub fn check_folder<F: Folders, W: Sink>(
     out: &mut W,
 ) -> Result<(), ProgramFault>
     requires failed_writes { (W.sink out.old).failed_writes < 2 ^ 63 }
-    ensures { IsCheck (loading name.now (F.folders folders.old) (F.folders folders.new)) (W.sink out.old) (W.sink out.new) result }
+    ensures { IsCheck (loading name.now (F.folders folders.old) (F.folders folders.new))
+        (W.sink out.old) (W.sink out.new) result }
 {
     match folders.load(alloc, name) {
         Ok(catalog) => write_lines(alloc, catalog.tables(), out),

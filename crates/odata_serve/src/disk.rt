@@ -1,13 +1,13 @@
 //! Folders on a disk. Of a folder `csv-metadata.json` is read, then each file that the metadata names, once, and no other file; of each
 //! at most one byte more than the limit of a file.
-ghost use Rattle.std.specs.Prelude.{◌≡◌, ◌≢◌, ◌≤◌, ◌+◌, None, IfOk, IfSome, is_none, map, take, vec_len};
+ghost use Rattle.std.specs.Prelude.{◌≡◌, ◌≢◌, ◌≤◌, ◌+◌, None, IfOk, IfSome, is_none, map, vec_len};
 ghost use Rattle.std.specs.IoError.{error_kind};
 ghost use Rattle.csvw_meta.specs.Document.{schemas_of};
 ghost use Rattle.csvw_meta.specs.Fault.{meta_cause};
 ghost use Rattle.csvw_meta.specs.Schema.{schema_view};
 ghost use Rattle.table_store.specs.File.{file_view};
-ghost use Rattle.odata_serve.specs.Disk.{AreFilesIn, AreFilesOf};
-ghost use Rattle.odata_serve.specs.Folders.{greatest_limits};
+ghost use Rattle.odata_serve.specs.Disk.{AreFilesIn, AreFilesOf, AreTaken, IsFrontOfFile};
+ghost use Rattle.odata_serve.specs.Folders.{greatest_limits, unasked};
 
 use crate::folders::{FolderFault, Folders};
 use csvw_meta::{Limits, MOST_FILE_BYTES, MetaFault, Schema, Schemas};
@@ -33,7 +33,7 @@ pub struct Disk<'a, R> {
 impl<'a, R: Files> Disk<'a, R> {
     /// The folders of that disk, none of which was asked for yet.
     pub fn new(files: &'a R) -> Disk<'a, R>
-        ensures { ⟦<Disk<'a, R> as Folders>⟧.folders result ≡ record { took = λ _. None; loads = 0; no_metadata = 0; device = 0 } }
+        ensures { ⟦<Disk<'a, R> as Folders>⟧.folders result ≡ unasked (λ _. None) }
     {
         Disk {
             files,
@@ -86,7 +86,7 @@ fn device_fault(error: &io::Error) -> TakeFault
 fn read_file<F: OpenFile + Read + Drop>(alloc: Global, file: F) -> Result<Vec<u8>, TakeFault>
     ensures most { IfOk result (λ bytes. vec_len bytes ≤ MOST_FILE_BYTES + 1) }
     // Where the file tells what it has.
-    ensures bytes { IfOk result (λ bytes. IfSome (F.remaining file) (λ all. bytes.items ≡ take (MOST_FILE_BYTES + 1) all)) }
+    ensures bytes { IfOk result (λ bytes. IsFrontOfFile (F.remaining file) bytes.items) }
 {
     let most = u64::from(MOST_FILE_BYTES) + 1;
     let room = match file.metadata() {
@@ -123,7 +123,8 @@ fn take_file<R: Files>(
 
 /// The file of a table, with its name.
 fn named_file(alloc: Global, url: &str, bytes: Vec<u8>) -> Result<NamedFile, AllocError>
-    ensures { IfOk result (λ file. file_view file ≡ record { name = url.now; bytes = bytes.items }) }
+    ensures { IfOk result (λ file.
+        file_view file ≡ record { name = url.now; bytes = bytes.items }) }
 {
     let name = String::from_str(alloc, url)?;
     Ok(NamedFile { name, bytes })
@@ -136,7 +137,8 @@ fn take_tables<R: Files>(
     folder: &str,
     tables: &[Schema],
 ) -> Result<Vec<NamedFile>, TakeFault>
-    ensures { IfOk result (λ files. AreFilesOf (map schema_view tables.now) (map file_view files.items)) }
+    ensures { IfOk result (λ files.
+        AreFilesOf (map schema_view tables.now) (map file_view files.items)) }
 {
     let mut taken = Vec::new(alloc);
     for table in tables {
@@ -157,7 +159,8 @@ fn take_named<R: Files>(
     folder: &str,
     meta: &[u8],
 ) -> Result<Vec<NamedFile>, TakeFault>
-    ensures { IfOk result (λ files. AreFilesIn (schemas_of greatest_limits meta.now) (map file_view files.items)) }
+    ensures { IfOk result (λ files.
+        AreFilesIn (schemas_of greatest_limits meta.now) (map file_view files.items)) }
 {
     match Schemas::read(alloc, meta, &Limits::greatest()) {
         Ok(schemas) => take_tables(alloc, files, folder, schemas.tables.as_slice()),
@@ -176,8 +179,8 @@ fn take_folder<R: Files>(
     files: &R,
     folder: &str,
 ) -> Result<Option<(Vec<u8>, Vec<NamedFile>)>, TakeFault>
-    ensures meta { IfOk result (λ taken. IfSome taken (λ folder. vec_len folder.0 ≤ MOST_FILE_BYTES + 1)) }
-    ensures files { IfOk result (λ taken. IfSome taken (λ folder. AreFilesIn (schemas_of greatest_limits folder.0.items) (map file_view folder.1.items))) }
+    ensures { IfOk result (λ taken. IfSome taken (λ folder.
+        AreTaken folder.0.items (map file_view folder.1.items))) }
 {
     let Some(meta) = take_file(alloc, files, folder, METADATA)? else {
         return Ok(None);
@@ -187,7 +190,12 @@ fn take_folder<R: Files>(
 }
 
 impl<'a, R: Files> Folders for Disk<'a, R> {
-    ghost folders = { λ s. record { took = λ _. None; loads = s.loads; no_metadata = s.no_metadata; device = s.device } };
+    ghost folders = { λ s. record {
+      took = λ _. None;
+      loads = s.loads;
+      no_metadata = s.no_metadata;
+      device = s.device;
+    } };
 
     /// The catalog of the folder at that path.
     fn load(&mut self, alloc: Global, name: &str) -> Result<Catalog, FolderFault> {

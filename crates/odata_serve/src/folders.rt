@@ -3,7 +3,7 @@ ghost use Rattle.std.specs.Prelude.{◌≡◌, IfErr, IfOk, IfSome, Some, string
 ghost use Rattle.table_store.specs.Catalog.{IsRefused, Means};
 ghost use Rattle.table_store.specs.Fault.{load_cause};
 ghost use Rattle.odata_http.specs.Device.{Counts};
-ghost use Rattle.odata_serve.specs.Folders.{CountsFault, FoldersOf, MeansTaken, RefusesTaken, built_in, folder_cause, notes_folder};
+ghost use Rattle.odata_serve.specs.Folders.{CountsFault, FoldersOf, IsRefusalOf, MeansTaken, built_in, notes_folder, unasked};
 
 use csvw_meta::Limits;
 use std::alloc::{AllocError, Global};
@@ -39,8 +39,8 @@ pub trait Folders {
 
     /// The catalog of the folder of that name: what `Catalog::load` answers of what was taken.
     fn load(&mut self, alloc: Global, name: &str) -> Result<Catalog, FolderFault>
-        ensures tables { IfOk result (λ catalog. MeansTaken ((folders self.new).took name.now) catalog) }
-        ensures fault { IfErr result (λ e. IfSome (folder_cause e) (RefusesTaken ((folders self.new).took name.now))) }
+        ensures tables { IfOk result (MeansTaken ((folders self.new).took name.now)) }
+        ensures fault { IfErr result (IsRefusalOf ((folders self.new).took name.now)) }
         ensures load { Counts (folders self.old).loads (folders self.new).loads }
         ensures counts { CountsFault (folders self.old) (folders self.new) result };
 }
@@ -68,8 +68,7 @@ pub struct BuiltIn {
 impl BuiltIn {
     /// The folder, which was not loaded yet.
     pub fn new() -> BuiltIn
-        ensures { ⟦<BuiltIn as Folders>⟧.folders result
-            ≡ record { took = λ name. Some (built_in name); loads = 0; no_metadata = 0; device = 0 } }
+        ensures { ⟦<BuiltIn as Folders>⟧.folders result ≡ unasked (λ name. Some (built_in name)) }
     {
         BuiltIn {
             loads: 0,
@@ -106,7 +105,12 @@ fn load_notes(alloc: Global) -> Result<Catalog, LoadFault>
 }
 
 impl Folders for BuiltIn {
-    ghost folders = { λ s. record { took = λ name. Some (built_in name); loads = s.loads; no_metadata = s.others; device = 0 } };
+    ghost folders = { λ s. record {
+      took = λ name. Some (built_in name);
+      loads = s.loads;
+      no_metadata = s.others;
+      device = 0;
+    } };
 
     /// The catalog of `notes`; there is no metadata under any other name.
     fn load(&mut self, alloc: Global, name: &str) -> Result<Catalog, FolderFault> {

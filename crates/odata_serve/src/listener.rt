@@ -1,14 +1,15 @@
 //! Where connections come from. Contracts see a listener as one record: the port that it told, and what it counts.
-ghost use Rattle.std.specs.Prelude.{◌≡◌, ◌<◌, ◌^◌, IfErr, IfOk, None, Some};
-ghost use Rattle.odata_http.specs.Device.{CountsFailure};
-ghost use Rattle.odata_http.specs.Reply.{reply_of};
+ghost use Rattle.std.specs.Prelude.{◌≡◌, IfOk, Some};
+ghost use Rattle.odata_http.specs.Device.{CountsFailure, CountsFit};
+ghost use Rattle.odata_http.specs.Reply.{IsReply};
 ghost use Rattle.odata_http.specs.Runs.{course};
-ghost use Rattle.odata_serve.specs.Listener.{CountsAnswer, IsConnection, ListenerOf};
+ghost use Rattle.odata_serve.specs.Listener.{CountsAnswer, IsConnection, ListenerOf, new_listener};
 
 use crate::program::{MAX_READS, ProgramFault};
 use odata_http::{Counted, DeviceFault, RunFault, Sink, Source, run};
 use std::alloc::Global;
-use std::net::{TcpListener, TcpStream};
+use std::io;
+use std::net::{Ipv4Addr, Net, TcpListener, TcpStream};
 use table_store::Catalog;
 
 /// What connections are taken from, one after another.
@@ -20,48 +21,14 @@ pub trait Listener {
     fn port(&mut self) -> Result<u16, DeviceFault>
         ensures port { IfOk result (λ port. (listener self.new).port ≡ Some port) }
         ensures answered { (listener self.new).answered ≡ (listener self.old).answered }
-        ensures failed { CountsFailure (listener self.old).failed (listener self.new).failed result };
+        ensures failed { CountsFailure
+            (listener self.old).failed (listener self.new).failed result };
 
     /// Takes the next connection, and answers its stream from the catalog. A read or a write of it that fails, and too many reads, end it
     /// alone.
     fn answer_next(&mut self, alloc: Global, catalog: &Catalog) -> Result<(), ProgramFault>
         ensures port { (listener self.new).port ≡ (listener self.old).port }
         ensures counts { CountsAnswer (listener self.old) (listener self.new) result };
-}
-
-/// Answers the stream of one connection.
-fn answer_stream<R: Source, W: Sink>(
-    alloc: Global,
-    catalog: &Catalog,
-    input: &mut R,
-    out: &mut W,
-) -> Result<(), ProgramFault>
-    requires reads { (R.source input.old).reads < 2 ^ 63 }
-    requires ends { (R.source input.old).ends < 2 ^ 63 }
-    requires failed_reads { (R.source input.old).failed_reads < 2 ^ 63 }
-    requires failed_writes { (W.sink out.old).failed_writes < 2 ^ 63 }
-    ensures { IsConnection (reply_of catalog.now.tables)
-        (course (R.source input.old) (R.source input.new) (W.sink out.old) (W.sink out.new)) result }
-{
-    match run(alloc, catalog, input, out, MAX_READS) {
-        Err(RunFault::NoMemory) => Err(ProgramFault::NoMemory),
-        _ => Ok(()),
-    }
-}
-
-/// Answers one connection over TCP.
-fn answer_connection(
-    alloc: Global,
-    catalog: &Catalog,
-    stream: &TcpStream,
-) -> Result<(), ProgramFault>
-    ensures { IfErr result (λ fault. fault ≡ ProgramFault.NoMemory) }
-{
-    // a head and a body are two writes: without this the second waits for the peer
-    let _ = stream.set_nodelay(true);
-    let mut input = Counted::new(stream);
-    let mut out = Counted::new(stream);
-    answer_stream(alloc, catalog, &mut input, &mut out)
 }
 
 /// A listener of the system's. The counts stop at `u64::MAX`.
@@ -76,13 +43,51 @@ pub struct CountedListener {
 impl CountedListener {
     /// The listener, with nothing told and nothing counted yet.
     pub fn new(inner: TcpListener) -> CountedListener
-        ensures { ⟦<CountedListener as Listener>⟧.listener result ≡ record { port = None; answered = 0; failed = 0 } }
+        ensures { ⟦<CountedListener as Listener>⟧.listener result ≡ new_listener }
     {
         CountedListener {
             inner,
             port: None,
             answered: 0,
             failed: 0,
+        }
+    }
+
+    /// A listener on that port of 127.0.0.1, where no other machine reaches it; on a free port, if that is 0.
+    pub fn bind<R: Net<Listener = TcpListener, Stream = TcpStream>>(
+        rt: &R,
+        port: u16,
+    ) -> io::Result<CountedListener>
+        ensures { IfOk result (λ bound.
+            ⟦<CountedListener as Listener>⟧.listener bound ≡ new_listener) }
+    {
+        let inner = TcpListener::bind(rt, (Ipv4Addr::LOCALHOST, port))?;
+        Ok(CountedListener::new(inner))
+    }
+
+    /// Answers the stream of one connection, and counts it.
+    fn answer_stream<R: Source, W: Sink>(
+        &mut self,
+        alloc: Global,
+        catalog: &Catalog,
+        input: &mut R,
+        out: &mut W,
+    ) -> Result<(), ProgramFault>
+        requires { CountsFit (R.source input.old) (W.sink out.old) }
+        ensures stream { IsConnection (IsReply catalog.now.tables)
+            (course (R.source input.old) (R.source input.new) (W.sink out.old) (W.sink out.new))
+            result }
+        ensures port { (⟦<CountedListener as Listener>⟧.listener self.new).port
+            ≡ (⟦<CountedListener as Listener>⟧.listener self.old).port }
+        ensures counts { CountsAnswer (⟦<CountedListener as Listener>⟧.listener self.old)
+            (⟦<CountedListener as Listener>⟧.listener self.new) result }
+    {
+        match run(alloc, catalog, input, out, MAX_READS) {
+            Err(RunFault::NoMemory) => Err(ProgramFault::NoMemory),
+            _ => {
+                self.answered = self.answered.saturating_add(1);
+                Ok(())
+            }
         }
     }
 }
@@ -109,8 +114,10 @@ impl Listener for CountedListener {
             self.failed = self.failed.saturating_add(1);
             return Err(ProgramFault::Device);
         };
-        answer_connection(alloc, catalog, &stream)?;
-        self.answered = self.answered.saturating_add(1);
-        Ok(())
+        // a reply is many bytes: without this the last of them wait for the peer
+        let _ = stream.set_nodelay(true);
+        let mut input = Counted::new(&stream);
+        let mut out = Counted::new(&stream);
+        self.answer_stream(alloc, catalog, &mut input, &mut out)
     }
 }

@@ -1,5 +1,6 @@
 //! The answer to a stream over a folder.
-ghost use Rattle.std.specs.Prelude.{◌≡◌, ◌^◌, ◌<◌, IfOk, string_bytes};
+ghost use Rattle.std.specs.Prelude.{◌≡◌, IfOk, string_bytes};
+ghost use Rattle.odata_http.specs.Device.{CountsFit};
 ghost use Rattle.odata_http.specs.Runs.{course};
 ghost use Rattle.odata_serve.specs.Program.{IsAnswer, loading, request_to};
 
@@ -17,6 +18,8 @@ pub enum ProgramFault {
     Folder(FolderFault),
     /// The stream was not answered to its end.
     Run(RunFault),
+    /// A line of a script, counted from 1, is no command; those before it were run.
+    Script { line: u64 },
     /// A write of the program's own failed.
     Device,
     /// Memory ran out.
@@ -31,12 +34,10 @@ pub fn answer<F: Folders, R: Source, W: Sink>(
     input: &mut R,
     out: &mut W,
 ) -> Result<(), ProgramFault>
-    requires reads { (R.source input.old).reads < 2 ^ 63 }
-    requires ends { (R.source input.old).ends < 2 ^ 63 }
-    requires failed_reads { (R.source input.old).failed_reads < 2 ^ 63 }
-    requires failed_writes { (W.sink out.old).failed_writes < 2 ^ 63 }
+    requires { CountsFit (R.source input.old) (W.sink out.old) }
     ensures { IsAnswer (loading name.now (F.folders folders.old) (F.folders folders.new))
-        (course (R.source input.old) (R.source input.new) (W.sink out.old) (W.sink out.new)) result }
+        (course (R.source input.old) (R.source input.new) (W.sink out.old) (W.sink out.new))
+        result }
 {
     let catalog = match folders.load(alloc, name) {
         Ok(catalog) => catalog,

@@ -1,9 +1,9 @@
 //! The words of the program's command line, read by `clap` as one command with a subcommand for each thing that the program does.
 //! What is read is `clap`'s reading of that command, no more and no less.
-ghost use Rattle.std.specs.Prelude.{◌≡◌, IfOk, IfErr, IfNone, IfSome, codes, option_map, false, ℕ, Some};
+ghost use Rattle.std.specs.Prelude.{◌≡◌, IfOk, IfErr, IfNone, IfSome, codes, option_map, false, Some};
 ghost use Rattle.clap.specs.Words.{app_of, first_of, found_of, one_of, rows_of, rule_of, subcommand_rows_of};
 ghost use Rattle.clap.specs.declared.Command.TheViews.{out-Command};
-ghost use Rattle.odata_serve.specs.Words.{AreWords, IsNumberOf, IsTaken, Says, SaysNothing, connections_rule, folder_app, folder_and_app, port_rule, program_app, required_rule, serve_app, texts};
+ghost use Rattle.odata_serve.specs.Words.{AreWords, IsTaken, ReadsNumber, Says, SaysNothing, connections_rule, folder_app, folder_and_app, port_rule, program_app, required_rule, serve_app, texts};
 
 use clap::error::ErrorKind;
 use clap::{Arg, ArgMatches, Command, value_parser};
@@ -119,7 +119,7 @@ fn program_command<'a>(alloc: Global) -> Result<Command<'a>, AllocError>
     let query = folder_and_command(alloc, "query", "target")?;
     let answer = folder_and_command(alloc, "answer", "file")?;
     let serve = serve_command(alloc)?;
-    let top = Command::new(alloc, "odata_serve").disable_help_subcommand(true);
+    let top = Command::new(alloc, "magpiecoffer").disable_help_subcommand(true);
     let one = top.subcommand(check)?;
     let two = one.subcommand(query)?;
     let three = two.subcommand(answer)?;
@@ -136,16 +136,15 @@ fn text<'a>(matches: &ArgMatches<'a>, id: &str) -> Option<&'a str>
 
 /// The number behind `--port`.
 fn port<'a>(matches: &ArgMatches<'a>) -> Option<u16>
-    ensures some { IfSome result (IsNumberOf 16 (one_of (codes "port") (rows_of (found_of matches.now)))) }
-    ensures none { IfNone result ((n : ℕ) → IsNumberOf 16 (one_of (codes "port") (rows_of (found_of matches.now))) n → ⊥) }
+    ensures { ReadsNumber 16 (one_of (codes "port") (rows_of (found_of matches.now))) result }
 {
     matches.get_one::<u16>("port")
 }
 
 /// The number behind `--connections`.
 fn connections<'a>(matches: &ArgMatches<'a>) -> Option<u32>
-    ensures some { IfSome result (IsNumberOf 32 (one_of (codes "connections") (rows_of (found_of matches.now)))) }
-    ensures none { IfNone result ((n : ℕ) → IsNumberOf 32 (one_of (codes "connections") (rows_of (found_of matches.now))) n → ⊥) }
+    ensures { ReadsNumber 32
+        (one_of (codes "connections") (rows_of (found_of matches.now))) result }
 {
     matches.get_one::<u32>("connections")
 }
@@ -153,7 +152,8 @@ fn connections<'a>(matches: &ArgMatches<'a>) -> Option<u32>
 /// What a subcommand with these arguments asks for.
 #[tactic(auto, using(crate::proofs::Readings::no_connections))]
 fn subcommand_words<'a>(name: &'a str, inner: &ArgMatches<'a>) -> Option<Words<'a>>
-    ensures some { IfSome result (λ words. Says words (Some (name.now, rows_of (found_of inner.now)))) }
+    ensures some { IfSome result (λ words.
+        Says words (Some (name.now, rows_of (found_of inner.now)))) }
     ensures none { IfNone result (SaysNothing (Some (name.now, rows_of (found_of inner.now)))) }
 {
     match name {

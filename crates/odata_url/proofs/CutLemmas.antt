@@ -1,8 +1,8 @@
 -- A text cut at the first place of a byte.
-use Rattle.std.proofs.Common.{◌≡◌, ℕ, ◌+◌, ◌<◌, Bool, true, false, List, [], ◌∷◌, length, take, drop, Bor, Option, Some, None, sym, refl, ◌∙◌, arith, ⊎_elim}
+use Rattle.std.proofs.Common.{◌≡◌, ℕ, ◌+◌, ◌<◌, Bool, false, List, [], ◌∷◌, length, take, drop, Bor, Option, Some, None, sym, refl, ◌∙◌, arith}
 use Rattle.std.proofs.Common.{add_comm, add-one}
 use Rattle.std.specs.Prelude.{◌==◌}
-use Rattle.std.proofs.lemmas.Bool.{cases_Bool}
+use Rattle.std.proofs.lemmas.Bool.{false_from_ne_true}
 use Rattle.std.proofs.lemmas.List.{take_all, drop_all, get_or_default}
 use Rattle.std.proofs.lemmas.List.Sums.{position_or_len_is}
 use Rattle.std.proofs.lemmas.List.Splits.{slice_split_first, slice_split_none}
@@ -10,18 +10,15 @@ use Rattle.std.specs.List.{position_or_len}
 use Rattle.memchr.specs.Find.{NoneBefore, Nowhere, Passes, is_byte as is_needle}
 use Rattle.odata_url.specs.Cuts.{is_byte, in_front, behind, parts}
 
-not_true : (b : Bool) → (b ≡ true → ⊥) → b ≡ false
-not_true b never = ⊎_elim (λ holds. absurd (never holds)) (λ is. is) (cases_Bool b)
-
 -- the first byte that passes the test stands at the place
 pub first_at : (test : ℕ → Bool) (text : List ℕ) (place : ℕ) → NoneBefore (Passes test text) 0 (length text) place → Passes test text place → position_or_len test text ≡ place
 first_at test text place none here =
-    position_or_len_is test text place 0 (omega (arith, none.high)) (λ k below. not_true _ (none.before k (omega arith) below)) (λ _. here)
+    position_or_len_is test text place 0 (omega (arith, none.high)) (λ k below. false_from_ne_true _ (none.before k (omega arith) below)) (λ _. here)
 
 -- no byte passes it
 pub nowhere : (test : ℕ → Bool) (text : List ℕ) → Nowhere (Passes test text) 0 (length text) → position_or_len test text ≡ length text
 nowhere test text none =
-    position_or_len_is test text (length text) 0 (omega arith) (λ k below. not_true _ (none k (omega arith) below)) (λ past. absurd (omega arith))
+    position_or_len_is test text (length text) 0 (omega arith) (λ k below. false_from_ne_true _ (none k (omega arith) below)) (λ past. absurd (omega arith))
 
 pub in_front-at : (byte : ℕ) (text : List ℕ) (place : ℕ) → position_or_len (is_byte byte) text ≡ place → take place text ≡ in_front byte text
 in_front-at byte text place first = rw first refl
@@ -42,7 +39,7 @@ behind-all byte text none = rw none (drop_all (length text + 1) text (omega arit
 
 pub parts-all : (byte : ℕ) (text : List ℕ) → Nowhere (Passes (is_needle byte) text) 0 (length text) → parts byte text ≡ text ∷ []
 parts-all byte text none =
-    slice_split_none (is_byte byte) text (λ k d within. let e = get_or_default text k d 0 within in rw e (not_true _ (none k (omega arith) within)))
+    slice_split_none (is_byte byte) text (λ k d within. let e = get_or_default text k d 0 within in rw e (false_from_ne_true _ (none k (omega arith) within)))
 
 -- how much text is left, with its end
 abbrev pub length_left : Option (Bor (List ℕ)) → ℕ

@@ -2,7 +2,7 @@
 use Rattle.std.proofs.Common.{◌≡◌, ℕ, Bool, true, false, cond, not, ◌&&◌, ◌||◌, List, [], ◌∷◌, Option, Some, None, Ok, Err, IsUtf8, refl, sym, ap, ◌<◌, ◌∙◌, arith, ⊎_elim}
 use Rattle.std.specs.Prelude.{◌==◌, option_map}
 use Rattle.std.specs.Option.{is_none}
-use Rattle.std.specs.Char.{is_ascii_hexdigit, is_digit, digit_value}
+use Rattle.std.specs.Char.{is_ascii_hexdigit, digit_value}
 use Rattle.std.proofs.lemmas.Bool.{cases_Bool, cond-true, cond-false, and_parts, eqb-true, eqb-false, true≢false}
 use Rattle.std.proofs.lemmas.Bool.Decides.{nat_tests}
 use Rattle.std.specs.Str.{is_utf8}
@@ -23,9 +23,6 @@ is_none-option_map f (Some x) = refl
 
 digit_not_percent : (c : ℕ) → is_ascii_hexdigit c ≡ true → (c == 37) ≡ false
 digit_not_percent c hex = grind (arith, nat_tests)
-
-digit_of_16 : (c : ℕ) → is_ascii_hexdigit c ≡ is_digit c 16
-digit_of_16 c = grind (arith, nat_tests)
 
 -- a byte that is no `%` begins the text
 past_byte : (percent hex broken : Bool) (f : List ℕ → List ℕ) (o other : Option (List ℕ)) → percent ≡ false → broken ≡ is_none o → ((percent && not hex) || broken) ≡ is_none (cond percent other (option_map f o))

@@ -90,7 +90,8 @@ octets_of-plain (b ∷ text) plain = octets_of-itself b text text plain.0 (octet
 glyph_is_hex : (d : ℕ) → d < 16 → is_ascii_hexdigit (digit_glyph true d) ≡ true
 glyph_is_hex d small = grind (arith, nat_tests)
 
-value_of_glyph : (d : ℕ) → d < 16 → digit_value (digit_glyph true d) ≡ d
+-- the value of a hexadecimal digit in capitals
+pub value_of_glyph : (d : ℕ) → d < 16 → digit_value (digit_glyph true d) ≡ d
 value_of_glyph d small = grind (arith, nat_tests)
 
 octet_of_glyphs : (b : ℕ) → b < 256 → octet (digit_glyph true (b / 16 % 16)) (digit_glyph true (b % 16)) ≡ b

@@ -5,7 +5,6 @@ use Rattle.std.specs.Char.{digit_value, to_ascii_lowercase}
 use Rattle.std.specs.Fmt.{digit_glyph}
 use Rattle.std.specs.List.{AllByRecursion, join_with_byte, list_all}
 use Rattle.std.proofs.lemmas.Bool.{cond_both, ltb-true, and_parts, eq-eqb, eqb-false, ne_eqb, not-true}
-use Rattle.std.proofs.lemmas.Bool.Decides.{nat_tests}
 use Rattle.std.proofs.lemmas.List.Elements.{All-from_recursion}
 use Rattle.std.proofs.lemmas.List.Splits.{slice_split_at, slice_split_none}
 use Rattle.std.proofs.lemmas.Str.{is_utf8-from_IsUtf8}
@@ -20,7 +19,7 @@ use Rattle.odata_url.specs.OptionName.{dollar_sign, option_text, option_of_name}
 use Rattle.odata_url.specs.Target.{slash, question_mark, ampersand, equals_sign, QueryOption, TargetOf, origin_form, segments_of, with_value, option_of, with_option, with_part, with_parts, has_bytes, options_of, target_of}
 use Rattle.odata_url.specs.Laws.{escaped_text, printed_option, printed_target, EachOnce, IsTarget}
 use Rattle.odata_url.proofs.CutLemmas.{in_front-past, behind-past}
-use Rattle.odata_url.proofs.LawLemmas.{octets_of-plain, octets_of-escaped_text}
+use Rattle.odata_url.proofs.LawLemmas.{octets_of-plain, octets_of-escaped_text, value_of_glyph}
 use Rattle.odata_url.proofs.OptionNameLemmas.{option_of_name-dollar}
 
 -- ---- texts that lack a byte
@@ -37,9 +36,6 @@ Lacks-test byte [] passes = tt
 Lacks-test byte (b ∷ text) passes =
     let both = and_parts (not (b == byte)) (list_all (λ b. not (b == byte)) text) passes in
     (not-true (b == byte) both.0, Lacks-test byte text both.1)
-
-value_of_glyph : (d : ℕ) → d < 16 → digit_value (digit_glyph true d) ≡ d
-value_of_glyph d small = grind (arith, nat_tests)
 
 -- a byte that is no hexadecimal digit
 glyph_other : (byte d : ℕ) → d < 16 → digit_value byte ≡ 36 → (digit_glyph true d == byte) ≡ false

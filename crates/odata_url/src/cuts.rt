@@ -7,7 +7,8 @@ use memchr::memchr;
 /// The text in front of the byte's first place, which is all of it where there is none; and the text behind it.
 pub(crate) fn cut(text: &[u8], byte: u8) -> (&[u8], Option<&[u8]>)
     ensures in_front { result.0.now ≡ in_front byte text.now }
-    ensures behind { MatchOption result.1 (behind byte text.now ≡ []) (λ rest. rest.now ≡ behind byte text.now) }
+    ensures behind { MatchOption result.1 (behind byte text.now ≡ [])
+        (λ rest. rest.now ≡ behind byte text.now) }
     ensures parts { parts byte text.now ≡ result.0.now ∷ parts_left byte result.1 }
     ensures shorter { IfSome result.1 (λ rest. length rest.now < length text.now) }
 {

@@ -14,7 +14,7 @@ use std::alloc::Global;
 const SCHEME: &[u8] = b"http://";
 
 /// What a request target says.
-#[derive(Debug, Drop)]
+#[derive(Drop)]
 pub struct Target {
     /// The decoded segments of the path, at least one: the path `/` has one empty segment.
     pub segments: Vec<String>,
@@ -43,7 +43,8 @@ impl Target {
 /// The path and the query of a target, without the `/` that the path begins with.
 #[tactic(auto, unfolding(crate::specs::Target::origin_form))]
 fn behind_slash(bytes: &[u8]) -> Result<&[u8], UrlFault>
-    ensures { MatchResult result (λ rest. origin_form bytes.now ≡ Ok (slash ∷ rest.now)) (λ fault. origin_form bytes.now ≡ Err fault) }
+    ensures { MatchResult result (λ rest. origin_form bytes.now ≡ Ok (slash ∷ rest.now))
+        (λ fault. origin_form bytes.now ≡ Err fault) }
 {
     match behind_scheme(bytes) {
         Some(rest) => {
@@ -56,7 +57,8 @@ fn behind_slash(bytes: &[u8]) -> Result<&[u8], UrlFault>
 
 /// What stands behind `http://` in any ASCII case; nothing where it does not come first.
 fn behind_scheme(bytes: &[u8]) -> Option<&[u8]>
-    ensures { MatchOption result (is_absolute bytes.now ≡ false) (λ rest. (is_absolute bytes.now ≡ true) × (rest.now ≡ behind_scheme bytes.now)) }
+    ensures { MatchOption result (is_absolute bytes.now ≡ false)
+        (λ rest. (is_absolute bytes.now ≡ true) × (rest.now ≡ behind_scheme bytes.now)) }
 {
     let scheme = bytes.get(..SCHEME.len())?;
     if scheme.eq_ignore_ascii_case(SCHEME) {
@@ -78,7 +80,8 @@ fn behind_authority(text: &[u8]) -> &[u8]
 
 /// The decoded segments of a path, without its first `/`.
 fn read_segments(alloc: Global, path: &[u8]) -> Result<Vec<String>, UrlFault>
-    ensures { Gives (λ segments. map string_bytes segments.items) (segments_of (slash ∷ path.now)) result }
+    ensures { Gives (λ segments. map string_bytes segments.items)
+        (segments_of (slash ∷ path.now)) result }
 {
     let mut segments = Vec::new(alloc);
     let mut rest = Some(path);
@@ -113,7 +116,8 @@ fn add_option(
     options: &mut Vec<(OptionName, String)>,
     part: &[u8],
 ) -> Result<(), UrlFault>
-    ensures { Gives (λ _. map option_view options.new.items) (with_part (map option_view options.old.items) part.now) result }
+    ensures { Gives (λ _. map option_view options.new.items)
+        (with_part (map option_view options.old.items) part.now) result }
 {
     let Some((name, value)) = read_option(alloc, part)? else {
         return Ok(());

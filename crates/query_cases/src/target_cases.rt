@@ -1,158 +1,142 @@
 //! What targets say, written by hand after OData's URL Conventions 4.01 (sections 2 and 5), RFC 9112 (section 3.2) and RFC 3986 (section 2.1).
-use odata_url::{OptionName, Target, UrlFault};
+use odata_url::Target;
+use std::alloc::Global;
 use std::process::Abort;
 use std::test::Fail;
 
-/// Checks what a target says: its segments and its options.
-fn expect_target(rt: &(impl Abort + AllocGlobal), bytes: &[u8], want: &str) -> Result<(), Fail> {
-    let alloc = rt.alloc();
-    let found = match Target::read(alloc, bytes) {
+/// Targets, and their segments and options or the fault.
+const TARGETS: &[(&[u8], &str)] = &[
+    (b"/", r#"[""] []"#),
+    (b"/cities", r#"["cities"] []"#),
+    (b"/cities/$count", r#"["cities", "$count"] []"#),
+    (b"/cities/", r#"["cities", ""] []"#),
+    (b"//", r#"["", ""] []"#),
+    // an authority is dropped, whatever it is
+    (b"http://h?x", r#"[""] []"#),
+    (b"http://", r#"[""] []"#),
+    (b"HTTP://h:80/a/b?", r#"["a", "b"] []"#),
+    (b"http:///a", r#"["a"] []"#),
+    // neither form
+    (b"h/x", "BadTarget"),
+    (b"https://h/", "BadTarget"),
+    (b"*", "BadTarget"),
+    (b"", "BadTarget"),
+    (b"?x=1", "BadTarget"),
+    (b"http:/a", "BadTarget"),
+    (b"/a%20b+c", r#"["a b+c"] []"#),
+    (b"/%24metadata", r#"["$metadata"] []"#),
+    (b"/cities%281%29", r#"["cities(1)"] []"#),
+    (b"/%c3%A9", r#"["é"] []"#),
+    (b"/%2525", r#"["%25"] []"#),
+    // an escaped separator separates nothing
+    (b"/a%2Fb%3Fc", r#"["a/b?c"] []"#),
+    (b"/x?$filter=a%26b%3Dc", r#"["x"] [(Filter, "a&b=c")]"#),
+    // a part has a broken escape before it has bytes that are not UTF-8
+    (b"/a%zz", "BadEscape"),
+    (b"/%", "BadEscape"),
+    (b"/%4", "BadEscape"),
+    (b"/%FF", "BadUtf8"),
+    (b"/%FF%zz", "BadEscape"),
+    (b"/%FF/%zz", "BadUtf8"),
+    (b"/%zz/%FF", "BadEscape"),
+    // the path comes before the query
+    (b"/%FF?$top=%2", "BadUtf8"),
+    (b"/x?$FILTER=Id EQ 2", r#"["x"] [(Filter, "Id EQ 2")]"#),
+    (b"/x?filter=Id%20eq%202", r#"["x"] [(Filter, "Id eq 2")]"#),
+    (b"/x?%24Top=1", r#"["x"] [(Top, "1")]"#),
+    // the first `=` alone parts a name from its value, the first `?` a path from its query
+    (b"/x?$filter=a=b?c", r#"["x"] [(Filter, "a=b?c")]"#),
+    (b"/x?$filter=1+2", r#"["x"] [(Filter, "1+2")]"#),
+    // a part without `=` has an empty value, and an empty part is none
+    (b"/x?$count", r#"["x"] [(Count, "")]"#),
+    (b"/x?&&$skip=1&", r#"["x"] [(Skip, "1")]"#),
+    (
+        b"/x?$format=json&orderBy=a&APPLY=b&$select=c",
+        r#"["x"] [(Format, "json"), (OrderBy, "a"), (Apply, "b"), (Select, "c")]"#,
+    ),
+    (b"/x?$top=%2", "BadEscape"),
+    (b"/x?$top=%FF", "BadUtf8"),
+    (b"/x?$filter=Id eq 1&$filter=Id eq 1", "OptionTwice"),
+    (b"/x?$filter=Id eq 1&filter=Id eq 2", "OptionTwice"),
+    (b"/x?$filter=Id eq 1&FILTER=Id eq 2", "OptionTwice"),
+    (b"/x?$filter=1&$filter=%", "BadEscape"),
+    (b"/x?$EXPAND=y", "NotServed"),
+    (b"/x?@p=1", "NotServed"),
+    // its value is not decoded
+    (b"/x?$expand=%", "NotServed"),
+    (b"/x?$foo=1", "UnknownOption"),
+    (b"/x?$", "UnknownOption"),
+    (b"/x?$$filter=1", "UnknownOption"),
+    (b"/x?$foo=%", "UnknownOption"),
+    // a custom option is skipped, its value is not decoded
+    (b"/x?foo=%", r#"["x"] []"#),
+    (b"/x?foo=1&foo=2&$top=3", r#"["x"] [(Top, "3")]"#),
+    (b"/x?=5", r#"["x"] []"#),
+    // a name is decoded before it is known to be custom
+    (b"/x?f%=1", "BadEscape"),
+    (b"/x?%FF=1", "BadUtf8"),
+    // the first fault from left to right
+    (b"/x?foo=%&$foo=1&$expand=1", "UnknownOption"),
+    (b"/x?$expand=1&$foo=1", "NotServed"),
+    // other system options, with and without `$`
+    (b"/x?expand=1", "NotServed"),
+    (b"/x?$expand=1", "NotServed"),
+    (b"/x?search=1", "NotServed"),
+    (b"/x?$search=1", "NotServed"),
+    (b"/x?compute=1", "NotServed"),
+    (b"/x?$compute=1", "NotServed"),
+    (b"/x?levels=1", "NotServed"),
+    (b"/x?$levels=1", "NotServed"),
+    (b"/x?skiptoken=1", "NotServed"),
+    (b"/x?$skiptoken=1", "NotServed"),
+    (b"/x?deltatoken=1", "NotServed"),
+    (b"/x?$deltatoken=1", "NotServed"),
+    (b"/x?schemaversion=1", "NotServed"),
+    (b"/x?$schemaversion=1", "NotServed"),
+    (b"/x?id=1", "NotServed"),
+    (b"/x?$id=1", "NotServed"),
+    (b"/x?index=1", "NotServed"),
+    (b"/x?$index=1", "NotServed"),
+    // bytes that are no text of ASCII
+    (b"/\xC3\xA9", r#"["é"] []"#),
+    (b"/\xFF", "BadUtf8"),
+    // the options of a query, as a client sends them
+    (
+        b"/cities?$FILTER=Id%20EQ%202",
+        r#"["cities"] [(Filter, "Id EQ 2")]"#,
+    ),
+    (
+        b"/cities?filter=Id%20eq%202",
+        r#"["cities"] [(Filter, "Id eq 2")]"#,
+    ),
+    (
+        b"/cities?$filter=Id%20eq%201&$filter=Id%20eq%202",
+        "OptionTwice",
+    ),
+    (
+        b"/cities?$filter=Id%20eq%20%23",
+        r#"["cities"] [(Filter, "Id eq #")]"#,
+    ),
+    (b"/cities?$expand=x", "NotServed"),
+    (b"/cities?$foo=1", "UnknownOption"),
+    (b"/cities?foo=%", r#"["cities"] []"#),
+    (b"/cities?$top=%2", "BadEscape"),
+    (b"/cities?$top=5", r#"["cities"] [(Top, "5")]"#),
+];
+
+/// What a target says.
+fn target_text(alloc: Global, bytes: &[u8]) -> Result<String, Fail> {
+    Ok(match Target::read(alloc, bytes) {
         Ok(target) => format!(in alloc; "{:?} {:?}", target.segments, target.options)?,
         Err(fault) => format!(in alloc; "{fault:?}")?,
-    };
-    assert!(rt;
-        found.as_str() == want,
-        "{found} in place of {want}, from the bytes {bytes:?}"
-    );
-    Ok(())
+    })
 }
 
 #[test]
-fn paths(rt: HostRuntime) -> Result<(), Fail> {
-    for (target, want) in [
-        ("/", r#"[""] []"#),
-        ("/cities", r#"["cities"] []"#),
-        ("/cities/$count", r#"["cities", "$count"] []"#),
-        ("/cities/", r#"["cities", ""] []"#),
-        ("//", r#"["", ""] []"#),
-        // an authority is dropped, whatever it is
-        ("http://h?x", r#"[""] []"#),
-        ("http://", r#"[""] []"#),
-        ("HTTP://h:80/a/b?", r#"["a", "b"] []"#),
-        ("http:///a", r#"["a"] []"#),
-        // neither form
-        ("h/x", "BadTarget"),
-        ("https://h/", "BadTarget"),
-        ("*", "BadTarget"),
-        ("", "BadTarget"),
-        ("?x=1", "BadTarget"),
-        ("http:/a", "BadTarget"),
-    ] {
-        expect_target(&rt, target.as_bytes(), want)?;
+fn targets(rt: HostRuntime) -> Result<(), Fail> {
+    for (bytes, want) in TARGETS {
+        let found = target_text(rt.alloc(), bytes)?;
+        assert!(rt; found.as_str() == *want, "{bytes:?} gives {found}");
     }
-    Ok(())
-}
-
-#[test]
-fn escapes(rt: HostRuntime) -> Result<(), Fail> {
-    for (target, want) in [
-        ("/a%20b+c", r#"["a b+c"] []"#),
-        ("/%24metadata", r#"["$metadata"] []"#),
-        ("/cities%281%29", r#"["cities(1)"] []"#),
-        ("/%c3%A9", r#"["é"] []"#),
-        ("/%2525", r#"["%25"] []"#),
-        // an escaped separator separates nothing
-        ("/a%2Fb%3Fc", r#"["a/b?c"] []"#),
-        ("/x?$filter=a%26b%3Dc", r#"["x"] [(Filter, "a&b=c")]"#),
-        // a part has a broken escape before it has bytes that are not UTF-8
-        ("/a%zz", "BadEscape"),
-        ("/%", "BadEscape"),
-        ("/%4", "BadEscape"),
-        ("/%FF", "BadUtf8"),
-        ("/%FF%zz", "BadEscape"),
-        ("/%FF/%zz", "BadUtf8"),
-        ("/%zz/%FF", "BadEscape"),
-        // the path comes before the query
-        ("/%FF?$top=%2", "BadUtf8"),
-    ] {
-        expect_target(&rt, target.as_bytes(), want)?;
-    }
-    expect_target(&rt, b"/\xC3\xA9", r#"["é"] []"#)?;
-    expect_target(&rt, b"/\xFF", "BadUtf8")
-}
-
-#[test]
-fn served_options(rt: HostRuntime) -> Result<(), Fail> {
-    for (target, want) in [
-        ("/x?$FILTER=Id EQ 2", r#"["x"] [(Filter, "Id EQ 2")]"#),
-        ("/x?filter=Id%20eq%202", r#"["x"] [(Filter, "Id eq 2")]"#),
-        ("/x?%24Top=1", r#"["x"] [(Top, "1")]"#),
-        // the first `=` alone parts a name from its value, the first `?` a path from its query
-        ("/x?$filter=a=b?c", r#"["x"] [(Filter, "a=b?c")]"#),
-        ("/x?$filter=1+2", r#"["x"] [(Filter, "1+2")]"#),
-        // a part without `=` has an empty value, and an empty part is none
-        ("/x?$count", r#"["x"] [(Count, "")]"#),
-        ("/x?&&$skip=1&", r#"["x"] [(Skip, "1")]"#),
-        (
-            "/x?$format=json&orderBy=a&APPLY=b&$select=c",
-            r#"["x"] [(Format, "json"), (OrderBy, "a"), (Apply, "b"), (Select, "c")]"#,
-        ),
-        ("/x?$top=%2", "BadEscape"),
-        ("/x?$top=%FF", "BadUtf8"),
-        ("/x?$filter=Id eq 1&$filter=Id eq 1", "OptionTwice"),
-        ("/x?$filter=Id eq 1&filter=Id eq 2", "OptionTwice"),
-        ("/x?$filter=Id eq 1&FILTER=Id eq 2", "OptionTwice"),
-        ("/x?$filter=1&$filter=%", "BadEscape"),
-    ] {
-        expect_target(&rt, target.as_bytes(), want)?;
-    }
-    Ok(())
-}
-
-#[test]
-fn other_options(rt: HostRuntime) -> Result<(), Fail> {
-    for name in [
-        "expand",
-        "search",
-        "compute",
-        "levels",
-        "skiptoken",
-        "deltatoken",
-        "schemaversion",
-        "id",
-        "index",
-    ] {
-        let alloc = rt.alloc();
-        let target = format!(in alloc; "/x?{name}=1")?;
-        expect_target(&rt, target.as_bytes(), "NotServed")?;
-        let system = format!(in alloc; "/x?${name}=1")?;
-        expect_target(&rt, system.as_bytes(), "NotServed")?;
-    }
-    for (target, want) in [
-        ("/x?$EXPAND=y", "NotServed"),
-        ("/x?@p=1", "NotServed"),
-        // its value is not decoded
-        ("/x?$expand=%", "NotServed"),
-        ("/x?$foo=1", "UnknownOption"),
-        ("/x?$", "UnknownOption"),
-        ("/x?$$filter=1", "UnknownOption"),
-        ("/x?$foo=%", "UnknownOption"),
-        // a custom option is skipped, its value is not decoded
-        ("/x?foo=%", r#"["x"] []"#),
-        ("/x?foo=1&foo=2&$top=3", r#"["x"] [(Top, "3")]"#),
-        ("/x?=5", r#"["x"] []"#),
-        // a name is decoded before it is known to be custom
-        ("/x?f%=1", "BadEscape"),
-        ("/x?%FF=1", "BadUtf8"),
-        // the first fault from left to right
-        ("/x?foo=%&$foo=1&$expand=1", "UnknownOption"),
-        ("/x?$expand=1&$foo=1", "NotServed"),
-    ] {
-        expect_target(&rt, target.as_bytes(), want)?;
-    }
-    Ok(())
-}
-
-#[test]
-fn fields(rt: HostRuntime) -> Result<(), Fail> {
-    let target = match Target::read(rt.alloc(), b"/cities?$top=5") {
-        Ok(target) => target,
-        Err(fault) => return Err(Fail::from(fault)),
-    };
-    assert_eq!(rt; target.segments.len(), 1);
-    assert_eq!(rt; target.options.len(), 1);
-    assert!(rt; target.options[0].0 == OptionName::Top);
-    assert!(rt; target.options[0].1.as_str() == "5");
-    assert!(rt; Target::read(rt.alloc(), b"x").err() == Some(UrlFault::BadTarget));
     Ok(())
 }

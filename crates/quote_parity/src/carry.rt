@@ -11,7 +11,7 @@ use lane_class::Classes;
 use std::marker::Model;
 
 /// The structure of a block: bit i speaks of byte i.
-#[derive(Clone, Copy, Debug, PartialEq, Eq)]
+#[derive(Clone, Copy, PartialEq, Eq)]
 pub struct Masks {
     /// The commas that part fields.
     pub sep: u64,
@@ -22,7 +22,7 @@ pub struct Masks {
 }
 
 /// The text ends inside double quotes or behind a CR.
-#[derive(Clone, Copy, Debug, PartialEq, Eq)]
+#[derive(Clone, Copy, PartialEq, Eq)]
 pub struct Unfinished;
 
 /// What a block has to know of the text before it: the parity of its double quotes, and the kind of its last byte. Each word is 0
@@ -69,11 +69,12 @@ impl Carry {
     pub fn step(self, c: Classes, len: u32) -> (Masks, Carry)
         requires some { 0 < len }
         requires most { len ≤ 64 }
-        ensures carry { (text block : List ℕ) → self ≡ carry_of text → length block ≡ len → AreClasses c block
-            → result.1 ≡ carry_of (text ++ block) }
-        ensures masks { (text block : List ℕ) → self ≡ carry_of text → length block ≡ len → AreClasses c block → IsViable text
-            → AreMasks result.0 text block }
-        ensures within { (result.0.sep < 2 ^ len) × (result.0.eol < 2 ^ len) × (result.0.fault < 2 ^ len) }
+        ensures carry { (text block : List ℕ) → self ≡ carry_of text → length block ≡ len
+            → AreClasses c block → result.1 ≡ carry_of (text ++ block) }
+        ensures masks { (text block : List ℕ) → self ≡ carry_of text → length block ≡ len
+            → AreClasses c block → IsViable text → AreMasks result.0 text block }
+        ensures within { (result.0.sep < 2 ^ len) × (result.0.eol < 2 ^ len)
+            × (result.0.fault < 2 ^ len) }
     {
         if len == 64 {
             self.step_by(c, 64)
@@ -87,11 +88,12 @@ impl Carry {
     fn step_by(self, c: Classes, len: u32) -> (Masks, Carry)
         requires some { 0 < len }
         requires most { len ≤ 64 }
-        ensures carry { (text block : List ℕ) → self ≡ carry_of text → length block ≡ len → AreClasses c block
-            → result.1 ≡ carry_of (text ++ block) }
-        ensures masks { (text block : List ℕ) → self ≡ carry_of text → length block ≡ len → AreClasses c block → IsViable text
-            → AreMasks result.0 text block }
-        ensures within { (result.0.sep < 2 ^ len) × (result.0.eol < 2 ^ len) × (result.0.fault < 2 ^ len) }
+        ensures carry { (text block : List ℕ) → self ≡ carry_of text → length block ≡ len
+            → AreClasses c block → result.1 ≡ carry_of (text ++ block) }
+        ensures masks { (text block : List ℕ) → self ≡ carry_of text → length block ≡ len
+            → AreClasses c block → IsViable text → AreMasks result.0 text block }
+        ensures within { (result.0.sep < 2 ^ len) × (result.0.eol < 2 ^ len)
+            × (result.0.fault < 2 ^ len) }
     {
         csv_grammar::one_structure();
         csv_grammar::what_follows();
@@ -122,8 +124,9 @@ impl Carry {
 
     /// The text may end here, or is unfinished.
     pub fn finish(self) -> Result<(), Unfinished>
-        ensures { (text : List ℕ) → self ≡ carry_of text → IsViable text
-            → MatchResult result (λ _. (records : List (List Field)) × AreRecords text records) (λ _. HasFault text (length text) unfinished) }
+        ensures { (text : List ℕ) → self ≡ carry_of text → IsViable text → MatchResult result
+            (λ _. (records : List (List Field)) × AreRecords text records)
+            (λ _. HasFault text (length text) unfinished) }
     {
         csv_grammar::what_follows();
         if self.odd == 1 || self.cr == 1 {

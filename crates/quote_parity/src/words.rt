@@ -28,7 +28,8 @@ fn with_shifted(word: u64, by: u32) -> u64
 
 /// The place of the set bit that has `n` set bits below it, where there is one.
 pub fn select(word: u64, n: u32) -> Option<u32>
-    ensures { MatchOption result (count_ones word ≤ n) (λ place. (place < 64) × (bit_at word place ≡ 1) × (ones_below word place ≡ n)) }
+    ensures { MatchOption result (count_ones word ≤ n)
+        (λ place. (place < 64) × (bit_at word place ≡ 1) × (ones_below word place ≡ n)) }
 {
     if word.count_ones() <= n {
         return None;

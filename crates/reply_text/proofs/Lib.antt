@@ -1,3 +1,4 @@
+pub mod DecimalLemmas
 pub mod JsonLemmas
 pub mod CsvLemmas
 pub mod RecordLemmas

@@ -2,11 +2,14 @@
 use Rattle.std.proofs.Common.{◌≡◌, ℕ, zero, suc, ◌+◌, ◌<◌, ◌≤◌, ◌/◌, ◌%◌, Bool, true, false, cond, eqb, ltb, ℤ, pos, negsuc, List, [], ◌∷◌, ◌++◌, length, map, None, refl, sym, ap, ap₂, ◌∙◌, append-nil, arith, tests}
 use Rattle.std.specs.Prelude.{IsTrue, ◌||◌, not, ◌==◌}
 use Rattle.std.proofs.lemmas.Bool.{false≢true}
-use Rattle.std.specs.List.{flat_map, join_with_byte, list_any, AllByRecursion}
+use Rattle.std.specs.List.{flat_map, join_with_byte, list_all, list_any, AllByRecursion}
 use Rattle.std.specs.Fmt.{digit_glyph, digits_onto, digits, decimal, signed_decimal}
 use Rattle.csv_grammar.specs.Bytes.{comma, carriage_return, line_feed}
 use Rattle.csv_grammar.specs.Records.{Field, unquoted, quoted, crlf, Line, is_plain, doubled, content, print_field, print_record, print_line, IsField, IsRecord, AreRecords}
-use Rattle.cell_types.specs.Value.{CellValue, null, int, text, bool, date}
+use Rattle.cell_types.specs.Date.{two_digits}
+use Rattle.cell_types.specs.Decimal.{decimal_text, fraction_text, is_zero, millionths_text, six_digits, without_last_zeros}
+use Rattle.cell_types.specs.Value as cell
+use Rattle.cell_types.specs.Value.{CellValue, null, integer, text, boolean, date}
 use Rattle.query_exec.specs.Rows.{RowsOf}
 use Rattle.jiff_fmt.specs.Text.{year_text, pad2}
 use Rattle.reply_text.specs.Value.{bool_text, day_text}
@@ -63,6 +66,36 @@ day_above year month day =
     above_append (year_text year ++ 45 ∷ [] ++ pad2 month ++ 45 ∷ []) (pad2 day)
     (above_append (year_text year ++ 45 ∷ [] ++ pad2 month) (45 ∷ []) to_month hyphen) (pad2_above day)
 
+two_above : (n : ℕ) → AreAbove (two_digits n)
+two_above n = (omega arith, (omega arith, tt))
+
+six_above : (n : ℕ) → AreAbove (six_digits n)
+six_above n = above_append (two_digits (n / 10_000)) (two_digits (n % 10_000 / 100) ++ two_digits (n % 10_000 % 100)) (two_above (n / 10_000))
+    (above_append (two_digits (n % 10_000 / 100)) (two_digits (n % 10_000 % 100)) (two_above (n % 10_000 / 100)) (two_above (n % 10_000 % 100)))
+
+trimmed_above : (ds : List ℕ) → AreAbove ds → AreAbove (without_last_zeros ds)
+trimmed_above [] above = tt
+trimmed_above (d ∷ ds) above = by (trimmed_above ds above.1) (list_all is_zero (d ∷ ds))
+  where
+    by : AreAbove (without_last_zeros ds) → (t : Bool) → AreAbove (cond t [] (d ∷ without_last_zeros ds))
+    by rest true = tt
+    by rest false = (above.0, rest)
+
+fraction_above : (n : ℕ) → AreAbove (fraction_text n)
+fraction_above n = by (eqb n 0)
+  where
+    by : (t : Bool) → AreAbove (cond t [] (46 ∷ without_last_zeros (six_digits n)))
+    by true = tt
+    by false = (omega arith, trimmed_above (six_digits n) (six_above n))
+
+number_above : (n : ℕ) → AreAbove (millionths_text n)
+number_above n = above_append (decimal (n / 1_000_000)) (fraction_text (n % 1_000_000)) (decimal_above (n / 1_000_000)) (fraction_above (n % 1_000_000))
+
+millionths_above : (z : ℤ) → AreAbove (decimal_text z)
+unfolding decimal_text
+millionths_above (pos n) = number_above n
+millionths_above (negsuc n) = (omega arith, number_above (suc n))
+
 -- ---- bytes that need no double quotes
 
 plain_above : (b : ℕ) → 45 ≤ b → IsTrue (is_plain b)
@@ -100,10 +133,11 @@ text_field false bytes = unquoted bytes
 
 abbrev pub field_of : CellValue → Field
 field_of null = unquoted []
-field_of (int number) = unquoted (signed_decimal number)
+field_of (integer number) = unquoted (signed_decimal number)
 field_of (text bytes) = text_field (needs_quotes bytes) bytes
-field_of (bool truth) = unquoted (bool_text truth)
+field_of (boolean truth) = unquoted (bool_text truth)
 field_of (date year month day) = unquoted (day_text year month day)
+field_of (cell.decimal millionths) = unquoted (decimal_text millionths)
 
 doubled_same : (bytes : List ℕ) → flat_map doubled_byte bytes ≡ doubled bytes
 doubled_same [] = refl
@@ -117,49 +151,53 @@ doubled_same (b ∷ bytes) = by (eqb b 34) (doubled_same bytes)
 -- it is a field of the grammar
 field_is : (value : CellValue) → IsField (field_of value)
 field_is null = tt
-field_is (int number) = plain-from_above (signed_decimal number) (signed_above number)
+field_is (integer number) = plain-from_above (signed_decimal number) (signed_above number)
 field_is (text bytes) = by (needs_quotes bytes) refl
   where
     by : (t : Bool) → needs_quotes bytes ≡ t → IsField (text_field t bytes)
     by true e = tt
     by false e = plain_text bytes (no_byte (length bytes == 0) (list_any is_quoted_byte bytes) e)
-field_is (bool truth) = plain_bool truth
+field_is (boolean truth) = plain_bool truth
 field_is (date year month day) = plain-from_above (day_text year month day) (day_above year month day)
+field_is (cell.decimal millionths) = plain-from_above (decimal_text millionths) (millionths_above millionths)
 
 -- and what is written of the value
 print_field_of : (value : CellValue) → print_field (field_of value) ≡ csv_value value
 print_field_of null = refl
-print_field_of (int number) = refl
+print_field_of (integer number) = refl
 print_field_of (text bytes) = by (needs_quotes bytes)
   where
     by : (t : Bool) → print_field (text_field t bytes) ≡ cond t (34 ∷ flat_map doubled_byte bytes ++ 34 ∷ []) bytes
     by true = ap (λ w. 34 ∷ w ++ 34 ∷ []) (sym (doubled_same bytes))
     by false = refl
-print_field_of (bool truth) = refl
+print_field_of (boolean truth) = refl
 print_field_of (date year month day) = refl
+print_field_of (cell.decimal millionths) = refl
 
 -- it says the value
 field_content : (value : CellValue) → content (field_of value) ≡ value_text value
 field_content null = refl
-field_content (int number) = refl
+field_content (integer number) = refl
 field_content (text bytes) = by (needs_quotes bytes)
   where
     by : (t : Bool) → content (text_field t bytes) ≡ bytes
     by true = refl
     by false = refl
-field_content (bool truth) = refl
+field_content (boolean truth) = refl
 field_content (date year month day) = refl
+field_content (cell.decimal millionths) = refl
 
 field_is_quoted : (value : CellValue) → is_quoted (field_of value) ≡ value_is_quoted value
 field_is_quoted null = refl
-field_is_quoted (int number) = refl
+field_is_quoted (integer number) = refl
 field_is_quoted (text bytes) = by (needs_quotes bytes)
   where
     by : (t : Bool) → is_quoted (text_field t bytes) ≡ t
     by true = refl
     by false = refl
-field_is_quoted (bool truth) = refl
+field_is_quoted (boolean truth) = refl
 field_is_quoted (date year month day) = refl
+field_is_quoted (cell.decimal millionths) = refl
 
 -- ---- records
 

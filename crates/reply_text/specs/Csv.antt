@@ -4,7 +4,8 @@ use Rattle.std.specs.List.{flat_map, join_with_byte, list_any}
 use Rattle.csv_grammar.specs.Bytes.{double_quote, comma, carriage_return, line_feed}
 use Rattle.std.specs.Fmt.{signed_decimal}
 use Rattle.reply_text.specs.Value.{bool_text, day_text}
-use Rattle.cell_types.specs.Value.{CellValue, null, int, text, bool, date}
+use Rattle.cell_types.specs.Decimal.{decimal_text}
+use Rattle.cell_types.specs.Value.{CellValue, null, integer, text, boolean, date, decimal}
 use Rattle.query_exec.specs.Rows.{RowsOf}
 
 -- a byte that stands in double quotes alone
@@ -26,10 +27,11 @@ csv_field bytes =
 -- a value: null is nothing, and an empty text is not
 abbrev pub csv_value : CellValue → List ℕ
 csv_value null = []
-csv_value (int number) = signed_decimal number
+csv_value (integer number) = signed_decimal number
 csv_value (text bytes) = csv_field bytes
-csv_value (bool truth) = bool_text truth
+csv_value (boolean truth) = bool_text truth
 csv_value (date year month day) = day_text year month day
+csv_value (decimal millionths) = decimal_text millionths
 
 -- a line of fields
 abbrev pub csv_line : List (List ℕ) → List ℕ

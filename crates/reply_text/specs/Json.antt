@@ -3,7 +3,9 @@ use Rattle.std.specs.Prelude.{ℕ, ◌+◌, ◌/◌, ◌%◌, ◌==◌, Bool, �
 use Rattle.std.specs.List.{flat_map, zip, join_with_byte}
 use Rattle.std.specs.Fmt.{decimal, signed_decimal}
 use Rattle.reply_text.specs.Value.{bool_text, day_text}
-use Rattle.cell_types.specs.Value.{CellValue, null, int, text, bool, date}
+use Rattle.cell_types.specs.Decimal.{decimal_text}
+use Rattle.cell_types.specs.Value as cell
+use Rattle.cell_types.specs.Value.{CellValue, null, integer, text, boolean, date}
 
 abbrev pub quote : ℕ
 quote = 34
@@ -43,10 +45,11 @@ text_member name bytes = json_text name ++ codes ":" ++ json_text bytes
 -- a value
 abbrev pub json_value : CellValue → List ℕ
 json_value null = codes "null"
-json_value (int number) = signed_decimal number
+json_value (integer number) = signed_decimal number
 json_value (text bytes) = json_text bytes
-json_value (bool truth) = bool_text truth
+json_value (boolean truth) = bool_text truth
 json_value (date year month day) = quote ∷ [] ++ day_text year month day ++ quote ∷ []
+json_value (cell.decimal millionths) = decimal_text millionths
 
 -- a member: its name, a colon and its value
 abbrev pub json_member : List ℕ × CellValue → List ℕ

@@ -3,7 +3,8 @@ use Rattle.std.specs.Prelude.{◌≡◌, ℕ, ◌<◌, ◌≤◌, Bool, false, t
 use Rattle.std.specs.List.{All, AllByRecursion}
 use Rattle.std.specs.Fmt.{signed_decimal}
 use Rattle.csv_grammar.specs.Records.{Field, unquoted, quoted, content, is_plain, AreRecords}
-use Rattle.cell_types.specs.Value.{CellValue, null, int, text, bool, date}
+use Rattle.cell_types.specs.Decimal.{decimal_text}
+use Rattle.cell_types.specs.Value.{CellValue, null, integer, text, boolean, date, decimal}
 use Rattle.table_store.specs.Catalog.{FolderOf, CatalogOf, Means}
 use Rattle.query_exec.specs.Rows.{RowsOf, rows_of_table}
 use Rattle.reply_text.specs.Value.{bool_text, day_text}
@@ -12,18 +13,20 @@ use Rattle.reply_text.specs.Csv.{needs_quotes, csv_text}
 -- the text of a value; null has the empty one
 abbrev pub value_text : CellValue → List ℕ
 value_text null = []
-value_text (int number) = signed_decimal number
+value_text (integer number) = signed_decimal number
 value_text (text bytes) = bytes
-value_text (bool truth) = bool_text truth
+value_text (boolean truth) = bool_text truth
 value_text (date year month day) = day_text year month day
+value_text (decimal millionths) = decimal_text millionths
 
 -- whether a value stands in double quotes: a text that is empty or has a double quote, a comma, a CR or an LF, and nothing else
 abbrev pub value_is_quoted : CellValue → Bool
 value_is_quoted null = false
-value_is_quoted (int number) = false
+value_is_quoted (integer number) = false
 value_is_quoted (text bytes) = needs_quotes bytes
-value_is_quoted (bool truth) = false
+value_is_quoted (boolean truth) = false
 value_is_quoted (date year month day) = false
+value_is_quoted (decimal millionths) = false
 
 -- whether a field stands in double quotes
 abbrev pub is_quoted : Field → Bool

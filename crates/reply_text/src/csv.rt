@@ -5,6 +5,7 @@ ghost use Rattle.cell_types.specs.Value.{value_view};
 ghost use Rattle.query_exec.specs.Rows.{rows_view};
 ghost use Rattle.reply_text.specs.Csv.{csv_field, csv_line, csv_text, csv_value, doubled_byte, is_quoted_byte, needs_quotes, row_line};
 
+use crate::decimal::push_decimal;
 use crate::json::push_comma;
 use crate::value::{push_bool, push_date, push_integer};
 use cell_types::Value;
@@ -75,12 +76,14 @@ fn push_value(out: &mut Vec<u8>, value: &Value<'_>) -> Result<(), AllocError>
         Value::Text(text) => push_field(out, text.as_str().as_bytes()),
         Value::Bool(truth) => push_bool(out, *truth),
         Value::Date(date) => push_date(out, *date),
+        Value::Decimal(millionths) => push_decimal(out, *millionths),
     }
 }
 
 /// Appends the names, with a comma between each two.
 fn push_names(out: &mut Vec<u8>, names: &[&str]) -> Result<(), AllocError>
-    ensures { OnOk result (out.new.items ≡ out.old.items ++ join_with_byte 44 (map (λ name. name.now) names.now)) }
+    ensures { OnOk result
+        (out.new.items ≡ out.old.items ++ join_with_byte 44 (map (λ name. name.now) names.now)) }
 {
     for (place, name) in names.iter().enumerate() {
         push_comma(out, place)?;
@@ -91,7 +94,8 @@ fn push_names(out: &mut Vec<u8>, names: &[&str]) -> Result<(), AllocError>
 
 /// Appends the values of a row, with a comma between each two.
 fn push_values(out: &mut Vec<u8>, values: &[Value<'_>]) -> Result<(), AllocError>
-    ensures { OnOk result (out.new.items ≡ out.old.items ++ join_with_byte 44 (map csv_value (map value_view values.now))) }
+    ensures { OnOk result (out.new.items ≡ out.old.items
+        ++ join_with_byte 44 (map csv_value (map value_view values.now))) }
 {
     for (place, value) in values.iter().enumerate() {
         push_comma(out, place)?;
@@ -102,7 +106,8 @@ fn push_values(out: &mut Vec<u8>, values: &[Value<'_>]) -> Result<(), AllocError
 
 /// Appends a row and its line break.
 fn push_row(out: &mut Vec<u8>, values: &[Value<'_>]) -> Result<(), AllocError>
-    ensures { OnOk result (out.new.items ≡ out.old.items ++ csv_line (map csv_value (map value_view values.now))) }
+    ensures { OnOk result
+        (out.new.items ≡ out.old.items ++ csv_line (map csv_value (map value_view values.now))) }
 {
     push_values(out, values)?;
     out.extend_from_slice(b"\r\n")

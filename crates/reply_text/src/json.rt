@@ -6,6 +6,7 @@ ghost use Rattle.std.specs.Fmt.{decimal};
 ghost use Rattle.cell_types.specs.Value.{value_view};
 ghost use Rattle.reply_text.specs.Json.{comma, escaped, hex_digit, json_count, json_member, json_row, json_text, json_value, needs_escape, quote, text_member};
 
+use crate::decimal::push_decimal;
 use crate::value::{push_bool, push_date, push_integer};
 use cell_types::Value;
 use itoa::Buffer;
@@ -92,7 +93,8 @@ pub fn push_text_member(out: &mut Vec<u8>, name: &[u8], text: &[u8]) -> Result<(
 
 /// Appends a date in quotes.
 fn push_quoted_date(out: &mut Vec<u8>, date: Date) -> Result<(), AllocError>
-    ensures { OnOk result (out.new.items ≡ out.old.items ++ (quote ∷ [] ++ date_text date ++ quote ∷ [])) }
+    ensures { OnOk result
+        (out.new.items ≡ out.old.items ++ (quote ∷ [] ++ date_text date ++ quote ∷ [])) }
 {
     out.extend_from_slice(b"\"")?;
     push_date(out, date)?;
@@ -109,12 +111,14 @@ fn push_value(out: &mut Vec<u8>, value: &Value<'_>) -> Result<(), AllocError>
         Value::Text(text) => push_text(out, text.as_str().as_bytes()),
         Value::Bool(truth) => push_bool(out, *truth),
         Value::Date(date) => push_quoted_date(out, *date),
+        Value::Decimal(millionths) => push_decimal(out, *millionths),
     }
 }
 
 /// Appends a member of an object.
 fn push_member(out: &mut Vec<u8>, name: &str, value: &Value<'_>) -> Result<(), AllocError>
-    ensures { OnOk result (out.new.items ≡ out.old.items ++ json_member (name.now, value_view value.now)) }
+    ensures { OnOk result
+        (out.new.items ≡ out.old.items ++ json_member (name.now, value_view value.now)) }
 {
     push_text(out, name.as_bytes())?;
     out.extend_from_slice(b":")?;

@@ -5,6 +5,7 @@
 mod body;
 mod code;
 mod csv;
+mod decimal;
 mod json;
 mod laws;
 mod value;

@@ -1,7 +1,58 @@
 //! Readers and writers that fail, and a writer that takes a byte a call.
+ghost use Rattle.std.specs.Prelude.{◌≡◌, IfOk};
+
 use crate::fixture::{Paper, Pieces, REST_REPLY, X_REPLY, X_REQUEST, two};
 use odata_http::{Counted, DeviceFault, RunFault, Sink, Source, run, send};
+use std::io::{self, ErrorKind, Read, Write};
 use std::test::Fail;
+
+/// A device that is interrupted at its first call.
+#[derive(Drop)]
+struct Interrupted {
+    calls: u8,
+}
+
+impl Interrupted {
+    fn call(&mut self, len: usize) -> io::Result<usize>
+        ensures { IfOk result (λ n. n ≡ len) }
+    {
+        self.calls = self.calls.saturating_add(1);
+        if self.calls == 1 {
+            Err(io::Error::from(ErrorKind::Interrupted))
+        } else {
+            Ok(len)
+        }
+    }
+}
+
+impl Read for Interrupted {
+    fn read(&mut self, buf: &mut [u8]) -> io::Result<usize> {
+        self.call(buf.len())
+    }
+}
+
+impl Write for Interrupted {
+    fn write(&mut self, buf: &[u8]) -> io::Result<usize> {
+        self.call(buf.len())
+    }
+
+    fn flush(&mut self) -> io::Result<()> {
+        Ok(())
+    }
+}
+
+/// An interrupted call is a fault, and it is not made again: the next call is the second.
+#[test]
+fn interrupted_devices(rt: HostRuntime) -> Result<(), Fail> {
+    let mut source = Counted::new(Interrupted { calls: 0 });
+    let mut buf = [0u8; 3];
+    assert_eq!(rt; source.read(&mut buf), Err(DeviceFault));
+    assert_eq!(rt; source.read(&mut buf), Ok(3));
+    let mut sink = Counted::new(Interrupted { calls: 0 });
+    assert_eq!(rt; sink.write(b"abc"), Err(DeviceFault));
+    assert_eq!(rt; sink.write(b"abc"), Ok(3));
+    Ok(())
+}
 
 #[test]
 fn failed_reads(rt: HostRuntime) -> Result<(), Fail> {

@@ -39,6 +39,33 @@ fn files(alloc: Global) -> Result<(Vec<u8>, Vec<NamedFile>), AllocError> {
     ))
 }
 
+/// The three tables of the folder `base` of the examples.
+const BASE_META: &str = r#"{"@context":"http://www.w3.org/ns/csvw","tables":[
+{"url":"cities.csv","tableSchema":{"columns":[{"name":"Id","datatype":"integer"},{"name":"Name"},{"name":"Pop","datatype":"integer"},{"name":"Open","datatype":"boolean"},{"name":"Since","datatype":"date"}],"primaryKey":"Id"}},
+{"url":"people.csv","tableSchema":{"columns":[{"name":"Name","titles":"Full name"},{"name":"Age","datatype":"integer"}],"primaryKey":["Name"]}},
+{"url":"codes.csv","tableSchema":{"columns":[{"name":"Id","datatype":"integer"},{"name":"Code","null":"NA"}],"primaryKey":"Id"}}]}
+"#;
+
+fn base_files(alloc: Global) -> Result<(Vec<u8>, Vec<NamedFile>), AllocError> {
+    let cities = named(
+        alloc,
+        "cities.csv",
+        b"Id,Name,Pop,Open,Since\n1,Oslo,700000,true,1048-01-01\n2,\"Foo, \"\"Bar\"\"\",,false,\n3,,5,,2024-02-29\n",
+    )?;
+    let people = named(alloc, "people.csv", b"Full name,Age\nO'Hara,41\n")?;
+    let codes = named(alloc, "codes.csv", b"Id,Code\n1,NA\n2,\n3,\"a,b\"\n")?;
+    Ok((
+        Vec::from_slice(alloc, BASE_META.as_bytes())?,
+        vec![in alloc; cities, people, codes]?,
+    ))
+}
+
+/// The catalog of the folder `base`.
+pub(crate) fn base(alloc: Global) -> Result<Catalog, LoadFault> {
+    let (meta, files) = base_files(alloc).map_err(|_| LoadFault::NoMemory)?;
+    Catalog::load(alloc, Limits::greatest(), meta, files)
+}
+
 /// The catalog of the two tables.
 pub(crate) fn two(alloc: Global) -> Result<Catalog, LoadFault> {
     let (meta, files) = files(alloc).map_err(|_| LoadFault::NoMemory)?;
@@ -186,6 +213,22 @@ pub(crate) fn check_reply(
     let alloc = rt.alloc();
     let stream = format!(in alloc; "{request}{X_REQUEST}")?;
     let behind = if closes { "" } else { X_REPLY };
+    let replies = format!(in alloc; "{reply}{behind}")?;
+    check_pieces(rt, catalog, stream.as_str(), 4096, 4096, replies.as_str());
+    Ok(())
+}
+
+/// Checks a reply and whether it closes: behind one that stays open the same request is answered again.
+pub(crate) fn check_whole(
+    rt: &(impl Abort + AllocGlobal),
+    catalog: &Catalog,
+    request: &str,
+    reply: &str,
+    closes: bool,
+) -> Result<(), AllocError> {
+    let alloc = rt.alloc();
+    let stream = format!(in alloc; "{request}{request}")?;
+    let behind = if closes { "" } else { reply };
     let replies = format!(in alloc; "{reply}{behind}")?;
     check_pieces(rt, catalog, stream.as_str(), 4096, 4096, replies.as_str());
     Ok(())

@@ -3,12 +3,18 @@
 #![tactic(auto)]
 
 #[cfg(test)]
+mod base_cases;
+#[cfg(test)]
 mod bodies;
+#[cfg(test)]
+mod decimal_bodies;
 #[cfg(test)]
 mod devices;
 #[cfg(test)]
 mod fixture;
 #[cfg(test)]
 mod replies;
+#[cfg(test)]
+mod sessions;
 #[cfg(test)]
 mod streams;

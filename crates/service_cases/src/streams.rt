@@ -4,24 +4,24 @@ use odata_http::{Splitter, Unreadable};
 use std::test::Fail;
 
 /// A request of the tables.
-const SERVICE_REQUEST: &str = "GET / HTTP/1.1\r\nHost: h\r\n\r\n";
+pub(crate) const SERVICE_REQUEST: &str = "GET / HTTP/1.1\r\nHost: h\r\n\r\n";
 
 /// Its reply.
-const SERVICE_REPLY: &str =
+pub(crate) const SERVICE_REPLY: &str =
     "HTTP/1.1 200 OK\r\nContent-Type: application/json;odata.metadata=none\r\nOData-Version: 4.0\r\nContent-Length: 103\r\n\r\n{\"value\":[{\"name\":\"notes\",\"kind\":\"EntitySet\",\"url\":\"notes\"},{\"name\":\"x\",\"kind\":\"EntitySet\",\"url\":\"x\"}]}";
 
 /// A request of a table that is not there.
-const NOPE_REQUEST: &str = "GET /nope HTTP/1.1\r\nHost: h\r\n\r\n";
+pub(crate) const NOPE_REQUEST: &str = "GET /nope HTTP/1.1\r\nHost: h\r\n\r\n";
 
 /// Its reply.
-const NOPE_REPLY: &str =
+pub(crate) const NOPE_REPLY: &str =
     "HTTP/1.1 404 Not Found\r\nContent-Type: application/json;odata.metadata=none\r\nOData-Version: 4.0\r\nContent-Length: 57\r\n\r\n{\"error\":{\"code\":\"UnknownSet\",\"message\":\"no such table\"}}";
 
 /// A request of the rows of `notes` that closes.
-const LAST_REQUEST: &str = "GET /notes HTTP/1.1\r\nHost: x\r\nConnection: close\r\n\r\n";
+pub(crate) const LAST_REQUEST: &str = "GET /notes HTTP/1.1\r\nHost: x\r\nConnection: close\r\n\r\n";
 
 /// Its reply.
-const LAST_REPLY: &str =
+pub(crate) const LAST_REPLY: &str =
     "HTTP/1.1 200 OK\r\nContent-Type: application/json;odata.metadata=none\r\nOData-Version: 4.0\r\nContent-Length: 62\r\nConnection: close\r\n\r\n{\"value\":[{\"Id\":\"1\",\"Text\":\"hello\"},{\"Id\":\"2\",\"Text\":\"a, b\"}]}";
 
 /// Each stream is answered with the same bytes whole, for every cut in two, and byte by byte.

@@ -28,10 +28,6 @@ accepted_keys limits (schema ∷ schemas) accepted =
 abbrev pub HaveFiles : List FileOf → List FileOf → List SchemaOf → Type 0
 HaveFiles files now schemas = AllByRecursion (λ (schema : SchemaOf). file_named schema.url now ≡ file_named schema.url files) schemas
 
-pub HaveFiles-self : (files : List FileOf) (schemas : List SchemaOf) → HaveFiles files files schemas
-HaveFiles-self files [] = tt
-HaveFiles-self files (schema ∷ schemas) = (refl, HaveFiles-self files schemas)
-
 -- and has it still where a file of another name was taken
 pub HaveFiles-past : (files now next : List FileOf) (url : List ℕ) (schemas : List SchemaOf)
     → ((other : List ℕ) → bytes_eq url other ≡ false → file_named other next ≡ file_named other now)

@@ -1,15 +1,14 @@
 -- A header against the columns, one cell after another.
-use Rattle.std.proofs.Common.{◌≡◌, ℕ, suc, ◌+◌, ◌<◌, ◌≤◌, Bool, true, false, cond, ◌||◌, string_bytes, List, [], ◌∷◌, length, drop, map, Option, Some, None, slice_get, refl, ap, arith}
+use Rattle.std.proofs.Common.{◌≡◌, ℕ, suc, ◌+◌, ◌<◌, ◌≤◌, Bool, true, false, cond, string_bytes, List, [], ◌∷◌, length, drop, map, Option, Some, None, slice_get, refl, ap, arith}
 use Rattle.std.proofs.lemmas.List.{drop_all, length-map, length-drop}
 use Rattle.std.specs.List.{list_any}
 use Rattle.std.specs.Str.{bytes_eq}
 use Rattle.csv_grammar.specs.Records.{Field, content}
-use Rattle.csv_index.specs.Raw.{RawField, raw_content}
+use Rattle.csv_index.specs.Raw.{RawField, raw_content, field_of}
 use Rattle.cell_types.specs.Column.{ColumnOf, column_view}
 use Rattle.cell_types.specs.declared.column.Column.{Column}
 use Rattle.table_store.specs.Table.{mismatch_from, is_called}
-use Rattle.table_store.specs.Loading.{field_of}
-use Rattle.table_store.proofs.PlaceLemmas.{drop-from_slice_get}
+use Rattle.table_store.proofs.PlaceLemmas.{drop-from_slice_get, list_any-map}
 
 -- the first place from a column on that does not match
 abbrev pub other_from : ℕ → List Column → List RawField → Option ℕ
@@ -48,10 +47,6 @@ mismatch_from-length place [] (field ∷ fields) e = cc
 mismatch_from-length place (column ∷ columns) [] e = cc
 mismatch_from-length place (column ∷ columns) (field ∷ fields) e =
     ap suc (mismatch_from-length (place + 1) columns fields (cond_none (is_called column (content field)) (mismatch_from (place + 1) columns fields) place e))
-
-list_any-map : {X Y : Type 0} (p : Y → Bool) (f : X → Y) (xs : List X) → list_any p (map f xs) ≡ list_any (λ x. p (f x)) xs
-list_any-map p f [] = refl
-list_any-map p f (x ∷ xs) = ap (λ rest. p (f x) || rest) (list_any-map p f xs)
 
 -- a text that is not the column's name may be a title
 pub is_called-title : (column : Column) (text : List ℕ) (b : Bool) → bytes_eq (string_bytes column.name) text ≡ false

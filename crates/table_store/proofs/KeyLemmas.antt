@@ -1,21 +1,22 @@
 -- The first row with a null in its key, the first with the key of an earlier row, and the row that has a key; and each of one key more.
-use Rattle.std.proofs.Common.{◌≡◌, ◌≢◌, ℕ, ℤ, pos, zero, suc, ◌+◌, ◌<◌, ◌≤◌, Bool, true, false, not, cond, ◌||◌, ◌&&◌, nat_lt, List, [], ◌∷◌, ◌++◌, length, take, map, get_or, Option, Some, None, position, find, refl, sym, ap, ◌∙◌, inl, inr, arith}
+use Rattle.std.proofs.Common.{◌≡◌, ◌≢◌, ℕ, ℤ, pos, zero, suc, ◌+◌, ◌<◌, ◌≤◌, Bool, true, false, not, cond, ◌&&◌, nat_lt, List, [], ◌∷◌, ◌++◌, length, take, map, get_or, Option, Some, None, position, find, refl, sym, ap, ◌∙◌, inl, inr, arith}
 use Rattle.std.specs.Cmp.Lexicographic.{pointwise}
 use Rattle.std.specs.List.{list_any, range_with_len, position_or_len}
 use Rattle.std.specs.Option.{option_or}
 use Rattle.std.specs.Ordering.{int_eq}
 use Rattle.std.proofs.Math.Seq.{get_or-append_seam, take-append_seam}
-use Rattle.std.proofs.lemmas.Bool.{cases_order}
+use Rattle.std.proofs.lemmas.Bool.{cases_order, or_parts}
 use Rattle.std.proofs.lemmas.Bool.Decides.{nat_tests}
 use Rattle.std.proofs.lemmas.List.{take_more, take-append-le, get_or-map, get_or_append_left, length-map, length-append, map-append}
 use Rattle.std.proofs.lemmas.List.Folds.{list_any-append, list_any_at}
 use Rattle.std.proofs.lemmas.List.Quantifiers.{position-Some}
 use Rattle.std.proofs.lemmas.List.Sums.{position_or_len_is, fails_before_first}
 use Rattle.indexmap.specs.IndexSet.{insert_key}
-use Rattle.cell_types.specs.Value.{CellValue, null, int, text, bool, date, value_eq, value_view}
+use Rattle.cell_types.specs.Value.{CellValue, null, integer, text, boolean, date, decimal, value_eq, value_view}
 use Rattle.cell_types.specs.declared.value.Value.{Value}
 use Rattle.cell_types.specs.declared.value.Value.TheVariants as V
 use Rattle.table_store.specs.Key.{row_key, row_keys, key_eq, has_null, null_row, is_repeated, repeated_row, row_of}
+use Rattle.table_store.proofs.PlaceLemmas.{list_any-map}
 
 -- ---- the first number of a range
 pub cond_none : {X : Type 0} (b : Bool) (x : X) (rest : Option X) → cond b (Some x) rest ≡ None → (b ≡ false) × (rest ≡ None)
@@ -87,18 +88,10 @@ position-at p xs x None false e h =
     ])
 
 -- ---- lists
-or_none : (a b : Bool) → (a || b) ≡ false → (a ≡ false) × (b ≡ false)
-or_none true b e = cc
-or_none false b e = (refl, e)
-
 pub list_any-none : {X : Type 0} (p : X → Bool) (xs : List X) (i : ℕ) (d : X) → list_any p xs ≡ false → i < length xs → p (get_or xs i d) ≡ false
 list_any-none p [] i d e h = absurd (omega arith)
-list_any-none p (x ∷ xs) zero d e h = (or_none (p x) (list_any p xs) e).0
-list_any-none p (x ∷ xs) (suc i) d e h = list_any-none p xs i d (or_none (p x) (list_any p xs) e).1 (omega arith)
-
-list_any-map : {X Y : Type 0} (p : Y → Bool) (f : X → Y) (xs : List X) → list_any p (map f xs) ≡ list_any (λ x. p (f x)) xs
-list_any-map p f [] = refl
-list_any-map p f (x ∷ xs) = ap (λ rest. p (f x) || rest) (list_any-map p f xs)
+list_any-none p (x ∷ xs) zero d e h = (or_parts (p x) (list_any p xs) e).0
+list_any-none p (x ∷ xs) (suc i) d e h = list_any-none p xs i d (or_parts (p x) (list_any p xs) e).1 (omega arith)
 
 position_or_len-map : {X Y : Type 0} (p : Y → Bool) (f : X → Y) (xs : List X) → position_or_len p (map f xs) ≡ position_or_len (λ x. p (f x)) xs
 position_or_len-map p f [] = refl
@@ -218,7 +211,7 @@ and-true : (b : Bool) → b ≡ (b && true)
 and-true true = refl
 and-true false = refl
 
-pub int_eq-view : (a b : ℤ) → int_eq a b ≡ key_eq (int a ∷ []) (int b ∷ [])
+pub int_eq-view : (a b : ℤ) → int_eq a b ≡ key_eq (integer a ∷ []) (integer b ∷ [])
 unfolding value_eq
 int_eq-view a b = and-true (int_eq a b)
 
@@ -227,20 +220,21 @@ and-false : (b : Bool) → (b && false) ≡ false
 and-false true = refl
 and-false false = refl
 
-no_integer : (key : List CellValue) (z : ℤ) → ((a : ℤ) → key ≢ int a ∷ []) → key_eq key (int z ∷ []) ≡ false
+no_integer : (key : List CellValue) (z : ℤ) → ((a : ℤ) → key ≢ integer a ∷ []) → key_eq key (integer z ∷ []) ≡ false
 unfolding value_eq
 no_integer [] z other = refl
 no_integer (null ∷ []) z other = refl
-no_integer (int a ∷ []) z other = absurd (other a refl)
+no_integer (integer a ∷ []) z other = absurd (other a refl)
 no_integer (text t ∷ []) z other = refl
-no_integer (bool b ∷ []) z other = refl
+no_integer (boolean b ∷ []) z other = refl
 no_integer (date y m d ∷ []) z other = refl
-no_integer (v ∷ w ∷ key) z other = and-false (value_eq v (int z))
+no_integer (decimal d ∷ []) z other = refl
+no_integer (v ∷ w ∷ key) z other = and-false (value_eq v (integer z))
 
-pub row_of-integers : (zs : List ℤ) (key : List CellValue) → ((a : ℤ) → key ≢ int a ∷ []) → row_of (map (λ z. int z ∷ []) zs) key ≡ None
+pub row_of-integers : (zs : List ℤ) (key : List CellValue) → ((a : ℤ) → key ≢ integer a ∷ []) → row_of (map (λ z. integer z ∷ []) zs) key ≡ None
 row_of-integers zs key other =
-    position-nowhere (key_eq key) (map (λ z. int z ∷ []) zs) []
-    (λ k less. ap (key_eq key) (get_or-map (λ z. int z ∷ []) zs k (pos 0) [] (omega (arith, length-map zs (λ z. int z ∷ [])))) ∙ no_integer key (get_or zs k (pos 0)) other)
+    position-nowhere (key_eq key) (map (λ z. integer z ∷ []) zs) []
+    (λ k less. ap (key_eq key) (get_or-map (λ z. integer z ∷ []) zs k (pos 0) [] (omega (arith, length-map zs (λ z. integer z ∷ [])))) ∙ no_integer key (get_or zs k (pos 0)) other)
 
 -- a list of one item
 pub one_item : {X : Type 0} (xs : List X) (d : X) → length xs ≡ 1 → xs ≡ get_or xs 0 d ∷ []
@@ -248,13 +242,14 @@ one_item [] d e = absurd (omega arith)
 one_item (x ∷ []) d e = refl
 one_item (x ∷ y ∷ xs) d e = absurd (omega (arith, e))
 
-pub not_one_item : (key : List CellValue) → length key ≢ 1 → (a : ℤ) → key ≢ int a ∷ []
+pub not_one_item : (key : List CellValue) → length key ≢ 1 → (a : ℤ) → key ≢ integer a ∷ []
 not_one_item key other a e = other (ap length e)
 
 -- a value that is no integer
-pub no_int : (v : Value) → ((z : ℤ) → v ≡ V.Int z → ⊥) → (a : ℤ) → value_view v ∷ [] ≢ int a ∷ []
+pub no_int : (v : Value) → ((z : ℤ) → v ≡ V.Int z → ⊥) → (a : ℤ) → value_view v ∷ [] ≢ integer a ∷ []
 no_int V.Null other a e = cc
 no_int (V.Int z) other a e = other z refl
 no_int (V.Text t) other a e = cc
 no_int (V.Bool b) other a e = cc
 no_int (V.Date d) other a e = cc
+no_int (V.Decimal z) other a e = cc

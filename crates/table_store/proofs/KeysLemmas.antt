@@ -6,45 +6,46 @@ use Rattle.csv_index.specs.Raw.{RawField, raw_content}
 use Rattle.cell_types.specs.declared.cell.CellFault.{CellFault}
 use Rattle.cell_types.specs.declared.value.Value.{Value}
 use Rattle.cell_types.specs.declared.value.Value.TheVariants as V
-use Rattle.cell_types.specs.Value.{CellValue, null, int, text, bool, date, value_eq, value_view}
+use Rattle.cell_types.specs.Value.{CellValue, null, integer, text, boolean, date, decimal, value_eq, value_view}
 use Rattle.cell_types.specs.Column.{ColumnOf}
-use Rattle.cell_types.specs.Datatype.{integer}
+use Rattle.cell_types.specs.Datatype as datatype
 use Rattle.cell_types.specs.Cell.{value_of}
 use Rattle.cell_types.specs.Laws.{IsOfColumn, IsOfDatatype, ValuesFitColumns}
 use Rattle.table_store.specs.declared.keys.Keys.{Keys}
 use Rattle.table_store.specs.declared.keys.KeyReader.{KeyReader}
-use Rattle.table_store.specs.Inside.{value_or_null, values_in}
+use Rattle.table_store.specs.Values.{value_or_null, values_in}
 use Rattle.table_store.specs.Key.{row_key, key_eq, has_null, null_row, repeated_row}
 use Rattle.table_store.specs.Keys.{keys_view, IsInteger, HasRead}
 use Rattle.table_store.proofs.KeyLemmas.{null_row-more, repeated_row-more, was_false}
 
 -- ---- integers
 -- a column of integers has no other values
-fits_integer : (column : ColumnOf) (value : CellValue) → column.datatype ≡ integer → IsOfColumn column value → IsInteger value
+fits_integer : (column : ColumnOf) (value : CellValue) → column.datatype ≡ datatype.integer → IsOfColumn column value → IsInteger value
 fits_integer column null e fits = inl refl
-fits_integer column (int z) e fits = inr (z, refl)
-fits_integer column (text t) e fits = absurd (subst (λ datatype. IsOfDatatype datatype (text t)) e fits)
-fits_integer column (bool b) e fits = absurd (subst (λ datatype. IsOfDatatype datatype (bool b)) e fits)
-fits_integer column (date y m d) e fits = absurd (subst (λ datatype. IsOfDatatype datatype (date y m d)) e fits)
+fits_integer column (integer z) e fits = inr (z, refl)
+fits_integer column (text t) e fits = absurd (subst (λ kind. IsOfDatatype kind (text t)) e fits)
+fits_integer column (boolean b) e fits = absurd (subst (λ kind. IsOfDatatype kind (boolean b)) e fits)
+fits_integer column (date y m d) e fits = absurd (subst (λ kind. IsOfDatatype kind (date y m d)) e fits)
+fits_integer column (decimal z) e fits = absurd (subst (λ kind. IsOfDatatype kind (decimal z)) e fits)
 
-read_integer : (column : ColumnOf) (reading : Result CellValue CellFault) → column.datatype ≡ integer → ((value : CellValue) → reading ≡ Ok value → IsOfColumn column value)
+read_integer : (column : ColumnOf) (reading : Result CellValue CellFault) → column.datatype ≡ datatype.integer → ((value : CellValue) → reading ≡ Ok value → IsOfColumn column value)
     → IsInteger (value_or_null reading)
 read_integer column (Ok value) e fit = fits_integer column value e (fit value refl)
 read_integer column (Err fault) e fit = inl refl
 
 values_in-integer : ValuesFitColumns → (columns : List ColumnOf) (fields : List RawField) (place : ℕ)
-    → option_map (λ (column : ColumnOf). column.datatype) (slice_get columns place) ≡ Some integer → IsInteger (get_or (values_in columns fields) place null)
-values_in-integer fit [] fields place e = absurd (let n : None ≡ Some integer = e in cc)
+    → option_map (λ (column : ColumnOf). column.datatype) (slice_get columns place) ≡ Some datatype.integer → IsInteger (get_or (values_in columns fields) place null)
+values_in-integer fit [] fields place e = absurd (let n : None ≡ Some datatype.integer = e in cc)
 values_in-integer fit (column ∷ columns) [] place e = inl refl
 values_in-integer fit (column ∷ columns) (field ∷ fields) zero e =
-    let some : Some column.datatype ≡ Some integer = e in
-    let same : column.datatype ≡ integer = cc in
+    let some : Some column.datatype ≡ Some datatype.integer = e in
+    let same : column.datatype ≡ datatype.integer = cc in
     read_integer column (value_of column (raw_content field)) same (fit column (raw_content field))
 values_in-integer fit (column ∷ columns) (field ∷ fields) (suc place) e = values_in-integer fit columns fields place e
 
 -- so the key that is that column suits
 pub integer_suits : ValuesFitColumns → (columns : List ColumnOf) (places : List ℕ) (place : ℕ) (fields : List RawField) → places ≡ place ∷ []
-    → option_map (λ (column : ColumnOf). column.datatype) (slice_get columns place) ≡ Some integer
+    → option_map (λ (column : ColumnOf). column.datatype) (slice_get columns place) ≡ Some datatype.integer
     → (value : CellValue) × IsInteger value × (row_key places (values_in columns fields) ≡ value ∷ [])
 integer_suits fit columns places place fields one e =
     (get_or (values_in columns fields) place null, values_in-integer fit columns fields place e, ap (λ ps. row_key ps (values_in columns fields)) one)
@@ -57,7 +58,7 @@ null_key : has_null (null ∷ []) ≡ true
 unfolding value_eq
 null_key = refl
 
-integer_here : (value : CellValue) → IsInteger value → has_null (value ∷ []) ≡ false → (z : ℤ) × (value ≡ int z)
+integer_here : (value : CellValue) → IsInteger value → has_null (value ∷ []) ≡ false → (z : ℤ) × (value ≡ integer z)
 integer_here value (inl e) whole =
     absurd (let n : true ≡ false = sym null_key ∙ ap (λ v. has_null (v ∷ [])) (sym e) ∙ whole in cc)
 integer_here value (inr is) whole = is
@@ -65,19 +66,20 @@ integer_here value (inr is) whole = is
 -- a key of integers that is not null
 pub integer_key : (places : List ℕ) (values : List CellValue) → 0 < length places
     → (value : CellValue) × IsInteger value × (row_key places values ≡ value ∷ []) → has_null (row_key places values) ≡ false
-    → (z : ℤ) × (get_or values (get_or places 0 0) null ≡ int z) × (row_key places values ≡ int z ∷ [])
+    → (z : ℤ) × (get_or values (get_or places 0 0) null ≡ integer z) × (row_key places values ≡ integer z ∷ [])
 integer_key [] values some suits whole = absurd (omega (arith, some))
 integer_key (place ∷ places) values some (value, is, e) whole =
     let here = integer_here value is (ap has_null (sym e) ∙ whole) in
     let first : get_or values place null ≡ value = cc in
     (here.0, first ∙ here.1, e ∙ ap (λ v. v ∷ []) here.1)
 
-pub int_view : (v : Value) (z : ℤ) → value_view v ≡ int z → v ≡ V.Int z
+pub int_view : (v : Value) (z : ℤ) → value_view v ≡ integer z → v ≡ V.Int z
 int_view V.Null z e = cc
 int_view (V.Int a) z e = let same : a ≡ z = cc in ap (λ x. V.Int x) same
 int_view (V.Text t) z e = cc
 int_view (V.Bool b) z e = cc
 int_view (V.Date d) z e = cc
+int_view (V.Decimal d) z e = cc
 
 -- ---- one more key
 pub none_of : (o : Option ℕ) → is_some o ≡ false → o ≡ None

@@ -1,7 +1,7 @@
 -- The keys of an annotated table are different, have no null, and find their rows.
-use Rattle.std.proofs.Common.{◌≡◌, ◌≢◌, ◌↔◌, ℕ, zero, suc, ◌<◌, Bool, true, false, true≢false, List, [], ◌∷◌, length, take, get_or, Some, None, IsTrue, All, slice_get, refl, sym, ap, ◌∙◌, inl, inr, arith}
+use Rattle.std.proofs.Common.{◌≡◌, ◌≢◌, ◌↔◌, ℕ, zero, suc, ◌<◌, true, false, true≢false, List, [], ◌∷◌, length, take, get_or, Some, None, IsTrue, All, slice_get, sym, ap, ◌∙◌, inl, inr, arith}
 use Rattle.std.specs.Cmp.Lexicographic.{pointwise_decides}
-use Rattle.std.proofs.lemmas.Bool.{cases_order}
+use Rattle.std.proofs.lemmas.Bool.{cases_order, false_from_ne_true}
 use Rattle.std.proofs.lemmas.List.{length-take, get_or-take}
 use Rattle.std.proofs.lemmas.List.Quantifiers.{position-Some}
 use Rattle.std.proofs.lemmas.Option.{slice_get-get_or, get_or_from_slice_get, slice_get_within}
@@ -13,10 +13,6 @@ use Rattle.table_store.specs.Table.{TableOf, keys_of}
 use Rattle.table_store.specs.Catalog.{HaveTables}
 use Rattle.table_store.specs.Laws.{AreKeys}
 use Rattle.table_store.proofs.KeyLemmas.{find-none, list_any-none, position-here, position-none}
-
-not_true : (b : Bool) → (b ≡ true → ⊥) → b ≡ false
-not_true true h = absurd (h refl)
-not_true false h = refl
 
 module _ (equal : (a b : CellValue) → IsTrue (value_eq a b) ↔ (a ≡ b)) (keys : List (List CellValue)) (whole : null_row keys ≡ None) (once : repeated_row keys ≡ None) where
   same : (a b : List CellValue) → (key_eq a b ≡ true → a ≡ b) × (a ≡ b → key_eq a b ≡ true)
@@ -54,7 +50,7 @@ module _ (equal : (a b : CellValue) → IsTrue (value_eq a b) ↔ (a ≡ b)) (ke
   key_found row key e =
       let within = slice_get_within keys row key e in
       position-here (key_eq key) keys row [] within ((same key (get_or keys row [])).1 (sym (get_or_from_slice_get keys row key [] e)))
-      (λ k less. not_true (key_eq key (get_or keys k []))
+      (λ k less. false_from_ne_true (key_eq key (get_or keys k []))
       (λ t. not_again k row key less (slice_get-get_or keys k [] (omega arith) ∙ ap (λ x. Some x) (sym ((same key (get_or keys k [])).0 t))) e))
 
   pub are_keys : AreKeys keys

@@ -1,8 +1,9 @@
 pub mod PlaceLemmas
 pub mod RowLemmas
 pub mod HeaderLemmas
-pub mod FieldLemmas
 pub mod InsideLemmas
+pub mod CursorLemmas
+pub mod BlockLemmas
 pub mod LoadingLemmas
 pub mod FileLemmas
 pub mod KeyLemmas

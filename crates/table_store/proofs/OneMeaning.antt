@@ -32,10 +32,6 @@ one_cells one schema bytes table other a b =
     let schemas : table.schema ≡ other.schema = a.of_schema ∙ sym b.of_schema in
     ap (λ schema. let t : TableOf = record { schema = schema; rows = table.rows } in t) schemas ∙ ap (λ rows. let t : TableOf = record { schema = other.schema; rows = rows } in t) rows
 
--- the bytes of a file are one
-one_file : (limit : ℕ) (file : Option (List ℕ)) (a b : List ℕ) → HasFile limit file a → file ≡ Some b → a ≡ b
-one_file limit file a b has e = some-same file a b has.0 e
-
 pub one_table_of : (one : OneTable) (limit : ℕ) (file : Option (List ℕ)) (schema : SchemaOf) (table other : TableOf) → HasTable limit file schema table → HasTable limit file schema other → table ≡ other
 one_table_of one limit file schema table other a b =
     let same : a.bytes ≡ b.bytes = some-same file a.bytes b.bytes a.has_file.0 b.has_file.0 in

@@ -1,12 +1,14 @@
--- Places in lists of fields, and a list of fields cut into rows.
-use Rattle.std.proofs.Common.{◌≡◌, ℕ, zero, suc, ◌+◌, ◌-◌, ◌*◌, ◌<◌, ◌≤◌, List, [], ◌∷◌, length, take, drop, get_or, Some, slice_get, refl, ap, sym, ◌∙◌, arith}
-use Rattle.std.proofs.lemmas.Nat.{mul-le}
-use Rattle.std.proofs.lemmas.List.{length-take, length-drop, length-map, drop-drop, drop_more}
+-- Places in lists, and rows of fields one after another.
+use Rattle.std.proofs.Common.{◌≡◌, Bool, ◌||◌, map, ℕ, zero, suc, ◌+◌, ◌<◌, List, [], ◌∷◌, ◌++◌, length, take, drop, get_or, Some, slice_get, refl, ap, sym, ◌∙◌, arith}
+use Rattle.std.specs.List.{list_any}
+use Rattle.std.proofs.lemmas.List.{drop_more}
 use Rattle.std.proofs.lemmas.Option.{slice_get-get_or, get_or_from_slice_get, slice_get_within}
-use Rattle.csv_index.specs.Raw.{RawField, raw_between}
-use Rattle.csv_index.specs.Index.{Places, FitsFile, cut, raws}
-use Rattle.table_store.specs.Inside.{rows_of_fields}
-use Rattle.table_store.specs.Loading.{header_of, record_of, records_of}
+use Rattle.csv_index.specs.Raw.{RawField}
+use Rattle.csv_index.specs.Index.{row_fields}
+
+pub list_any-map : {X Y : Type 0} (p : Y → Bool) (f : X → Y) (xs : List X) → list_any p (map f xs) ≡ list_any (λ x. p (f x)) xs
+list_any-map p f [] = refl
+list_any-map p f (x ∷ xs) = ap (λ rest. p (f x) || rest) (list_any-map p f xs)
 
 -- what stands at a place stands first in the rest from there
 pub drop-from_slice_get : {X : Type 0} (xs : List X) (i : ℕ) (x : X) → slice_get xs i ≡ Some x → drop i xs ≡ x ∷ drop (i + 1) xs
@@ -36,69 +38,7 @@ slice_get-take (suc n) [] i h = refl
 slice_get-take (suc n) (x ∷ xs) zero h = refl
 slice_get-take (suc n) (x ∷ xs) (suc i) h = slice_get-take n xs i (omega arith)
 
-pub length-rows_of_fields : (n width : ℕ) (fields : List RawField) → length (rows_of_fields n width fields) ≡ n
-length-rows_of_fields zero width fields = refl
-length-rows_of_fields (suc n) width fields = ap suc (length-rows_of_fields n width (drop width fields))
-
--- a row is the fields at its place
-pub slice_get-rows_of_fields : (n width : ℕ) (fields : List RawField) (row : ℕ) → row < n
-    → slice_get (rows_of_fields n width fields) row ≡ Some (take width (drop (row * width) fields))
-slice_get-rows_of_fields zero width fields row h = absurd (omega arith)
-slice_get-rows_of_fields (suc n) width fields zero h = let e : 0 * width ≡ 0 = omega arith in rw e refl
-slice_get-rows_of_fields (suc n) width fields (suc row) h =
-    let e : width + row * width ≡ suc row * width = omega arith in
-    slice_get-rows_of_fields n width (drop width fields) row (omega arith)
-    ∙ ap (λ rest. Some (take width rest)) (drop-drop (row * width) width fields ∙ ap (λ k. drop k fields) e)
-
--- the record of a row
-pub slice_get-records_of : (places : Places) (bytes : List ℕ) (row : ℕ) → row < places.rows
-    → slice_get (records_of places bytes) row ≡ Some (record_of places bytes row)
-slice_get-records_of places bytes row h =
-    let e : places.width + row * places.width ≡ (row + 1) * places.width = omega arith in
-    slice_get-rows_of_fields places.rows places.width (drop places.width (raws places bytes)) row h
-    ∙ ap (λ rest. Some (take places.width rest)) (drop-drop (row * places.width) places.width (raws places bytes) ∙ ap (λ k. drop k (raws places bytes)) e)
-
--- a field of a record
-pub slice_get-record_of : (places : Places) (bytes : List ℕ) (row col : ℕ) (raw : RawField) → col < places.width
-    → slice_get (raws places bytes) ((row + 1) * places.width + col) ≡ Some raw → slice_get (record_of places bytes row) col ≡ Some raw
-slice_get-record_of places bytes row col raw h e =
-    slice_get-take places.width (drop ((row + 1) * places.width) (raws places bytes)) col h
-    ∙ slice_get-drop ((row + 1) * places.width) (raws places bytes) col ∙ e
-
--- a field of the header
-pub slice_get-header_of : (places : Places) (bytes : List ℕ) (col : ℕ) (raw : RawField) → col < places.width
-    → slice_get (raws places bytes) col ≡ Some raw → slice_get (header_of places bytes) col ≡ Some raw
-slice_get-header_of places bytes col raw h e = slice_get-take places.width (raws places bytes) col h ∙ e
-
--- there is a field for each place
-pub length-cut : (start : ℕ) (ends bytes : List ℕ) → length (cut start ends bytes) ≡ length ends
-length-cut start [] bytes = refl
-length-cut start (end ∷ ends) bytes = ap suc (length-cut (end + 1) ends bytes)
-
-pub length-raws : (places : Places) (bytes : List ℕ) → length (raws places bytes) ≡ length places.ends
-length-raws places bytes = length-map (cut places.start places.ends bytes) raw_between ∙ length-cut places.start places.ends bytes
-
-pub length-header_of : (places : Places) (bytes : List ℕ) → FitsFile places bytes → length (header_of places bytes) ≡ places.width
-length-header_of places bytes fits =
-    let count : length places.ends ≡ places.rows * places.width + places.width = omega (arith, fits.count) in
-    omega (arith, length-take places.width (raws places bytes), length-raws places bytes)
-
--- the fields from a record on begin with that record, and go on with those from the next record on
-pub take-record_of : (places : Places) (bytes : List ℕ) (row width : ℕ) (fields : List RawField) → width ≡ places.width
-    → fields ≡ drop ((row + 1) * places.width) (raws places bytes) → take width fields ≡ record_of places bytes row
-take-record_of places bytes row width fields e f = rw (e, f) refl
-
-pub drop-record_of : (places : Places) (bytes : List ℕ) (row width : ℕ) (fields : List RawField) → width ≡ places.width
-    → fields ≡ drop ((row + 1) * places.width) (raws places bytes) → drop width fields ≡ drop ((row + 1 + 1) * places.width) (raws places bytes)
-drop-record_of places bytes row width fields e f =
-    let next : (row + 1) * places.width + places.width ≡ (row + 1 + 1) * places.width = omega arith in
-    rw (e, f) (drop-drop places.width ((row + 1) * places.width) (raws places bytes) ∙ ap (λ k. drop k (raws places bytes)) next)
-
--- which is whole
-pub record_within : (places : Places) (bytes : List ℕ) (row : ℕ) (fields : List RawField) → FitsFile places bytes → row < places.rows
-    → fields ≡ drop ((row + 1) * places.width) (raws places bytes) → places.width ≤ length fields
-record_within places bytes row fields fits h e =
-    let size : length fields ≡ length (raws places bytes) - (row + 1) * places.width = ap length e ∙ length-drop ((row + 1) * places.width) (raws places bytes) in
-    let next : (row + 1) * places.width + places.width ≡ (row + 1 + 1) * places.width = omega arith in
-    let most : (row + 1 + 1) * places.width ≤ (places.rows + 1) * places.width = mul-le (row + 1 + 1) places.width (places.rows + 1) places.width (omega arith) (omega arith) in
-    omega (arith, size, next, most, length-raws places bytes, fits.count)
+-- the fields of rows from a row on are those of that row, and those behind it
+pub row_fields-at : (rows : List (List RawField)) (row : ℕ) → row < length rows
+    → row_fields (drop row rows) ≡ get_or rows row [] ++ row_fields (drop (row + 1) rows)
+row_fields-at rows row h = ap row_fields (drop-from_slice_get rows row (get_or rows row []) (slice_get-get_or rows row [] h))

@@ -5,7 +5,7 @@ use Rattle.std.proofs.lemmas.Bool.{and_parts, cases_order, eq-eqb}
 use Rattle.std.proofs.lemmas.List.{drop_all, length-take, get_or_past, get_or-set_other, get_or-set_same}
 use Rattle.std.proofs.lemmas.Option.{get_or_from_slice_get, slice_get-map}
 use Rattle.std.specs.Result.{result_err}
-use Rattle.csv_index.specs.Raw.{RawField, raw_content}
+use Rattle.csv_index.specs.Raw.{RawField, raw_content, field_of}
 use Rattle.cell_types.specs.Value.{CellValue, null}
 use Rattle.cell_types.specs.declared.cell.CellFault.{CellFault}
 use Rattle.cell_types.specs.Column.{ColumnOf, column_view, takes_all_texts}
@@ -13,9 +13,8 @@ use Rattle.cell_types.specs.Cell.{value_of}
 use Rattle.cell_types.specs.Laws.{StringsHaveValues}
 use Rattle.cell_types.specs.declared.column.Column.{Column}
 use Rattle.table_store.specs.Table.{values_from, value_then, rows_from, row_then}
-use Rattle.table_store.specs.Inside.{value_or_null, values_in, HaveValues, AllHaveValues}
+use Rattle.table_store.specs.Values.{value_or_null, values_in, HaveValues, AllHaveValues}
 use Rattle.table_store.specs.Key.{row_key}
-use Rattle.table_store.specs.Loading.{field_of}
 use Rattle.table_store.proofs.PlaceLemmas.{drop-from_slice_get}
 
 -- the value of a column's field

@@ -1,5 +1,5 @@
 -- The files of a folder.
-use Rattle.std.specs.Prelude.{ℕ, List, Option, option_map, string_bytes}
+use Rattle.std.specs.Prelude.{ℕ, List, Vec, Option, option_map, string_bytes, map}
 use Rattle.std.specs.List.{find}
 use Rattle.std.specs.Str.{bytes_eq}
 use Rattle.table_store.specs.declared.file.NamedFile.{NamedFile}
@@ -11,6 +11,13 @@ pub record FileOf : Type 0 where
 
 abbrev pub file_view : NamedFile → FileOf
 file_view file = record { name = string_bytes file.name; bytes = file.bytes.items }
+
+abbrev pub files_view : List NamedFile → List FileOf
+files_view files = map file_view files
+
+-- the bytes of a file, where there is one
+abbrev pub file_bytes : {A : Type 0} → Option (Vec ℕ A) → Option (List ℕ)
+file_bytes file = option_map (λ bytes. bytes.items) file
 
 -- the bytes of the first file of that name
 abbrev pub file_named : List ℕ → List FileOf → Option (List ℕ)

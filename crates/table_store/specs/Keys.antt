@@ -2,7 +2,7 @@
 use Rattle.std.specs.Prelude.{◌≡◌, ◌<◌, ◌≤◌, ◌⊎◌, ℕ, ℤ, List, [], ◌∷◌, length, map, None, Some, All}
 use Rattle.indexmap.specs.IndexSet.{spare}
 use Rattle.cell_types.specs.Column.{ColumnOf}
-use Rattle.cell_types.specs.Value.{CellValue, null, int, value_view}
+use Rattle.cell_types.specs.Value.{CellValue, null, integer, value_view}
 use Rattle.table_store.specs.declared.keys.Keys.{Keys}
 use Rattle.table_store.specs.declared.keys.Keys.TheVariants.{Absent, Integers, Values}
 use Rattle.table_store.specs.declared.keys.KeyFault.{KeyFault}
@@ -14,7 +14,7 @@ use Rattle.table_store.specs.Key.{null_row, repeated_row}
 -- the keys of the rows, in order
 abbrev pub keys_view : Keys → List (List CellValue)
 keys_view Absent = []
-keys_view (Integers keys) = map (λ z. int z ∷ []) keys.keys
+keys_view (Integers keys) = map (λ z. integer z ∷ []) keys.keys
 keys_view (Values keys) = map (λ key. map value_view key.items) keys.keys
 
 -- each place is that of a column
@@ -23,7 +23,7 @@ AreColumns places columns = All (λ place. place < length columns) places
 
 -- a value is null or an integer
 abbrev pub IsInteger : CellValue → Type 0
-IsInteger value = (value ≡ null) ⊎ ((z : ℤ) × (value ≡ int z))
+IsInteger value = (value ≡ null) ⊎ ((z : ℤ) × (value ≡ integer z))
 
 -- a key may come to those that are kept: where they are integers it is one integer, or null
 abbrev pub Suits : Keys → List CellValue → Type 0

@@ -1,6 +1,9 @@
 pub mod File
 pub mod Key
 pub mod Table
+pub mod Block
+pub mod Values
+pub mod Cursor
 pub mod Inside
 pub mod Fault
 pub mod Loading

@@ -1,15 +1,13 @@
 //! The tables of a folder.
-ghost use Rattle.std.specs.Prelude.{◌≡◌, None, IfOk, IfErr, IfSome, find, map};
-ghost use Rattle.std.specs.List.{IsDistinct, AllByRecursion};
+ghost use Rattle.std.specs.Prelude.{◌≡◌, None, IfOk, IfErr, IfSome, find};
+ghost use Rattle.std.specs.List.{AllByRecursion};
 ghost use Rattle.std.specs.Option.{option_copied};
 ghost use Rattle.std.specs.Str.{bytes_eq};
 ghost use Rattle.csvw_meta.specs.Limits.{limits_view};
-ghost use Rattle.csvw_meta.specs.Schema.{SchemaOf, schema_view};
-ghost use Rattle.table_store.specs.File.{file_view};
+ghost use Rattle.table_store.specs.File.{files_view};
 ghost use Rattle.table_store.specs.Fault.{load_cause};
 ghost use Rattle.table_store.specs.Catalog.{folder_view, HaveTables, Means, IsRefused};
-ghost use Rattle.table_store.specs.Keys.{AreColumns};
-ghost use Rattle.table_store.specs.Loading.{IsFirstRefused};
+ghost use Rattle.table_store.specs.Loading.{schemas_view, DifferInUrl, HasKeyColumns, IsFirstRefused};
 
 use crate::fault::LoadFault;
 use crate::file::{NamedFile, take_bytes};
@@ -44,8 +42,10 @@ impl Catalog {
         meta: Vec<u8>,
         files: Vec<NamedFile>,
     ) -> Result<Catalog, LoadFault>
-        ensures tables { IfOk result (λ catalog. Means (folder_view limits meta.items files.items) catalog) }
-        ensures fault { IfErr result (λ e. IfSome (load_cause e) (IsRefused (folder_view limits meta.items files.items))) }
+        ensures tables { IfOk result
+            (λ catalog. Means (folder_view limits meta.items files.items) catalog) }
+        ensures fault { IfErr result
+            (λ e. IfSome (load_cause e) (IsRefused (folder_view limits meta.items files.items))) }
 
         // Only want of memory has no cause.
         ensures memory { IfErr result (λ e. load_cause e ≡ None → e ≡ LoadFault.NoMemory) }
@@ -75,7 +75,8 @@ impl Catalog {
 
     /// The first table of a name.
     pub fn table(&self, name: &str) -> Option<&Table>
-        ensures { option_copied result ≡ find (λ table. bytes_eq table.schema.name name.now) self.now.tables }
+        ensures { option_copied result
+            ≡ find (λ table. bytes_eq table.schema.name name.now) self.now.tables }
     {
         self.tables.iter().find(|table| table.name() == name)
     }
@@ -88,11 +89,12 @@ fn load_tables(
     schemas: Vec<Schema>,
     files: Vec<NamedFile>,
 ) -> Result<Vec<Table>, LoadFault>
-    requires urls { IsDistinct bytes_eq (map (λ (schema : SchemaOf). schema.url) (map schema_view schemas.items)) }
-    requires keys { AllByRecursion (λ (schema : SchemaOf). AreColumns schema.key schema.columns) (map schema_view schemas.items) }
-    ensures tables { IfOk result (λ tables. HaveTables limit (map file_view files.items) (map schema_view schemas.items) tables.items) }
+    requires urls { DifferInUrl (schemas_view schemas.items) }
+    requires keys { AllByRecursion HasKeyColumns (schemas_view schemas.items) }
+    ensures tables { IfOk result (λ tables.
+        HaveTables limit (files_view files.items) (schemas_view schemas.items) tables.items) }
     ensures fault { IfErr result (λ e. IfSome (load_cause e)
-        (IsFirstRefused limit (map file_view files.items) (map schema_view schemas.items))) }
+        (IsFirstRefused limit (files_view files.items) (schemas_view schemas.items))) }
     ensures memory { IfErr result (λ e. load_cause e ≡ None → e ≡ LoadFault.NoMemory) }
 {
     let mut files = files;

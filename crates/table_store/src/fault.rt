@@ -128,7 +128,8 @@ fn push_number(text: &mut String, n: usize) -> Result<(), AllocError>
 
 /// A table, and the place in its header that is refused.
 fn header_text(alloc: Global, table: &str, col: usize) -> Result<String, AllocError>
-    ensures { IfOk result (λ text. string_bytes text ≡ file_text_of table.now (codes "Header col " ++ decimal col)) }
+    ensures { IfOk result
+        (λ text. string_bytes text ≡ file_text_of table.now (codes "Header col " ++ decimal col)) }
 {
     let cause = format!(in alloc; "Header col {col}")?;
     file_text(alloc, table, cause.as_str())
@@ -156,7 +157,8 @@ fn cell_text(
 
 /// A table, and what is wrong with the key of a row.
 fn row_text(alloc: Global, table: &str, cause: &str, row: usize) -> Result<String, AllocError>
-    ensures { IfOk result (λ text. string_bytes text ≡ file_text_of table.now (cause.now ++ decimal row)) }
+    ensures { IfOk result
+        (λ text. string_bytes text ≡ file_text_of table.now (cause.now ++ decimal row)) }
 {
     let mut text = String::from_str(alloc, cause)?;
     push_number(&mut text, row)?;

@@ -1,8 +1,8 @@
 //! The files of a folder, each with its name.
-ghost use Rattle.std.specs.Prelude.{◌≡◌, List, ℕ, false, map, option_map, string_bytes};
+ghost use Rattle.std.specs.Prelude.{◌≡◌, List, ℕ, false, string_bytes};
 ghost use Rattle.std.specs.List.{position};
 ghost use Rattle.std.specs.Str.{bytes_eq};
-ghost use Rattle.table_store.specs.File.{file_view, file_named};
+ghost use Rattle.table_store.specs.File.{files_view, file_bytes, file_named};
 
 use std::alloc::Global;
 use std::mem;
@@ -23,11 +23,11 @@ fn first_named(files: &[NamedFile], name: &str) -> Option<usize>
 
 /// The bytes of the first file of a name, which are moved out of it.
 pub(crate) fn take_bytes(alloc: Global, files: &mut Vec<NamedFile>, name: &str) -> Option<Vec<u8>>
-    ensures bytes { option_map (λ bytes. bytes.items) result ≡ file_named name.now (map file_view files.old.items) }
+    ensures bytes { file_bytes result ≡ file_named name.now (files_view files.old.items) }
 
     // The files of other names are as they were.
     ensures others { (other : List ℕ) → bytes_eq name.now other ≡ false
-        → file_named other (map file_view files.new.items) ≡ file_named other (map file_view files.old.items) }
+        → file_named other (files_view files.new.items) ≡ file_named other (files_view files.old.items) }
 {
     let place = first_named(files.as_slice(), name)?;
     let file = &mut files[place];

@@ -7,7 +7,7 @@ ghost use Rattle.cell_types.specs.Value.{CellValue, null, value_eq, value_view};
 ghost use Rattle.csv_index.specs.Raw.{RawField};
 ghost use Rattle.csvw_meta.specs.Schema.{schema_view};
 ghost use Rattle.table_store.specs.Key.{row_key, row_keys, key_eq, has_null as has_null_in, row_of};
-ghost use Rattle.table_store.specs.Inside.{values_in};
+ghost use Rattle.table_store.specs.Values.{values_in};
 ghost use Rattle.table_store.specs.Keys.{keys_view, AreColumns, AreKeysOf, HasKeyFault, HasRead, HasRoom, Suits};
 
 use cell_types::{Datatype, Value};
@@ -81,7 +81,8 @@ impl KeyReader {
     ) -> Result<(), AllocError>
         requires places { All (λ place. place < length values.now) places.now }
         requires suits { Suits self.old.keys (row_key places.now (map value_view values.now)) }
-        ensures read { IfOk result (λ _. (rows : List (List CellValue)) → row ≡ length rows → HasRead self.old (row_keys places.now rows)
+        ensures read { IfOk result (λ _. (rows : List (List CellValue)) → row ≡ length rows
+            → HasRead self.old (row_keys places.now rows)
             → HasRead self.new (row_keys places.now (rows ++ map value_view values.now ∷ []))) }
         ensures suits { (key : List CellValue) → Suits self.old.keys key → Suits self.new.keys key }
     {
@@ -100,8 +101,10 @@ impl KeyReader {
 
     /// The keys of the rows that were read, or why they have none: a null in any of them comes before a key that stands twice.
     pub fn finish(self) -> Result<Keys, KeyFault>
-        ensures keys { IfOk result (λ keys. (of : List (List CellValue)) → HasRead self of → AreKeysOf keys of) }
-        ensures fault { IfErr result (λ e. (of : List (List CellValue)) → HasRead self of → HasKeyFault of e) }
+        ensures keys { IfOk result (λ keys. (of : List (List CellValue)) → HasRead self of
+            → AreKeysOf keys of) }
+        ensures fault { IfErr result (λ e. (of : List (List CellValue)) → HasRead self of
+            → HasKeyFault of e) }
     {
         match self.null {
             Some(row) => Err(KeyFault::Null(row)),
@@ -145,7 +148,8 @@ impl Keys {
         requires places { All (λ place. place < length values.now) places.now }
         requires suits { Suits self.old (row_key places.now (map value_view values.now)) }
         requires whole { has_null_in (row_key places.now (map value_view values.now)) ≡ false }
-        ensures new { IfOk result (λ is. is ≡ not (list_any (key_eq (row_key places.now (map value_view values.now))) (keys_view self.old))) }
+        ensures new { IfOk result (λ is. is ≡ not (list_any
+            (key_eq (row_key places.now (map value_view values.now))) (keys_view self.old))) }
         ensures keys { IfOk result (λ is. is ≡ true
             → keys_view self.new ≡ keys_view self.old ++ row_key places.now (map value_view values.now) ∷ []) }
         ensures suits { (key : List CellValue) → Suits self.old key → Suits self.new key }
@@ -168,7 +172,8 @@ impl Keys {
 /// Whether the datatype of a column is `integer`.
 fn has_integers(schema: &Schema, place: usize) -> bool
     requires { place < length (schema_view schema.now).columns }
-    ensures { IsTrue result ↔ (option_map (λ (column : ColumnOf). column.datatype) (slice_get (schema_view schema.now).columns place) ≡ Some integer) }
+    ensures { IsTrue result ↔ (option_map (λ (column : ColumnOf). column.datatype)
+        (slice_get (schema_view schema.now).columns place) ≡ Some integer) }
 {
     matches!(schema.columns[place].datatype, Datatype::Integer)
 }
@@ -201,7 +206,8 @@ fn key_of(
     values: &[Value<'_>],
 ) -> Result<Vec<Value<'static>>, AllocError>
     requires { All (λ place. place < length values.now) places.now }
-    ensures { IfOk result (λ key. map value_view key.items ≡ row_key places.now (map value_view values.now)) }
+    ensures { IfOk result
+        (λ key. map value_view key.items ≡ row_key places.now (map value_view values.now)) }
 {
     let mut key = Vec::with_capacity(alloc, places.len())?;
     for place in places {
@@ -223,5 +229,6 @@ fn owned_value(alloc: Global, value: &Value<'_>) -> Result<Value<'static>, Alloc
         }
         Value::Bool(truth) => Ok(Value::Bool(*truth)),
         Value::Date(day) => Ok(Value::Date(*day)),
+        Value::Decimal(millionths) => Ok(Value::Decimal(*millionths)),
     }
 }

@@ -5,15 +5,18 @@
 
 ghost use Rattle.table_store.specs.Laws.{KeysOfTables, OneMeaning, SchemasOfTables};
 
+mod block;
 mod catalog;
-mod cells;
+mod cursor;
 mod fault;
 mod file;
 mod keys;
 mod loading;
 mod table;
 
+pub use block::Block;
 pub use catalog::Catalog;
+pub use cursor::RowCursor;
 pub use fault::LoadFault;
 pub use file::NamedFile;
 pub use table::Table;

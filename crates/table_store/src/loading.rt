@@ -1,22 +1,22 @@
 //! The steps of loading a table from its file: the header against the columns, and then each cell.
 ghost use Rattle.std.specs.Prelude.{◌≡◌, ◌≤◌, ◌⊎◌, ◌==◌, List, true, None, Some, Ok, Err, IfOk, IfErr, IfNone, IfSome, length, take, drop, map, option_map, string_bytes};
 ghost use Rattle.std.specs.List.{list_all, list_any};
-ghost use Rattle.std.specs.Result.{result_err};
 ghost use Rattle.std.specs.Str.{bytes_eq};
-ghost use Rattle.cell_types.specs.Value.{CellValue, value_view};
+ghost use Rattle.cell_types.specs.Value.{value_view};
 ghost use Rattle.cell_types.specs.Column.{column_view, takes_all_texts};
-ghost use Rattle.cell_types.specs.Cell.{value_of};
-ghost use Rattle.csv_index.specs.Index.{FitsFile};
-ghost use Rattle.csv_index.specs.Raw.{raw_content};
+ghost use Rattle.csv_index.specs.Raw.{raw_view};
 ghost use Rattle.csvw_meta.specs.Schema.{schema_view};
-ghost use Rattle.table_store.specs.Table.{is_called as is_called_by, mismatch_from, values_from};
+ghost use Rattle.table_store.specs.Table.{is_called as is_called_by};
 ghost use Rattle.table_store.specs.Fault.{bad_cell, cell_cause};
-ghost use Rattle.table_store.specs.Keys.{AreColumns, AreKeysOf};
-ghost use Rattle.table_store.specs.Loading.{field_of, header_of, keys_at, bad_cell_of, IsTableAt, StandFor, table_cause, HasFileCause, HasRowsCause};
+ghost use Rattle.table_store.specs.File.{file_bytes};
+ghost use Rattle.table_store.specs.Catalog.{HasTableCause};
+ghost use Rattle.table_store.specs.Keys.{AreKeysOf};
+ghost use Rattle.table_store.specs.Values.{value_in, value_or_null, FitsColumns, HasValue};
+ghost use Rattle.table_store.specs.Loading.{mismatch_of, keys_at, bad_cell_of, table_cause, HasFileCause, HasKeyColumns, HasRowsCause, IsBadCell, IsTableAt, IsTableOf, ReadsAs};
 
 use crate::keys::{KeyFault, KeyReader, Keys};
 use cell_types::{CellFault, Column, Value, read_text};
-use csv_index::{Fields, Index, Raw, TextFault};
+use csv_index::{Fields, IndexedText, Raw, TextFault};
 use csvw_meta::Schema;
 use std::alloc::{AllocError, Global};
 
@@ -65,19 +65,17 @@ fn is_called(column: &Column, text: &str) -> bool
 fn first_mismatch(
     alloc: Global,
     columns: &[Column],
-    index: &Index,
-    bytes: &str,
+    file: &IndexedText,
 ) -> Result<Option<usize>, AllocError>
-    requires { FitsFile index.now bytes.now }
-    ensures { IfOk result (λ place. place
-        ≡ mismatch_from 0 (map column_view columns.now) (map field_of (header_of index.now bytes.now))) }
+    ensures { IfOk result (λ place.
+        place ≡ mismatch_of (map column_view columns.now) file.now.header) }
 {
-    let width = index.width();
+    let width = file.width();
     for (col, column) in columns.iter().enumerate() {
         if col >= width {
             return Ok(Some(col));
         }
-        let text = index.header(bytes, col).text(alloc)?;
+        let text = file.header(col).text(alloc)?;
         if !is_called(column, text.as_str()) {
             return Ok(Some(col));
         }
@@ -90,14 +88,33 @@ fn first_mismatch(
 
 /// The value of a field in a column.
 pub fn cell_value<'a>(alloc: Global, column: &Column, raw: Raw<'a>) -> Result<Value<'a>, CellFault>
-    ensures value { IfOk result (λ value. value_of (column_view column.now)
-        (raw_content (record { bytes = raw.entry.bytes.now; quoted = raw.entry.quoted })) ≡ Ok (value_view value)) }
-    ensures fault { IfErr result (λ e. (e ≡ CellFault.NoMemory) ⊎ (value_of (column_view column.now)
-        (raw_content (record { bytes = raw.entry.bytes.now; quoted = raw.entry.quoted })) ≡ Err e)) }
+    ensures value { IfOk result (λ value.
+        value_in (column_view column.now, raw_view raw.entry) ≡ Ok (value_view value)) }
+    ensures fault { IfErr result (λ e. (e ≡ CellFault.NoMemory)
+        ⊎ (value_in (column_view column.now, raw_view raw.entry) ≡ Err e)) }
 {
     match raw.text(alloc) {
         Ok(text) => read_text(alloc, column, text),
         Err(_) => Err(CellFault::NoMemory),
+    }
+}
+
+/// The value of a field in a column, which has one there.
+pub fn field_value<'a>(
+    alloc: Global,
+    column: &Column,
+    raw: Raw<'a>,
+) -> Result<Value<'a>, AllocError>
+    requires { HasValue (column_view column.now) (raw_view raw) }
+    ensures { IfOk result (λ value.
+        value_view value ≡ value_or_null (value_in (column_view column.now, raw_view raw.entry))) }
+{
+    match cell_value(alloc, column, raw) {
+        Ok(value) => Ok(value),
+        Err(fault) => match fault {
+            CellFault::NoMemory => Err(AllocError),
+            _ => unreachable!(),
+        },
     }
 }
 
@@ -132,12 +149,12 @@ fn read_row<'a>(
     requires width { length columns.now ≤ length fields.old }
     requires count { length values.old.items ≡ length columns.now }
     ensures passed { IfOk result (λ _. fields.new ≡ drop (length columns.now) fields.old) }
-    ensures values { IfOk result (λ _. (row_values : List CellValue) × (values_from 0 (map column_view columns.now)
-        (map field_of (take (length columns.now) fields.old)) ≡ Ok row_values) × StandFor places.now (map value_view values.new.items) row_values) }
+    ensures values { IfOk result (λ _. ReadsAs (map column_view columns.now) places.now
+        (take (length columns.now) fields.old) (map value_view values.new.items)) }
     ensures count { length values.new.items ≡ length columns.now }
     ensures row { IfErr result (λ bad. bad.row ≡ row) }
-    ensures fault { IfErr result (λ bad. (bad.fault ≡ CellFault.NoMemory) ⊎ (result_err (values_from 0 (map column_view columns.now)
-        (map field_of (take (length columns.now) fields.old))) ≡ Some (bad.col, bad.fault))) }
+    ensures fault { IfErr result (λ bad. IsBadCell (map column_view columns.now)
+        (take (length columns.now) fields.old) bad.col bad.fault) }
 {
     cell_types::strings_have_values();
     for (col, column) in columns.iter().enumerate() {
@@ -165,13 +182,14 @@ fn take_all_texts(columns: &[Column]) -> bool
 
 /// The keys of the rows, each of whose cells has a value; or the first cell, row by row, that has none, and else why the rows have no keys.
 /// Each cell is read at most once, and none where no row can be wrong.
-fn read_rows(alloc: Global, schema: &Schema, index: &Index, bytes: &str) -> Result<Keys, TableFault>
-    requires bytes { FitsFile index.now bytes.now }
-    requires width { length (schema_view schema.now).columns ≡ index.now.width }
-    requires key { AreColumns (schema_view schema.now).key (schema_view schema.now).columns }
-    ensures values { IfOk result (λ _. bad_cell_of (schema_view schema.now) index.now bytes.now ≡ None) }
-    ensures keys { IfOk result (λ keys. AreKeysOf keys (keys_at (schema_view schema.now) index.now bytes.now)) }
-    ensures fault { IfErr result (λ e. IfSome (table_cause e) (HasRowsCause (schema_view schema.now) index.now bytes.now)) }
+fn read_rows(alloc: Global, schema: &Schema, file: &IndexedText) -> Result<Keys, TableFault>
+    requires fits { FitsColumns (schema_view schema.now).columns file.now }
+    requires key { HasKeyColumns (schema_view schema.now) }
+    ensures values { IfOk result (λ _. bad_cell_of (schema_view schema.now) file.now.rows ≡ None) }
+    ensures keys { IfOk result
+        (λ keys. AreKeysOf keys (keys_at (schema_view schema.now) file.now.rows)) }
+    ensures fault { IfErr result (λ e.
+        IfSome (table_cause e) (HasRowsCause (schema_view schema.now) file.now.rows)) }
     ensures memory { IfErr result (λ e. table_cause e ≡ None → e ≡ TableFault.NoMemory) }
 {
     cell_types::strings_have_values();
@@ -180,14 +198,14 @@ fn read_rows(alloc: Global, schema: &Schema, index: &Index, bytes: &str) -> Resu
     if places.is_empty() && take_all_texts(columns) {
         return Ok(Keys::Absent);
     }
-    let Ok(mut keys) = KeyReader::new(alloc, schema, index.rows()) else {
+    let Ok(mut keys) = KeyReader::new(alloc, schema, file.rows()) else {
         return Err(TableFault::NoMemory);
     };
     let Ok(mut values) = nulls(alloc, columns.len()) else {
         return Err(TableFault::NoMemory);
     };
-    let mut fields = index.fields(bytes, 0);
-    for row in 0..index.rows() {
+    let mut fields = file.fields(0);
+    for row in 0..file.rows() {
         match read_row(alloc, columns, places, &mut fields, row, &mut values) {
             Ok(()) => {}
             Err(bad) => return Err(fault_of(bad)),
@@ -204,7 +222,8 @@ fn read_rows(alloc: Global, schema: &Schema, index: &Index, bytes: &str) -> Resu
 
 /// The fault of a table with that cell.
 fn fault_of(bad: BadCell) -> TableFault
-    ensures cause { table_cause result ≡ option_map (bad_cell bad.row bad.col) (cell_cause bad.fault) }
+    ensures cause { table_cause result
+        ≡ option_map (bad_cell bad.row bad.col) (cell_cause bad.fault) }
     ensures memory { table_cause result ≡ None → result ≡ TableFault.NoMemory }
 {
     match bad.fault {
@@ -213,24 +232,56 @@ fn fault_of(bad: BadCell) -> TableFault
     }
 }
 
-/// The places of a file that is the table of a schema, and the keys of its rows; or the first thing that is wrong with it.
-pub fn read_file(alloc: Global, schema: &Schema, bytes: &str) -> Result<(Index, Keys), TableFault>
-    requires { AreColumns (schema_view schema.now).key (schema_view schema.now).columns }
-    ensures read { IfOk result (λ found. IsTableAt (schema_view schema.now).columns bytes.now found.0) }
-    ensures keys { IfOk result (λ found. AreKeysOf found.1 (keys_at (schema_view schema.now) found.0 bytes.now)) }
-    ensures fault { IfErr result (λ e. IfSome (table_cause e) (HasFileCause (schema_view schema.now) bytes.now)) }
+/// A file that is the table of a schema, and the keys of its rows; or the first thing that is wrong with it.
+fn read_file(
+    alloc: Global,
+    schema: &Schema,
+    bytes: Vec<u8>,
+) -> Result<(IndexedText, Keys), TableFault>
+    requires { HasKeyColumns (schema_view schema.now) }
+    ensures read { IfOk result (λ found.
+        IsTableAt (schema_view schema.now).columns bytes.items found.0) }
+    ensures keys { IfOk result (λ found.
+        AreKeysOf found.1 (keys_at (schema_view schema.now) found.0.rows)) }
+    ensures fault { IfErr result (λ e.
+        IfSome (table_cause e) (HasFileCause (schema_view schema.now) bytes.items)) }
     ensures memory { IfErr result (λ e. table_cause e ≡ None → e ≡ TableFault.NoMemory) }
 {
-    let index = match Index::of_text(alloc, bytes) {
-        Ok(index) => index,
+    let file = match IndexedText::build(alloc, bytes) {
+        Ok(file) => file,
         Err(TextFault::NoMemory) => return Err(TableFault::NoMemory),
         Err(fault) => return Err(TableFault::Text(fault)),
     };
-    match first_mismatch(alloc, schema.columns.as_slice(), &index, bytes) {
+    match first_mismatch(alloc, schema.columns.as_slice(), &file) {
         Ok(None) => {}
         Ok(Some(col)) => return Err(TableFault::Header(col)),
         Err(_) => return Err(TableFault::NoMemory),
     }
-    let keys = read_rows(alloc, schema, &index, bytes)?;
-    Ok((index, keys))
+    let keys = read_rows(alloc, schema, &file)?;
+    Ok((file, keys))
+}
+
+/// The file, at most as long as the limit, that is the table of a schema, and the keys of its rows; or why there is none.
+pub fn read_table(
+    alloc: Global,
+    limit: u32,
+    schema: &Schema,
+    file: Option<Vec<u8>>,
+) -> Result<(IndexedText, Keys), TableFault>
+    requires { HasKeyColumns (schema_view schema.now) }
+    ensures read { IfOk result (λ found.
+        IsTableOf limit (file_bytes file) (schema_view schema.now) found.0) }
+    ensures keys { IfOk result (λ found.
+        AreKeysOf found.1 (keys_at (schema_view schema.now) found.0.rows)) }
+    ensures fault { IfErr result (λ e.
+        IfSome (table_cause e) (HasTableCause limit (file_bytes file) (schema_view schema.now))) }
+    ensures memory { IfErr result (λ e. table_cause e ≡ None → e ≡ TableFault.NoMemory) }
+{
+    let Some(bytes) = file else {
+        return Err(TableFault::FileMissing);
+    };
+    if bytes.len() > limit as usize {
+        return Err(TableFault::FileTooLarge);
+    }
+    read_file(alloc, schema, bytes)
 }

@@ -1,19 +1,23 @@
 //! A table of a folder: its schema, the values of its cells, and its rows by their keys.
-ghost use Rattle.std.specs.Prelude.{◌≡◌, ◌<◌, Some, None, IfOk, IfErr, IfSome, length, map, slice_get, option_and_then, option_map};
+ghost use Rattle.std.specs.Prelude.{◌≡◌, ◌<◌, Some, None, IfOk, IfErr, IfSome, length, map, slice_get, option_and_then, option_map, string_bytes};
 ghost use Rattle.std.specs.List.{AllByRecursion};
 ghost use Rattle.cell_types.specs.Value.{value_view};
 ghost use Rattle.csvw_meta.specs.Schema.{schema_view};
-ghost use Rattle.table_store.specs.Fault.{load_cause};
+ghost use Rattle.table_store.specs.Fault.{bad_table, load_cause};
 ghost use Rattle.table_store.specs.Catalog.{HasTable};
+ghost use Rattle.table_store.specs.File.{file_bytes};
 ghost use Rattle.table_store.specs.Key.{row_of};
-ghost use Rattle.table_store.specs.Keys.{AreColumns};
-ghost use Rattle.table_store.specs.Loading.{IsRefusedTable};
+ghost use Rattle.table_store.specs.Loading.{table_cause, HasKeyColumns, IsRefusedTable};
 ghost use Rattle.table_store.specs.Table.{keys_of};
 
-use crate::cells::Cells;
+use crate::block::Block;
+use crate::cursor::RowCursor;
 use crate::fault::LoadFault;
-use crate::keys::Keys;
+use crate::keys::{KeyFault, Keys};
+use crate::loading::{BadCell, TableFault, field_value, read_table};
+use block_summary::BLOCK_ROWS;
 use cell_types::Value;
+use csv_index::IndexedText;
 use csvw_meta::Schema;
 use std::alloc::{AllocError, Global};
 use std::marker::Model;
@@ -21,7 +25,8 @@ use std::marker::Model;
 /// A table, whose values are read from the bytes of its file.
 #[derive(Drop)]
 pub struct Table {
-    cells: Cells,
+    schema: Schema,
+    file: IndexedText,
     keys: Keys,
 }
 
@@ -30,32 +35,34 @@ impl Model for Table {
 
     ghost Value = { TableOf };
 
-    ghost use Rattle.table_store.specs.Inside.{IsKeyed};
+    ghost use Rattle.table_store.specs.Inside.{table_view, IsWhole};
 
-    ghost view = { λ table. table.cells };
+    ghost view = { table_view };
 
-    ghost invariant = { IsKeyed };
+    ghost invariant = { IsWhole };
 }
 
 impl Table {
+    ghost use Rattle.table_store.specs.Block.{block_count, block_of};
+
     /// The name that targets have.
     pub fn name(&self) -> &str
         ensures { result.now ≡ self.now.schema.name }
     {
-        self.schema().name.as_str()
+        self.schema.name.as_str()
     }
 
     pub fn schema(&self) -> &Schema
         ensures { schema_view result.now ≡ self.now.schema }
     {
-        self.cells.schema()
+        &self.schema
     }
 
     /// How many rows the table has.
     pub fn rows(&self) -> usize
         ensures { result ≡ length self.now.rows }
     {
-        self.cells.rows()
+        self.file.rows()
     }
 
     /// How many columns the table has, and values each row.
@@ -63,7 +70,7 @@ impl Table {
         ensures columns { result ≡ length self.now.schema.columns }
         ensures rows { AllByRecursion (λ values. length values ≡ result) self.now.rows }
     {
-        self.cells.width()
+        self.file.width()
     }
 
     /// The value of a row and a column, both counted from 0.
@@ -73,7 +80,42 @@ impl Table {
         ensures { IfOk result (λ value.
             option_and_then (λ values. slice_get values col) (slice_get self.now.rows row) ≡ Some (value_view value)) }
     {
-        self.cells.value(alloc, row, col)
+        let raw = self.file.cell(row, col);
+        field_value(alloc, &self.schema.columns[col], raw)
+    }
+
+    /// How many blocks the rows are, each of [`BLOCK_ROWS`] and the last perhaps of fewer.
+    pub fn blocks(&self) -> usize
+        ensures { result ≡ block_count (length self.now.rows) }
+    {
+        self.rows().div_ceil(BLOCK_ROWS)
+    }
+
+    /// The block of a number, counted from 0.
+    pub fn block(&self, number: usize) -> Block<'_>
+        requires { number < block_count (length self.now.rows) }
+        ensures { result ≡ block_of self.now number }
+    {
+        let all = self.rows();
+        let first = number * BLOCK_ROWS;
+        let rows = (all - first).min(BLOCK_ROWS);
+        Block {
+            table: self,
+            first,
+            rows,
+        }
+    }
+
+    /// The rows, one after another, the first one first.
+    pub fn cursor(&self) -> RowCursor<'_>
+        ensures { result ≡ self.now.rows }
+    {
+        RowCursor {
+            columns: self.schema.columns.as_slice(),
+            file: &self.file,
+            row: 0,
+            fields: self.file.fields(0),
+        }
     }
 
     /// The row, counted from 0, whose values in the columns of the key are those, in the order of the key (Metadata Vocabulary for
@@ -91,13 +133,38 @@ impl Table {
         schema: Schema,
         file: Option<Vec<u8>>,
     ) -> Result<Table, LoadFault>
-        requires { AreColumns (schema_view schema).key (schema_view schema).columns }
-        ensures table { IfOk result (HasTable limit (option_map (λ bytes. bytes.items) file) (schema_view schema)) }
-        ensures fault { IfErr result (λ e. IfSome (load_cause e)
-            (IsRefusedTable limit (option_map (λ bytes. bytes.items) file) (schema_view schema))) }
+        requires { HasKeyColumns (schema_view schema) }
+        ensures table { IfOk result (HasTable limit (file_bytes file) (schema_view schema)) }
+        ensures fault { IfErr result (λ e.
+            IfSome (load_cause e) (IsRefusedTable limit (file_bytes file) (schema_view schema))) }
         ensures memory { IfErr result (λ e. load_cause e ≡ None → e ≡ LoadFault.NoMemory) }
     {
-        let (cells, keys) = Cells::read(alloc, limit, schema, file)?;
-        Ok(Table { cells, keys })
+        match read_table(alloc, limit, &schema, file) {
+            Ok((file, keys)) => Ok(Table { schema, file, keys }),
+            Err(fault) => Err(fault_of(schema.url, fault)),
+        }
+    }
+}
+
+/// The error of a folder that the fault of the table of that url is.
+fn fault_of(table: String, fault: TableFault) -> LoadFault
+    ensures cause { load_cause result
+        ≡ option_map (bad_table (string_bytes table)) (table_cause fault) }
+    ensures memory { fault ≡ TableFault.NoMemory → result ≡ LoadFault.NoMemory }
+{
+    match fault {
+        TableFault::FileMissing => LoadFault::FileMissing { table },
+        TableFault::FileTooLarge => LoadFault::FileTooLarge { table },
+        TableFault::Text(fault) => LoadFault::Text { table, fault },
+        TableFault::Header(col) => LoadFault::Header { table, col },
+        TableFault::Cell(BadCell { row, col, fault }) => LoadFault::Cell {
+            table,
+            row,
+            col,
+            fault,
+        },
+        TableFault::Key(KeyFault::Null(row)) => LoadFault::KeyNull { table, row },
+        TableFault::Key(KeyFault::Twice(row)) => LoadFault::KeyTwice { table, row },
+        TableFault::NoMemory => LoadFault::NoMemory,
     }
 }

@@ -1,7 +1,10 @@
-use Rattle.std.proofs.Common.{◌≢◌, ◌^◌, ◌<◌, arith}
+use Rattle.std.proofs.Common.{◌≡◌, ◌≢◌, ◌^◌, ◌<◌, length, map, sym, ap, ◌∙◌, arith}
+use Rattle.std.proofs.lemmas.List.{length-map}
 use Rattle.std.proofs.lemmas.Int.{to_z_pos}
 use Rattle.std.specs.Int.{w64}
 use Rattle.csv_index.specs.declared.fault.TextFault.TheVariants.{NoMemory}
+use Rattle.csv_index.specs.Raw.{field_of}
+use Rattle.csv_index.specs.Index.{table_in}
 use Rattle.index_bench.specs.Rows.{table, refused, no_memory}
 use Rattle.index_bench.proofs.RowLemmas.{fault_told}
 use Rattle.index_bench.proofs.rows_of.Goals as goal
@@ -10,7 +13,9 @@ pub returns-in-Ok : goal.returns-in-Ok
 returns-in-Ok c = λ bytes ok err.
     let t = rw c.in-Ok.is at ok in
     let small : c.in-Ok.index.rows < 2 ^ 63 = rw c.in-Ok.is at c.requires in
-    rw (to_z_pos w64 c.rows.result (omega (arith, small, c.rows.ensures)), c.rows.ensures, t.2.row_count) (table t.0 t.1 t.2.table)
+    let raw = table_in c.in-Ok.index bytes in
+    let count : c.in-Ok.index.rows ≡ length (map (map field_of) raw.rows) = sym t.row_count ∙ sym (length-map raw.rows (map field_of)) in
+    rw (to_z_pos w64 c.rows.result (omega (arith, small, c.rows.ensures)), c.rows.ensures, count) (table (map field_of raw.header) (map (map field_of) raw.rows) t.table.is)
 
 pub returns-in-Err : goal.returns-in-Err
 returns-in-Err c = λ bytes ok err. no_memory

@@ -1,7 +1,7 @@
 use Rattle.std.proofs.Common.{rules, arith, ◌≡◌, ◌-◌, length, take, drop, length-drop}
 use Rattle.std.proofs.lemmas.List.{take_all}
 use Rattle.std.proofs.Math.Seq.{take-add}
-use Rattle.odata_http.proofs.DeviceLemmas.{Appends-step}
+use Rattle.std.proofs.KnownBytes.{Appends-trans}
 use Rattle.odata_http.proofs.device.send.Goals as goal
 
 pub loop-at-preserved : goal.loop-at-preserved
@@ -11,6 +11,6 @@ loop-at-preserved g c =
     record {
       within = search rules;
       taken = rw (take-add c.loop-at.at c.in_ok-n.n bs, ← rest)
-          (Appends-step _ _ _ _ _ c.loop-at.invariant.taken c.in_ok-n.ensures.bytes);
+          (Appends-trans _ _ _ _ _ c.loop-at.invariant.taken c.in_ok-n.ensures.bytes);
       failed = search rules;
     }

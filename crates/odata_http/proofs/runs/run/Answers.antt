@@ -1,13 +1,15 @@
-use Rattle.std.proofs.Common.{rules, ◌<◌, ◌∙◌, ap, length, Ok, arith, refl, map}
+use Rattle.std.proofs.Common.{rules, true, false, ◌<◌, ◌++◌, ◌∙◌, length, Ok, Err, arith, refl, take}
 use Rattle.std.proofs.lemmas.Result.{err_from_is_err_and}
-use Rattle.odata_http.specs.Head.{head_view}
-use Rattle.odata_http.proofs.RunLemmas.{running_starts, running_stops, running_fails, running_reads, running_ends, answered_open, answered_closed, answered_fault, piece_fault, rest_answered_all, rest_fault}
-use Rattle.odata_http.proofs.RunEnds.{end_run, read_fault_run, limit_run, turn_read, read_end, read_more, rest_line}
+use Rattle.odata_http.specs.Reply.{IsReply}
+use Rattle.odata_http.proofs.RepliesLemmas.{all_join}
+use Rattle.odata_http.proofs.SinkLemmas.{piece_sent, rest_sent}
+use Rattle.odata_http.proofs.RunLemmas.{running_starts, running_stops, running_fails, running_reads, running_ends, piece_open, piece_closed, piece_fault, rest_over, rest_fault}
+use Rattle.odata_http.proofs.RunEnds.{end_run, read_fault_run, limit_run, turn_read, read_end, read_more}
 use Rattle.odata_http.proofs.runs.run.Goals as goal
 
 pub loop-turn-init : goal.loop-turn-init
 loop-turn-init g c = record {
-  running = rw c.new-splitter.ensures (running_starts _ _ _);
+  running = rw c.new-splitter.ensures (running_starts _ c.one_cut.ensures _ _);
   reads = omega arith;
   failed_reads = refl;
   failed_writes = refl;
@@ -18,12 +20,14 @@ pub loop-turn-preserved : goal.loop-turn-preserved
 loop-turn-preserved g c =
     let turn = turn_read _ _ _ _ _ c.requires.reads c.ranges.limit.fits c.loop-turn-test.true c.loop-turn.invariant.reads c.in-Ok.ensures.reads in
     let read = running_reads c.loop-turn.invariant.running c.in-Ok.ensures.bytes.0 (read_more _ _ _ _ c.if-n-eq0.false c.in-Ok.ensures.ends) in
-    let answered = rw (c.in-Open.is, c.as_slice.ensures.value) at c.in_ok-answer_heads.ensures in
+    let stream = c.loop-turn.splitter ++ take c.in-Ok.n c.read.new.buf in
+    let sent = piece_sent (IsReply c.args.catalog.now.tables) g.W.Sink.sink stream c.take_in.new.splitter c.loop-turn.out c.take_in.new.out (Ok false)
+    (rw c.if-closed.false at c.in_ok-closed.ensures) in
     record {
-      running = answered_open read c.in_ok-heads.ensures.heads answered;
+      running = piece_open c.cuts_join.ensures read sent;
       reads = turn.0;
       failed_reads = c.in-Ok.ensures.failed ∙ c.loop-turn.invariant.failed_reads;
-      failed_writes = answered.1.failed ∙ c.loop-turn.invariant.failed_writes;
+      failed_writes = sent.2.failed ∙ c.loop-turn.invariant.failed_writes;
       piece = c.read.auto.buf ∙ c.loop-turn.invariant.piece;
     }
 
@@ -42,8 +46,8 @@ returns-then-n-eq0 g c =
     let some = c.requires.ends in
     let ended = running_ends c.loop-turn.invariant.running (rw none at c.in-Ok.ensures.bytes.0)
     (read_end _ _ _ _ none room (omega (arith, before, some)) c.in-Ok.ensures.ends) (c.in-Ok.ensures.bytes.1 none room) in
-    end_run (Ok tt)
-    (rest_answered_all ended (rw (rest_line _ _ c.end.ensures.unreadable) at c.in_ok-answer_rest.ensures) c.loop-turn.invariant.failed_writes)
+    let sent = rest_sent g.W.Sink.sink c.loop-turn.splitter c.loop-turn.out c.answer_rest.new.out (Ok c.in_ok-answer_rest.field-0) c.in_ok-answer_rest.ensures.answered in
+    end_run (all_join _ c.cuts_join.ensures) (Ok tt) (rest_over ended sent c.loop-turn.invariant.failed_writes)
     c.requires.failed_writes (c.in-Ok.ensures.failed ∙ c.loop-turn.invariant.failed_reads) turn.1
 
 pub returns-in_err-answer_rest : goal.returns-in_err-answer_rest
@@ -56,33 +60,32 @@ returns-in_err-answer_rest g c =
     let some = c.requires.ends in
     let ended = running_ends c.loop-turn.invariant.running (rw none at c.in-Ok.ensures.bytes.0)
     (read_end _ _ _ _ none room (omega (arith, before, some)) c.in-Ok.ensures.ends) (c.in-Ok.ensures.bytes.1 none room) in
-    rw (p.1, p.2) (end_run _
-    (rest_fault _ c.in_err-answer_rest.field-0.0 ended (rw (rest_line _ _ c.end.ensures.unreadable) at c.in_err-answer_rest.ensures) c.loop-turn.invariant.failed_writes)
+    let fault = c.in_err-answer_rest.field-0.0 in
+    let sent = rest_sent g.W.Sink.sink c.loop-turn.splitter c.loop-turn.out c.answer_rest.new.out (Err fault) c.in_err-answer_rest.ensures.answered in
+    rw (p.1, p.2) (end_run (all_join _ c.cuts_join.ensures) _ (rest_fault _ fault ended sent c.loop-turn.invariant.failed_writes)
     c.requires.failed_writes (c.in-Ok.ensures.failed ∙ c.loop-turn.invariant.failed_reads) turn.1)
 
-pub returns-in_err-heads : goal.returns-in_err-heads
-returns-in_err-heads g c =
-    let p = err_from_is_err_and c.from_residual-in_err-heads.result c.from_residual-in_err-heads.ensures.1 in
+pub returns-in_err-closed : goal.returns-in_err-closed
+returns-in_err-closed g c =
+    let p = err_from_is_err_and c.from_residual-in_err-closed.result c.from_residual-in_err-closed.ensures.1 in
     let turn = turn_read _ _ _ _ _ c.requires.reads c.ranges.limit.fits c.loop-turn-test.true c.loop-turn.invariant.reads c.in-Ok.ensures.reads in
     let read = running_reads c.loop-turn.invariant.running c.in-Ok.ensures.bytes.0 (read_more _ _ _ _ c.if-n-eq0.false c.in-Ok.ensures.ends) in
-    rw (p.1, p.2) (end_run _ (piece_fault read c.loop-turn.invariant.failed_writes)
+    let stream = c.loop-turn.splitter ++ take c.in-Ok.n c.read.new.buf in
+    let fault = c.in_err-closed.field-0.0 in
+    let sent = piece_sent (IsReply c.args.catalog.now.tables) g.W.Sink.sink stream c.take_in.new.splitter c.loop-turn.out c.take_in.new.out (Err fault)
+    c.in_err-closed.ensures in
+    rw (p.1, p.2) (end_run (all_join _ c.cuts_join.ensures) _
+    (piece_fault c.take_in.new.splitter _ fault c.cuts_join.ensures read sent c.loop-turn.invariant.failed_writes)
     c.requires.failed_writes (c.in-Ok.ensures.failed ∙ c.loop-turn.invariant.failed_reads) turn.1)
 
-pub returns-in_err-answer_heads : goal.returns-in_err-answer_heads
-returns-in_err-answer_heads g c =
-    let p = err_from_is_err_and c.from_residual-in_err-answer_heads.result c.from_residual-in_err-answer_heads.ensures.1 in
+pub returns-then-closed : goal.returns-then-closed
+returns-then-closed g c =
     let turn = turn_read _ _ _ _ _ c.requires.reads c.ranges.limit.fits c.loop-turn-test.true c.loop-turn.invariant.reads c.in-Ok.ensures.reads in
     let read = running_reads c.loop-turn.invariant.running c.in-Ok.ensures.bytes.0 (read_more _ _ _ _ c.if-n-eq0.false c.in-Ok.ensures.ends) in
-    rw (p.1, p.2) (end_run _ (answered_fault _ c.in_err-answer_heads.field-0.0 read c.in_ok-heads.ensures.heads
-    (ap (map head_view) c.as_slice.ensures.value) c.in_err-answer_heads.ensures c.loop-turn.invariant.failed_writes)
-    c.requires.failed_writes (c.in-Ok.ensures.failed ∙ c.loop-turn.invariant.failed_reads) turn.1)
-
-pub returns-in-Closed : goal.returns-in-Closed
-returns-in-Closed g c =
-    let turn = turn_read _ _ _ _ _ c.requires.reads c.ranges.limit.fits c.loop-turn-test.true c.loop-turn.invariant.reads c.in-Ok.ensures.reads in
-    let read = running_reads c.loop-turn.invariant.running c.in-Ok.ensures.bytes.0 (read_more _ _ _ _ c.if-n-eq0.false c.in-Ok.ensures.ends) in
-    let answered = rw (c.in-Closed.is, c.as_slice.ensures.value) at c.in_ok-answer_heads.ensures in
-    end_run (Ok tt) (answered_closed read c.in_ok-heads.ensures.heads answered c.loop-turn.invariant.failed_writes)
+    let stream = c.loop-turn.splitter ++ take c.in-Ok.n c.read.new.buf in
+    let sent = piece_sent (IsReply c.args.catalog.now.tables) g.W.Sink.sink stream c.take_in.new.splitter c.loop-turn.out c.take_in.new.out (Ok true)
+    (rw c.if-closed.true at c.in_ok-closed.ensures) in
+    end_run (all_join _ c.cuts_join.ensures) (Ok tt) (piece_closed c.cuts_join.ensures read sent c.loop-turn.invariant.failed_writes)
     c.requires.failed_writes (c.in-Ok.ensures.failed ∙ c.loop-turn.invariant.failed_reads) turn.1
 
 pub returns : goal.returns

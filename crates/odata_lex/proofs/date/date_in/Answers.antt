@@ -1,6 +1,6 @@
 use Rattle.std.proofs.Common.{arith}
 use Rattle.odata_lex.specs.Token.{IsDateForm}
-use Rattle.odata_lex.proofs.Dates.{Decides-date_form, day_small, date_or_none}
+use Rattle.odata_lex.proofs.Dates.{Decides-date_form, year_small, month_small, day_small, date_or_none}
 use Rattle.odata_lex.proofs.date.date_in.Goals as goal
 
 pub returns-then-not-is_date_form : goal.returns-then-not-is_date_form
@@ -14,6 +14,16 @@ number-month-requires-clause-digits c = ((Decides-date_form c.args.text.now).0 (
 
 pub number-day-requires-clause-digits : goal.number-day-requires-clause-digits
 number-day-requires-clause-digits c = ((Decides-date_form c.args.text.now).0 (cc (c.is_date_form.ensures, c.if-not-is_date_form.false))).day
+
+pub calendar_day-requires-clause-year : goal.calendar_day-requires-clause-year
+calendar_day-requires-clause-year c =
+    let form : IsDateForm c.args.text.now = (Decides-date_form c.args.text.now).0 (cc (c.is_date_form.ensures, c.if-not-is_date_form.false)) in
+    omega (arith, year_small c.args.text.now form, c.number-year.ensures)
+
+pub calendar_day-requires-clause-month : goal.calendar_day-requires-clause-month
+calendar_day-requires-clause-month c =
+    let form : IsDateForm c.args.text.now = (Decides-date_form c.args.text.now).0 (cc (c.is_date_form.ensures, c.if-not-is_date_form.false)) in
+    omega (arith, month_small c.args.text.now form, c.number-month.ensures)
 
 pub calendar_day-requires-clause-day : goal.calendar_day-requires-clause-day
 calendar_day-requires-clause-day c =

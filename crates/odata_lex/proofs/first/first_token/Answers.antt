@@ -12,13 +12,9 @@ returns-in_err-len c = c.from_residual.ensures ∙ quote_none c.args.text.now (o
 pub returns-then-first-eq39 : goal.returns-then-first-eq39
 returns-then-first-eq39 c = quote_some c.args.text.now _ (omega arith) c.if-first-eq39.true c.in_ok-len.ensures.value
 
-pub returns-then-begins_date : goal.returns-then-begins_date
-returns-then-begins_date c =
-    rw (at_digit c.args.text.now (omega arith) (sym c.is_ascii_digit.ensures.value ∙ c.if-is_ascii_digit.true), sym c.begins_date.ensures ∙ c.if-begins_date.true) c.date_token.ensures
-
-pub returns-else-begins_date : goal.returns-else-begins_date
-returns-else-begins_date c =
-    rw (at_digit c.args.text.now (omega arith) (sym c.is_ascii_digit.ensures.value ∙ c.if-is_ascii_digit.true), sym c.begins_date.ensures ∙ c.if-begins_date.false) c.number_token.ensures
+pub returns-then-is_ascii_digit : goal.returns-then-is_ascii_digit
+returns-then-is_ascii_digit c =
+    c.digit_token.ensures ∙ sym (at_digit c.args.text.now (omega arith) (sym c.is_ascii_digit.ensures.value ∙ c.if-is_ascii_digit.true))
 
 pub returns-then-begins_word : goal.returns-then-begins_word
 returns-then-begins_word c = rw (at_word c.args.text.now (omega arith) (sym c.begins_word.ensures ∙ c.if-begins_word.true), c.word_len.ensures.value) refl

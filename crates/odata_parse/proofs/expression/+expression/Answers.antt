@@ -29,7 +29,7 @@ phrase-returns-in_err-right-clause-each t c =
 pub phrase-loop-operator-preserved : goal.phrase-loop-operator-preserved
 phrase-loop-operator-preserved t c =
     let s = c.in-Some.ensures.some in
-    rw (c.in_ok-left-2.ensures) (Midway-more _ _ _ _ _ _ _ _ _ c.loop-operator.invariant s.1 s.2 (omega (arith, s.3)) c.in_ok-right.ensures.found c.in_ok-right.ensures.each c.in_ok-right.ensures.shorter)
+    rw (c.in_ok-new.ensures.ok, c.in_ok-new-2.ensures.ok) (Midway-more _ _ _ _ _ _ _ _ _ c.loop-operator.invariant s.1 s.2 (omega (arith, s.3)) c.in_ok-right.ensures.found c.in_ok-right.ensures.each c.in_ok-right.ensures.shorter)
 
 pub phrase-returns-clause-found : goal.phrase-returns-clause-found
 phrase-returns-clause-found t c =

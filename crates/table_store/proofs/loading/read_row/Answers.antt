@@ -4,23 +4,19 @@ use Rattle.std.specs.List.{list_any}
 use Rattle.std.specs.Result.{result_err}
 use Rattle.cell_types.specs.Column.{column_view}
 use Rattle.cell_types.specs.Value.{null, value_view}
-use Rattle.csv_index.specs.Raw.{RawField, raw_content}
-use Rattle.csv_index.specs.declared.raw.Raw.{Raw}
-use Rattle.table_store.specs.Inside.{values_in}
+use Rattle.csv_index.specs.Raw.{raw_view, raw_content}
+use Rattle.table_store.specs.Values.{values_in}
 use Rattle.table_store.proofs.InsideLemmas.{length-values_in}
 use Rattle.table_store.proofs.PlaceLemmas.{drop-first, slice_get-from_read, slice_get-take}
 use Rattle.table_store.proofs.RowLemmas.{field_there, key_from, value_at, value_passed, value_put, values_from-none, values_past, wrong_from-here, wrong_from-past, wrong_from-end}
 use Rattle.table_store.proofs.loading.read_row.Goals.{In-Some}
 use Rattle.table_store.proofs.loading.read_row.Goals as goal
 
-abbrev as_it_stands : Raw → RawField
-as_it_stands raw = record { bytes = raw.bytes.now; quoted = raw.quoted }
-
 -- the field that is read is the column's, and those behind it are left
-next_field : (c : In-Some) → (slice_get (take (length c.args.columns.now) c.args.fields.now) c.loop-col.col ≡ Some (as_it_stands c.in-Some.raw))
+next_field : (c : In-Some) → (slice_get (take (length c.args.columns.now) c.args.fields.now) c.loop-col.col ≡ Some (raw_view c.in-Some.raw))
     × (drop (c.loop-col.col + 1) c.args.fields.now ≡ c.next_field.new.self)
 next_field c =
-    let next = drop-first c.args.fields.now c.loop-col.col (as_it_stands c.in-Some.raw) c.next_field.new.self (sym c.loop-col.invariant.passed ∙ c.in-Some.ensures) in
+    let next = drop-first c.args.fields.now c.loop-col.col (raw_view c.in-Some.raw) c.next_field.new.self (sym c.loop-col.invariant.passed ∙ c.in-Some.ensures) in
     (slice_get-take (length c.args.columns.now) c.args.fields.now c.loop-col.col c.loop-col-test.true ∙ next.0, next.1)
 
 pub unreachable-requires : goal.unreachable-requires
@@ -39,7 +35,7 @@ returns-in-Err-clause-fault c =
       | inl memory ↦ inl memory
       | inr e ↦
           inr (sym c.loop-col.invariant.right
-          ∙ wrong_from-here c.args.columns.now fields col c.index-columns-col.result (as_it_stands c.in-Some.raw) c.in-Err.fault at_column at_field e)
+          ∙ wrong_from-here c.args.columns.now fields col c.index-columns-col.result (raw_view c.in-Some.raw) c.in-Err.fault at_column at_field e)
     ]
 
 pub loop-col-preserved-then-not-is_among : goal.loop-col-preserved-then-not-is_among
@@ -69,10 +65,10 @@ loop-col-preserved c =
     let fields = take (length columns) c.args.fields.now in
     let at_column = slice_get-from_read columns col column c.loop-col-test.true c.index-columns-col.is in
     let next = next_field (goal.at.loop-col-preserved c).In-Some in
-    let there = value_at columns fields col column (as_it_stands c.in-Some.raw) (value_view value) at_column next.0 c.in-Ok.ensures.value in
+    let there = value_at columns fields col column (raw_view c.in-Some.raw) (value_view value) at_column next.0 c.in-Ok.ensures.value in
     let size : col < length items = omega (arith, c.loop-col.invariant.count, c.loop-col-test.true) in
     record {
-      right = sym (wrong_from-past columns fields col column (as_it_stands c.in-Some.raw) at_column next.0 (ap result_err c.in-Ok.ensures.value))
+      right = sym (wrong_from-past columns fields col column (raw_view c.in-Some.raw) at_column next.0 (ap result_err c.in-Ok.ensures.value))
           ∙ c.loop-col.invariant.right;
       passed = sym next.1;
       count = length-set items col value ∙ c.loop-col.invariant.count;

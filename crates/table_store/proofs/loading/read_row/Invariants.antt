@@ -2,7 +2,7 @@ use Rattle.std.proofs.Common.{◌≡◌, ◌<◌, ◌==◌, ℕ, true, get_or, l
 use Rattle.std.specs.List.{list_any}
 use Rattle.cell_types.specs.Column.{column_view}
 use Rattle.cell_types.specs.Value.{null, value_view}
-use Rattle.table_store.specs.Inside.{values_in}
+use Rattle.table_store.specs.Values.{values_in}
 use Rattle.table_store.proofs.RowLemmas.{wrong_from}
 use Rattle.table_store.proofs.loading.read_row.Given as goal
 

@@ -1,11 +1,10 @@
-use Rattle.std.proofs.Common.{◌≡◌, ◌+◌, ◌*◌, List, drop, length, take}
-use Rattle.csv_index.specs.Index.{raws}
+use Rattle.std.proofs.Common.{◌≡◌, List, drop, length, take}
 use Rattle.csv_index.specs.Raw.{RawField}
+use Rattle.csv_index.specs.Index.{row_fields}
 use Rattle.csvw_meta.specs.Schema.{schema_view}
-use Rattle.table_store.specs.Inside.{rows_in, values_in}
+use Rattle.table_store.specs.Values.{rows_in, values_in}
 use Rattle.table_store.specs.Key.{row_key, row_keys}
 use Rattle.table_store.specs.Keys.{HasRead, Suits}
-use Rattle.table_store.specs.Loading.{records_of}
 use Rattle.table_store.proofs.RowLemmas.{wrong_in_rows}
 use Rattle.table_store.proofs.loading.read_rows.Given as goal
 
@@ -13,11 +12,11 @@ use Rattle.table_store.proofs.loading.read_rows.Given as goal
 abbrev pub invariant-loop-row : goal.invariant-loop-row
 invariant-loop-row l =
     let schema = schema_view l.schema in
-    let rows = records_of l.index l.bytes in
+    let rows = l.file.rows in
     record {
       right : wrong_in_rows l.row schema.columns rows ≡ wrong_in_rows 0 schema.columns rows;
-      passed : l.fields ≡ drop ((l.row + 1) * l.index.width) (raws l.index l.bytes);
+      passed : l.fields ≡ row_fields (drop l.row rows);
       count : length l.values.items ≡ length l.schema.columns.items;
-      keys : HasRead l.keys (row_keys schema.key (take l.row (rows_in schema.columns l.index l.bytes)));
+      keys : HasRead l.keys (row_keys schema.key (take l.row (rows_in schema.columns rows)));
       suits : (fields : List RawField) → Suits l.keys.keys (row_key schema.key (values_in schema.columns fields));
     }

@@ -1,6 +1,7 @@
 -- The field's number is among the places, and is that of the row and the column.
 use Rattle.std.proofs.Common.{◌+◌, ◌*◌, ◌≤◌, length, arith}
-use Rattle.csv_index.proofs.CellLemmas.{cell_from_raws, cell_fits}
+use Rattle.csv_index.proofs.CellLemmas.{cell_fits}
+use Rattle.csv_index.proofs.RowLemmas.{cell-table_in}
 use Rattle.csv_index.proofs.index.Index.cell.Goals as goal
 
 pub overflow_add-row : goal.overflow_add-row
@@ -21,6 +22,6 @@ overflow_add-row-2 c =
     let here : (c.args.row + 1) * c.self.inside.width + c.args.col ≤ length c.args.bytes.now + 1 = rw (← c.self.view_is) at most in
     omega arith
 
-pub returns-clause-field : goal.returns-clause-field
-returns-clause-field c header rows index =
-    cell_from_raws c.args.self.now c.args.bytes.now c.args.row c.args.col _ header rows c.requires.col (rw (← c.self.view_is) (rw (← c.self.view_is) at c.field.ensures)) index
+pub returns : goal.returns
+returns c =
+    cell-table_in c.args.self.now c.args.bytes.now c.args.row c.args.col _ c.requires.row c.requires.col (rw (← c.self.view_is) (rw (← c.self.view_is) at c.field.ensures))

@@ -2,7 +2,8 @@
 use Rattle.std.proofs.Common.{◌≡◌, ℕ, ◌+◌, ◌-◌, ◌*◌, ◌≤◌, ◌<◌, length, drop, add-one, subst, arith, sym, ap, ◌∙◌}
 use Rattle.csv_index.specs.Index.{Places}
 use Rattle.csv_index.proofs.Boundaries.{boundary_next}
-use Rattle.csv_index.proofs.CellLemmas.{cell_fits, start_before, fields_behind, fields_from}
+use Rattle.csv_index.proofs.CellLemmas.{cell_fits, start_before, fields_behind}
+use Rattle.csv_index.proofs.RowLemmas.{fields-table_in}
 use Rattle.csv_index.proofs.index.Index.fields.Goals as goal
 
 pub overflow_add-before : goal.overflow_add-before
@@ -35,16 +36,9 @@ invariant_of-result c =
       ascii = b.ascii;
     }
 
-pub returns-clause-raws : goal.returns-clause-raws
-returns-clause-raws c =
+pub returns : goal.returns
+returns c =
     let f = cell_fits c.args.self.now c.args.bytes.now c.args.row c.requires.bytes c.requires.row in
     let same : (c.args.row + 1) * c.args.self.now.width ≡ (c.args.row + 1) * c.self.inside.width = ap (λ (p : Places). (c.args.row + 1) * p.width) (sym c.self.view_is) in
     let number : (c.args.row + 1) * c.args.self.now.width ≡ (c.args.row + 1) * c.self.inside.width - 1 + 1 = omega (arith, f.0, same) in
-    (fields_behind c.args.self.now c.args.bytes.now c.args.row ((c.args.row + 1) * c.self.inside.width - 1) c.end_of.result c.ends_behind.result c.requires.bytes number c.end_of.ensures c.ends_behind.ensures).are
-
-pub returns-clause-fields : goal.returns-clause-fields
-returns-clause-fields c header rows index =
-    let f = cell_fits c.args.self.now c.args.bytes.now c.args.row c.requires.bytes c.requires.row in
-    let same : (c.args.row + 1) * c.args.self.now.width ≡ (c.args.row + 1) * c.self.inside.width = ap (λ (p : Places). (c.args.row + 1) * p.width) (sym c.self.view_is) in
-    let number : (c.args.row + 1) * c.args.self.now.width ≡ (c.args.row + 1) * c.self.inside.width - 1 + 1 = omega (arith, f.0, same) in
-    (fields_behind c.args.self.now c.args.bytes.now c.args.row ((c.args.row + 1) * c.self.inside.width - 1) c.end_of.result c.ends_behind.result c.requires.bytes number c.end_of.ensures c.ends_behind.ensures).are ∙ fields_from c.args.self.now c.args.bytes.now c.args.row header rows index
+    (fields_behind c.args.self.now c.args.bytes.now c.args.row ((c.args.row + 1) * c.self.inside.width - 1) c.end_of.result c.ends_behind.result c.requires.bytes number c.end_of.ensures c.ends_behind.ensures).are ∙ fields-table_in c.args.self.now c.args.bytes.now c.args.row c.requires.bytes c.requires.row

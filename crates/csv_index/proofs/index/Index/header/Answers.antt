@@ -1,8 +1,8 @@
--- The header is the first record.
-use Rattle.std.proofs.Common.{arith}
-use Rattle.csv_index.proofs.CellLemmas.{record_from_raws}
+-- The header is the first fields.
+use Rattle.std.proofs.Common.{◌∙◌}
+use Rattle.csv_index.specs.Index.{raws}
+use Rattle.csv_index.proofs.RowLemmas.{slice_get-take}
 use Rattle.csv_index.proofs.index.Index.header.Goals as goal
 
-pub returns-clause-field : goal.returns-clause-field
-returns-clause-field c header rows index =
-    record_from_raws c.args.self.now c.args.bytes.now 0 c.args.col c.args.col _ header rows (omega arith) c.requires.col c.field.ensures index
+pub returns : goal.returns
+returns c = slice_get-take c.args.self.now.width (raws c.args.self.now c.args.bytes.now) c.args.col c.requires.col ∙ c.field.ensures

@@ -1,6 +1,6 @@
 use Rattle.std.proofs.Common.{get_or, length, sym, ap, subst, ◌∙◌, arith}
 use Rattle.csvw_meta.specs.Schema.{schema_view}
-use Rattle.table_store.specs.Inside.{values_in}
+use Rattle.table_store.specs.Values.{values_in}
 use Rattle.table_store.specs.Key.{row_key}
 use Rattle.table_store.specs.Keys.{Suits}
 use Rattle.table_store.proofs.KeyLemmas.{one_item}

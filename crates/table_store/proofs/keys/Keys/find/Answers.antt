@@ -1,6 +1,6 @@
 use Rattle.std.proofs.Common.{◌≡◌, ◌≢◌, ℤ, [], ◌∷◌, length, map, sym, ap, ◌∙◌, arith}
 use Rattle.std.proofs.lemmas.List.{length-map}
-use Rattle.cell_types.specs.Value.{int, value_view}
+use Rattle.cell_types.specs.Value.{integer, value_view}
 use Rattle.table_store.specs.Key.{row_of}
 use Rattle.table_store.specs.Keys.{keys_view}
 use Rattle.table_store.proofs.KeyLemmas.{position-view, values-row, int_eq-view, row_of-integers, one_item, not_one_item, no_int}
@@ -11,9 +11,9 @@ returns-in-Int c =
     let key = c.args.key.now in
     let one : length key ≡ 1 = omega (arith, c.in-len1.len_at_least, c.in-len1.len_below) in
     let item : key ≡ c.value-item.result ∷ [] = one_item key c.value-item.result one ∙ ap (λ v. v ∷ []) (sym c.value-item.is) in
-    let is : map value_view key ≡ int c.in-Int.number ∷ [] = ap (map value_view) item ∙ ap (λ v. value_view v ∷ []) c.in-Int.is in
-    c.get_index_of.ensures.index ∙ position-view (λ z. int z ∷ []) _ int_eq-view c.in-Int.number c.in-Integers.keys.keys
-    ∙ ap (row_of (map (λ z. int z ∷ []) c.in-Integers.keys.keys)) (sym is)
+    let is : map value_view key ≡ integer c.in-Int.number ∷ [] = ap (map value_view) item ∙ ap (λ v. value_view v ∷ []) c.in-Int.is in
+    c.get_index_of.ensures.index ∙ position-view (λ z. integer z ∷ []) _ int_eq-view c.in-Int.number c.in-Integers.keys.keys
+    ∙ ap (row_of (map (λ z. integer z ∷ []) c.in-Integers.keys.keys)) (sym is)
     ∙ ap (λ ks. row_of (keys_view ks) (map value_view key)) (sym c.in-Integers.is)
 
 pub returns-in_default-value : goal.returns-in_default-value
@@ -21,7 +21,7 @@ returns-in_default-value c =
     let key = c.args.key.now in
     let one : length key ≡ 1 = omega (arith, c.in-len1.len_at_least, c.in-len1.len_below) in
     let item : key ≡ c.value-item.result ∷ [] = one_item key c.value-item.result one ∙ ap (λ v. v ∷ []) (sym c.value-item.is) in
-    let other : (a : ℤ) → map value_view key ≢ int a ∷ [] = λ a e. no_int c.value-item.result c.in_default-value.not-Int a (sym (ap (map value_view) item) ∙ e) in
+    let other : (a : ℤ) → map value_view key ≢ integer a ∷ [] = λ a e. no_int c.value-item.result c.in_default-value.not-Int a (sym (ap (map value_view) item) ∙ e) in
     sym (row_of-integers c.in-Integers.keys.keys (map value_view key) other) ∙ ap (λ ks. row_of (keys_view ks) (map value_view key)) (sym c.in-Integers.is)
 
 pub returns-in_default : goal.returns-in_default

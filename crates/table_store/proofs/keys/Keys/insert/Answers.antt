@@ -3,7 +3,7 @@ use Rattle.std.specs.Int.{w128}
 use Rattle.std.specs.List.{list_any}
 use Rattle.std.proofs.lemmas.Int.{to_z-of_z}
 use Rattle.std.proofs.lemmas.List.{get_or-map}
-use Rattle.cell_types.specs.Value.{null, int, value_view}
+use Rattle.cell_types.specs.Value.{null, integer, value_view}
 use Rattle.table_store.specs.declared.keys.Keys.TheVariants.{Integers}
 use Rattle.table_store.specs.Key.{row_key, key_eq}
 use Rattle.table_store.specs.Keys.{keys_view, Suits}
@@ -33,9 +33,9 @@ returns-in_ok-insert-in-Int-clause-new c =
     get_or-map value_view values (get_or places 0 0) value null (c.requires.places 0 0 c.requires.some) ∙ ap value_view (sym c.index-values-places.is) in
     let fits : FitsSigned w128 c.in-Int.number = search rules in
     let read : to_z w128 (of_z w128 c.in-Int.number) ≡ c.in-Int.number = to_z-of_z w128 c.in-Int.number fits in
-    let is : int c.in-Int.number ∷ [] ≡ row_key places (map value_view values) = ap (λ v. value_view v ∷ []) (sym c.in-Int.is) ∙ ap (λ v. v ∷ []) (sym at ∙ key.1) ∙ sym key.2 in
-    inserted-new (λ z. int z ∷ []) _ int_eq-view _ c.in-Integers.keys.keys _ c.in_ok-insert-in-Int.ensures.added
-    ∙ ap (λ k. not (list_any (key_eq k) (map (λ z. int z ∷ []) c.in-Integers.keys.keys))) (ap (λ z. int z ∷ []) read ∙ is)
+    let is : integer c.in-Int.number ∷ [] ≡ row_key places (map value_view values) = ap (λ v. value_view v ∷ []) (sym c.in-Int.is) ∙ ap (λ v. v ∷ []) (sym at ∙ key.1) ∙ sym key.2 in
+    inserted-new (λ z. integer z ∷ []) _ int_eq-view _ c.in-Integers.keys.keys _ c.in_ok-insert-in-Int.ensures.added
+    ∙ ap (λ k. not (list_any (key_eq k) (map (λ z. integer z ∷ []) c.in-Integers.keys.keys))) (ap (λ z. integer z ∷ []) read ∙ is)
     ∙ ap (λ ks. not (list_any (key_eq (row_key places (map value_view values))) (keys_view ks))) (sym c.in-Integers.is)
 
 pub returns-in_ok-insert-in-Values-clause-new : goal.returns-in_ok-insert-in-Values-clause-new

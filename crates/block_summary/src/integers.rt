@@ -1,0 +1,165 @@
+//! The integers of one column of a block.
+
+ghost use Rattle.std.specs.Prelude.{◌≡◌, ◌≤ℤ◌, false, None, IfOk, length, map, slice_index_or};
+ghost use Rattle.std.specs.List.{count_by};
+ghost use Rattle.std.specs.Option.{is_none};
+ghost use Rattle.block_summary.specs.Cells.{cells_of, AreMarks, AreUnpacked, AreWithin, HaveBounds};
+
+use crate::bounds::Bounds;
+use crate::lanes::{bounds_of, null_count_of, sum_of};
+use crate::offsets::{Offsets, add_each, offset_at, offsets_of, rows_of};
+use std::alloc::{AllocError, Global};
+use std::marker::Model;
+
+/// The integers and nulls of the rows of a block.
+#[derive(Drop)]
+pub struct Integers {
+    bounds: Option<Bounds>,
+    null_count: usize,
+    /// What the offsets are added to.
+    least: i64,
+    /// Which rows are null; nothing where none is.
+    nulls: Vec<bool>,
+    offsets: Offsets,
+}
+
+impl Model for Integers {
+    ghost use Rattle.std.specs.Prelude.{◌≡◌, ◌⊎◌, [], List, Option, ℤ, length};
+    ghost use Rattle.std.specs.List.{count_by};
+    ghost use Rattle.std.specs.Option.{is_none};
+    ghost use Rattle.block_summary.specs.Cells.{cells_of, sums, AreBelow, HaveBounds};
+    ghost use Rattle.block_summary.specs.Offsets.{offset_list};
+
+    ghost Value = { List (Option ℤ) };
+
+    ghost view = { λ c. cells_of c.nulls.items (sums c.least (offset_list c.offsets)) };
+
+    ghost invariant = { λ c. AreBelow c.least (offset_list c.offsets)
+        × ((c.nulls.items ≡ []) ⊎ (length c.nulls.items ≡ length (offset_list c.offsets)))
+        × HaveBounds c.bounds (cells_of c.nulls.items (sums c.least (offset_list c.offsets)))
+        × (c.null_count ≡ count_by is_none (cells_of c.nulls.items (sums c.least (offset_list c.offsets)))) };
+}
+
+/// The marks of nulls that are kept: none, where no row is null.
+fn kept_nulls(alloc: Global, nulls: &[bool], null_count: usize) -> Result<Vec<bool>, AllocError>
+    requires { null_count ≡ count_by (λ is_null. is_null) nulls.now }
+    ensures { IfOk result (λ kept. AreMarks nulls.now kept.items) }
+{
+    if null_count == 0 {
+        return Ok(Vec::new(alloc));
+    }
+    Vec::from_slice(alloc, nulls)
+}
+
+/// Whether a row is null; none is, past the marks.
+#[inline(always)]
+fn is_null_at(nulls: &[bool], row: usize) -> bool
+    ensures { result ≡ slice_index_or nulls.now row false }
+{
+    match nulls.get(row) {
+        Some(is_null) => *is_null,
+        None => false,
+    }
+}
+
+/// The offsets of values from a least one.
+fn kept(
+    alloc: Global,
+    bounds: Option<Bounds>,
+    least: i64,
+    greatest: i64,
+    values: &[i64],
+    nulls: &[bool],
+) -> Result<Integers, AllocError>
+    requires nulls_long { length nulls.now ≡ length values.now }
+    requires ordered { least ≤ℤ greatest }
+    requires within { AreWithin least greatest nulls.now values.now }
+    requires bounds { HaveBounds bounds (cells_of nulls.now values.now) }
+    ensures { IfOk result (λ column. column ≡ cells_of nulls.now values.now) }
+{
+    let null_count = null_count_of(nulls);
+    let nulls_kept = kept_nulls(alloc, nulls, null_count)?;
+    let offsets = offsets_of(alloc, least, greatest, values, nulls)?;
+    Ok(Integers {
+        bounds,
+        null_count,
+        least,
+        nulls: nulls_kept,
+        offsets,
+    })
+}
+
+impl Integers {
+    /// Keeps values, of which some are null. What stands in the place of a null does not matter.
+    pub fn pack(alloc: Global, values: &[i64], nulls: &[bool]) -> Result<Integers, AllocError>
+        requires { length nulls.now ≡ length values.now }
+        ensures { IfOk result (λ column. column ≡ cells_of nulls.now values.now) }
+    {
+        match bounds_of(values, nulls) {
+            Some(bounds) => kept(
+                alloc,
+                Some(bounds),
+                bounds.least,
+                bounds.greatest,
+                values,
+                nulls,
+            ),
+            None => kept(alloc, None, 0, 0, values, nulls),
+        }
+    }
+
+    /// How many rows there are.
+    pub fn len(&self) -> usize
+        ensures { result ≡ length self.now }
+    {
+        rows_of(&self.offsets)
+    }
+
+    /// The number of a row, or null; null past the end.
+    pub fn get(&self, row: usize) -> Option<i64>
+        ensures { result ≡ slice_index_or self.now row None }
+    {
+        if is_null_at(self.nulls.as_slice(), row) {
+            return None;
+        }
+        match offset_at(&self.offsets, row) {
+            Some(offset) => Some(sum_of(self.least, offset)),
+            None => None,
+        }
+    }
+
+    /// Writes the number of each row; at a null, any.
+    pub fn unpack(&self, out: &mut [i64])
+        requires { length out.old ≡ length self.now }
+        ensures { AreUnpacked self.now out.new }
+    {
+        add_each(self.least, &self.offsets, out);
+    }
+
+    /// Marks the rows that are null.
+    pub fn unpack_nulls(&self, out: &mut [bool])
+        requires { length out.old ≡ length self.now }
+        ensures { out.new ≡ map is_none self.now }
+    {
+        let nulls = self.nulls.as_slice();
+        if nulls.is_empty() {
+            out.fill(false);
+        } else {
+            out.copy_from_slice(nulls);
+        }
+    }
+
+    /// The least and the greatest number; none where each row is null.
+    pub fn bounds(&self) -> Option<Bounds>
+        ensures { HaveBounds result self.now }
+    {
+        self.bounds
+    }
+
+    /// How many rows are null.
+    pub fn null_count(&self) -> usize
+        ensures { result ≡ count_by is_none self.now }
+    {
+        self.null_count
+    }
+}

@@ -1,0 +1,30 @@
+//! The laws of blocks: each function is a theorem, and does nothing.
+
+ghost use Rattle.std.specs.Prelude.{◌≡◌};
+ghost use Rattle.block_summary.specs.Laws.{NumbersAreOrdered, RangesWiden, SkipsNoRow, SkipsNothing};
+
+/// The numbers of cells are in the order of the cells.
+pub fn numbers_are_ordered()
+    ensures { NumbersAreOrdered }
+{}
+
+/// The range of no cells, and that of one cell more than some.
+pub fn ranges_widen()
+    ensures { RangesWiden }
+{
+    cell_types::values_are_ordered();
+}
+
+/// A column that is not admitted has no cell that passes the test.
+pub fn skips_nothing()
+    ensures { SkipsNothing }
+{
+    cell_types::values_are_ordered();
+}
+
+/// A block that is not admitted has no row whose cell in that column passes the test.
+pub fn skips_no_row()
+    ensures { SkipsNoRow }
+{
+    cell_types::values_are_ordered();
+}

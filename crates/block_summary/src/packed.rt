@@ -1,0 +1,124 @@
+//! The cells of one column of a block, kept as numbers.
+
+ghost use Rattle.std.specs.Prelude.{◌≡◌, None, IfOk, length, map, option_map, slice_index_or};
+ghost use Rattle.std.specs.List.{count_by};
+ghost use Rattle.cell_types.specs.Value.{null, value_view};
+ghost use Rattle.block_summary.specs.Cells.{AreUnpacked, HaveBounds};
+ghost use Rattle.block_summary.specs.Ranges.{is_null, HasGreatest, HasLeast};
+ghost use Rattle.block_summary.specs.Types.{numbers_of, packed_cells, AreNumbersOf};
+
+use crate::bounds::Bounds;
+use crate::integers::Integers;
+use crate::number::{PackedType, typed_value};
+use cell_types::Value;
+use std::alloc::{AllocError, Global};
+use std::marker::Model;
+
+/// The cells of one column of a block, none of which is a text. Each is kept as a number: how far it is above the least one, in as few
+/// bytes as the column needs in this block, and which of them are null. A column is read as a whole, into buffers of the caller's.
+#[derive(Drop)]
+pub struct PackedColumn {
+    packed_type: PackedType,
+    numbers: Integers,
+}
+
+impl Model for PackedColumn {
+    ghost use Rattle.std.specs.Prelude.{List};
+    ghost use Rattle.cell_types.specs.Value.{CellValue};
+
+    ghost Value = { List CellValue };
+
+    ghost use Rattle.block_summary.specs.Types.{cells_of_type, AllNumbersOf};
+
+    ghost view = { λ c. cells_of_type c.packed_type c.numbers };
+
+    ghost invariant = { λ c. AllNumbersOf c.packed_type c.numbers };
+}
+
+impl PackedColumn {
+    /// Keeps the cells that numbers and marks of nulls stand for. What stands in the place of a null does not matter.
+    pub fn pack(
+        alloc: Global,
+        packed_type: PackedType,
+        values: &[i64],
+        nulls: &[bool],
+    ) -> Result<PackedColumn, AllocError>
+        requires long { length nulls.now ≡ length values.now }
+        requires numbers { AreNumbersOf packed_type nulls.now values.now }
+        ensures { IfOk result (λ column. column ≡ packed_cells packed_type nulls.now values.now) }
+    {
+        let numbers = Integers::pack(alloc, values, nulls)?;
+        Ok(PackedColumn {
+            packed_type,
+            numbers,
+        })
+    }
+
+    /// How many cells there are.
+    pub fn len(&self) -> usize
+        ensures { result ≡ length self.now }
+    {
+        self.numbers.len()
+    }
+
+    /// The number of a row; none where it is null, or past the end.
+    pub fn number(&self, row: usize) -> Option<i64>
+        ensures { result ≡ slice_index_or (numbers_of self.now) row None }
+    {
+        self.numbers.get(row)
+    }
+
+    /// The value of a row; null past the end.
+    pub fn value(&self, row: usize) -> Value<'static>
+        ensures { value_view result ≡ slice_index_or self.now row null }
+    {
+        match self.numbers.get(row) {
+            Some(number) => typed_value(self.packed_type, number),
+            None => Value::Null,
+        }
+    }
+
+    /// Writes the number of each row; at a null, any.
+    pub fn unpack(&self, out: &mut [i64])
+        requires { length out.old ≡ length self.now }
+        ensures { AreUnpacked (numbers_of self.now) out.new }
+    {
+        self.numbers.unpack(out);
+    }
+
+    /// Marks the rows that are null.
+    pub fn unpack_nulls(&self, out: &mut [bool])
+        requires { length out.old ≡ length self.now }
+        ensures { out.new ≡ map is_null self.now }
+    {
+        self.numbers.unpack_nulls(out);
+    }
+
+    /// The least and the greatest number; none where each row is null.
+    pub fn bounds(&self) -> Option<Bounds>
+        ensures { HaveBounds result (numbers_of self.now) }
+    {
+        self.numbers.bounds()
+    }
+
+    /// The least and the greatest cell that are not null, where there are such.
+    pub fn ends(&self) -> (Option<Value<'static>>, Option<Value<'static>>)
+        ensures least { HasLeast (option_map value_view result.0) self.now }
+        ensures greatest { HasGreatest (option_map value_view result.1) self.now }
+    {
+        match self.numbers.bounds() {
+            Some(bounds) => (
+                Some(typed_value(self.packed_type, bounds.least)),
+                Some(typed_value(self.packed_type, bounds.greatest)),
+            ),
+            None => (None, None),
+        }
+    }
+
+    /// How many rows are null.
+    pub fn null_count(&self) -> usize
+        ensures { result ≡ count_by is_null self.now }
+    {
+        self.numbers.null_count()
+    }
+}

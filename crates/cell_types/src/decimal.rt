@@ -1,0 +1,115 @@
+//! Decimals (Metadata Vocabulary for Tabular Data, section 5.11.2): an optional sign and one or more digits with at most one point, in
+//! whole millionths of 64 signed bits.
+ghost use Rattle.std.specs.Prelude.{◌≡◌, ◌++◌, ◌^◌, ◌<◌, ◌≤◌, SomeIff, length};
+ghost use Rattle.std.specs.List.{after_first, before_first, list_all, position_or_len};
+ghost use Rattle.std.specs.Str.Parse.{AllDigits, digits_value, digits_value_after, starts_with_minus};
+ghost use Rattle.cell_types.specs.Cell.{reading_view};
+ghost use Rattle.cell_types.specs.Decimal.{are_digits as are_parts_of_decimal, decimal_of, is_point, is_zero, signed, six_places, value_of_millionths};
+
+use crate::cell::CellFault;
+use crate::integer::{are_digits, without_sign};
+use crate::value::Value;
+
+/// Whether a text begins with a minus.
+fn is_negative(text: &[u8]) -> bool
+    ensures { result ≡ starts_with_minus text.now }
+{
+    matches!(text, [b'-', ..])
+}
+
+/// How many bytes stand before the first point.
+fn whole_len(text: &[u8]) -> usize
+    ensures within { result ≤ length text.now }
+    ensures place { result ≡ position_or_len is_point text.now }
+{
+    text.iter().take_while(|byte| **byte != b'.').count()
+}
+
+/// What stands before the first point, and what stands behind it.
+fn parts(text: &[u8]) -> (&[u8], &[u8])
+    ensures whole { result.0.now ≡ before_first is_point text.now }
+    ensures fraction { result.1.now ≡ after_first is_point text.now }
+{
+    let (whole, rest) = text.split_at(whole_len(text));
+    match rest {
+        [_, fraction @ ..] => (whole, fraction),
+        [] => (whole, rest),
+    }
+}
+
+/// The number that digits write behind those of another number, where it is one of 64 bits.
+fn number_after(start: u64, digits: &[u8]) -> Option<u64>
+    requires { AllDigits 10 digits.now }
+    ensures { let after = digits_value_after 10 start digits.now in SomeIff result
+        (after < 2 ^ 64) after }
+{
+    let mut number = start;
+    for byte in digits {
+        number = number
+            .checked_mul(10)?
+            .checked_add(u64::from(*byte - b'0'))?;
+    }
+    Some(number)
+}
+
+/// The number that digits before the point and at most six behind it write with six decimal places, where it is one of 64 bits.
+fn number_of_millionths(whole: &[u8], places: &[u8]) -> Option<u64>
+    requires short { length places.now ≤ 6 }
+    requires whole_digits { AllDigits 10 whole.now }
+    requires place_digits { AllDigits 10 places.now }
+    ensures { let number = digits_value 10 (whole.now ++ six_places places.now) in SomeIff result
+        (number < 2 ^ 64) number }
+{
+    let zeros: &[u8] = b"000000";
+    let number = number_after(0, whole)?;
+    let number = number_after(number, places)?;
+    number_after(number, &zeros[..6 - places.len()])
+}
+
+/// Whether what stands before a point and behind it is digits, and at least one.
+fn are_parts(whole: &[u8], fraction: &[u8]) -> bool
+    ensures { result ≡ are_parts_of_decimal (whole.now ++ fraction.now) }
+{
+    if whole.is_empty() {
+        return !fraction.is_empty() && are_digits(fraction);
+    }
+    are_digits(whole) && are_digits(fraction)
+}
+
+/// Whether each digit is 0.
+fn are_zeros(digits: &[u8]) -> bool
+    ensures { result ≡ list_all is_zero digits.now }
+{
+    digits.iter().all(|digit| *digit == b'0')
+}
+
+/// A number of millionths, where it is one of 64 signed bits.
+fn value_in_range<'a>(is_negative: bool, number: u64) -> Result<Value<'a>, CellFault>
+    ensures { reading_view result ≡ value_of_millionths (signed is_negative number) }
+{
+    let number = i128::from(number);
+    let millionths = if is_negative { -number } else { number };
+    match i64::try_from(millionths) {
+        Ok(_) => Ok(Value::Decimal(millionths)),
+        Err(_) => Err(CellFault::OutOfRange),
+    }
+}
+
+/// The number of a text's millionths.
+pub fn read_decimal<'a>(text: &str) -> Result<Value<'a>, CellFault>
+    ensures { reading_view result ≡ decimal_of text.now }
+{
+    let bytes = text.as_bytes();
+    let (whole, fraction) = parts(without_sign(bytes));
+    if !are_parts(whole, fraction) {
+        return Err(CellFault::NotDecimal);
+    }
+    let (places, finer) = fraction.split_at(fraction.len().min(6));
+    if !are_zeros(finer) {
+        return Err(CellFault::TooFine);
+    }
+    match number_of_millionths(whole, places) {
+        Some(number) => value_in_range(is_negative(bytes), number),
+        None => Err(CellFault::OutOfRange),
+    }
+}

@@ -1,0 +1,84 @@
+//! The text of a file with its index.
+ghost use Rattle.std.specs.Prelude.{◌≡◌, ◌≤◌, ◌<◌, Some, IfOk, IfErr, slice_get, length, drop};
+ghost use Rattle.std.specs.List.{AllByRecursion};
+ghost use Rattle.csv_index.specs.Raw.{raw_view};
+ghost use Rattle.csv_index.specs.Index.{IsRawTable, cell_at, row_fields};
+ghost use Rattle.csv_index.specs.Fault.{IsTextFault};
+
+use crate::fault::TextFault;
+use crate::fields::Fields;
+use crate::index::Index;
+use crate::raw::Raw;
+use crate::utf8::text_of;
+use std::alloc::Global;
+use std::marker::Model;
+
+/// The text of a file that is a table, with its index: its fields as they stand there.
+#[derive(Drop)]
+pub struct IndexedText {
+    text: String,
+    index: Index,
+}
+
+impl Model for IndexedText {
+    ghost use Rattle.csv_index.specs.Index.{RawTable, FitsFile, table_in};
+    ghost use Rattle.std.specs.Prelude.{string_bytes};
+
+    ghost Value = { RawTable };
+
+    ghost view = { λ file. table_in file.index (string_bytes file.text) };
+
+    ghost invariant = { λ file. FitsFile file.index (string_bytes file.text) };
+}
+
+impl IndexedText {
+    /// Reads a file once. Its bytes are a table, which stands in them as it is seen here, or the error tells what is first wrong with them.
+    pub fn build(alloc: Global, bytes: Vec<u8>) -> Result<IndexedText, TextFault>
+        ensures table { IfOk result (IsRawTable bytes.items) }
+        ensures fault { IfErr result (IsTextFault bytes.items) }
+    {
+        let text = text_of(bytes)?;
+        let index = Index::of_text(alloc, text.as_str())?;
+        Ok(IndexedText { text, index })
+    }
+
+    /// How many records stand behind the header.
+    pub fn rows(&self) -> usize
+        ensures { result ≡ length self.now.rows }
+    {
+        self.index.rows()
+    }
+
+    /// How many fields each record has.
+    pub fn width(&self) -> usize
+        ensures header { result ≡ length self.now.header }
+        ensures rows { AllByRecursion (λ fields. length fields ≡ result) self.now.rows }
+    {
+        self.index.width()
+    }
+
+    /// The header's field of a column, counted from 0.
+    pub fn header(&self, col: usize) -> Raw<'_>
+        requires { col < length self.now.header }
+        ensures { slice_get self.now.header col ≡ Some (raw_view result) }
+    {
+        self.index.header(self.text.as_str(), col)
+    }
+
+    /// The field of a row and a column, both counted from 0.
+    pub fn cell(&self, row: usize, col: usize) -> Raw<'_>
+        requires row { row < length self.now.rows }
+        requires col { col < length self.now.header }
+        ensures { cell_at self.now.rows row col ≡ Some (raw_view result) }
+    {
+        self.index.cell(self.text.as_str(), row, col)
+    }
+
+    /// The fields from a row on, one row after another. Each is found from the one before it, with no search. It takes no memory.
+    pub fn fields(&self, row: usize) -> Fields<'_, '_>
+        requires { row ≤ length self.now.rows }
+        ensures { result ≡ row_fields (drop row self.now.rows) }
+    {
+        self.index.fields(self.text.as_str(), row)
+    }
+}

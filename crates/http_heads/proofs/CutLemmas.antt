@@ -1,0 +1,148 @@
+-- The cut of a stream: it is one, and what follows a stream is cut as what follows its rest.
+use Rattle.std.proofs.Common.{◌≡◌, ◌+◌, ◌<◌, ◌≤◌, ◌⊎◌, inl, inr, ◌-◌, ℕ, suc, Bool, true, false, cond, List, [], ◌∷◌, ◌++◌, length, take, map, Option, Some, None, refl, sym, ap, ap₂, ◌∙◌, subst, arith, MatchBool, length-append, length-take}
+use Rattle.std.specs.List.{position_from}
+use Rattle.std.proofs.lemmas.Bool.{false≢true, cases_lt}
+use Rattle.std.proofs.lemmas.List.{take-append-le, take_all}
+use Rattle.http_heads.specs.declared.head.TheConstants.{MAX_HEAD}
+use Rattle.http_heads.specs.Head.{HeadOf, BeginsWith, BeginsWithAll, HasNoHead}
+use Rattle.http_heads.specs.Checks.{closes}
+use Rattle.http_heads.specs.Cut.{IsCut}
+use Rattle.http_heads.specs.Laws.{CutsJoin}
+use Rattle.http_heads.proofs.HeadLemmas.{begins-append, begins_unique, long_enough, short_front}
+
+-- the two cases of a test
+by_bool : {P Q R : Type 0} (b : Bool) → (b ≡ true → P → R) → (b ≡ false → Q → R) → MatchBool b P Q → R
+by_bool true on off m = on refl m
+by_bool false on off m = off refl m
+
+-- the two cases of a test that decides twice
+two_by_bool : {P Q S T R : Type 0} (b : Bool) → (P → S → R) → (Q → T → R) → MatchBool b P Q → MatchBool b S T → R
+two_by_bool true on off m n = on m n
+two_by_bool false on off m n = off m n
+
+-- one case of a test that is known
+pub if_false : (P Q : Type 0) (b : Bool) → b ≡ false → Q → MatchBool b P Q
+if_false P Q b e q = let F : Bool → Type 0 = λ x. MatchBool x P Q in subst F (sym e) q
+
+pub if_true : (P Q : Type 0) (b : Bool) → b ≡ true → P → MatchBool b P Q
+if_true P Q b e p = let F : Bool → Type 0 = λ x. MatchBool x P Q in subst F (sym e) p
+
+-- a stream is cut in one way
+pub cut_unique : (s : List ℕ) (heads others : List HeadOf) (rest left : List ℕ) (closed shut : Bool)
+    → IsCut s heads rest closed → IsCut s others left shut → (heads ≡ others) × (rest ≡ left) × (closed ≡ shut)
+cut_unique s [] [] rest left closed shut a b = (refl, a.0 ∙ sym b.0, a.1 ∙ sym b.1)
+cut_unique s [] (k ∷ ks) rest left closed shut a b = absurd (a.2 k b.0 b.1)
+cut_unique s (h ∷ hs) [] rest left closed shut a b = absurd (b.2 h a.0 a.1)
+cut_unique s (h ∷ hs) (k ∷ ks) rest left closed shut a b =
+    let same = begins_unique a.1 b.1 in
+    let P : HeadOf → Type 0 = λ x. MatchBool (closes x)
+    ((ks ≡ []) × (left ≡ []) × (shut ≡ true)) (IsCut b.0 ks left shut) in
+    let Q : List ℕ → Type 0 = λ x. IsCut x hs rest closed in
+    let tails : (hs ≡ ks) × (rest ≡ left) × (closed ≡ shut) = two_by_bool (closes h)
+    (λ x y. (x.0 ∙ sym y.0, x.1 ∙ sym y.1, x.2 ∙ sym y.2))
+    (λ x y. cut_unique b.0 hs ks rest left closed shut (subst Q same.1 x) y)
+    a.2 (subst P (sym same.0) b.2) in
+    (ap₂ (λ (x : HeadOf) (xs : List HeadOf). x ∷ xs) same.0 tails.0, tails.1, tails.2)
+
+-- one more head in front, behind which the connection stays open
+pub cut_before : (s : List ℕ) (h : HeadOf) (more : List ℕ) (heads : List HeadOf) (rest : List ℕ) (closed : Bool)
+    → BeginsWith s h more → closes h ≡ false → IsCut more heads rest closed → IsCut s (h ∷ heads) rest closed
+cut_before s h more heads rest closed b stays cut = (more, b, if_false _ _ (closes h) stays cut)
+
+-- a head behind which it closes
+pub cut_last : (s : List ℕ) (h : HeadOf) (more : List ℕ) → BeginsWith s h more → closes h ≡ true → IsCut s (h ∷ []) [] true
+cut_last s h more b shuts = (more, b, if_true _ _ (closes h) shuts (refl, refl, refl))
+
+-- where nothing begins with a head, the cut has none
+cut_nothing : (s : List ℕ) (heads : List HeadOf) (rest : List ℕ) (closed : Bool)
+    → HasNoHead s → IsCut s heads rest closed → (heads ≡ []) × (rest ≡ take MAX_HEAD s) × (closed ≡ false)
+cut_nothing s heads rest closed none a = cut_unique s heads [] rest (take MAX_HEAD s) closed false a (refl, refl, none)
+
+take_front : (n : ℕ) (left p : List ℕ) → n ≤ length left → take n (left ++ p) ≡ take n (take n left ++ p)
+take_front n left p long =
+    let all : n ≤ length (take n left) = omega (arith, length-take n left, long) in
+    take-append-le n left p long ∙ sym (take_all n (take n left) (omega (arith, length-take n left)))
+    ∙ sym (take-append-le n (take n left) p all)
+
+-- the first bytes of what has no head at its front, as many as a head may have, serve as all of it
+cut_rest : (left p : List ℕ) (hs : List HeadOf) (rest : List ℕ) (c : Bool)
+    → HasNoHead left → IsCut (take MAX_HEAD left ++ p) hs rest c → IsCut (left ++ p) hs rest c
+cut_rest left p hs rest c none a = by_length (cases_lt (length left) MAX_HEAD) where
+  by_length : (length left < MAX_HEAD) ⊎ (MAX_HEAD ≤ length left) → IsCut (left ++ p) hs rest c
+  by_length (inl short) =
+      let within : length left ≤ MAX_HEAD = omega (arith, short) in
+      let P : List ℕ → Type 0 = λ x. IsCut (x ++ p) hs rest c in
+      subst P (take_all MAX_HEAD left within) a
+  by_length (inr long) =
+      let done = cut_nothing (take MAX_HEAD left ++ p) hs rest c (short_front left p long none) a in
+      let P : List HeadOf → Type 0 = λ x. IsCut (left ++ p) x rest c in
+      let same : rest ≡ take MAX_HEAD (left ++ p) = done.1 ∙ sym (take_front MAX_HEAD left p long) in
+      let cut : IsCut (left ++ p) [] rest c = (same, done.2, long_enough left p long none) in
+      subst P (sym done.0) cut
+
+-- what follows a stream that stays open is cut as what follows its rest
+cut_joins : (s p : List ℕ) (heads others : List HeadOf) (rest left : List ℕ) (closed : Bool)
+    → IsCut s heads rest false → IsCut (rest ++ p) others left closed → IsCut (s ++ p) (heads ++ others) left closed
+cut_joins s p [] others rest left closed a b =
+    let P : List ℕ → Type 0 = λ x. IsCut (x ++ p) others left closed in
+    cut_rest s p others left closed a.2 (subst P a.0 b)
+cut_joins s p (h ∷ heads) others rest left closed a b = by_bool (closes h)
+    (λ e x. absurd (false≢true x.2))
+    (λ e x. cut_before (s ++ p) h (a.0 ++ p) (heads ++ others) left closed (begins-append p a.1) e
+    (cut_joins a.0 p heads others rest left closed x b))
+    a.2
+
+-- further bytes change nothing behind a head that closes
+closed-append : (s p : List ℕ) (heads : List HeadOf) (rest : List ℕ) → IsCut s heads rest true → IsCut (s ++ p) heads rest true
+closed-append s p [] rest a = absurd (false≢true (sym a.1))
+closed-append s p (h ∷ hs) rest a = by_bool (closes h)
+    (λ e x. (a.0 ++ p, begins-append p a.1, if_true _ _ (closes h) e x))
+    (λ e x. cut_before (s ++ p) h (a.0 ++ p) hs rest true (begins-append p a.1) e (closed-append a.0 p hs rest x))
+    a.2
+
+pub all_join : CutsJoin
+all_join = record { follows = cut_joins; closed = closed-append }
+
+-- ---- the heads of a piece
+
+-- the two cases of a choice
+choice : {X R : Type 0} (b : Bool) (x y z : X) → (b ≡ true → x ≡ z → R) → (b ≡ false → y ≡ z → R) → cond b x y ≡ z → R
+choice true x y z on off e = on refl e
+choice false x y z on off e = off refl e
+
+place_later : {X : Type 0} (p : X → Bool) (i k : ℕ) (xs : List X) → position_from p i xs ≡ Some k → i ≤ k
+place_later p i k [] e = absurd (cc)
+place_later p i k (x ∷ xs) e = choice (p x) (Some i) (position_from p (i + 1) xs) (Some k)
+    (λ is here. let same : i ≡ k = cc in omega (arith, same))
+    (λ is behind. let later : i + 1 ≤ k = place_later p (i + 1) k xs behind in omega (arith, later))
+    e
+
+-- none of the heads closes
+pub cut_of_open : {H : Type 0} (view : H → HeadOf) (i : ℕ) (s : List ℕ) (heads : List H) (left : List ℕ)
+    → BeginsWithAll s (map view heads) left → HasNoHead left → position_from (λ h. closes (view h)) i heads ≡ None
+    → IsCut s (map view heads) (take MAX_HEAD left) false
+cut_of_open view i s [] left a none e =
+    let P : List ℕ → Type 0 = λ x. HasNoHead x in (ap (take MAX_HEAD) a, refl, subst P a none)
+cut_of_open view i s (h ∷ hs) left a none e =
+    choice (closes (view h)) (Some i) (position_from (λ x. closes (view x)) (i + 1) hs) None
+    (λ is here. absurd (cc))
+    (λ is behind. cut_before s (view h) a.0 (map view hs) (take MAX_HEAD left) false a.1 is
+    (cut_of_open view (i + 1) a.0 hs left a.2 none behind))
+    e
+
+-- one does: the first that does is the last
+pub cut_of_closing : {H : Type 0} (view : H → HeadOf) (i k n : ℕ) (s : List ℕ) (heads : List H) (left : List ℕ)
+    → BeginsWithAll s (map view heads) left → position_from (λ h. closes (view h)) i heads ≡ Some k → n ≡ k + 1 - i
+    → IsCut s (map view (take n heads)) [] true
+cut_of_closing view i k n s [] left a e size = absurd (cc)
+cut_of_closing view i k n s (h ∷ hs) left a e size =
+    choice (closes (view h)) (Some i) (position_from (λ x. closes (view x)) (i + 1) hs) (Some k)
+    (λ is here.
+    let same : i ≡ k = cc in
+    let one : n ≡ 1 = omega (arith, same, size) in
+    rw one (cut_last s (view h) a.0 a.1 is))
+    (λ is behind.
+    let later : i + 1 ≤ k = place_later (λ x. closes (view x)) (i + 1) k hs behind in
+    let more : n ≡ suc (k + 1 - (i + 1)) = omega (arith, later, size) in
+    rw more (cut_before s (view h) a.0 _ [] true a.1 is (cut_of_closing view (i + 1) k (k + 1 - (i + 1)) a.0 hs left a.2 behind refl)))
+    e

@@ -1,0 +1,6 @@
+pub mod HeadLemmas
+pub mod HeadFinds
+pub mod FieldsLemmas
+pub mod CutLemmas
+pub mod CutFinds
+pub mod RestLemmas

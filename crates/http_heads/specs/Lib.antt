@@ -1,0 +1,6 @@
+pub mod Head
+pub mod Fields
+pub mod Checks
+pub mod Splitter
+pub mod Cut
+pub mod Laws

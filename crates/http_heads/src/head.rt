@@ -1,0 +1,97 @@
+//! The heads of requests (RFC 9112, section 2), cut off the front of some bytes.
+ghost use Rattle.std.specs.Prelude.{◌≡◌, ◌≤◌, IfOk, IfSome, MatchOption, drop, length, map};
+ghost use Rattle.std.specs.List.{All};
+ghost use Rattle.httparse.specs.Spans.{IsHeaderWithin, IsWithin, header_bytes, span_bytes};
+ghost use Rattle.http_heads.specs.Head.{BeginsWith, BeginsWithAll, HasNoHead, field_view, head_view};
+
+use httparse::Status;
+use httparse::spans::{EMPTY_HEADER_SPAN, HeaderSpan, Span, parse_request};
+use std::alloc::{AllocError, Global};
+
+/// The most bytes of a head.
+pub const MAX_HEAD: usize = 8192;
+
+/// The most fields of a head.
+pub const MAX_FIELDS: usize = 64;
+
+/// A field of a head (RFC 9112, section 5).
+#[derive(Drop)]
+pub struct Field {
+    pub name: Vec<u8>,
+    /// Without the white space around it.
+    pub value: Vec<u8>,
+}
+
+/// A head of a request (RFC 9112, section 2.1).
+#[derive(Drop)]
+pub struct Head {
+    pub method: Vec<u8>,
+    pub target: Vec<u8>,
+    /// The version's minor number: 0 or 1.
+    pub minor: u8,
+    /// In their order.
+    pub fields: Vec<Field>,
+}
+
+/// A copy of the bytes that a span covers.
+fn copy(alloc: Global, bytes: &[u8], span: Span) -> Result<Vec<u8>, AllocError>
+    requires { IsWithin (length bytes.now) span }
+    ensures { IfOk result (λ part. part.items ≡ span_bytes bytes.now span) }
+{
+    Vec::from_slice(alloc, span.of(bytes))
+}
+
+/// A copy of the fields.
+fn copy_fields(
+    alloc: Global,
+    bytes: &[u8],
+    headers: &[HeaderSpan],
+) -> Result<Vec<Field>, AllocError>
+    requires { All (IsHeaderWithin (length bytes.now)) headers.now }
+    ensures { IfOk result
+        (λ fields. map field_view fields.items ≡ map (header_bytes bytes.now) headers.now) }
+{
+    let mut fields = Vec::new(alloc);
+    for header in headers {
+        let name = copy(alloc, bytes, header.name)?;
+        let value = copy(alloc, bytes, header.value)?;
+        fields.push(Field { name, value })?;
+    }
+    Ok(fields)
+}
+
+/// The head at the front of the bytes with its length, if they begin with one.
+fn first_head(alloc: Global, bytes: &[u8]) -> Result<Option<(Head, usize)>, AllocError>
+    ensures within { IfOk result (λ found. IfSome found (λ first. first.1 ≤ length bytes.now)) }
+    ensures head { IfOk result (λ found. MatchOption found (HasNoHead bytes.now)
+        (λ first. BeginsWith bytes.now (head_view first.0) (drop first.1 bytes.now))) }
+{
+    let mut headers = [EMPTY_HEADER_SPAN; MAX_FIELDS];
+    let spans = match parse_request(bytes, &mut headers) {
+        Ok(Status::Complete(spans)) if spans.len <= MAX_HEAD => spans,
+        _ => return Ok(None),
+    };
+    let head = Head {
+        method: copy(alloc, bytes, spans.method)?,
+        target: copy(alloc, bytes, spans.path)?,
+        minor: spans.version,
+        fields: copy_fields(alloc, bytes, &headers[..spans.headers])?,
+    };
+    Ok(Some((head, spans.len)))
+}
+
+/// All heads at the front of the bytes, and how many bytes they have.
+pub(crate) fn cut_heads(alloc: Global, bytes: &[u8]) -> Result<(Vec<Head>, usize), AllocError>
+    ensures within { IfOk result (λ cut. cut.1 ≤ length bytes.now) }
+    ensures heads { IfOk result
+        (λ cut. BeginsWithAll bytes.now (map head_view cut.0.items) (drop cut.1 bytes.now)) }
+    ensures none { IfOk result (λ cut. HasNoHead (drop cut.1 bytes.now)) }
+{
+    let mut heads = Vec::new(alloc);
+    let mut at = 0;
+    while let Some((head, len)) = first_head(alloc, &bytes[at..])? {
+        heads.push(head)?;
+        at += len;
+    }
+    Ok((heads, at))
+}

@@ -1,0 +1,14 @@
+//! The heads of requests (RFC 9112, section 2): a stream of bytes is cut into heads as its pieces come, up to one behind which the connection
+//! closes. The cut is a relation of the whole stream, and the laws say that a stream has one, whatever pieces it comes in.
+#![tactic(auto)]
+
+mod checks;
+mod fields;
+mod head;
+mod laws;
+mod splitter;
+
+pub use checks::{Checks, HeadFault, check_head, closes};
+pub use head::{Field, Head, MAX_FIELDS, MAX_HEAD};
+pub use laws::{cuts_join, head_limits, one_cut};
+pub use splitter::{Cut, Splitter, Unreadable};

@@ -1,0 +1,160 @@
+-- The replies of a stream, from the laws of its cut and of the replies to heads.
+use Rattle.std.proofs.Common.{◌≡◌, ℕ, Bool, true, false, List, [], ◌∷◌, ◌++◌, refl, sym, ap, ap₂, ◌∙◌, subst, MatchBool, append_assoc, append-nil}
+use Rattle.std.specs.List.{AllZip, concat}
+use Rattle.std.proofs.lemmas.Bool.{false≢true}
+use Rattle.std.proofs.lemmas.List.Folds.{concat-append}
+use Rattle.http_heads.specs.Head.{HeadOf}
+use Rattle.http_heads.specs.Checks.{closes}
+use Rattle.http_heads.specs.Cut.{IsCut}
+use Rattle.http_heads.specs.Laws.{OneCut, CutsJoin}
+use Rattle.odata_http.specs.Replies.{last_reply, IsCertain, AreReplies, AreFirstReplies, IsFrontOfReplies}
+use Rattle.odata_http.specs.Laws.{SomeReply, OneReply, SomeReading, OneReading, Joins}
+
+-- two lists of pairs, one behind the other
+pub zip_append : {A B : Type 0} (R : A → B → Type 0) (xs : List A) (ys : List B) (us : List A) (vs : List B)
+    → AllZip R xs ys → AllZip R us vs → AllZip R (xs ++ us) (ys ++ vs)
+zip_append R [] [] us vs p q = q
+zip_append R [] (y ∷ ys) us vs p q = absurd p
+zip_append R (x ∷ xs) [] us vs p q = absurd p
+zip_append R (x ∷ xs) (y ∷ ys) us vs p q = (p.0, zip_append R xs ys us vs p.1 q)
+
+zip_one : (R : HeadOf → List ℕ → Type 0) → OneReply R → (heads : List HeadOf) (ys vs : List (List ℕ))
+    → AllZip R heads ys → AllZip R heads vs → ys ≡ vs
+zip_one R one [] [] [] p q = refl
+zip_one R one [] [] (v ∷ vs) p q = absurd q
+zip_one R one [] (y ∷ ys) vs p q = absurd p
+zip_one R one (h ∷ heads) [] vs p q = absurd p
+zip_one R one (h ∷ heads) (y ∷ ys) [] p q = absurd q
+zip_one R one (h ∷ heads) (y ∷ ys) (v ∷ vs) p q =
+    ap₂ (λ (r : List ℕ) (rs : List (List ℕ)). r ∷ rs) (one h y v p.0 q.0) (zip_one R one heads ys vs p.1 q.1)
+
+zip_some : (R : HeadOf → List ℕ → Type 0) → SomeReply R → (heads : List HeadOf) → (replies : List (List ℕ)) × AllZip R heads replies
+zip_some R some [] = ([], tt)
+zip_some R some (h ∷ heads) = let r = some h in let rest = zip_some R some heads in (r.0 ∷ rest.0, (r.1, rest.1))
+
+-- ---- the laws
+
+pub some_reading : (R : HeadOf → List ℕ → Type 0) → OneCut → SomeReply R → SomeReading R
+some_reading R cuts some s =
+    let cut = cuts.some s in
+    let replies = zip_some R some cut.0 in (
+      concat replies.0 ++ last_reply cut.1,
+      cut.2,
+      record {
+        certain = concat replies.0;
+        rest = cut.1;
+        is = record { heads = cut.0; replies = replies.0; cut = cut.3; each = replies.1; certain_is = refl };
+        all_is = refl;
+      },
+    )
+
+certain_one : (R : HeadOf → List ℕ → Type 0) → OneCut → OneReply R → (s c d r q : List ℕ) (a b : Bool)
+    → IsCertain R s c r a → IsCertain R s d q b → (c ≡ d) × (r ≡ q) × (a ≡ b)
+certain_one R cuts one s c d r q a b x y =
+    let same = cuts.one s x.heads y.heads r q a b x.cut y.cut in
+    let P : List HeadOf → Type 0 = λ hs. AllZip R hs x.replies in
+    let replies = zip_one R one y.heads x.replies y.replies (subst P same.0 x.each) y.each in
+    (x.certain_is ∙ ap concat replies ∙ sym y.certain_is, same.1, same.2)
+
+pub one_list : (R : HeadOf → List ℕ → Type 0) → OneCut → OneReply R → OneReading R
+one_list R cuts one = record {
+  certain = certain_one R cuts one;
+  replies = λ s c d a b x y.
+      let same = certain_one R cuts one s x.certain y.certain x.rest y.rest a b x.is y.is in
+      (x.all_is ∙ ap₂ (λ (u v : List ℕ). u ++ last_reply v) same.0 same.1 ∙ sym y.all_is, same.2);
+}
+
+certain_join : (R : HeadOf → List ℕ → Type 0) → CutsJoin → (s p c d r q : List ℕ) (b : Bool)
+    → IsCertain R s c r false → IsCertain R (r ++ p) d q b → IsCertain R (s ++ p) (c ++ d) q b
+certain_join R cuts s p c d r q b x y = record {
+  heads = x.heads ++ y.heads;
+  replies = x.replies ++ y.replies;
+  cut = cuts.follows s p x.heads y.heads r q b x.cut y.cut;
+  each = zip_append R x.heads x.replies y.heads y.replies x.each y.each;
+  certain_is = ap₂ (λ (u v : List ℕ). u ++ v) x.certain_is y.certain_is ∙ sym (concat-append x.replies y.replies);
+}
+
+certain_shut : (R : HeadOf → List ℕ → Type 0) → CutsJoin → (s p c r : List ℕ) → IsCertain R s c r true → IsCertain R (s ++ p) c r true
+certain_shut R cuts s p c r x = record {
+  heads = x.heads;
+  replies = x.replies;
+  cut = cuts.closed s p x.heads r x.cut;
+  each = x.each;
+  certain_is = x.certain_is;
+}
+
+pub all_join : (R : HeadOf → List ℕ → Type 0) → CutsJoin → Joins R
+all_join R cuts = record {
+  certain = certain_join R cuts;
+  replies = λ s p c d r b x y. record {
+    certain = c ++ y.certain;
+    rest = y.rest;
+    is = certain_join R cuts s p c y.certain r y.rest b x y.is;
+    all_is = ap (λ u. c ++ u) y.all_is ∙ sym (append_assoc c y.certain (last_reply y.rest));
+  };
+  certain_closed = certain_shut R cuts;
+  replies_closed = λ s p c x. record {
+    certain = x.certain;
+    rest = x.rest;
+    is = certain_shut R cuts s p x.certain x.rest x.is;
+    all_is = x.all_is;
+  };
+}
+
+-- ---- parts of the replies
+
+by_bool : {P Q R : Type 0} (b : Bool) → (P → R) → (Q → R) → MatchBool b P Q → R
+by_bool true on off m = on m
+by_bool false on off m = off m
+
+-- nothing is kept behind a head that closes
+pub cut_shut : (s : List ℕ) (heads : List HeadOf) (rest : List ℕ) → IsCut s heads rest true → rest ≡ []
+cut_shut s [] rest a = absurd (false≢true (sym a.1))
+cut_shut s (h ∷ hs) rest a = by_bool (closes h) (λ x. x.1) (λ x. cut_shut a.0 hs rest x) a.2
+
+-- behind a reply that closes there is none
+pub closed_replies : {R : HeadOf → List ℕ → Type 0} {s c r : List ℕ} → IsCertain R s c r true → AreReplies R s c true
+closed_replies {R} {s} {c} {r} x = record {
+  certain = c;
+  rest = r;
+  is = x;
+  all_is = sym (append-nil c) ∙ ap (λ rest. c ++ last_reply rest) (sym (cut_shut s x.heads r x.cut));
+}
+
+-- the end of the stream behind what is certain
+pub ended_replies : {R : HeadOf → List ℕ → Type 0} {s c r : List ℕ} → IsCertain R s c r false → AreReplies R s (c ++ last_reply r) false
+ended_replies {R} {s} {c} {r} x = record { certain = c; rest = r; is = x; all_is = refl }
+
+-- the replies that are certain are some of the first
+pub first_certain : {R : HeadOf → List ℕ → Type 0} {s c r : List ℕ} {b : Bool} → IsCertain R s c r b → AreFirstReplies R s c
+first_certain {R} {s} {c} {r} {b} x = record {
+  answered = x.heads;
+  others = [];
+  rest = r;
+  closed = b;
+  cut = let P : List HeadOf → Type 0 = λ hs. IsCut s hs r b in subst P (sym (append-nil x.heads)) x.cut;
+  replies = x.replies;
+  each = x.each;
+  some_is = x.certain_is;
+}
+
+-- what is certain, and then some of the first of what follows
+pub first_joins : {R : HeadOf → List ℕ → Type 0} {s c r w : List ℕ} (p : List ℕ) → CutsJoin → IsCertain R s c r false → AreFirstReplies R (r ++ p) w
+    → AreFirstReplies R (s ++ p) (c ++ w)
+first_joins {R} {s} {c} {r} {w} p cuts x y = record {
+  answered = x.heads ++ y.answered;
+  others = y.others;
+  rest = y.rest;
+  closed = y.closed;
+  cut =
+      let P : List HeadOf → Type 0 = λ hs. IsCut (s ++ p) hs y.rest y.closed in
+      subst P (sym (append_assoc x.heads y.answered y.others))
+      (cuts.follows s p x.heads (y.answered ++ y.others) r y.rest y.closed x.cut y.cut);
+  replies = x.replies ++ y.replies;
+  each = zip_append R x.heads x.replies y.answered y.replies x.each y.each;
+  some_is = ap₂ (λ (u v : List ℕ). u ++ v) x.certain_is y.some_is ∙ sym (concat-append x.replies y.replies);
+}
+
+-- nothing was read
+pub certain_nothing : (R : HeadOf → List ℕ → Type 0) → OneCut → IsCertain R [] [] [] false
+certain_nothing R cuts = record { heads = []; replies = []; cut = cuts.empty; each = tt; certain_is = refl }

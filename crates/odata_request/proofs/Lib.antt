@@ -1,0 +1,3 @@
+pub mod OptionLemmas
+pub mod PathLemmas
+pub mod RequestLemmas

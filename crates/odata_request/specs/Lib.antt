@@ -1,0 +1,3 @@
+pub mod Resource
+pub mod Options
+pub mod Request

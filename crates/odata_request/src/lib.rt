@@ -1,0 +1,11 @@
+//! What a request asks for: the step from a head and the tables of a folder to a request that owns all it says, or to the code under which it is
+//! refused (OData 4.01 Part 2, URL Conventions, sections 4 and 5). The first thing that is wrong is told: with the head, the target, the path, an
+//! option where it stands, and last the value of an option.
+#![tactic(auto)]
+
+mod options;
+mod request;
+mod resource;
+
+pub use request::{Request, request_of};
+pub use resource::{Resource, resource_of};

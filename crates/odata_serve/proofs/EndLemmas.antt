@@ -1,0 +1,58 @@
+-- The ends of commands that run no script.
+use Rattle.std.proofs.Common.{◌≡◌, ◌≢◌, ℕ, Bool, true, false, if◌then◌else◌, Result, Ok, Err, inl, inr, arith}
+use Rattle.std.specs.Prelude.{⊤, is_none}
+use Rattle.table_store.specs.Fault.{load_cause}
+use Rattle.odata_http.specs.declared.runs.RunFault.TheVariants as run
+use Rattle.odata_http.specs.Device.{SinkOf}
+use Rattle.odata_http.specs.Runs.{Course}
+use Rattle.odata_serve.specs.declared.folders.FolderFault.TheVariants as folder
+use Rattle.odata_serve.specs.declared.program.ProgramFault.{ProgramFault}
+use Rattle.odata_serve.specs.declared.program.ProgramFault.TheVariants.{Folder, Run, Script, Device, NoMemory}
+use Rattle.odata_serve.specs.Check.{IsCheck}
+use Rattle.odata_serve.specs.Command.{EndsNoScript, IsNoScript}
+use Rattle.odata_serve.specs.FaultText.{exit_status}
+use Rattle.odata_serve.specs.Program.{Loading, IsAnswer}
+use Rattle.odata_serve.specs.Serving.{Serving, IsServed}
+
+refused_or_memory : (b : Bool) → ◌≢◌ {A = ℕ} (if b then 4 else 1) 2
+refused_or_memory true e = absurd (omega (arith, e))
+refused_or_memory false e = absurd (omega (arith, e))
+
+-- the status of usage is a script's alone
+pub other_status : (fault : ProgramFault) → IsNoScript fault → exit_status fault ≢ 2
+other_status (Folder folder.NoMetadata) h e = absurd (omega (arith, e))
+other_status (Folder (folder.Load fault)) h e = refused_or_memory (is_none (load_cause fault)) e
+other_status (Folder folder.Device) h e = absurd (omega (arith, e))
+other_status (Folder folder.NoMemory) h e = absurd (omega (arith, e))
+other_status (Run run.NoMemory) h e = absurd (omega (arith, e))
+other_status (Run run.Read) h e = absurd (omega (arith, e))
+other_status (Run run.Write) h e = absurd (omega (arith, e))
+other_status (Run run.TooManyReads) h e = absurd (omega (arith, e))
+other_status (Script line) h e = h
+other_status Device h e = absurd (omega (arith, e))
+other_status NoMemory h e = absurd (omega (arith, e))
+
+pub answer_ends : (l : Loading) (c : Course) (end : Result ⊤ ProgramFault) → IsAnswer l c end → EndsNoScript end
+answer_ends l c (Ok u) h = tt
+answer_ends l c (Err (Folder fault)) h = tt
+answer_ends l c (Err (Run fault)) h = tt
+answer_ends l c (Err (Script line)) h = h
+answer_ends l c (Err Device) h = tt
+answer_ends l c (Err NoMemory) h = tt
+
+pub check_ends : (l : Loading) (old new : SinkOf) (end : Result ⊤ ProgramFault) → IsCheck l old new end → EndsNoScript end
+check_ends l old new (Ok u) h = tt
+check_ends l old new (Err (Folder fault)) h = tt
+check_ends l old new (Err (Run fault)) h = tt
+check_ends l old new (Err (Script line)) h = h.listed
+check_ends l old new (Err Device) h = tt
+check_ends l old new (Err NoMemory) h = tt
+
+pub serve_ends : (n : ℕ) (s : Serving) (end : Result ⊤ ProgramFault) → IsServed n s end → EndsNoScript end
+serve_ends n s (Ok u) h = tt
+serve_ends n s (Err (Folder fault)) h = tt
+serve_ends n s (Err (Run fault)) h = tt
+serve_ends n s (Err (Script line)) (inl h) = h
+serve_ends n s (Err (Script line)) (inr h) = h.1
+serve_ends n s (Err Device) h = tt
+serve_ends n s (Err NoMemory) h = tt

@@ -1,0 +1,225 @@
+//! What the words of the command line ask for, done: each line of words ends with an exit status, and what is said of a fault goes to
+//! standard error.
+ghost use Rattle.std.specs.Prelude.{◌≡◌, ◌≢◌, ◌⊎◌};
+ghost use Rattle.std.specs.IoError.{error_kind};
+ghost use Rattle.odata_serve.specs.Command.{EndsNoScript, IsFaultStatus, IsNoScript, IsStatus};
+ghost use Rattle.odata_serve.specs.Words.{IsTaken, texts};
+
+use crate::check::check_folder;
+use crate::disk::Disk;
+use crate::fault_text::{DEVICE, MEMORY, USAGE, fault_line};
+use crate::folders::{BuiltIn, Folders, NOTES};
+use crate::listener::CountedListener;
+use crate::program::{ProgramFault, answer, request_to};
+use crate::serving::serve;
+use crate::words::{Words, WordsFault, read_words};
+use odata_http::Counted;
+use std::io::ErrorKind;
+use std::net::{Net, TcpListener, TcpStream};
+use std::rt::{Env, Files};
+use std::{env, fs, io};
+
+/// The exit status where all was done.
+pub const DONE: u8 = 0;
+
+/// The exit status of an error of the system.
+fn error_status(error: &io::Error) -> u8
+    ensures memory { error_kind error.now ≡ ErrorKind.OutOfMemory → result ≡ MEMORY }
+    ensures device { error_kind error.now ≢ ErrorKind.OutOfMemory → result ≡ DEVICE }
+    ensures other { result ≢ USAGE }
+{
+    match error.kind() {
+        ErrorKind::OutOfMemory => MEMORY,
+        _ => DEVICE,
+    }
+}
+
+/// Says that the words are no command of the program.
+fn usage_status(rt: &impl Eprint) -> u8
+    ensures { result ≡ USAGE }
+{
+    let _ = rt.eprintln("bad command line");
+    USAGE
+}
+
+/// The exit status where the system hands over no words. A word that is not UTF-8 is no word of a command.
+fn unread_status(rt: &impl Eprint, error: &io::Error) -> u8
+    ensures usage { error_kind error.now ≡ ErrorKind.InvalidData → result ≡ USAGE }
+    ensures memory { error_kind error.now ≡ ErrorKind.OutOfMemory → result ≡ MEMORY }
+    ensures other { error_kind error.now ≢ ErrorKind.InvalidData → result ≢ USAGE }
+{
+    match error.kind() {
+        ErrorKind::InvalidData => usage_status(rt),
+        _ => error_status(error),
+    }
+}
+
+/// Writes what is said of a fault to standard error, and gives its exit status.
+#[tactic(auto, using(crate::proofs::EndLemmas::other_status))]
+fn report(rt: &(impl Eprint + AllocGlobal), fault: &ProgramFault) -> u8
+    ensures status { IsFaultStatus fault.now result }
+    ensures other { IsNoScript fault.now → result ≢ USAGE }
+{
+    match fault_line(rt.alloc(), fault) {
+        Ok((line, status)) => {
+            if !line.is_empty() {
+                let _ = rt.eprintln(line);
+            }
+            status
+        }
+        Err(_) => MEMORY,
+    }
+}
+
+/// The exit status of an end, which is told on standard error where it is a fault.
+fn end_status(rt: &(impl Eprint + AllocGlobal), end: Result<(), ProgramFault>) -> u8
+    ensures status { IsStatus end result }
+    ensures other { EndsNoScript end → result ≢ USAGE }
+{
+    match end {
+        Ok(()) => DONE,
+        Err(fault) => report(rt, &fault),
+    }
+}
+
+/// Answers standard input over the folder `notes`.
+#[tactic(auto, using(crate::proofs::EndLemmas::answer_ends))]
+fn answer_input(rt: &(impl Input + Print + Eprint + AllocGlobal)) -> u8
+    ensures { result ≢ USAGE }
+{
+    let mut folders = BuiltIn::new();
+    let mut input = Counted::new(rt.reader());
+    let mut out = Counted::new(io::writer(rt));
+    let end = answer(rt.alloc(), &mut folders, NOTES, &mut input, &mut out);
+    end_status(rt, end)
+}
+
+/// Says whether a folder is served.
+#[tactic(auto, using(crate::proofs::EndLemmas::check_ends))]
+fn check_tables(rt: &(impl Files + Print + Eprint + AllocGlobal), folder: &str) -> u8
+    ensures { result ≢ USAGE }
+{
+    let mut out = Counted::new(io::writer(rt));
+    let end = check_folder(rt.alloc(), &mut Disk::new(rt), folder, &mut out);
+    end_status(rt, end)
+}
+
+/// Answers one GET of a target over a folder.
+#[tactic(auto, using(crate::proofs::EndLemmas::answer_ends))]
+fn query(rt: &(impl Files + Print + Eprint + AllocGlobal), folder: &str, target: &str) -> u8
+    ensures { result ≢ USAGE }
+{
+    let Ok(request) = request_to(rt.alloc(), target) else {
+        return MEMORY;
+    };
+    let mut input = Counted::new(request.as_bytes());
+    let mut out = Counted::new(io::writer(rt));
+    let end = answer(rt.alloc(), &mut Disk::new(rt), folder, &mut input, &mut out);
+    end_status(rt, end)
+}
+
+/// Answers the stream of a file over a folder.
+#[tactic(auto, using(crate::proofs::EndLemmas::answer_ends))]
+fn answer_file(rt: &(impl Files + Print + Eprint + AllocGlobal), folder: &str, file: &str) -> u8
+    ensures { result ≢ USAGE }
+{
+    match fs::open(rt, file) {
+        Ok(opened) => {
+            let mut input = Counted::new(opened);
+            let mut out = Counted::new(io::writer(rt));
+            let end = answer(rt.alloc(), &mut Disk::new(rt), folder, &mut input, &mut out);
+            end_status(rt, end)
+        }
+        Err(error) => error_status(&error),
+    }
+}
+
+/// Serves a folder on a port of this machine.
+#[tactic(auto, using(crate::proofs::EndLemmas::serve_ends))]
+fn serve_folder<R>(rt: &R, folder: &str, port: u16, connections: u32) -> u8
+where
+    R: Files + Net<Listener = TcpListener, Stream = TcpStream> + Print + Eprint + AllocGlobal,
+    ensures { result ≢ USAGE }
+{
+    let catalog = match Disk::new(rt).load(rt.alloc(), folder) {
+        Ok(catalog) => catalog,
+        Err(fault) => return report(rt, &ProgramFault::Folder(fault)),
+    };
+    match CountedListener::bind(rt, port) {
+        Ok(mut listener) => {
+            let mut out = Counted::new(io::writer(rt));
+            let end = serve(rt.alloc(), &catalog, &mut listener, connections, &mut out);
+            end_status(rt, end)
+        }
+        Err(error) => error_status(&error),
+    }
+}
+
+/// Does what the words ask for, the first of which is the program's name. The status is that of usage where `clap` does not take them, and
+/// nowhere else.
+pub fn line_status<R>(rt: &R, line: &[&str]) -> u8
+where
+    R: Files
+        + Net<Listener = TcpListener, Stream = TcpStream>
+        + Input
+        + Print
+        + Eprint
+        + AllocGlobal,
+    ensures usage { ¬ (IsTaken (texts line.now)) → (result ≡ USAGE) ⊎ (result ≡ MEMORY) }
+    ensures taken { IsTaken (texts line.now) → result ≢ USAGE }
+{
+    match read_words(rt.alloc(), line) {
+        Ok(Words::Nothing) => answer_input(rt),
+        Ok(Words::Check { folder }) => check_tables(rt, folder),
+        Ok(Words::Query { folder, target }) => query(rt, folder, target),
+        Ok(Words::Answer { folder, file }) => answer_file(rt, folder, file),
+        Ok(
+            Words::Serve {
+                folder,
+                port,
+                connections,
+            },
+        ) => serve_folder(rt, folder, port, connections),
+        Err(WordsFault::Usage) => usage_status(rt),
+        Err(WordsFault::NoMemory) => MEMORY,
+    }
+}
+
+/// Does what the system's words ask for. Which words these are no clause says.
+fn words_status<R>(rt: &R) -> io::Result<u8>
+where
+    R: Env
+        + Files
+        + Net<Listener = TcpListener, Stream = TcpStream>
+        + Input
+        + Print
+        + Eprint
+        + AllocGlobal,
+{
+    let mut words = Vec::new(rt.alloc());
+    for word in env::args(rt)? {
+        words.push(word)?;
+    }
+    let mut line = Vec::new(rt.alloc());
+    for word in words.iter() {
+        line.push(word.as_str())?;
+    }
+    Ok(line_status(rt, line.as_slice()))
+}
+
+/// Does what the command line asks for, and gives the exit status: by [`line_status`], of the words that the system hands over.
+pub fn command_status<R>(rt: &R) -> u8
+where
+    R: Env
+        + Files
+        + Net<Listener = TcpListener, Stream = TcpStream>
+        + Input
+        + Print
+        + Eprint
+        + AllocGlobal,
+{
+    match words_status(rt) {
+        Ok(status) => status,
+        Err(error) => unread_status(rt, &error),
+    }
+}

@@ -1,0 +1,23 @@
+//! What the program does: it answers a stream of requests, checks a folder of CSV files or serves connections, as the words of its command line
+//! ask. Folders, streams and connections come by traits, so that each call runs over memory too; contracts see what these tell and count.
+#![tactic(auto)]
+
+mod check;
+mod command;
+mod disk;
+mod fault_text;
+mod folders;
+mod listener;
+mod program;
+mod serving;
+mod words;
+
+pub use check::check_folder;
+pub use command::{DONE, command_status, line_status};
+pub use disk::Disk;
+pub use fault_text::{DEVICE, MEMORY, REFUSED, USAGE, fault_line};
+pub use folders::{BuiltIn, FolderFault, Folders, NOTES, NOTES_BYTES, NOTES_FILE, NOTES_METADATA};
+pub use listener::{CountedListener, Listener};
+pub use program::{MAX_READS, ProgramFault, answer, request_to};
+pub use serving::serve;
+pub use words::{Words, WordsFault, read_words};

@@ -1,0 +1,58 @@
+//! Columns by their names.
+
+ghost use Rattle.std.specs.Prelude.{◌≡◌, Ok};
+ghost use Rattle.odata_types.specs.Columns.{inputs_view};
+ghost use Rattle.odata_types.specs.Result.{Gives};
+ghost use Rattle.odata_types.specs.TypedTree.{typed_view};
+ghost use Rattle.odata_types.specs.Typing.{column_expr as column_expr_of, name_typing, place_of as place_in};
+
+use crate::fault::TypeFault;
+use crate::tree::{DateExpr, DecimalExpr, IntegerExpr, TextExpr, TruthExpr, TypedExpr};
+use crate::types::{ColumnType, InputColumn};
+use std::alloc::Global;
+
+/// The number of the first column with that name, or how many there are where none has it.
+fn place_of(columns: &[InputColumn<'_>], name: &str) -> usize
+    ensures { result ≡ place_in (inputs_view columns.now) name.now }
+{
+    for (i, column) in columns.iter().enumerate() {
+        if name == column.name {
+            return i;
+        }
+    }
+    columns.len()
+}
+
+/// The column with that number.
+fn column_expr(alloc: Global, place: usize, column_type: ColumnType) -> Result<TypedExpr, TypeFault>
+    ensures { Gives typed_view (Ok (column_expr_of place column_type)) result }
+{
+    match column_type {
+        ColumnType::Integer(bound) => Ok(TypedExpr::Integer(
+            Box::new(alloc, IntegerExpr::Column(place))?,
+            bound,
+        )),
+        ColumnType::Text => Ok(TypedExpr::Text(Box::new(alloc, TextExpr::Column(place))?)),
+        ColumnType::Boolean => Ok(TypedExpr::Boolean(Box::new(alloc, TruthExpr::Column(place))?)),
+        ColumnType::Date => Ok(TypedExpr::Date(DateExpr::Column(place))),
+        ColumnType::Decimal(bound) => Ok(TypedExpr::Decimal(
+            Box::new(alloc, DecimalExpr::Column(place))?,
+            bound,
+        )),
+    }
+}
+
+/// The column with that name.
+pub(crate) fn named_expr(
+    alloc: Global,
+    columns: &[InputColumn<'_>],
+    name: &str,
+) -> Result<TypedExpr, TypeFault>
+    ensures { Gives typed_view (name_typing (inputs_view columns.now) name.now) result }
+{
+    let place = place_of(columns, name);
+    match columns.get(place) {
+        Some(column) => column_expr(alloc, place, column.column_type),
+        None => Err(TypeFault::UnknownName),
+    }
+}

@@ -1,0 +1,237 @@
+//! `in` and its list of values (OData 4.01 URL Conventions, section 5.1.1.1.12).
+
+ghost use Rattle.std.specs.Prelude.{◌≡◌, map, IfOk};
+ghost use Rattle.std.specs.List.{list_all};
+ghost use Rattle.odata_parse.specs.Tree.{literal_view};
+ghost use Rattle.odata_types.specs.Result.{Gives};
+ghost use Rattle.odata_types.specs.TypedTree.{boxed_truth, optional_day, optional_text, typed_view};
+ghost use Rattle.odata_types.specs.Typing.{date_item as date_item_of, decimal_item as decimal_item_of, decimal_items as decimal_items_of, fits as fits_in, in_typing, integer_item as integer_item_of, is_small as is_small_of, list_as as list_as_of, list_in_type, list_type as list_type_of, literal_type as literal_type_of, text_item as text_item_of, truth_item as truth_item_of};
+
+use crate::fault::TypeFault;
+use crate::literal::{is_small, literal_type};
+use crate::operand::scaled;
+use crate::operator::common_type;
+use crate::tree::{TruthExpr, TypedExpr};
+use crate::types::{ExprType, MILLIONTHS};
+use jiff::civil::Date;
+use odata_parse::tree::Literal;
+use std::alloc::{AllocError, Global};
+
+/// The type of an operand and a list together.
+fn list_type(first: ExprType, items: &[Literal]) -> ExprType
+    ensures { result ≡ list_type_of first (map literal_view items.now) }
+{
+    let mut common = first;
+    for item in items {
+        common = common_type(common, literal_type(item));
+    }
+    common
+}
+
+/// Whether a type fits where another is asked for.
+fn fits(wanted: ExprType, found: ExprType) -> bool
+    ensures { result ≡ fits_in wanted found }
+{
+    match (wanted, found) {
+        (_, ExprType::Null)
+        | (ExprType::Decimal, ExprType::Integer | ExprType::Decimal)
+        | (ExprType::Integer, ExprType::Integer)
+        | (ExprType::Text, ExprType::Text)
+        | (ExprType::Boolean, ExprType::Boolean)
+        | (ExprType::Date, ExprType::Date) => true,
+        _ => false,
+    }
+}
+
+/// Whether no value of a list is too large.
+fn are_small(items: &[Literal]) -> bool
+    ensures { result ≡ list_all is_small_of (map literal_view items.now) }
+{
+    for item in items {
+        if !is_small(item) {
+            return false;
+        }
+    }
+    true
+}
+
+/// Whether each value of a list fits a type.
+fn all_fit(wanted: ExprType, items: &[Literal]) -> bool
+    ensures { result ≡ list_all (λ v. fits_in wanted (literal_type_of v)) (map literal_view items.now) }
+{
+    for item in items {
+        if !fits(wanted, literal_type(item)) {
+            return false;
+        }
+    }
+    true
+}
+
+/// A value as an integer.
+fn integer_item(item: &Literal) -> Option<i128>
+    ensures { result ≡ integer_item_of (literal_view item.now) }
+{
+    match item {
+        Literal::Number(number) => Some(*number),
+        _ => None,
+    }
+}
+
+/// A value as a decimal: an integer is scaled.
+fn decimal_item(item: &Literal) -> Result<Option<i128>, TypeFault>
+    ensures { result ≡ decimal_item_of (literal_view item.now) }
+{
+    match item {
+        Literal::Number(number) => {
+            scaled(number.unsigned_abs())?;
+            Ok(Some(*number * MILLIONTHS as i128))
+        }
+        Literal::Decimal(number) => Ok(Some(*number)),
+        _ => Ok(None),
+    }
+}
+
+/// A value as a text.
+fn text_item(alloc: Global, item: &Literal) -> Result<Option<String>, AllocError>
+    ensures { IfOk result (λ text. optional_text text ≡ text_item_of (literal_view item.now)) }
+{
+    match item {
+        Literal::Text(text) => Ok(Some(String::from_str(alloc, text.as_str())?)),
+        _ => Ok(None),
+    }
+}
+
+/// A value as a date.
+fn date_item(item: &Literal) -> Option<Date>
+    ensures { optional_day result ≡ date_item_of (literal_view item.now) }
+{
+    match item {
+        Literal::Date(date) => Some(*date),
+        _ => None,
+    }
+}
+
+/// A value as a truth.
+fn truth_item(item: &Literal) -> Option<bool>
+    ensures { result ≡ truth_item_of (literal_view item.now) }
+{
+    match item {
+        Literal::Boolean(truth) => Some(*truth),
+        _ => None,
+    }
+}
+
+fn integer_items(alloc: Global, items: &[Literal]) -> Result<Vec<Option<i128>>, AllocError>
+    ensures { IfOk result (λ values. values.items ≡ map integer_item_of (map literal_view items.now)) }
+{
+    let mut values = Vec::with_capacity(alloc, items.len())?;
+    for item in items {
+        values.push(integer_item(item))?;
+    }
+    Ok(values)
+}
+
+fn decimal_items(alloc: Global, items: &[Literal]) -> Result<Vec<Option<i128>>, TypeFault>
+    ensures { Gives (λ values. values.items) (decimal_items_of (map literal_view items.now)) result }
+{
+    let mut values = Vec::with_capacity(alloc, items.len())?;
+    for item in items {
+        values.push(decimal_item(item)?)?;
+    }
+    Ok(values)
+}
+
+fn text_items(alloc: Global, items: &[Literal]) -> Result<Vec<Option<String>>, AllocError>
+    ensures { IfOk result (λ values. map optional_text values.items ≡ map text_item_of (map literal_view items.now)) }
+{
+    let mut values = Vec::with_capacity(alloc, items.len())?;
+    for item in items {
+        values.push(text_item(alloc, item)?)?;
+    }
+    Ok(values)
+}
+
+fn date_items(alloc: Global, items: &[Literal]) -> Result<Vec<Option<Date>>, AllocError>
+    ensures { IfOk result (λ values. map optional_day values.items ≡ map date_item_of (map literal_view items.now)) }
+{
+    let mut values = Vec::with_capacity(alloc, items.len())?;
+    for item in items {
+        values.push(date_item(item))?;
+    }
+    Ok(values)
+}
+
+fn truth_items(alloc: Global, items: &[Literal]) -> Result<Vec<Option<bool>>, AllocError>
+    ensures { IfOk result (λ values. values.items ≡ map truth_item_of (map literal_view items.now)) }
+{
+    let mut values = Vec::with_capacity(alloc, items.len())?;
+    for item in items {
+        values.push(truth_item(item))?;
+    }
+    Ok(values)
+}
+
+/// `in` at operands of a type.
+fn list_as(
+    alloc: Global,
+    common: ExprType,
+    operand: TypedExpr,
+    items: &[Literal],
+) -> Result<Box<TruthExpr>, TypeFault>
+    ensures { Gives boxed_truth (list_as_of common (typed_view operand) (map literal_view items.now)) result }
+{
+    let expr = match common {
+        ExprType::Integer => {
+            let (operand, _) = operand.into_integer(alloc)?;
+            TruthExpr::IntegerIn(operand, integer_items(alloc, items)?)
+        }
+        ExprType::Decimal => {
+            let (operand, _) = operand.into_decimal(alloc)?;
+            TruthExpr::DecimalIn(operand, decimal_items(alloc, items)?)
+        }
+        ExprType::Text => {
+            let operand = operand.into_text(alloc)?;
+            TruthExpr::TextIn(operand, text_items(alloc, items)?)
+        }
+        ExprType::Date => {
+            let operand = operand.into_date()?;
+            TruthExpr::DateIn(operand, date_items(alloc, items)?)
+        }
+        ExprType::Boolean | ExprType::Null => {
+            let operand = operand.into_truth(alloc)?;
+            TruthExpr::TruthIn(operand, truth_items(alloc, items)?)
+        }
+    };
+    Ok(Box::new(alloc, expr)?)
+}
+
+/// `in` where no value of the list is too large.
+fn list_in_type(
+    alloc: Global,
+    common: ExprType,
+    operand: TypedExpr,
+    items: &[Literal],
+) -> Result<TypedExpr, TypeFault>
+    ensures { Gives typed_view (list_in_type common (typed_view operand) (map literal_view items.now)) result }
+{
+    if !all_fit(common, items) {
+        return Err(TypeFault::Mismatch);
+    }
+    let expr = list_as(alloc, common, operand, items)?;
+    Ok(TypedExpr::Boolean(expr))
+}
+
+/// Whether an operand is one of a list.
+pub(crate) fn in_expr(
+    alloc: Global,
+    operand: TypedExpr,
+    items: &[Literal],
+) -> Result<TypedExpr, TypeFault>
+    ensures { Gives typed_view (in_typing (typed_view operand) (map literal_view items.now)) result }
+{
+    if !are_small(items) {
+        return Err(TypeFault::TooLarge);
+    }
+    let common = list_type(operand.expr_type(), items);
+    list_in_type(alloc, common, operand, items)
+}

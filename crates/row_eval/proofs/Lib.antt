@@ -1,0 +1,6 @@
+mod CharPlaces
+mod PartLemmas
+mod FaultLemmas
+mod BoundLemmas
+mod RowLemmas
+mod QueryLemmas

@@ -1,0 +1,85 @@
+-- The rows of an input, and the expressions that a query has.
+use Rattle.std.specs.Prelude.{ℕ, ◌+◌, ◌^◌, ◌≤◌, List, [], ◌∷◌, length, unsigned_abs}
+use Rattle.cell_types.specs.Value.{CellValue, null, integer, text, boolean, date, decimal}
+use Rattle.cell_types.specs.Column.{ColumnOf}
+use Rattle.cell_types.specs.Laws.{IsOfColumn}
+use Rattle.odata_parse.specs.Tree as tree
+use Rattle.odata_parse.specs.Tree.{ExprOf, LiteralOf}
+use Rattle.odata_types.specs.declared.types.ColumnType.{ColumnType}
+use Rattle.odata_types.specs.declared.types.ColumnType.TheVariants as column
+use Rattle.odata_types.specs.declared.types.TheConstants.{MOST_SIZE}
+use Rattle.odata_types.specs.Columns.{InputOf}
+
+-- a text of at most 2 to the 30 bytes
+abbrev pub IsShort : List ℕ → Type 0
+IsShort t = length t ≤ 2 ^ 30
+
+-- a day of the years up to 9999
+abbrev pub IsDay : ℕ → ℕ → ℕ → Type 0
+IsDay year month day = (year ≤ 9999) × (month ≤ 12) × (day ≤ 31)
+
+-- a value that a column of a type may have
+abbrev pub IsOfType : ColumnType → CellValue → Type 0
+IsOfType type null = Unit {0}
+IsOfType (column.Integer bound) (integer n) = unsigned_abs n ≤ bound
+IsOfType (column.Decimal bound) (decimal n) = unsigned_abs n ≤ bound
+IsOfType column.Text (text t) = IsShort t
+IsOfType column.Boolean (boolean b) = Unit {0}
+IsOfType column.Date (date y m d) = IsDay (unsigned_abs y) m d
+IsOfType _ _ = ⊥
+
+-- a row: a value for each column, of its type
+abbrev pub IsRowOf : List InputOf → List CellValue → Type 0
+IsRowOf [] [] = Unit {0}
+IsRowOf (c ∷ cs) (v ∷ vs) = IsOfType c.column_type v × IsRowOf cs vs
+IsRowOf _ _ = ⊥
+
+-- a value of a row of a table: one that its column may have, short where it is a text
+abbrev pub IsShortValue : CellValue → Type 0
+IsShortValue (text t) = IsShort t
+IsShortValue _ = Unit {0}
+
+abbrev pub IsTableRow : List ColumnOf → List CellValue → Type 0
+IsTableRow [] [] = Unit {0}
+IsTableRow (c ∷ cs) (v ∷ vs) = IsOfColumn c v × IsShortValue v × IsTableRow cs vs
+IsTableRow _ _ = ⊥
+
+-- the numbers of a column are not too large
+abbrev pub IsBounded : ColumnType → Type 0
+IsBounded (column.Integer bound) = bound ≤ MOST_SIZE
+IsBounded (column.Decimal bound) = bound ≤ MOST_SIZE
+IsBounded _ = Unit {0}
+
+-- an input: no column's numbers are too large
+abbrev pub IsInput : List InputOf → Type 0
+IsInput [] = Unit {0}
+IsInput (c ∷ cs) = IsBounded c.column_type × IsInput cs
+
+abbrev pub nodes : ExprOf → ℕ
+nodes (tree.literal v) = 1
+nodes (tree.name n) = 1
+nodes (tree.unary o a) = nodes a + 1
+nodes (tree.binary o a b) = nodes a + nodes b + 1
+nodes (tree.in_list a vs) = nodes a + length vs + 1
+nodes (tree.unary_call f a) = nodes a + 1
+nodes (tree.binary_call f a b) = nodes a + nodes b + 1
+
+abbrev pub IsShortLiteral : LiteralOf → Type 0
+IsShortLiteral (tree.text t) = IsShort t
+IsShortLiteral (tree.date y m d) = IsDay (unsigned_abs y) m d
+IsShortLiteral _ = Unit {0}
+
+-- each text in the expression is short, and each date a day
+abbrev pub HasShortTexts : ExprOf → Type 0
+HasShortTexts (tree.literal v) = IsShortLiteral v
+HasShortTexts (tree.name n) = Unit {0}
+HasShortTexts (tree.unary o a) = HasShortTexts a
+HasShortTexts (tree.binary o a b) = HasShortTexts a × HasShortTexts b
+HasShortTexts (tree.in_list a vs) = HasShortTexts a
+HasShortTexts (tree.unary_call f a) = HasShortTexts a
+HasShortTexts (tree.binary_call f a b) = HasShortTexts a × HasShortTexts b
+
+-- an expression of at most 1,024 nodes with short texts
+pub record IsQueried (e : ExprOf) : Type 0 where
+  pub few : nodes e ≤ 1_024
+  pub short : HasShortTexts e

@@ -1,0 +1,10 @@
+pub mod Row
+pub mod Text
+pub mod Comparison
+pub mod Logic
+pub mod Outcome
+pub mod Bounds
+pub mod Memory
+pub mod Result
+pub mod Input
+pub mod Laws

@@ -1,0 +1,148 @@
+//! Comparisons (OData 4.01 URL Conventions, sections 5.1.1.1.1 to 5.1.1.1.6 and 5.1.1.1.12). They are never null.
+
+ghost use Rattle.std.specs.Prelude.{◌≡◌, map, option_map};
+ghost use Rattle.std.specs.Cmp.Lexicographic.{slice_cmp};
+ghost use Rattle.std.specs.Ordering.{bool_cmp, int_cmp, nat_cmp};
+ghost use Rattle.odata_types.specs.TypedTree.{day_view, optional_day, optional_text};
+ghost use Rattle.row_eval.specs.Comparison.{compared, day_cmp, holds as holds_of, is_among, is_equal as is_equal_of};
+
+use jiff::civil::Date;
+use odata_parse::tree::ComparisonOperator;
+use std::cmp::Ordering;
+
+/// Whether a comparison holds of values in an order; none stands for a value beside null.
+pub fn holds(operator: ComparisonOperator, order: Option<Ordering>) -> bool
+    ensures { result ≡ holds_of operator order }
+{
+    match operator {
+        ComparisonOperator::Equal => matches!(order, Some(Ordering::Equal)),
+        ComparisonOperator::NotEqual => !matches!(order, Some(Ordering::Equal)),
+        ComparisonOperator::GreaterThan => matches!(order, Some(Ordering::Greater)),
+        ComparisonOperator::GreaterOrEqual => {
+            matches!(order, Some(Ordering::Greater | Ordering::Equal))
+        }
+        ComparisonOperator::LessThan => matches!(order, Some(Ordering::Less)),
+        ComparisonOperator::LessOrEqual => matches!(order, Some(Ordering::Less | Ordering::Equal)),
+    }
+}
+
+/// The order of integers, or of decimals.
+pub(crate) fn number_order(left: Option<i128>, right: Option<i128>) -> Option<Ordering>
+    ensures { result ≡ compared int_cmp left right }
+{
+    match (left, right) {
+        (None, None) => Some(Ordering::Equal),
+        (Some(left), Some(right)) => Some(left.cmp(&right)),
+        _ => None,
+    }
+}
+
+/// The order of truths.
+pub(crate) fn boolean_order(left: Option<bool>, right: Option<bool>) -> Option<Ordering>
+    ensures { result ≡ compared bool_cmp left right }
+{
+    match (left, right) {
+        (None, None) => Some(Ordering::Equal),
+        (Some(left), Some(right)) => Some(left.cmp(&right)),
+        _ => None,
+    }
+}
+
+/// The order of texts, by their characters.
+pub(crate) fn text_order(left: Option<&str>, right: Option<&str>) -> Option<Ordering>
+    ensures { result ≡ compared (slice_cmp nat_cmp) (option_map (λ t. t.now) left.entry) (option_map (λ t. t.now) right.entry) }
+{
+    match (left, right) {
+        (None, None) => Some(Ordering::Equal),
+        (Some(left), Some(right)) => Some(left.cmp(&right)),
+        _ => None,
+    }
+}
+
+/// The order of days: by year, month and day.
+fn day_order(left: Date, right: Date) -> Ordering
+    ensures { result ≡ day_cmp (day_view left) (day_view right) }
+{
+    let month = left
+        .month()
+        .unsigned_abs()
+        .cmp(&right.month().unsigned_abs());
+    let day = left.day().unsigned_abs().cmp(&right.day().unsigned_abs());
+    left.year().cmp(&right.year()).then(month).then(day)
+}
+
+/// The order of dates.
+pub(crate) fn date_order(left: &Option<Date>, right: &Option<Date>) -> Option<Ordering>
+    ensures { result ≡ compared day_cmp (optional_day left.now) (optional_day right.now) }
+{
+    match (left, right) {
+        (None, None) => Some(Ordering::Equal),
+        (Some(left), Some(right)) => Some(day_order(*left, *right)),
+        _ => None,
+    }
+}
+
+/// Whether the order is that of equal values.
+fn is_equal(order: Option<Ordering>) -> bool
+    ensures { result ≡ is_equal_of order }
+{
+    matches!(order, Some(Ordering::Equal))
+}
+
+/// Whether a number is one of a list.
+pub(crate) fn number_among(value: Option<i128>, items: &[Option<i128>]) -> bool
+    ensures { result ≡ is_among int_cmp value items.now }
+{
+    for item in items {
+        if is_equal(number_order(value, *item)) {
+            return true;
+        }
+    }
+    false
+}
+
+/// Whether a truth is one of a list.
+pub(crate) fn boolean_among(value: Option<bool>, items: &[Option<bool>]) -> bool
+    ensures { result ≡ is_among bool_cmp value items.now }
+{
+    for item in items {
+        if is_equal(boolean_order(value, *item)) {
+            return true;
+        }
+    }
+    false
+}
+
+/// Whether a date is one of a list.
+pub(crate) fn date_among(value: &Option<Date>, items: &[Option<Date>]) -> bool
+    ensures { result ≡ is_among day_cmp (optional_day value.now) (map optional_day items.now) }
+{
+    for item in items {
+        if is_equal(date_order(value, item)) {
+            return true;
+        }
+    }
+    false
+}
+
+/// The text of an item.
+fn item_text(item: &Option<String>) -> Option<&str>
+    ensures { option_map (λ t. t.now) result ≡ optional_text item.now }
+{
+    match item {
+        Some(text) => Some(text.as_str()),
+        None => None,
+    }
+}
+
+/// Whether a text is one of a list.
+pub(crate) fn text_among(value: Option<&str>, items: &[Option<String>]) -> bool
+    ensures { result ≡ is_among (slice_cmp nat_cmp) (option_map (λ t. t.now) value.entry) (map optional_text items.now) }
+{
+    for item in items {
+        if is_equal(text_order(value, item_text(item))) {
+            return true;
+        }
+    }
+    false
+}

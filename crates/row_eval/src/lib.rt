@@ -1,0 +1,23 @@
+//! Typed expressions on rows of values, with the three-valued logic of OData (OData 4.01 URL Conventions, section 5.1.1). [`eval`]
+//! gives the one outcome of an expression on a row: a value, or a division by zero.
+#![tactic(auto)]
+
+mod comparison;
+mod date;
+mod decimal;
+mod fault;
+mod integer;
+mod law;
+mod text;
+mod truth;
+mod typed;
+
+pub use comparison::holds;
+pub use date::eval_date;
+pub use decimal::eval_decimal;
+pub use fault::EvalFault;
+pub use integer::eval_integer;
+pub use law::{bounds_hold, faults_are_foreseen, filters_are_queried, sizes, tables_are_inputs};
+pub use text::{eval_text, has_part, index_in, text_passes};
+pub use truth::{Truth, eval_truth, greatest, least, opposite, truth_of};
+pub use typed::eval;

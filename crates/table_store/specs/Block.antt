@@ -1,0 +1,25 @@
+-- Blocks of rows: the rows of a table in their order, so many at a time.
+use Rattle.std.specs.Prelude.{◌+◌, ◌*◌, ◌-◌, ◌/◌, ◌≤◌, ◌^◌, ◌<◌, ℕ, length, take, drop}
+use Rattle.block_summary.specs.declared.block.TheConstants.{BLOCK_ROWS}
+use Rattle.table_store.specs.declared.block.Block.TheInside.{Inside}
+use Rattle.table_store.specs.Table.{TableOf}
+
+-- how many blocks so many rows are
+abbrev pub block_count : ℕ → ℕ
+block_count rows = (rows + (BLOCK_ROWS - 1)) / BLOCK_ROWS
+
+-- some of the rows of a table
+abbrev pub part : TableOf → ℕ → ℕ → TableOf
+part table first rows = record { schema = table.schema; rows = take rows (drop first table.rows) }
+
+-- the block of that number
+abbrev pub block_of : TableOf → ℕ → TableOf
+block_of table number = part table (number * BLOCK_ROWS) BLOCK_ROWS
+
+abbrev pub block_view : Inside → TableOf
+block_view block = part block.table.now block.first block.rows
+
+-- they are rows of the table, by numbers that fit
+pub record IsWithin (block : Inside) : Type 0 where
+  pub within : block.first + block.rows ≤ length block.table.now.rows
+  pub fits : block.first + block.rows < 2 ^ 64
