@@ -21,7 +21,7 @@ column-level : (earlier : List Data) (d : Data) → AllMet (column_conditions ea
 unfolding object_column_conditions
 column-level earlier d h = (tail_met (tail_met (tail_met (tail_met (tail_met (tail_met (object_column earlier d h))))))).none
 
-table-level : (d : Data) → AllMet (level_conditions d) → IsOfForm d
+pub table-level : (d : Data) → AllMet (level_conditions d) → IsOfForm d
 unfolding level_conditions
 table-level d h = (tail_met (tail_met (tail_met h))).none
 
@@ -37,7 +37,7 @@ schema-levels limits schema h =
     let level = tail_met (front_met first count (front_met (first ++ count) each met)) in
     All-cons IsOfForm schema columns level.none (each-all column_conditions IsOfForm column-level [] columns (back_met (first ++ count) each met))
 
-table-levels : (limits : LimitsOf) (group : Data) (earlier : List Data) (d : Data) → AllMet (table_conditions limits group earlier d) → All IsOfForm (levels_in group d)
+pub table-levels : (limits : LimitsOf) (group : Data) (earlier : List Data) (d : Data) → AllMet (table_conditions limits group earlier d) → All IsOfForm (levels_in group d)
 unfolding object_table_conditions
 table-levels limits group earlier d h =
     let behind = tail_met (tail_met (object_table limits group earlier d h)) in

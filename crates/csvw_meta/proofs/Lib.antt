@@ -8,3 +8,4 @@ pub mod KeyLemmas
 pub mod NameLemmas
 pub mod LawLemmas
 pub mod LevelLemmas
+pub mod DefaultLemmas

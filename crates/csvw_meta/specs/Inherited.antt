@@ -1,22 +1,27 @@
 -- The members that a column inherits from its schema, its table and the group (Metadata Vocabulary for Tabular Data, section 5.7).
-use Rattle.std.specs.Prelude.{ℕ, Bool, false, List, [], ◌∷◌, ◌++◌, codes, Option, None, Some, option_and_then, is_some, unwrap_or}
+use Rattle.std.specs.Prelude.{ℕ, Bool, false, List, [], ◌∷◌, ◌++◌, length, nat_le, codes, Option, None, Some, option_and_then, option_map, is_some, unwrap_or}
 use Rattle.serde_json.specs.Data.{Data}
 use Rattle.serde_json.specs.Find.{as_str, as_bool}
+use Rattle.csvw_meta.specs.declared.document.TheConstants.{MOST_METADATA_BYTES}
 use Rattle.csvw_meta.specs.Fault.{bad_null, bad_default, bad_required}
 use Rattle.csvw_meta.specs.Refusal.{Condition, ensure}
 use Rattle.csvw_meta.specs.Members.{member, fits}
-use Rattle.csvw_meta.specs.Texts.{is_text, is_texts, texts_in}
+use Rattle.csvw_meta.specs.Texts.{is_texts, texts_in}
 use Rattle.csvw_meta.specs.Datatype.{datatype_member_conditions}
 
 abbrev pub is_truth : Data → Bool
 is_truth d = is_some (as_bool d)
+
+-- a text of at most as many bytes as metadata may have; each text in metadata is one, for a string of JSON has no fewer bytes than what it says
+abbrev pub is_short_text : Data → Bool
+is_short_text d = unwrap_or (option_map (λ text. nat_le (length text) MOST_METADATA_BYTES) (as_str d)) false
 
 -- the conditions on what a level says for the columns in it
 unfoldable pub inherited_conditions : Data → List Condition
 inherited_conditions d =
     datatype_member_conditions (member (codes "datatype") d)
     ++ ensure (fits is_texts (member (codes "null") d)) bad_null
-    ∷ ensure (fits is_text (member (codes "default") d)) bad_default
+    ∷ ensure (fits is_short_text (member (codes "default") d)) bad_default
     ∷ ensure (fits is_truth (member (codes "required") d)) bad_required
     ∷ []
 

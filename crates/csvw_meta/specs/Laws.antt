@@ -1,11 +1,12 @@
 -- What holds of every metadata text.
-use Rattle.std.specs.Prelude.{◌≡◌, ◌≢◌, ℕ, ◌+◌, ◌<◌, ◌≤◌, nat_eq, List, ◌∷◌, ◌++◌, map, length, true, false, ◌⊎◌, None, Some, Ok, Err, if◌then◌else◌}
+use Rattle.std.specs.Prelude.{◌≡◌, ◌≢◌, ℕ, ◌+◌, ◌^◌, ◌<◌, ◌≤◌, nat_eq, List, ◌∷◌, ◌++◌, map, length, true, false, ◌⊎◌, None, Some, Ok, Err, if◌then◌else◌}
 use Rattle.std.specs.List.{All, IsDistinct, flat_map, starts_with}
 use Rattle.std.specs.Str.{bytes_eq}
 use Rattle.serde_json.specs.Data.{Data, null}
 use Rattle.csv_grammar.specs.Bytes.{byte_order_mark}
 use Rattle.cell_types.specs.Column.{ColumnOf}
 use Rattle.csvw_meta.specs.declared.document.TheConstants.{MOST_METADATA_BYTES}
+use Rattle.csvw_meta.specs.declared.limits.TheConstants.{MOST_FILE_BYTES}
 use Rattle.csvw_meta.specs.Fault.{MetaCause}
 use Rattle.csvw_meta.specs.Limits.{LimitsOf}
 use Rattle.csvw_meta.specs.Refusal.{first_cause}
@@ -75,3 +76,16 @@ levels_of d = if is_group d then d ∷ flat_map (levels_in d) (tables_in d) else
 abbrev pub LevelsAreOfForm : Type 0
 LevelsAreOfForm = (limits : LimitsOf) (bytes : List ℕ) (d : Data) (schemas : List SchemaOf) → document bytes ≡ Some d → schemas_of limits bytes ≡ Ok schemas
     → All IsOfForm (levels_of d)
+
+-- the default of each column has at most 2 to the 30 bytes
+abbrev pub HasShortDefaults : SchemaOf → Type 0
+HasShortDefaults schema = All (λ (column : ColumnOf). length column.default ≤ 2 ^ 30) schema.columns
+
+-- so are those of the schemas of a text that is accepted
+abbrev pub DefaultsAreShort : Type 0
+DefaultsAreShort = (limits : LimitsOf) (bytes : List ℕ) (schemas : List SchemaOf) → schemas_of limits bytes ≡ Ok schemas → All HasShortDefaults schemas
+
+-- the numbers of the profile
+pub record Sizes : Type 0 where
+  pub file : MOST_FILE_BYTES ≡ 2 ^ 30
+  pub metadata : MOST_METADATA_BYTES ≡ 2 ^ 30

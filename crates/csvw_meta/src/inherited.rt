@@ -2,14 +2,25 @@
 ghost use Rattle.std.specs.Prelude.{◌≡◌, map, option_map, IfOk, string_bytes};
 ghost use Rattle.serde_json.specs.View.{view};
 ghost use Rattle.csvw_meta.specs.Refusal.{condition_of, first_cause};
-ghost use Rattle.csvw_meta.specs.Inherited.{inherited_conditions, nulls_of, default_of, required_of};
+ghost use Rattle.csvw_meta.specs.Inherited.{inherited_conditions, is_short_text as is_short_text_of, nulls_of, default_of, required_of};
 
 use crate::datatype::check_datatype;
+use crate::document::MOST_METADATA_BYTES;
 use crate::members::member;
 use crate::refusal::{Refusal, ensure};
 use crate::texts::{is_texts, make_texts};
 use serde_json::Value;
 use std::alloc::{AllocError, Global};
+
+/// Whether it is a text of at most as many bytes as metadata may have, as each text in metadata is.
+fn is_short_text(value: &Value) -> bool
+    ensures { result ≡ is_short_text_of (view value.now) }
+{
+    match value.as_str() {
+        Some(text) => text.len() <= MOST_METADATA_BYTES,
+        None => false,
+    }
+}
 
 /// The conditions on what a level says for the columns in it.
 #[tactic(auto, using(crate::proofs::RefusalLemmas::conditions), unfolding(crate::specs::Inherited::inherited_conditions))]
@@ -19,7 +30,7 @@ pub(crate) fn check_inherited<'v>(level: &'v Value) -> Result<(), Refusal<'v>>
     check_datatype(member(level, "datatype"))?;
     ensure(member(level, "null").is_none_or(is_texts), Refusal::BadNull)?;
     ensure(
-        member(level, "default").is_none_or(Value::is_string),
+        member(level, "default").is_none_or(is_short_text),
         Refusal::BadDefault,
     )?;
     ensure(

@@ -1,5 +1,5 @@
 //! The laws of the definitions that [`crate::Schemas::read`] cites: each is a theorem, and does nothing.
-ghost use Rattle.csvw_meta.specs.Laws.{AcceptedSchemas, LevelsAreOfForm, MarkIsDropped, NearestLevel, SchemasOrCause};
+ghost use Rattle.csvw_meta.specs.Laws.{AcceptedSchemas, DefaultsAreShort, LevelsAreOfForm, MarkIsDropped, NearestLevel, SchemasOrCause, Sizes};
 
 /// Accepted metadata has at least one table and no more than the limit, with different urls of their form and different names, each with
 /// at least one column and no more than the limit, with different names of their form, and with a key of places of columns, each once.
@@ -25,4 +25,14 @@ pub fn nearest_level()
 /// In accepted metadata what each level says is of its form, also where a nearer level says another.
 pub fn levels_are_of_form()
     ensures { LevelsAreOfForm }
+{}
+
+/// In accepted metadata no default is longer than the metadata may be.
+pub fn defaults_are_short()
+    ensures { DefaultsAreShort }
+{}
+
+/// A file and a metadata text have at most 2 to the 30 bytes.
+pub fn sizes()
+    ensures { Sizes }
 {}

@@ -22,7 +22,8 @@ mod texts;
 pub use document::Schemas;
 pub use fault::MetaFault;
 pub use laws::{
-    accepted_schemas, levels_are_of_form, mark_is_dropped, nearest_level, schemas_or_cause,
+    accepted_schemas, defaults_are_short, levels_are_of_form, mark_is_dropped, nearest_level,
+    schemas_or_cause, sizes,
 };
 pub use limits::{Limits, MOST_COLUMNS, MOST_FILE_BYTES, MOST_TABLES, MOST_TRANSFORMATIONS};
 pub use schema::Schema;

@@ -55,7 +55,7 @@ pub(crate) fn check_columns(
 }
 
 /// The kind of a value, and the value.
-fn value_text(alloc: Global, value: &Value<'_>) -> Result<String, AllocError> {
+pub(crate) fn value_text(alloc: Global, value: &Value<'_>) -> Result<String, AllocError> {
     match value {
         Value::Null => String::from_str(alloc, "null"),
         Value::Int(number) => format!(in alloc; "integer {number}"),

@@ -3,6 +3,8 @@
 #![tactic(auto)]
 
 #[cfg(test)]
+mod block_cases;
+#[cfg(test)]
 mod cell_cases;
 #[cfg(test)]
 mod column_cases;

@@ -1,7 +1,6 @@
 -- How the answers to heads join.
-use Rattle.std.proofs.Common.{◌≡◌, ◌+◌, ◌<◌, inl, inr, ℕ, Bool, true, false, List, [], ◌∷◌, ◌++◌, length, take, drop, map, get_or, suc, Result, Ok, Err, Option, Some, None, ◌↔◌, refl, sym, ap, ◌∙◌, subst, arith, drop-cons, add-one}
+use Rattle.std.proofs.Common.{◌≡◌, ◌+◌, ◌<◌, inl, inr, ℕ, true, false, List, [], ◌∷◌, ◌++◌, length, take, drop, map, get_or, suc, Result, Ok, Err, Option, Some, None, ◌↔◌, refl, sym, ap, ◌∙◌, subst, arith, drop-cons, add-one}
 use Rattle.std.specs.Prelude.{IsSome}
-use Rattle.std.specs.List.{AllZip}
 use Rattle.std.proofs.lemmas.Bool.{false≢true}
 use Rattle.std.proofs.lemmas.List.{take-append-drop, map-append, map_more}
 use Rattle.http_heads.specs.declared.head.Head.{Head}
@@ -11,7 +10,7 @@ use Rattle.odata_http.specs.declared.answer.AnswerFault.{AnswerFault}
 use Rattle.odata_http.specs.declared.answer.AnswerFault.TheVariants.{NoMemory}
 use Rattle.odata_http.specs.Reply.{rest_reply}
 use Rattle.odata_http.specs.Replies.{last_reply}
-use Rattle.odata_http.specs.Answer.{TakesAll, AnswersAll, AnswersSome, LacksMemory, FailsToTake, FailsOnRest, IsTakenIn, IsRestAnswered}
+use Rattle.odata_http.specs.Answer.{TakesAll, AnswersAll, AnswersSome, FailsOnRest, IsTakenIn, IsRestAnswered}
 use Rattle.odata_http.proofs.RepliesLemmas.{zip_append}
 
 takes_snoc : {S : Type 0} (T : S → List ℕ → Result (Unit {0}) AnswerFault → S → Type 0) (a : S) (rs : List (List ℕ)) (b : S) (r : List ℕ) (d : S)

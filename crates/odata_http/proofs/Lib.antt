@@ -1,3 +1,6 @@
+pub mod HeadLemmas
+pub mod ReadingLemmas
+pub mod WorkLemmas
 pub mod ReplyLemmas
 pub mod RepliesLemmas
 pub mod AnswerLemmas

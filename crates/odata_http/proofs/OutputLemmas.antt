@@ -1,14 +1,13 @@
 -- Answers that go to an output.
-use Rattle.std.proofs.Common.{◌≡◌, inl, inr, ℕ, ◌<◌, Bool, true, false, nat_lt, List, [], ◌∷◌, ◌++◌, length, Result, Ok, Err, refl, sym, ap, ◌∙◌, append-nil, append_assoc, arith}
+use Rattle.std.proofs.Common.{◌≡◌, inl, inr, ℕ, ◌<◌, Bool, true, nat_lt, List, [], ◌∷◌, ◌++◌, length, Ok, Err, refl, sym, ap, ◌∙◌, append-nil, append_assoc, arith}
 use Rattle.std.specs.List.{concat}
 use Rattle.std.proofs.lemmas.Bool.Decides.{nat_tests}
 use Rattle.http_heads.specs.Head.{HeadOf}
-use Rattle.http_heads.specs.Cut.{IsCut}
 use Rattle.odata_http.specs.declared.answer.AnswerFault.{AnswerFault}
 use Rattle.odata_http.specs.declared.answer.AnswerFault.TheVariants.{NoMemory, Write}
 use Rattle.odata_http.specs.Output.{IsPushed}
 use Rattle.odata_http.specs.Replies.{last_reply, IsCertain, AreFirstReplies}
-use Rattle.odata_http.specs.Answer.{TakesAll, AnswersAll, AnswersSome, FailsOnRest, IsTakenIn, IsRestAnswered}
+use Rattle.odata_http.specs.Answer.{TakesAll, AnswersSome, IsTakenIn, IsRestAnswered}
 use Rattle.odata_http.proofs.SinkLemmas.{first_answered}
 use Rattle.odata_http.proofs.AnswerLemmas.{failed_rest}
 

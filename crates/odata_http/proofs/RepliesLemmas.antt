@@ -7,8 +7,8 @@ use Rattle.http_heads.specs.Head.{HeadOf}
 use Rattle.http_heads.specs.Checks.{closes}
 use Rattle.http_heads.specs.Cut.{IsCut}
 use Rattle.http_heads.specs.Laws.{OneCut, CutsJoin}
-use Rattle.odata_http.specs.Replies.{last_reply, IsCertain, AreReplies, AreFirstReplies, IsFrontOfReplies}
-use Rattle.odata_http.specs.Laws.{SomeReply, OneReply, SomeReading, OneReading, Joins}
+use Rattle.odata_http.specs.Replies.{last_reply, IsCertain, AreReplies, AreFirstReplies}
+use Rattle.odata_http.specs.Laws.{OneReply, OneReading, Joins}
 
 -- two lists of pairs, one behind the other
 pub zip_append : {A B : Type 0} (R : A → B → Type 0) (xs : List A) (ys : List B) (us : List A) (vs : List B)
@@ -28,25 +28,7 @@ zip_one R one (h ∷ heads) (y ∷ ys) [] p q = absurd q
 zip_one R one (h ∷ heads) (y ∷ ys) (v ∷ vs) p q =
     ap₂ (λ (r : List ℕ) (rs : List (List ℕ)). r ∷ rs) (one h y v p.0 q.0) (zip_one R one heads ys vs p.1 q.1)
 
-zip_some : (R : HeadOf → List ℕ → Type 0) → SomeReply R → (heads : List HeadOf) → (replies : List (List ℕ)) × AllZip R heads replies
-zip_some R some [] = ([], tt)
-zip_some R some (h ∷ heads) = let r = some h in let rest = zip_some R some heads in (r.0 ∷ rest.0, (r.1, rest.1))
-
 -- ---- the laws
-
-pub some_reading : (R : HeadOf → List ℕ → Type 0) → OneCut → SomeReply R → SomeReading R
-some_reading R cuts some s =
-    let cut = cuts.some s in
-    let replies = zip_some R some cut.0 in (
-      concat replies.0 ++ last_reply cut.1,
-      cut.2,
-      record {
-        certain = concat replies.0;
-        rest = cut.1;
-        is = record { heads = cut.0; replies = replies.0; cut = cut.3; each = replies.1; certain_is = refl };
-        all_is = refl;
-      },
-    )
 
 certain_one : (R : HeadOf → List ℕ → Type 0) → OneCut → OneReply R → (s c d r q : List ℕ) (a b : Bool)
     → IsCertain R s c r a → IsCertain R s d q b → (c ≡ d) × (r ≡ q) × (a ≡ b)

@@ -1,5 +1,5 @@
 -- How the steps of a run join.
-use Rattle.std.proofs.Common.{◌≡◌, ◌+◌, ℕ, Bool, true, false, List, [], ◌++◌, length, take, Result, Ok, Err, refl, sym, ap, ◌∙◌, append-nil}
+use Rattle.std.proofs.Common.{◌≡◌, ◌+◌, ℕ, true, false, List, [], ◌++◌, length, take, Result, Ok, Err, refl, sym, ap, ◌∙◌, append-nil}
 use Rattle.std.proofs.KnownBytes.{Appends-nil, Appends-trans, Consumes-nil, Consumes-trans, Consumes-kept}
 use Rattle.std.specs.Io.KnownBytes.{Appends, Consumes, Keeps, IsAtEnd}
 use Rattle.std.proofs.Math.Seq.{take-append-add}
@@ -10,7 +10,7 @@ use Rattle.odata_http.specs.declared.answer.AnswerFault.TheVariants as answer
 use Rattle.odata_http.specs.declared.runs.RunFault.{RunFault}
 use Rattle.odata_http.specs.declared.runs.RunFault.TheVariants.{NoMemory, Read, Write, TooManyReads}
 use Rattle.odata_http.specs.Device.{SourceOf, SinkOf, Counts}
-use Rattle.odata_http.specs.Replies.{last_reply, IsCertain, AreFirstReplies, IsFrontOfReplies}
+use Rattle.odata_http.specs.Replies.{last_reply, IsCertain, IsFrontOfReplies}
 use Rattle.odata_http.specs.Runs.{Course, course, HasMoved, HasEnded, Finishes, StopsReading, StopsWriting, StopsReplying}
 use Rattle.odata_http.specs.RunFaults.{run_fault}
 use Rattle.odata_http.specs.Answer.{HasWritten}

@@ -4,7 +4,7 @@ use Rattle.odata_http.specs.declared.session.State.{State}
 use Rattle.odata_http.specs.declared.session.State.TheVariants.{Live, Ended, Failed}
 use Rattle.http_heads.specs.Head.{HeadOf}
 use Rattle.odata_http.specs.Replies.{AreFirstReplies, IsCertain, last_reply}
-use Rattle.odata_http.specs.Session.{SessionOf, IsLive, TakesIn, FailsIn, HasFailed, IsOver, has_rest}
+use Rattle.odata_http.specs.Session.{SessionOf, IsLive, TakesIn, FailsIn, HasFailed, IsOver}
 use Rattle.odata_http.specs.States.{has_ended, has_failed}
 
 -- a session by its parts

@@ -1,8 +1,8 @@
 -- Answers that go to a device.
-use Rattle.std.proofs.Common.{◌≡◌, ◌+◌, inl, inr, ℕ, ◌≤◌, Bool, true, false, List, [], ◌∷◌, ◌++◌, length, take, Result, Ok, Err, refl, sym, ap, ◌∙◌, subst, append-nil}
+use Rattle.std.proofs.Common.{◌≡◌, ◌+◌, inl, inr, ℕ, Bool, false, List, [], ◌∷◌, ◌++◌, length, take, Result, Ok, Err, refl, sym, ap, ◌∙◌, subst, append-nil}
 use Rattle.std.proofs.KnownBytes.{Appends-nil, Appends-trans}
 use Rattle.std.proofs.Math.Seq.{take-append-add}
-use Rattle.std.specs.List.{AllZip, concat}
+use Rattle.std.specs.List.{concat}
 use Rattle.std.proofs.lemmas.List.Folds.{concat-append}
 use Rattle.http_heads.specs.Head.{HeadOf}
 use Rattle.http_heads.specs.Cut.{IsCut}
@@ -10,7 +10,7 @@ use Rattle.odata_http.specs.declared.answer.AnswerFault.{AnswerFault}
 use Rattle.odata_http.specs.declared.answer.AnswerFault.TheVariants.{NoMemory, Write}
 use Rattle.odata_http.specs.Device.{SinkOf}
 use Rattle.odata_http.specs.Replies.{last_reply, IsCertain, AreFirstReplies, IsFrontOfReplies}
-use Rattle.odata_http.specs.Answer.{HasWritten, HasFailed, IsSent, TakesAll, AnswersAll, AnswersSome, LacksMemory, FailsToTake, FailsOnRest, IsTakenIn, IsRestAnswered}
+use Rattle.odata_http.specs.Answer.{HasWritten, HasFailed, IsSent, TakesAll, AnswersAll, AnswersSome, FailsOnRest, IsTakenIn, IsRestAnswered}
 use Rattle.odata_http.proofs.RepliesLemmas.{zip_append}
 use Rattle.odata_http.proofs.AnswerLemmas.{failed_rest}
 

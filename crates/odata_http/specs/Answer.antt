@@ -1,13 +1,17 @@
 -- Heads answered in turn, wherever their replies go.
 use Rattle.std.specs.Prelude.{◌≡◌, ◌⊎◌, ◌<◌, ℕ, ◌≤◌, Bool, true, false, List, [], ◌∷◌, ◌++◌, length, take, Result, Ok, Err, ⊤}
 use Rattle.std.specs.Io.KnownBytes.{Appends}
-use Rattle.std.specs.List.{AllZip}
+use Rattle.std.specs.List.{AllByRecursion, AllZip}
 use Rattle.http_heads.specs.Head.{HeadOf}
 use Rattle.http_heads.specs.Cut.{IsCut}
 use Rattle.odata_http.specs.declared.answer.AnswerFault.{AnswerFault}
 use Rattle.odata_http.specs.declared.answer.AnswerFault.TheVariants.{NoMemory, Write}
 use Rattle.odata_http.specs.Device.{SinkOf, Counts}
 use Rattle.odata_http.specs.Replies.{last_reply}
+
+-- no target is longer than a head may be
+abbrev pub AreSmall : List HeadOf → Type 0
+AreSmall heads = AllByRecursion (λ head. length head.target ≤ 8_192) heads
 
 -- these bytes were written, and no write failed
 pub record HasWritten (old new : SinkOf) (bytes : List ℕ) : Type 0 where

@@ -5,17 +5,9 @@ use Rattle.http_heads.specs.Head.{HeadOf}
 use Rattle.odata_http.specs.Reply.{IsReply}
 use Rattle.odata_http.specs.Replies.{IsCertain, AreReplies}
 
--- each head has a reply
-abbrev pub SomeReply : (HeadOf → List ℕ → Type 0) → Type 0
-SomeReply R = (head : HeadOf) → (reply : List ℕ) × R head reply
-
 -- no head has two
 abbrev pub OneReply : (HeadOf → List ℕ → Type 0) → Type 0
 OneReply R = (head : HeadOf) (reply other : List ℕ) → R head reply → R head other → reply ≡ other
-
--- each stream has replies
-abbrev pub SomeReading : (HeadOf → List ℕ → Type 0) → Type 0
-SomeReading R = (s : List ℕ) → (c : List ℕ) × (closed : Bool) × AreReplies R s c closed
 
 -- no stream has two lists of them
 pub record OneReading (R : HeadOf → List ℕ → Type 0) : Type 0 where

@@ -2,6 +2,8 @@ pub mod Device
 pub mod Counted
 pub mod Media
 pub mod Reply
+pub mod Exchange
+pub mod Work
 pub mod Replies
 pub mod Laws
 pub mod Answer
@@ -16,3 +18,4 @@ pub use Rattle.http_heads.specs.Head
 pub use Rattle.http_heads.specs.Checks
 pub use Rattle.http_heads.specs.Cut
 pub use Rattle.odata_request.specs.Request
+pub use Rattle.query_exec.specs.Run as RunsOfPlans

@@ -1,6 +1,6 @@
 -- The replies of a stream (RFC 9112, section 9.3), for any relation of heads and replies: those to the heads of its cut, one after another.
 -- Nothing here says that a head has a reply, but of those that were reached.
-use Rattle.std.specs.Prelude.{◌≡◌, ℕ, Bool, true, false, List, [], ◌∷◌, ◌++◌, take, MatchBool}
+use Rattle.std.specs.Prelude.{◌≡◌, ℕ, Bool, List, [], ◌∷◌, ◌++◌, take, MatchBool}
 use Rattle.std.specs.List.{AllZip, concat}
 use Rattle.http_heads.specs.Head.{HeadOf}
 use Rattle.http_heads.specs.Cut.{IsCut}

@@ -4,22 +4,22 @@ use Rattle.std.specs.Str.{bytes_eq}
 use Rattle.std.specs.Fmt.{decimal}
 use Rattle.http.specs.StatusCode.{reason_phrase}
 use Rattle.table_store.specs.Table.{TableOf}
-use Rattle.query_exec.specs.Rows.{RowsOf, rows_of_table}
-use Rattle.reply_text.specs.declared.code.Code.TheVariants.{BadRequest, MethodNotAllowed}
+use Rattle.query_exec.specs.Answer.{answer_of}
+use Rattle.query_exec.specs.Rows.{RowsOf}
+use Rattle.reply_text.specs.declared.code.Code.{Code}
+use Rattle.reply_text.specs.declared.code.Code.TheVariants.{BadRequest, MethodNotAllowed, DivisionByZero}
 use Rattle.reply_text.specs.Body.{rows_text, service_text, error_text}
 use Rattle.reply_text.specs.Csv.{csv_text}
 use Rattle.odata_parse.specs.declared.format.Format.{Format}
 use Rattle.odata_parse.specs.declared.format.Format.TheVariants.{Json, Csv}
 use Rattle.reply_text.specs.Code.{status_of}
-use Rattle.odata_http.specs.declared.reply.TheConstants.{OK}
+use Rattle.odata_http.specs.declared.response.TheConstants.{OK}
 use Rattle.http_heads.specs.Head.{HeadOf}
 use Rattle.http_heads.specs.Checks.{head_fault, closes}
 use Rattle.odata_http.specs.declared.media.Media.{Media}
 use Rattle.odata_http.specs.declared.media.Media.TheVariants as media
 use Rattle.odata_http.specs.Media.{media_of, media_type}
-use Rattle.odata_request.specs.declared.request.Request.{Request}
-use Rattle.odata_request.specs.declared.request.Request.TheVariants.{Refused, Service, Rows}
-use Rattle.odata_request.specs.Request.{AsksFor}
+use Rattle.odata_request.specs.Request.{AsksFor, RequestOf, RowsRequestOf, refused, rows, service}
 
 abbrev pub line_end : List ℕ
 line_end = 13 ∷ 10 ∷ []
@@ -63,39 +63,51 @@ body_for method body = if bytes_eq method (codes "HEAD") then [] else body
 abbrev pub reply_with : List ℕ → ℕ → Media → List ℕ → Bool → List ℕ
 reply_with method status media body closes = reply_lines status media (length body) closes ++ body_for method body
 
-abbrev pub request_status : Request → ℕ
-request_status (Refused code) = status_of code
-request_status request = OK
+-- a response: its status, and its body with the media type
+pub record ResponseOf : Type 0 where
+  pub status : ℕ
+  pub media : Media
+  pub body : List ℕ
 
 -- errors and the service document are in JSON
-abbrev pub request_media : Request → Media
-request_media (Rows number format) = media_of format
-request_media request = media.Json
+abbrev pub error_response : Code → ResponseOf
+error_response code = record { status = status_of code; media = media.Json; body = error_text code }
+
+abbrev pub service_response : List TableOf → ResponseOf
+service_response tables = record { status = OK; media = media.Json; body = service_text tables }
 
 abbrev pub rows_body : RowsOf → Format → List ℕ
 rows_body answer Json = rows_text answer
 rows_body answer Csv = csv_text answer
 
--- the rows of a table in a format; a request has the number of one
-abbrev pub table_body : Option TableOf → Format → List ℕ
-table_body (Some table) format = rows_body (rows_of_table table) format
-table_body None format = []
+-- the answer to a query in a format; where it is none, a number is divided by zero
+abbrev pub rows_response : Format → Option RowsOf → ResponseOf
+rows_response format (Some answer) = record { status = OK; media = media_of format; body = rows_body answer format }
+rows_response format None = error_response DivisionByZero
 
-abbrev pub request_body : List TableOf → Request → List ℕ
-request_body tables (Refused code) = error_text code
-request_body tables Service = service_text tables
-request_body tables (Rows number format) = table_body (slice_get tables number) format
+-- a query is answered from its table
+pub record RespondsWithRows (tables : List TableOf) (asked : RowsRequestOf) (response : ResponseOf) : Type 0 where
+  pub table : TableOf
+  pub table_is : slice_get tables asked.table ≡ Some table
+  pub response_is : response ≡ rows_response asked.format (answer_of asked.query table)
 
--- the reply to a request by that method
-abbrev pub request_reply : List TableOf → List ℕ → Request → Bool → List ℕ
-request_reply tables method request closing =
-    reply_with method (request_status request) (request_media request) (request_body tables request) closing
+-- what a request is answered with
+abbrev pub RespondsWith : List TableOf → RequestOf → ResponseOf → Type 0
+RespondsWith tables (refused code) response = response ≡ error_response code
+RespondsWith tables service response = response ≡ service_response tables
+RespondsWith tables (rows asked) response = RespondsWithRows tables asked response
 
--- The bytes are the reply to the head: that of what it asks for. Whether the connection closes behind it hangs on the head alone.
+-- a response to a request of that method
+abbrev pub reply_of : List ℕ → ResponseOf → Bool → List ℕ
+reply_of method response closing = reply_with method response.status response.media response.body closing
+
+-- The bytes are the reply to the head: a response to what it asks for. Whether the connection closes behind it hangs on the head alone.
 pub record IsReply (tables : List TableOf) (head : HeadOf) (reply : List ℕ) : Type 0 where
-  pub request : Request
+  pub request : RequestOf
   pub asks : AsksFor tables (head_fault head) head.target request
-  pub reply_is : reply ≡ request_reply tables head.method request (closes head)
+  pub response : ResponseOf
+  pub responds : RespondsWith tables request response
+  pub reply_is : reply ≡ reply_of head.method response (closes head)
 
 -- the reply to a rest that is no head, which closes; no method is known, so it has its body
 unfoldable pub rest_reply : List ℕ

@@ -2,12 +2,13 @@
 ghost use Rattle.std.specs.Prelude.{◌≡◌, ◌++◌, [], ℕ, List, Result, ⊤, map};
 ghost use Rattle.http_heads.specs.Head.{head_view};
 ghost use Rattle.odata_http.specs.declared.answer.AnswerFault.{AnswerFault};
-ghost use Rattle.odata_http.specs.Answer.{IsAnswered, IsRestAnswered, IsSent, IsTakenIn};
+ghost use Rattle.odata_http.specs.Answer.{AreSmall, IsAnswered, IsRestAnswered, IsSent, IsTakenIn};
 ghost use Rattle.odata_http.specs.Reply.{IsReply};
 
 use crate::device::{Sink, send};
-use crate::reply::{reply_to, reply_to_rest};
-use http_heads::{Head, Splitter, Unreadable, one_cut};
+use crate::exchange::reply_to;
+use crate::reply::reply_to_rest;
+use http_heads::{Head, Splitter, Unreadable, head_limits, one_cut};
 use std::alloc::{AllocError, Global};
 use table_store::Catalog;
 
@@ -58,6 +59,7 @@ fn answer_heads<O: Outlet>(
     heads: &[Head],
     out: &mut O,
 ) -> Result<(), AnswerFault>
+    requires { AreSmall (map head_view heads.now) }
     ensures { IsAnswered (IsReply catalog.now.tables) O.takes
         (map head_view heads.now) out.old out.new result }
 {
@@ -79,6 +81,7 @@ pub(crate) fn take_in<O: Outlet>(
     ensures { IsTakenIn (IsReply catalog.now.tables) O.takes
         (splitter.old ++ piece.now) splitter.new out.old out.new result }
 {
+    head_limits();
     one_cut();
     let cut = splitter.cut(alloc, piece)?;
     answer_heads(alloc, catalog, cut.heads.as_slice(), out)?;

@@ -1,18 +1,19 @@
 //! What holds of the replies of every stream. The functions here are theorems, and do nothing.
-ghost use Rattle.odata_http.specs.Laws.{Joins, OneReading, OneReply, SomeReading, SomeReply, UnderTables};
+ghost use Rattle.odata_http.specs.Laws.{Joins, OneReading, OneReply, UnderTables};
 
-/// Under some tables a head has one reply.
+/// Under some tables a head has one reply at most. That it has one is not said here: whether tokens have a tree is known where they are parsed.
 pub fn one_reply()
-    ensures some { UnderTables SomeReply }
-    ensures one { UnderTables OneReply }
-{}
+    ensures { UnderTables OneReply }
+{
+    odata_request::one_request();
+}
 
-/// A stream has one list of replies.
+/// A stream has one list of replies at most.
 pub fn one_reading()
-    ensures some { UnderTables SomeReading }
-    ensures one { UnderTables OneReading }
+    ensures { UnderTables OneReading }
 {
     http_heads::one_cut();
+    odata_request::one_request();
 }
 
 /// Unless the connection closed, what follows a stream is answered as what follows its rest; where it closed, what follows is not answered. So

@@ -5,17 +5,23 @@
 mod answer;
 mod counted;
 mod device;
+mod exchange;
 mod laws;
 mod media;
 mod output;
+mod reading;
 mod reply;
+mod response;
 mod runs;
 mod session;
+mod work;
 
 pub use counted::Counted;
 pub use device::{DeviceFault, Sink, Source, send};
+pub use exchange::{Exchange, reply_to};
 pub use http_heads::{Field, Head, MAX_FIELDS, MAX_HEAD, Splitter, Unreadable};
 pub use laws::{joins, one_reading, one_reply};
-pub use reply::{reply_to, reply_to_rest};
+pub use query_exec::Step;
+pub use reply::reply_to_rest;
 pub use runs::{RunFault, run};
 pub use session::{Session, SessionFault};

@@ -1,25 +1,14 @@
-//! The replies to heads.
+//! Replies: the lines and the body.
 ghost use Rattle.std.specs.Prelude.{◌≡◌, ◌++◌, IfOk, OnOk, codes, decimal, unwrap_or};
 ghost use Rattle.http.specs.StatusCode.{IsStatusCode, reason_phrase};
-ghost use Rattle.query_exec.specs.Rows.{rows_of_table};
-ghost use Rattle.http_heads.specs.Head.{head_view};
 ghost use Rattle.odata_http.specs.Media.{media_type};
-ghost use Rattle.odata_request.specs.Request.{IsInside};
-ghost use Rattle.odata_http.specs.Reply.{IsReply, allow_line, body_for, closing_line, field_line, first_lines, reply_lines, reply_with, rest_reply, request_body, request_media, request_status, rows_body, status_line};
+ghost use Rattle.odata_http.specs.Reply.{allow_line, body_for, closing_line, field_line, first_lines, reply_lines, reply_with, rest_reply, status_line};
 
 use crate::media::Media;
 use http::StatusCode;
-use http_heads::{Head, check_head};
 use itoa::Buffer;
-use odata_parse::Format;
-use odata_request::{Request, request_of};
-use query_exec::Rows;
-use reply_text::{Code, csv_body, error_body, json_body, service_body};
+use reply_text::{Code, error_body};
 use std::alloc::{AllocError, Global};
-use table_store::{Catalog, Table};
-
-/// The status of a reply that has what was asked for (RFC 9110, section 15.3.1).
-pub const OK: u16 = 200;
 
 /// The phrase that the HTTP standards give a status.
 fn phrase_of(status: u16) -> &'static str
@@ -145,7 +134,7 @@ fn body_for(alloc: Global, method: &[u8], body: Vec<u8>) -> Vec<u8>
 }
 
 /// The reply with that status and a body of that media type, to a request of that method.
-fn reply_with(
+pub(crate) fn reply_with(
     alloc: Global,
     method: &[u8],
     status: u16,
@@ -159,67 +148,6 @@ fn reply_with(
 {
     let head = lines_before(alloc, status, media, body.len(), closes)?;
     laid_before(head.as_slice(), body_for(alloc, method, body))
-}
-
-/// The status of the reply to a request.
-fn request_status(request: Request) -> u16
-    ensures status { result ≡ request_status request }
-    ensures known { IsStatusCode result }
-{
-    match request {
-        Request::Refused(code) => code.status(),
-        Request::Service | Request::Rows(_, _) => OK,
-    }
-}
-
-/// The media type of the reply to a request.
-fn request_media(request: Request) -> Media
-    ensures { result ≡ request_media request }
-{
-    match request {
-        Request::Refused(_) | Request::Service => Media::Json,
-        Request::Rows(_, format) => Media::of(format),
-    }
-}
-
-/// The body of the rows of a table.
-fn rows_body(alloc: Global, table: &Table, format: Format) -> Result<Vec<u8>, AllocError>
-    ensures { IfOk result (λ body. body.items ≡ rows_body (rows_of_table table.now) format) }
-{
-    let rows = Rows::of_table(alloc, table)?;
-    match format {
-        Format::Json => json_body(alloc, &rows),
-        Format::Csv => csv_body(alloc, &rows),
-    }
-}
-
-/// The body of the reply to a request, whose table is one of the catalog.
-fn request_body(alloc: Global, catalog: &Catalog, request: Request) -> Result<Vec<u8>, AllocError>
-    requires { IsInside catalog.now.tables request }
-    ensures { IfOk result (λ body. body.items ≡ request_body catalog.now.tables request) }
-{
-    match request {
-        Request::Refused(code) => error_body(alloc, code),
-        Request::Service => service_body(alloc, catalog),
-        Request::Rows(number, format) => rows_body(alloc, &catalog.tables()[number], format),
-    }
-}
-
-/// The reply to a head: what the engine calls, head by head.
-pub fn reply_to(alloc: Global, catalog: &Catalog, head: &Head) -> Result<Vec<u8>, AllocError>
-    ensures { IfOk result (λ reply. IsReply catalog.now.tables (head_view head.now) reply.items) }
-{
-    let checks = check_head(head);
-    let request = request_of(alloc, catalog, checks.fault, head.target.as_slice())?;
-    let body = request_body(alloc, catalog, request)?;
-    reply_with(
-        alloc,
-        head.method.as_slice(),
-        request_status(request),
-        request_media(request),
-        body,
-        checks.closes,
-    )
 }
 
 /// The reply to a rest of a stream that is no head. It closes.

@@ -1,3 +1,9 @@
 pub mod OptionLemmas
 pub mod PathLemmas
+pub mod ResourceLemmas
+pub mod ReadingLemmas
+pub mod RowsLemmas
+pub mod LengthLemmas
+pub mod UniqueLemmas
+pub mod InsideLemmas
 pub mod RequestLemmas

@@ -1,3 +1,7 @@
 pub mod Resource
 pub mod Options
+pub mod Fault
+pub mod Reading
+pub mod Query
 pub mod Request
+pub mod Laws

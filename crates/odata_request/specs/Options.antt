@@ -12,10 +12,11 @@ use Rattle.reply_text.specs.declared.code.Code.TheVariants.{NotServed, OptionNot
 use Rattle.odata_request.specs.declared.resource.Resource.{Resource}
 use Rattle.odata_request.specs.declared.resource.Resource.TheVariants.{Service, Rows}
 
--- why an option does not fit, whatever its value is: the service document takes `$format` alone; of those of rows the format is served
+-- why an option does not fit, whatever its value is: the service document takes `$format` alone; of those of rows the filter and the format are served
 abbrev pub option_fault : Resource → OptionName → Option Code
 option_fault resource name.Format = None
 option_fault Service option = Some OptionNotAllowed
+option_fault (Rows number) name.Filter = None
 option_fault (Rows number) option = Some NotServed
 
 -- why the first option does not fit that does not, in the query's order
@@ -30,6 +31,18 @@ is_format option = is_format_name option.0
     is_format_name : OptionName → Bool
     is_format_name name.Format = true
     is_format_name other = false
+
+-- the option is `$filter`
+abbrev pub is_filter : QueryOption → Bool
+is_filter option = is_filter_name option.0
+  where
+    is_filter_name : OptionName → Bool
+    is_filter_name name.Filter = true
+    is_filter_name other = false
+
+-- the value of `$filter`
+abbrev pub filter_text : List QueryOption → Option (List ℕ)
+filter_text options = option_map (λ option. option.1) (find is_filter options)
 
 -- the value of `$format`
 abbrev pub format_text : List QueryOption → Option (List ℕ)

@@ -1,5 +1,5 @@
 -- What a path leads to (OData 4.01 Part 2, URL Conventions, section 4).
-use Rattle.std.specs.Prelude.{ℕ, Bool, ◌&&◌, not, ◌==◌, nat_eq, List, [], ◌∷◌, length, codes, if◌then◌else◌, Option, None, Some, Result, Ok, Err, position, is_none, take}
+use Rattle.std.specs.Prelude.{ℕ, ◌<◌, ⊤, Bool, ◌&&◌, not, ◌==◌, nat_eq, List, [], ◌∷◌, length, codes, if◌then◌else◌, Option, None, Some, Result, Ok, Err, position, is_none, take}
 use Rattle.std.specs.List.{list_any, ends_with}
 use Rattle.std.specs.Str.{bytes_eq}
 use Rattle.table_store.specs.Table.{TableOf}
@@ -61,3 +61,8 @@ abbrev pub path_resource : List TableOf → List (List ℕ) → Result Resource 
 path_resource tables (segment ∷ []) = one_resource tables segment
 path_resource tables (segment ∷ count ∷ []) = two_resource tables segment count
 path_resource tables segments = other_resource segments
+
+-- the table whose rows a path leads to is one of these
+abbrev pub LeadsInside : List TableOf → Result Resource Code → Type 0
+LeadsInside tables (Ok (Rows number)) = number < length tables
+LeadsInside tables other = ⊤

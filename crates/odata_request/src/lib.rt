@@ -3,9 +3,13 @@
 //! option where it stands, and last the value of an option.
 #![tactic(auto)]
 
+mod fault;
+mod laws;
 mod options;
+mod query;
 mod request;
 mod resource;
 
-pub use request::{Request, request_of};
+pub use laws::one_request;
+pub use request::{Request, RowsRequest, request_of};
 pub use resource::{Resource, resource_of};

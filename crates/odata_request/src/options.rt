@@ -1,7 +1,7 @@
 //! The options of a query: whether each fits what the path leads to, in the query's order, and then their values, by their names.
 ghost use Rattle.std.specs.Prelude.{◌≡◌, find, map, option_map};
 ghost use Rattle.odata_url.specs.Target.{option_view};
-ghost use Rattle.odata_request.specs.Options.{format_in, format_text, is_format, option_fault, options_fault};
+ghost use Rattle.odata_request.specs.Options.{filter_text, format_in, format_text, is_filter, is_format, option_fault, options_fault};
 
 use crate::resource::Resource;
 use odata_parse::{Format, parse_format};
@@ -16,6 +16,7 @@ fn option_fault(resource: Resource, option: OptionName) -> Option<Code>
     match (resource, option) {
         (_, OptionName::Format) => None,
         (Resource::Service, _) => Some(Code::OptionNotAllowed),
+        (Resource::Rows(_), OptionName::Filter) => None,
         (Resource::Rows(_), _) => Some(Code::NotServed),
     }
 }
@@ -35,7 +36,23 @@ pub(crate) fn options_fault(resource: Resource, options: &[(OptionName, String)]
 /// The values of the options that are served, by their names; none where the query does not have the option.
 #[derive(Clone, Copy)]
 pub(crate) struct Options<'a> {
-    format: Option<&'a str>,
+    pub(crate) filter: Option<&'a str>,
+    pub(crate) format: Option<&'a str>,
+}
+
+/// Whether an option is `$filter`.
+fn is_filter(option: &(OptionName, String)) -> bool
+    ensures { result ≡ is_filter (option_view option.now) }
+{
+    matches!(option.0, OptionName::Filter)
+}
+
+/// The option `$filter`, where it is one of these.
+fn filter_option(options: &[(OptionName, String)]) -> Option<&(OptionName, String)>
+    ensures { option_map (λ option. option_view option.now) result
+        ≡ find is_filter (map option_view options.now) }
+{
+    options.iter().find(|option| is_filter(option))
 }
 
 /// Whether an option is `$format`.
@@ -56,14 +73,20 @@ fn format_option(options: &[(OptionName, String)]) -> Option<&(OptionName, Strin
 impl<'a> Options<'a> {
     /// The values of these options.
     pub(crate) fn of(options: &'a [(OptionName, String)]) -> Options<'a>
-        ensures { option_map (λ text. text.now) result.format
+        ensures filter { option_map (λ text. text.now) result.filter
+            ≡ filter_text (map option_view options.now) }
+        ensures format { option_map (λ text. text.now) result.format
             ≡ format_text (map option_view options.now) }
     {
+        let filter = match filter_option(options) {
+            Some(option) => Some(option.1.as_str()),
+            None => None,
+        };
         let format = match format_option(options) {
             Some(option) => Some(option.1.as_str()),
             None => None,
         };
-        Options { format }
+        Options { filter, format }
     }
 
     /// The format that is asked for, if it is one that is served; JSON where none is.

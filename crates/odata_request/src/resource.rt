@@ -3,7 +3,7 @@ ghost use Rattle.std.specs.Prelude.{◌≡◌, map, position, string_bytes};
 ghost use Rattle.std.specs.List.{list_any};
 ghost use Rattle.std.specs.Str.{bytes_eq};
 ghost use Rattle.odata_url.specs.OptionName.{begins_with, dollar_sign};
-ghost use Rattle.odata_request.specs.Resource.{is_count_path, is_parenthesis, one_resource, other_resource, path_resource, rows_resource, segment_resource, table_number, unserved_resource};
+ghost use Rattle.odata_request.specs.Resource.{LeadsInside, is_count_path, is_parenthesis, one_resource, other_resource, path_resource, rows_resource, segment_resource, table_number, unserved_resource};
 
 use reply_text::Code;
 use table_store::{Catalog, Table};
@@ -120,7 +120,7 @@ fn one_resource(catalog: &Catalog, segment: &[u8]) -> Result<Resource, Code>
 }
 
 /// What a path leads to, or the code under which it is refused.
-pub fn resource_of(catalog: &Catalog, segments: &[String]) -> Result<Resource, Code>
+fn path_resource(catalog: &Catalog, segments: &[String]) -> Result<Resource, Code>
     ensures { result ≡ path_resource catalog.now.tables (map string_bytes segments.now) }
 {
     let count = segments.len();
@@ -131,4 +131,14 @@ pub fn resource_of(catalog: &Catalog, segments: &[String]) -> Result<Resource, C
         return unserved_resource(catalog, segments[0].as_bytes());
     }
     other_resource(segments)
+}
+
+/// What a path leads to, or the code under which it is refused.
+#[tactic(auto, using(crate::proofs::ResourceLemmas::path_inside))]
+pub fn resource_of(catalog: &Catalog, segments: &[String]) -> Result<Resource, Code>
+    ensures resource { result ≡ path_resource catalog.now.tables (map string_bytes segments.now) }
+    // The number of a table is that of one.
+    ensures inside { LeadsInside catalog.now.tables result }
+{
+    path_resource(catalog, segments)
 }

@@ -1,6 +1,14 @@
-//! What a query gives: rows of values under their names (OData 4.01 Part 2, URL Conventions). [`Rows::of_table`] is every row of a table.
+//! Runs of plans over the blocks of a table, and the rows that they give (OData 4.01 Part 2, URL Conventions). A [`Run`] never holds the
+//! table: it is handed the blocks that it names, one at a time, and then gives the plan's meaning on the rows of that table.
 #![tactic(auto)]
 
+mod cells;
+mod fault;
+mod kept;
 mod rows;
+mod run;
+mod texts;
 
+pub use fault::ExecFault;
 pub use rows::Rows;
+pub use run::{Run, Step};

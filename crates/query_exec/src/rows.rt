@@ -1,47 +1,68 @@
 //! The rows of an answer.
-ghost use Rattle.std.specs.Prelude.{◌≡◌, IfOk};
-ghost use Rattle.query_exec.specs.Rows.{names_of, names_view, rows_of_table, rows_view};
+ghost use Rattle.std.specs.Prelude.{◌≡◌, ◌<◌, Some, length, map, option_and_then, slice_get, string_bytes};
+ghost use Rattle.std.specs.List.{AllByRecursion};
+ghost use Rattle.cell_types.specs.Value.{value_view};
 
+use crate::kept::Kept;
 use cell_types::Value;
-use std::alloc::{AllocError, Global};
-use table_store::Table;
+use std::marker::Model;
 
-/// Rows of values under their names.
+/// Rows of values under their names. They own what they have.
 #[derive(Drop)]
-pub struct Rows<'a> {
-    pub names: Vec<&'a str>,
-    /// Each row has a value for each name.
-    pub rows: Vec<Vec<Value<'a>>>,
-    /// How many rows there are, where that was asked for.
-    pub count: Option<u64>,
+pub struct Rows {
+    pub(crate) names: Vec<String>,
+    pub(crate) kept: Kept,
+    pub(crate) count: Option<u64>,
 }
 
-/// The names of a table's columns.
-fn column_names<'a>(alloc: Global, table: &'a Table) -> Result<Vec<&'a str>, AllocError>
-    ensures { IfOk result (λ names. names_view names.items ≡ names_of table.now) }
-{
-    let mut names = Vec::new(alloc);
-    for column in &table.schema().columns {
-        names.push(column.name.as_str())?;
-    }
-    Ok(names)
+impl Model for Rows {
+    ghost use Rattle.query_exec.specs.Rows.{RowsOf};
+
+    ghost Value = { RowsOf };
+
+    ghost use Rattle.query_exec.specs.Inside.{rows_view, AreUnderNames};
+
+    ghost view = { rows_view };
+
+    ghost invariant = { AreUnderNames };
 }
 
-impl<'a> Rows<'a> {
-    /// Every row of a table, under its columns' names.
-    pub fn of_table(alloc: Global, table: &'a Table) -> Result<Rows<'a>, AllocError>
-        ensures { IfOk result (λ rows. rows_view rows ≡ rows_of_table table.now) }
+impl Rows {
+    /// The names of the columns.
+    pub fn names(&self) -> &[String]
+        ensures { map string_bytes result.now ≡ self.now.names }
     {
-        let names = column_names(alloc, table)?;
-        let mut rows = Vec::with_capacity(alloc, table.rows())?;
-        let mut cursor = table.cursor();
-        while let Some(values) = cursor.next_row(alloc)? {
-            rows.push(values)?;
-        }
-        Ok(Rows {
-            names,
-            rows,
-            count: None,
-        })
+        self.names.as_slice()
+    }
+
+    /// How many values each row has: one for each name.
+    pub fn width(&self) -> usize
+        ensures names { result ≡ length self.now.names }
+        ensures rows { AllByRecursion (λ values. length values ≡ result) self.now.rows }
+    {
+        self.names.len()
+    }
+
+    /// How many rows there are.
+    pub fn len(&self) -> usize
+        ensures { result ≡ length self.now.rows }
+    {
+        self.kept.len()
+    }
+
+    /// The value of a row and a column, both counted from 0. It takes no memory.
+    pub fn value(&self, row: usize, col: usize) -> Value<'_>
+        requires row { row < length self.now.rows }
+        requires col { col < length self.now.names }
+        ensures { option_and_then (λ values. slice_get values col) (slice_get self.now.rows row) ≡ Some (value_view result) }
+    {
+        self.kept.value(row, col)
+    }
+
+    /// How many rows there are in all, where that was asked for.
+    pub fn count(&self) -> Option<u64>
+        ensures { result ≡ self.now.count }
+    {
+        self.count
     }
 }

@@ -1,14 +1,11 @@
 -- Texts that need no escape, and pieces joined with commas.
-use Rattle.std.proofs.Common.{◌≡◌, ◌<◌, ◌≤◌, ℕ, ◌+◌, Bool, true, false, cond, not, List, [], ◌∷◌, ◌++◌, length, map, take, drop, get_or, zero-add, suc, Option, Some, None, Bor, codes, unwrap_or, ltb, refl, sym, ap, ◌∙◌, arith, append_assoc, tests}
-use Rattle.std.specs.List.{flat_map, join_with_byte, position, position_or_len, zip, enumerate_from}
+use Rattle.std.proofs.Common.{◌≡◌, ◌<◌, ◌≤◌, ℕ, ◌+◌, Bool, true, false, cond, not, List, [], ◌∷◌, ◌++◌, length, map, take, drop, get_or, suc, Option, Some, None, codes, unwrap_or, ltb, refl, sym, ap, ◌∙◌, arith, append_assoc, tests}
+use Rattle.std.specs.List.{flat_map, join_with_byte, position, position_or_len}
 use Rattle.std.proofs.lemmas.List.Sums.{prefix_len-le-length}
 use Rattle.std.proofs.lemmas.List.{take-append-drop, append-nil, nil_from_length, map-append, length-map, length-take-le, map_more}
 use Rattle.std.specs.Fmt.{decimal}
-use Rattle.std.proofs.lemmas.List.FromFn.{length-enumerate_from, get_or-enumerate_from}
 use Rattle.std.proofs.lemmas.List.Concat.{flat_map-append}
-use Rattle.cell_types.specs.declared.value.Value.{Value}
-use Rattle.cell_types.specs.Value.{value_view}
-use Rattle.reply_text.specs.Json.{escaped, needs_escape, comma, json_member, json_text, json_count}
+use Rattle.reply_text.specs.Json.{escaped, needs_escape, comma, json_text, json_count}
 
 -- a byte that needs no escape stands for itself
 pub escaped_plain : (b : ℕ) → needs_escape b ≡ false → escaped b ≡ b ∷ []
@@ -70,35 +67,6 @@ join_with_byte_more (first ∷ second ∷ pieces) piece = rw (join_with_byte_mor
 pub item_more : {X : Type 0} (f : X → List ℕ) (items : List X) (item : X) (start before between after : List ℕ) (place : ℕ) → before ≡ start ++ join_with_byte 44 (map f items) → place ≡ length items → between ≡ before ++ comma place → after ≡ between ++ f item → after ≡ start ++ join_with_byte 44 (map f (items ++ item ∷ []))
 item_more f items item start before between after place invariant at comma_is item_is =
     rw (map-append, join_with_byte_more, length-map) (rw (item_is, comma_is, at, invariant) (rw (append_assoc, append_assoc) refl))
-
--- a name and a value, with their place
-abbrev pub Item : Type 0
-Item = ℕ × (Bor (Bor (List ℕ)) × Bor Value)
-
-abbrev pub member_of_item : Item → List ℕ
-member_of_item item = json_member (item.1.0.now.now, value_view item.1.1.now)
-
-abbrev pub seen : Item → ℕ × (Bor (List ℕ) × Value)
-seen item = (item.0, (item.1.0.now, item.1.1.now))
-
-members_seen : (items : List Item) → map (λ (p : ℕ × (Bor (List ℕ) × Value)). json_member (p.1.0.now, value_view p.1.1)) (map seen items) ≡ map member_of_item items
-members_seen [] = refl
-members_seen (item ∷ items) = ap (λ members. member_of_item item ∷ members) (members_seen items)
-
-members_of_zip : (place : ℕ) (names : List (Bor (List ℕ))) (values : List Value) → map (λ (p : ℕ × (Bor (List ℕ) × Value)). json_member (p.1.0.now, value_view p.1.1)) (enumerate_from place (zip names values)) ≡ map json_member (zip (map (λ name. name.now) names) (map value_view values))
-members_of_zip place [] values = refl
-members_of_zip place (name ∷ names) [] = refl
-members_of_zip place (name ∷ names) (value ∷ values) = ap (λ members. json_member (name.now, value_view value) ∷ members) (members_of_zip (place + 1) names values)
-
--- the members of a row, of which each was yielded with its place
-pub yielded_members : (names : List (Bor (List ℕ))) (values : List Value) (items : List Item) → map seen items ≡ enumerate_from 0 (zip names values) → map member_of_item items ≡ map json_member (zip (map (λ name. name.now) names) (map value_view values))
-yielded_members names values items whole = sym (members_seen items) ∙ ap (map (λ (p : ℕ × (Bor (List ℕ) × Value)). json_member (p.1.0.now, value_view p.1.1))) whole ∙ members_of_zip 0 names values
-
--- what was yielded with its place stands at that place
-pub yielded_place : {X : Type 0} (items : List X) (n place : ℕ) (item : X) → (n < length (enumerate_from 0 items)) × ((place, item) ≡ get_or (enumerate_from 0 items) n (place, item)) → place ≡ n
-yielded_place items n place item (within, at) =
-    let inside : n < length items = omega (arith, length-enumerate_from 0 items) in
-    ap (λ (p : ℕ × _). p.0) at ∙ ap (λ (p : ℕ × _). p.0) (get_or-enumerate_from 0 items n (place, item) inside) ∙ zero-add n
 
 -- the number of rows, written piece by piece
 pub count_written : (start a b d e : List ℕ) (count : Option ℕ) (n : ℕ) → count ≡ Some n → a ≡ start ++ json_text (codes "@odata.count") → b ≡ a ++ codes ":" → d ≡ b ++ decimal n → e ≡ d ++ codes "," → e ≡ start ++ json_count count

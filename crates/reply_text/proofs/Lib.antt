@@ -1,5 +1,6 @@
 pub mod DecimalLemmas
 pub mod JsonLemmas
+pub mod MemberLemmas
 pub mod CsvLemmas
 pub mod RecordLemmas
 pub mod TableLemmas

@@ -1,7 +1,7 @@
 -- The codes of errors: each has a status (RFC 9110, section 15), a name and a message.
 use Rattle.std.specs.Prelude.{ℕ, List, codes}
 use Rattle.reply_text.specs.declared.code.Code.{Code}
-use Rattle.reply_text.specs.declared.code.Code.TheVariants.{BadRequest, BadHost, BadLength, NotServed, MethodNotAllowed, BadTarget, BadEscape, BadUtf8, UnknownOption, OptionTwice, NotFound, UnknownSet, OptionNotAllowed, NotAcceptable}
+use Rattle.reply_text.specs.declared.code.Code.TheVariants.{BadRequest, BadHost, BadLength, NotServed, MethodNotAllowed, BadTarget, BadEscape, BadUtf8, UnknownOption, OptionTwice, NotFound, UnknownSet, OptionNotAllowed, NotAcceptable, BadToken, TooMany, TooDeep, Syntax, UnknownName, Mismatch, TooLarge, DivisionByZero}
 
 abbrev pub status_of : Code → ℕ
 status_of BadRequest = 400
@@ -18,6 +18,14 @@ status_of NotFound = 404
 status_of UnknownSet = 404
 status_of OptionNotAllowed = 400
 status_of NotAcceptable = 406
+status_of BadToken = 400
+status_of TooMany = 400
+status_of TooDeep = 400
+status_of Syntax = 400
+status_of UnknownName = 400
+status_of Mismatch = 400
+status_of TooLarge = 400
+status_of DivisionByZero = 400
 
 abbrev pub code_name : Code → List ℕ
 code_name BadRequest = codes "BadRequest"
@@ -34,6 +42,14 @@ code_name NotFound = codes "NotFound"
 code_name UnknownSet = codes "UnknownSet"
 code_name OptionNotAllowed = codes "OptionNotAllowed"
 code_name NotAcceptable = codes "NotAcceptable"
+code_name BadToken = codes "BadToken"
+code_name TooMany = codes "TooMany"
+code_name TooDeep = codes "TooDeep"
+code_name Syntax = codes "Syntax"
+code_name UnknownName = codes "UnknownName"
+code_name Mismatch = codes "Mismatch"
+code_name TooLarge = codes "TooLarge"
+code_name DivisionByZero = codes "DivisionByZero"
 
 abbrev pub message_of : Code → List ℕ
 message_of BadRequest = codes "the request cannot be read"
@@ -50,3 +66,11 @@ message_of NotFound = codes "no such resource"
 message_of UnknownSet = codes "no such table"
 message_of OptionNotAllowed = codes "the option does not fit the path"
 message_of NotAcceptable = codes "the format is not served"
+message_of BadToken = codes "an unknown token"
+message_of TooMany = codes "more than 1024 tokens"
+message_of TooDeep = codes "nested too deep"
+message_of Syntax = codes "a syntax fault"
+message_of UnknownName = codes "no such column"
+message_of Mismatch = codes "the types do not fit"
+message_of TooLarge = codes "a number may grow too large"
+message_of DivisionByZero = codes "division by zero"

@@ -1,7 +1,6 @@
 //! The bodies of replies.
 ghost use Rattle.std.specs.Prelude.{◌≡◌, ◌++◌, OnOk, IfOk, map};
 ghost use Rattle.std.specs.List.{join_with_byte};
-ghost use Rattle.query_exec.specs.Rows.{rows_view};
 ghost use Rattle.reply_text.specs.Body.{entry_text, error_text, named_text, rows_text, service_text};
 
 use crate::code::Code;
@@ -11,15 +10,15 @@ use std::alloc::{AllocError, Global};
 use table_store::{Catalog, Table};
 
 /// Rows as a JSON object whose member `value` has an object for each row (OData 4.01 JSON Format, section 13).
-pub fn json_body(alloc: Global, rows: &Rows<'_>) -> Result<Vec<u8>, AllocError>
-    ensures { IfOk result (λ body. body.items ≡ rows_text (rows_view rows.now)) }
+pub fn json_body(alloc: Global, rows: &Rows) -> Result<Vec<u8>, AllocError>
+    ensures { IfOk result (λ body. body.items ≡ rows_text rows.now) }
 {
     let mut body = Vec::new(alloc);
     body.extend_from_slice(b"{")?;
-    push_count(&mut body, rows.count)?;
+    push_count(&mut body, rows.count())?;
     push_text(&mut body, b"value")?;
     body.extend_from_slice(b":[")?;
-    push_rows(&mut body, &rows.names, &rows.rows)?;
+    push_rows(&mut body, rows)?;
     body.extend_from_slice(b"]}")?;
     Ok(body)
 }

@@ -33,6 +33,22 @@ pub enum Code {
     OptionNotAllowed,
     /// The format is not served.
     NotAcceptable,
+    /// An option's value holds what is no token.
+    BadToken,
+    /// An option's value has too many tokens.
+    TooMany,
+    /// Parentheses or prefix operators are nested too deep.
+    TooDeep,
+    /// An option's value is not of its grammar.
+    Syntax,
+    /// An expression names no column.
+    UnknownName,
+    /// The types of operands do not fit.
+    Mismatch,
+    /// A number may grow beyond what is computed.
+    TooLarge,
+    /// A row divides by zero.
+    DivisionByZero,
 }
 
 impl Code {
@@ -44,6 +60,9 @@ impl Code {
             Code::BadRequest | Code::BadHost | Code::BadLength => 400,
             Code::BadTarget | Code::BadEscape | Code::BadUtf8 => 400,
             Code::UnknownOption | Code::OptionTwice | Code::OptionNotAllowed => 400,
+            Code::BadToken | Code::TooMany | Code::TooDeep | Code::Syntax => 400,
+            Code::UnknownName | Code::Mismatch | Code::TooLarge => 400,
+            Code::DivisionByZero => 400,
             Code::NotFound | Code::UnknownSet => 404,
             Code::MethodNotAllowed => 405,
             Code::NotAcceptable => 406,
@@ -70,6 +89,14 @@ impl Code {
             Code::UnknownSet => "UnknownSet",
             Code::OptionNotAllowed => "OptionNotAllowed",
             Code::NotAcceptable => "NotAcceptable",
+            Code::BadToken => "BadToken",
+            Code::TooMany => "TooMany",
+            Code::TooDeep => "TooDeep",
+            Code::Syntax => "Syntax",
+            Code::UnknownName => "UnknownName",
+            Code::Mismatch => "Mismatch",
+            Code::TooLarge => "TooLarge",
+            Code::DivisionByZero => "DivisionByZero",
         }
     }
 
@@ -92,6 +119,14 @@ impl Code {
             Code::UnknownSet => "no such table",
             Code::OptionNotAllowed => "the option does not fit the path",
             Code::NotAcceptable => "the format is not served",
+            Code::BadToken => "an unknown token",
+            Code::TooMany => "more than 1024 tokens",
+            Code::TooDeep => "nested too deep",
+            Code::Syntax => "a syntax fault",
+            Code::UnknownName => "no such column",
+            Code::Mismatch => "the types do not fit",
+            Code::TooLarge => "a number may grow too large",
+            Code::DivisionByZero => "division by zero",
         }
     }
 }

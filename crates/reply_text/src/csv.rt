@@ -1,9 +1,8 @@
 //! Rows as CSV (RFC 4180, section 2), appended to one buffer in one pass.
-ghost use Rattle.std.specs.Prelude.{◌≡◌, ◌++◌, ◌||◌, ◌==◌, IfOk, OnOk, length, map};
+ghost use Rattle.std.specs.Prelude.{◌≡◌, ◌<◌, ◌++◌, [], ◌||◌, ◌==◌, IfOk, OnOk, get_or, length, map, string_bytes};
 ghost use Rattle.std.specs.List.{flat_map, join_with_byte, list_any};
 ghost use Rattle.cell_types.specs.Value.{value_view};
-ghost use Rattle.query_exec.specs.Rows.{rows_view};
-ghost use Rattle.reply_text.specs.Csv.{csv_field, csv_line, csv_text, csv_value, doubled_byte, is_quoted_byte, needs_quotes, row_line};
+ghost use Rattle.reply_text.specs.Csv.{csv_field, csv_text, csv_value, doubled_byte, is_quoted_byte, needs_quotes, row_line};
 
 use crate::decimal::push_decimal;
 use crate::json::push_comma;
@@ -81,9 +80,9 @@ fn push_value(out: &mut Vec<u8>, value: &Value<'_>) -> Result<(), AllocError>
 }
 
 /// Appends the names, with a comma between each two.
-fn push_names(out: &mut Vec<u8>, names: &[&str]) -> Result<(), AllocError>
+fn push_names(out: &mut Vec<u8>, names: &[String]) -> Result<(), AllocError>
     ensures { OnOk result
-        (out.new.items ≡ out.old.items ++ join_with_byte 44 (map (λ name. name.now) names.now)) }
+        (out.new.items ≡ out.old.items ++ join_with_byte 44 (map string_bytes names.now)) }
 {
     for (place, name) in names.iter().enumerate() {
         push_comma(out, place)?;
@@ -92,45 +91,46 @@ fn push_names(out: &mut Vec<u8>, names: &[&str]) -> Result<(), AllocError>
     Ok(())
 }
 
-/// Appends the values of a row, with a comma between each two.
-fn push_values(out: &mut Vec<u8>, values: &[Value<'_>]) -> Result<(), AllocError>
+/// Appends the values of the row with a number, with a comma between each two.
+fn push_values(out: &mut Vec<u8>, rows: &Rows, row: usize) -> Result<(), AllocError>
+    requires { row < length rows.now.rows }
     ensures { OnOk result (out.new.items ≡ out.old.items
-        ++ join_with_byte 44 (map csv_value (map value_view values.now))) }
+        ++ join_with_byte 44 (map csv_value (get_or rows.now.rows row []))) }
 {
-    for (place, value) in values.iter().enumerate() {
-        push_comma(out, place)?;
-        push_value(out, value)?;
+    for col in 0..rows.width() {
+        push_comma(out, col)?;
+        push_value(out, &rows.value(row, col))?;
     }
     Ok(())
 }
 
-/// Appends a row and its line break.
-fn push_row(out: &mut Vec<u8>, values: &[Value<'_>]) -> Result<(), AllocError>
+/// Appends the row with a number, and its line break.
+fn push_row(out: &mut Vec<u8>, rows: &Rows, row: usize) -> Result<(), AllocError>
+    requires { row < length rows.now.rows }
     ensures { OnOk result
-        (out.new.items ≡ out.old.items ++ csv_line (map csv_value (map value_view values.now))) }
+        (out.new.items ≡ out.old.items ++ row_line (get_or rows.now.rows row [])) }
 {
-    push_values(out, values)?;
+    push_values(out, rows, row)?;
     out.extend_from_slice(b"\r\n")
 }
 
 /// Appends rows, each with its line break.
-fn push_rows(out: &mut Vec<u8>, rows: &[Vec<Value<'_>>]) -> Result<(), AllocError>
-    ensures { OnOk result (out.new.items ≡ out.old.items
-        ++ flat_map row_line (map (λ row. map value_view row.items) rows.now)) }
+fn push_rows(out: &mut Vec<u8>, rows: &Rows) -> Result<(), AllocError>
+    ensures { OnOk result (out.new.items ≡ out.old.items ++ flat_map row_line rows.now.rows) }
 {
-    for row in rows {
-        push_row(out, row)?;
+    for row in 0..rows.len() {
+        push_row(out, rows, row)?;
     }
     Ok(())
 }
 
 /// Rows as CSV: a line of the names, and a line for each row, each ended by CR LF.
-pub fn csv_body(alloc: Global, rows: &Rows<'_>) -> Result<Vec<u8>, AllocError>
-    ensures { IfOk result (λ body. body.items ≡ csv_text (rows_view rows.now)) }
+pub fn csv_body(alloc: Global, rows: &Rows) -> Result<Vec<u8>, AllocError>
+    ensures { IfOk result (λ body. body.items ≡ csv_text rows.now) }
 {
     let mut body = Vec::new(alloc);
-    push_names(&mut body, &rows.names)?;
+    push_names(&mut body, rows.names())?;
     body.extend_from_slice(b"\r\n")?;
-    push_rows(&mut body, &rows.rows)?;
+    push_rows(&mut body, rows)?;
     Ok(body)
 }

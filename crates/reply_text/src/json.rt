@@ -1,6 +1,6 @@
 //! The texts of JSON (RFC 8259), appended to one buffer.
 ghost use Rattle.jiff.specs.Words.{date_text};
-ghost use Rattle.std.specs.Prelude.{◌≡◌, ◌++◌, ◌∷◌, [], ◌<◌, OnOk, codes, length, map, position, unwrap_or};
+ghost use Rattle.std.specs.Prelude.{◌≡◌, ◌++◌, ◌∷◌, [], ◌<◌, OnOk, codes, get_or, length, map, position, unwrap_or};
 ghost use Rattle.std.specs.List.{flat_map, join_with_byte, zip};
 ghost use Rattle.std.specs.Fmt.{decimal};
 ghost use Rattle.cell_types.specs.Value.{value_view};
@@ -11,6 +11,7 @@ use crate::value::{push_bool, push_date, push_integer};
 use cell_types::Value;
 use itoa::Buffer;
 use jiff::civil::Date;
+use query_exec::Rows;
 use std::alloc::AllocError;
 
 /// A hexadecimal digit in lower case.
@@ -136,40 +137,39 @@ pub fn push_comma(out: &mut Vec<u8>, place: usize) -> Result<(), AllocError>
     }
 }
 
-/// Appends the members of a row, with a comma between each two.
-fn push_members(out: &mut Vec<u8>, names: &[&str], values: &[Value<'_>]) -> Result<(), AllocError>
+/// Appends the members of the row with a number, with a comma between each two.
+fn push_members(out: &mut Vec<u8>, rows: &Rows, row: usize) -> Result<(), AllocError>
+    requires { row < length rows.now.rows }
     ensures { OnOk result (out.new.items ≡ out.old.items
-        ++ join_with_byte 44 (map json_member (zip (map (λ name. name.now) names.now) (map value_view values.now)))) }
+        ++ join_with_byte 44 (map json_member (zip rows.now.names (get_or rows.now.rows row [])))) }
 {
-    for (place, (name, value)) in names.iter().zip(values).enumerate() {
-        push_comma(out, place)?;
-        push_member(out, name, value)?;
+    let names = rows.names();
+    for col in 0..rows.width() {
+        push_comma(out, col)?;
+        push_member(out, names[col].as_str(), &rows.value(row, col))?;
     }
     Ok(())
 }
 
-/// Appends a row.
-fn push_row(out: &mut Vec<u8>, names: &[&str], values: &[Value<'_>]) -> Result<(), AllocError>
+/// Appends the row with a number.
+fn push_row(out: &mut Vec<u8>, rows: &Rows, row: usize) -> Result<(), AllocError>
+    requires { row < length rows.now.rows }
     ensures { OnOk result (out.new.items ≡ out.old.items
-        ++ json_row (map (λ name. name.now) names.now) (map value_view values.now)) }
+        ++ json_row rows.now.names (get_or rows.now.rows row [])) }
 {
     out.extend_from_slice(b"{")?;
-    push_members(out, names, values)?;
+    push_members(out, rows, row)?;
     out.extend_from_slice(b"}")
 }
 
 /// Appends rows, with a comma between each two.
-pub fn push_rows(
-    out: &mut Vec<u8>,
-    names: &[&str],
-    rows: &[Vec<Value<'_>>],
-) -> Result<(), AllocError>
+pub fn push_rows(out: &mut Vec<u8>, rows: &Rows) -> Result<(), AllocError>
     ensures { OnOk result (out.new.items ≡ out.old.items
-        ++ join_with_byte 44 (map (json_row (map (λ name. name.now) names.now)) (map (λ row. map value_view row.items) rows.now))) }
+        ++ join_with_byte 44 (map (json_row rows.now.names) rows.now.rows)) }
 {
-    for (place, row) in rows.iter().enumerate() {
-        push_comma(out, place)?;
-        push_row(out, names, row)?;
+    for row in 0..rows.len() {
+        push_comma(out, row)?;
+        push_row(out, rows, row)?;
     }
     Ok(())
 }

@@ -1,6 +1,9 @@
 mod CharPlaces
 mod PartLemmas
 mod FaultLemmas
+mod SizeLemmas
+mod SoundLemmas
+mod OperatorLemmas
 mod BoundLemmas
 mod RowLemmas
 mod QueryLemmas

@@ -1,17 +1,16 @@
 -- A filter of at most 1,024 tokens in a short source has few nodes and short texts.
-use Rattle.std.proofs.Common.{◌≡◌, ℕ, zero, suc, ◌+◌, ◌-◌, ◌^◌, ◌≤◌, Bool, true, false, List, [], ◌∷◌, ◌++◌, length, take, drop, map, nat_eq, refl, sym, ap, ◌∙◌, arith, length-append, length-drop, if◌then◌else◌}
-use Rattle.std.specs.Prelude.{ℤ, pos, unsigned_abs, All, ◌==◌}
-use Rattle.std.proofs.lemmas.List.{length-take-le}
+use Rattle.std.proofs.Common.{◌≡◌, ℕ, zero, suc, ◌+◌, ◌-◌, ◌≤◌, Bool, true, false, List, [], ◌∷◌, ◌++◌, length, take, drop, refl, ap, arith, length-append, length-drop, if◌then◌else◌}
+use Rattle.std.specs.Prelude.{pos, All, ◌==◌}
 use Rattle.std.proofs.lemmas.List.Elements.{All-head, All-tail}
 use Rattle.std.proofs.lemmas.Int.{ints}
 use Rattle.odata_lex.specs.Lexer.{AreTokens, IsTokenAt}
-use Rattle.odata_lex.specs.Token.{TokenOf, IsOfKind, doubled, month_of, year_of, quote, token_view, token_views, token_text}
+use Rattle.odata_lex.specs.Token.{TokenOf, IsOfKind, doubled, month_of, year_of, quote, token_views, token_text}
 use Rattle.odata_lex.specs.declared.token.Token.{Token}
 use Rattle.odata_lex.specs.declared.token.TokenKind.{TokenKind}
 use Rattle.odata_lex.specs.declared.token.TokenKind.TheVariants as kinds
 use Rattle.odata_parse.specs.Expression.{IsFilter, Reads, read_binary, read_binary_call, read_group, read_in, read_literal, read_name, read_tighter, read_unary, read_unary_call}
 use Rattle.odata_parse.specs.List.{Enclosed, Separated, enclosed, last_item, more_items}
-use Rattle.odata_parse.specs.Literal.{IsLiteral, IsLiteralOfKind, ReadsLiteral, ReadsNegative, behind_minus, negative_decimal, negative_number, one_token}
+use Rattle.odata_parse.specs.Literal.{IsLiteralOfKind, ReadsLiteral, ReadsNegative, behind_minus, negative_decimal, negative_number, one_token}
 use Rattle.odata_parse.specs.Tree as tree
 use Rattle.odata_parse.specs.Tree.{LiteralOf, ExprOf}
 use Rattle.row_eval.specs.Input.{HasShortTexts, IsQueried, IsShort, IsShortLiteral, nodes}

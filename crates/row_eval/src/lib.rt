@@ -3,21 +3,24 @@
 #![tactic(auto)]
 
 mod comparison;
+mod condition;
 mod date;
 mod decimal;
 mod fault;
 mod integer;
 mod law;
+mod relation;
 mod text;
 mod truth;
 mod typed;
 
 pub use comparison::holds;
+pub use condition::eval_truth;
 pub use date::eval_date;
 pub use decimal::eval_decimal;
 pub use fault::EvalFault;
 pub use integer::eval_integer;
 pub use law::{bounds_hold, faults_are_foreseen, filters_are_queried, sizes, tables_are_inputs};
 pub use text::{eval_text, has_part, index_in, text_passes};
-pub use truth::{Truth, eval_truth, greatest, least, opposite, truth_of};
+pub use truth::{Truth, greatest, least, opposite, truth_of};
 pub use typed::eval;

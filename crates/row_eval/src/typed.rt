@@ -10,12 +10,13 @@ ghost use Rattle.row_eval.specs.Outcome.{cell_of, day_value, outcome};
 ghost use Rattle.row_eval.specs.Result.{Evaluates};
 ghost use Rattle.row_eval.specs.Row.{row_view};
 
+use crate::condition::eval_truth;
 use crate::date::eval_date;
 use crate::decimal::eval_decimal;
 use crate::fault::EvalFault;
 use crate::integer::eval_integer;
 use crate::text::eval_text;
-use crate::truth::{eval_truth, truth_value};
+use crate::truth::truth_value;
 use cell_types::Value;
 use jiff::civil::Date;
 use odata_types::TypedExpr;

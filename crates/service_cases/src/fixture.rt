@@ -66,6 +66,24 @@ pub(crate) fn base(alloc: Global) -> Result<Catalog, LoadFault> {
     Catalog::load(alloc, Limits::greatest(), meta, files)
 }
 
+/// The catalog of one table `t`.
+pub(crate) fn one_table(alloc: Global, meta: &str, table: &str) -> Result<Catalog, LoadFault> {
+    let (meta, files) = one_file(alloc, meta, table).map_err(|_| LoadFault::NoMemory)?;
+    Catalog::load(alloc, Limits::greatest(), meta, files)
+}
+
+fn one_file(
+    alloc: Global,
+    meta: &str,
+    table: &str,
+) -> Result<(Vec<u8>, Vec<NamedFile>), AllocError> {
+    let file = named(alloc, "t.csv", table.as_bytes())?;
+    Ok((
+        Vec::from_slice(alloc, meta.as_bytes())?,
+        vec![in alloc; file]?,
+    ))
+}
+
 /// The catalog of the two tables.
 pub(crate) fn two(alloc: Global) -> Result<Catalog, LoadFault> {
     let (meta, files) = files(alloc).map_err(|_| LoadFault::NoMemory)?;
@@ -231,5 +249,27 @@ pub(crate) fn check_whole(
     let behind = if closes { "" } else { reply };
     let replies = format!(in alloc; "{reply}{behind}")?;
     check_pieces(rt, catalog, stream.as_str(), 4096, 4096, replies.as_str());
+    Ok(())
+}
+
+/// Checks the bodies, as JSON and as CSV, of the rows of the table `t` that a filter keeps; of all where it is empty.
+pub(crate) fn check_bodies(
+    rt: &(impl Abort + AllocGlobal),
+    catalog: &Catalog,
+    filter: &str,
+    json: &str,
+    csv: &str,
+) -> Result<(), AllocError> {
+    let alloc = rt.alloc();
+    let name = if filter.is_empty() { "" } else { "$filter=" };
+    let json_len = json.len();
+    let csv_len = csv.len();
+    let request = format!(in alloc;
+        "GET /t?{name}{filter} HTTP/1.1\r\nHost: h\r\n\r\nGET /t?$format=text/csv&{name}{filter} HTTP/1.1\r\nHost: h\r\n\r\n"
+    )?;
+    let replies = format!(in alloc;
+        "HTTP/1.1 200 OK\r\nContent-Type: application/json;odata.metadata=none\r\nOData-Version: 4.0\r\nContent-Length: {json_len}\r\n\r\n{json}HTTP/1.1 200 OK\r\nContent-Type: text/csv;charset=utf-8\r\nOData-Version: 4.0\r\nContent-Length: {csv_len}\r\n\r\n{csv}"
+    )?;
+    check_pieces(rt, catalog, request.as_str(), 4096, 4096, replies.as_str());
     Ok(())
 }

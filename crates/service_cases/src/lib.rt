@@ -11,6 +11,8 @@ mod decimal_bodies;
 #[cfg(test)]
 mod devices;
 #[cfg(test)]
+mod filter_cases;
+#[cfg(test)]
 mod fixture;
 #[cfg(test)]
 mod replies;

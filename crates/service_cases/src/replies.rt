@@ -214,7 +214,7 @@ fn refused_targets(rt: HostRuntime) -> Result<(), Fail> {
         ("/$metadata", not_served),
         ("/notes(1)", not_served),
         ("/notes/$count", not_served),
-        ("/notes?$filter=x", not_served),
+        ("/notes?$top=1", not_served),
         ("/?$top=1", option),
         ("/notes?$format=xml", format),
         ("/?$format=text/csv", format),

@@ -1,5 +1,8 @@
 pub mod PlaceLemmas
+pub mod TypedColumnLemmas
+pub mod ReaderLemmas
 pub mod RowLemmas
+pub mod FitLemmas
 pub mod HeaderLemmas
 pub mod InsideLemmas
 pub mod CursorLemmas

@@ -122,11 +122,11 @@ value_at columns fields col column raw value e f is =
 
 -- one more value among those that are read
 pub value_put : (values row : List CellValue) (places : List ℕ) (col : ℕ) (value : CellValue) → col < length values
-    → ((k : ℕ) → k < col → list_any (λ place. place == k) places ≡ true → get_or values k null ≡ get_or row k null) → get_or row col null ≡ value
+    → ((k : ℕ) → k < col → list_any (λ place. place == k) places ≡ true → get_or values k null ≡ get_or row k null) → (list_any (λ place. place == col) places ≡ true → get_or row col null ≡ value)
     → (k : ℕ) → k < col + 1 → list_any (λ place. place == k) places ≡ true → get_or (set values col value) k null ≡ get_or row k null
 value_put values row places col value size before there k within among =
     elim (cases_order k col) [
-      | inl here ↦ ap (λ n. get_or (set values col value) n null) here ∙ get_or-set_same values col value null size ∙ sym there ∙ ap (λ n. get_or row n null) (sym here)
+      | inl here ↦ ap (λ n. get_or (set values col value) n null) here ∙ get_or-set_same values col value null size ∙ sym (there (subst (λ n. list_any (λ place. place == n) places ≡ true) here among)) ∙ ap (λ n. get_or row n null) (sym here)
       | inr (inl less) ↦ get_or-set_other values col k value null (λ e. absurd (omega (arith, e, less))) ∙ before k less among
       | inr (inr more) ↦ absurd (omega (arith, more, within))
     ]

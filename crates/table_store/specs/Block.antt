@@ -1,5 +1,9 @@
 -- Blocks of rows: the rows of a table in their order, so many at a time.
-use Rattle.std.specs.Prelude.{◌+◌, ◌*◌, ◌-◌, ◌/◌, ◌≤◌, ◌^◌, ◌<◌, ℕ, length, take, drop}
+use Rattle.std.specs.Prelude.{◌≡◌, ◌+◌, ◌*◌, ◌-◌, ◌/◌, ◌≤◌, ◌^◌, ◌<◌, ℕ, min, List, length, take, drop, Option, Some, option_and_then, slice_get}
+use Rattle.block_summary.specs.Ranges.{column_of}
+use Rattle.cell_types.specs.Column.{ColumnOf}
+use Rattle.cell_types.specs.Value.{CellValue}
+use Rattle.table_store.specs.TypedColumn.{typed_cells}
 use Rattle.block_summary.specs.declared.block.TheConstants.{BLOCK_ROWS}
 use Rattle.table_store.specs.declared.block.Block.TheInside.{Inside}
 use Rattle.table_store.specs.Table.{TableOf}
@@ -23,3 +27,15 @@ block_view block = part block.table.now block.first block.rows
 pub record IsWithin (block : Inside) : Type 0 where
   pub within : block.first + block.rows ≤ length block.table.now.rows
   pub fits : block.first + block.rows < 2 ^ 64
+  -- and those of a block
+  pub some : block.first < length block.table.now.rows
+  pub aligned : block.first / BLOCK_ROWS * BLOCK_ROWS ≡ block.first
+  pub whole : block.rows ≡ min (length block.table.now.rows - block.first) BLOCK_ROWS
+
+-- the cells of a column that is none of texts
+abbrev pub packed_cells : TableOf → ℕ → Option (List CellValue)
+packed_cells block col = option_and_then (λ (column : ColumnOf). typed_cells column (column_of block.rows col)) (slice_get block.schema.columns col)
+
+-- a column is none of texts
+abbrev pub HasNumbers : TableOf → ℕ → Type 0
+HasNumbers block col = packed_cells block col ≡ Some (column_of block.rows col)

@@ -4,7 +4,9 @@ use Rattle.csvw_meta.specs.Schema.{schema_view}
 use Rattle.table_store.specs.declared.table.Table.TheInside.{Inside}
 use Rattle.table_store.specs.Table.{TableOf, keys_of}
 use Rattle.table_store.specs.Values.{rows_in, AllHaveValues, FitsColumns}
+use Rattle.table_store.specs.TypedColumn.{AreTyped}
 use Rattle.table_store.specs.Keys.{keys_view}
+use Rattle.table_store.specs.Fits.{HasTableRows}
 
 abbrev pub table_view : Inside → TableOf
 table_view table = record {
@@ -12,8 +14,11 @@ table_view table = record {
   rows = rows_in (schema_view table.schema).columns table.file.rows;
 }
 
--- the file has the schema's columns, each cell has a value, and the keys are those of the rows
+-- the file has the schema's columns, each cell has a value, those that are no texts are kept, the keys are those of the rows, and the
+-- values fit their columns
 pub record IsWhole (table : Inside) : Type 0 where
   pub fits : FitsColumns (schema_view table.schema).columns table.file
   pub values : AllHaveValues (schema_view table.schema).columns table.file.rows
+  pub typed : AreTyped (schema_view table.schema).columns (rows_in (schema_view table.schema).columns table.file.rows) table.columns.items
   pub keys : keys_view table.keys ≡ keys_of (table_view table)
+  pub fit : HasTableRows (table_view table)

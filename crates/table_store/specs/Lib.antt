@@ -3,6 +3,9 @@ pub mod Key
 pub mod Table
 pub mod Block
 pub mod Values
+pub mod TypedColumn
+pub mod ColumnReader
+pub mod Fits
 pub mod Cursor
 pub mod Inside
 pub mod Fault

@@ -1,10 +1,18 @@
 //! The blocks of a table's rows.
-ghost use Rattle.std.specs.Prelude.{◌≡◌, ◌<◌, Some, IfOk, length, slice_get, option_and_then};
+ghost use Rattle.std.specs.Prelude.{◌≡◌, ◌<◌, Some, IfOk, length, map, slice_get, option_and_then};
 ghost use Rattle.std.specs.List.{AllByRecursion};
+ghost use Rattle.std.specs.Option.{option_copied};
+ghost use Rattle.block_summary.specs.Cells.{AreUnpacked};
+ghost use Rattle.block_summary.specs.Ranges.{column_of, is_null};
+ghost use Rattle.block_summary.specs.Types.{numbers_of};
 ghost use Rattle.cell_types.specs.Value.{value_view};
 ghost use Rattle.csvw_meta.specs.Schema.{schema_view};
+ghost use Rattle.table_store.specs.Block.{packed_cells, HasNumbers};
+ghost use Rattle.table_store.specs.Fits.{HasTableRows};
 
+use crate::cursor::RowCursor;
 use crate::table::Table;
+use block_summary::{BLOCK_ROWS, PackedColumn};
 use cell_types::Value;
 use csvw_meta::Schema;
 use std::alloc::{AllocError, Global};
@@ -54,5 +62,44 @@ impl<'t> Block<'t> {
             option_and_then (λ values. slice_get values col) (slice_get self.now.rows row) ≡ Some (value_view value)) }
     {
         self.table.value(alloc, self.first + row, col)
+    }
+
+    /// The cells of a column in the block; nothing for a column of texts.
+    pub fn packed(&self, col: usize) -> Option<&'t PackedColumn>
+        requires { col < length self.now.schema.columns }
+        ensures { option_copied result ≡ packed_cells self.now col }
+    {
+        self.table.packed(self.first / BLOCK_ROWS, col)
+    }
+
+    /// Writes the number of each row in a column that is none of texts, and marks the nulls. A decimal is written in millionths, a day by its
+    /// number ([`block_summary::day_number`]), false as 0 and true as 1; at a null stands any number.
+    pub fn numbers(&self, col: usize, numbers: &mut [i64], nulls: &mut [bool])
+        requires col { col < length self.now.schema.columns }
+        requires numbers { HasNumbers self.now col }
+        requires numbers_long { length numbers.old ≡ length self.now.rows }
+        requires nulls_long { length nulls.old ≡ length self.now.rows }
+        ensures numbers { AreUnpacked (numbers_of (column_of self.now.rows col)) numbers.new }
+        ensures nulls { nulls.new ≡ map is_null (column_of self.now.rows col) }
+    {
+        let Some(column) = self.packed(col) else {
+            unreachable!();
+        };
+        column.unpack(numbers);
+        column.unpack_nulls(nulls);
+    }
+
+    /// The rows of the block, one after another, the first one first.
+    pub fn cursor(&self) -> RowCursor<'t>
+        ensures { result ≡ self.now.rows }
+    {
+        self.table.rows_from(self.first, self.rows)
+    }
+
+    /// Each value is one that its column may have, and no text has more than 2 to the 30 bytes.
+    pub fn values_fit(&self)
+        ensures { HasTableRows self.now }
+    {
+        self.table.values_fit();
     }
 }

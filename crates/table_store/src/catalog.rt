@@ -1,8 +1,9 @@
 //! The tables of a folder.
-ghost use Rattle.std.specs.Prelude.{◌≡◌, None, IfOk, IfErr, IfSome, find};
+ghost use Rattle.std.specs.Prelude.{◌≡◌, ◌^◌, ◌≤◌, None, IfOk, IfErr, IfSome, find};
 ghost use Rattle.std.specs.List.{AllByRecursion};
 ghost use Rattle.std.specs.Option.{option_copied};
 ghost use Rattle.std.specs.Str.{bytes_eq};
+ghost use Rattle.csvw_meta.specs.Laws.{HasShortDefaults};
 ghost use Rattle.csvw_meta.specs.Limits.{limits_view};
 ghost use Rattle.table_store.specs.File.{files_view};
 ghost use Rattle.table_store.specs.Fault.{load_cause};
@@ -56,6 +57,8 @@ impl Catalog {
             Err(fault) => return Err(LoadFault::Meta(fault)),
         };
         csvw_meta::accepted_schemas();
+        csvw_meta::defaults_are_short();
+        csvw_meta::sizes();
         let tables = load_tables(alloc, limits.file, schemas.tables, files)?;
         Ok(Catalog { limits, tables })
     }
@@ -91,6 +94,8 @@ fn load_tables(
 ) -> Result<Vec<Table>, LoadFault>
     requires urls { DifferInUrl (schemas_view schemas.items) }
     requires keys { AllByRecursion HasKeyColumns (schemas_view schemas.items) }
+    requires limit { limit ≤ 2 ^ 30 }
+    requires defaults { AllByRecursion HasShortDefaults (schemas_view schemas.items) }
     ensures tables { IfOk result (λ tables.
         HaveTables limit (files_view files.items) (schemas_view schemas.items) tables.items) }
     ensures fault { IfErr result (λ e. IfSome (load_cause e)

@@ -1,23 +1,29 @@
-//! The rows of a table, one after another.
+//! The rows of a table or a block, one after another.
 ghost use Rattle.std.specs.Prelude.{◌≡◌, ◌≤◌, [], ◌∷◌, IfOk, OnOk, OnErr, MatchOption, length, take, drop, map};
 ghost use Rattle.cell_types.specs.Column.{column_view};
 ghost use Rattle.cell_types.specs.Value.{value_view};
+ghost use Rattle.table_store.specs.Cursor.{HoldRow};
 ghost use Rattle.table_store.specs.Values.{values_in, HaveValues};
 
 use crate::loading::field_value;
+use crate::typed_column::{TypedColumn, typed_column};
 use cell_types::{Column, Value};
 use csv_index::{Fields, IndexedText};
 use std::alloc::{AllocError, Global};
 use std::marker::Model;
 
-/// The rows of a table that are left, the next one first.
+/// The rows of a table or a block that are left, the next one first.
 #[derive(Drop)]
 pub struct RowCursor<'t> {
     pub(crate) columns: &'t [Column],
+    /// The columns of the table, but nothing for one of texts.
+    pub(crate) typed: &'t [Option<TypedColumn>],
     pub(crate) file: &'t IndexedText,
     /// The number of the next row.
     pub(crate) row: usize,
-    /// The fields from there on.
+    /// The number behind the last row.
+    pub(crate) end: usize,
+    /// The fields from the next row on.
     pub(crate) fields: Fields<'t, 't>,
 }
 
@@ -41,10 +47,10 @@ impl<'t> RowCursor<'t> {
             (λ values. self.old ≡ map value_view values.items ∷ self.new)) }
         ensures err { OnErr result (self.new ≡ self.old) }
     {
-        if self.row >= self.file.rows() {
+        if self.row >= self.end {
             return Ok(None);
         }
-        match row_values(alloc, self.columns, &mut self.fields) {
+        match row_values(alloc, self.columns, self.typed, self.row, &mut self.fields) {
             Ok(values) => {
                 self.row += 1;
                 Ok(Some(values))
@@ -57,21 +63,30 @@ impl<'t> RowCursor<'t> {
     }
 }
 
-/// The values of a row, whose fields are the next of those that are left.
+/// The values of a row, whose fields are the next of those that are left. Those of typed columns are passed.
 fn row_values<'t>(
     alloc: Global,
     columns: &[Column],
+    typed: &[Option<TypedColumn>],
+    row: usize,
     fields: &mut Fields<'_, 't>,
 ) -> Result<Vec<Value<'t>>, AllocError>
     requires enough { length columns.now ≤ length fields.old }
     requires values { HaveValues (map column_view columns.now)
         (take (length columns.now) fields.old) }
+    requires typed { HoldRow (map column_view columns.now) typed.now row
+        (values_in (map column_view columns.now) (take (length columns.now) fields.old)) }
     ensures values { IfOk result (λ values. map value_view values.items
         ≡ values_in (map column_view columns.now) (take (length columns.now) fields.old)) }
     ensures passed { OnOk result (fields.new ≡ drop (length columns.now) fields.old) }
 {
     let mut values = Vec::with_capacity(alloc, columns.len())?;
-    for column in columns {
+    for (col, column) in columns.iter().enumerate() {
+        if let Some(cells) = typed_column(typed, col) {
+            fields.pass();
+            values.push(cells.value(row))?;
+            continue;
+        }
         let Some(raw) = fields.next_field() else {
             unreachable!();
         };

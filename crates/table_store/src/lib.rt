@@ -7,12 +7,14 @@ ghost use Rattle.table_store.specs.Laws.{KeysOfTables, OneMeaning, SchemasOfTabl
 
 mod block;
 mod catalog;
+mod column_reader;
 mod cursor;
 mod fault;
 mod file;
 mod keys;
 mod loading;
 mod table;
+mod typed_column;
 
 pub use block::Block;
 pub use catalog::Catalog;

@@ -1,5 +1,5 @@
 //! The steps of loading a table from its file: the header against the columns, and then each cell.
-ghost use Rattle.std.specs.Prelude.{◌≡◌, ◌≤◌, ◌⊎◌, ◌==◌, List, true, None, Some, Ok, Err, IfOk, IfErr, IfNone, IfSome, length, take, drop, map, option_map, string_bytes};
+ghost use Rattle.std.specs.Prelude.{◌≡◌, ◌≤◌, ◌⊎◌, ◌==◌, List, true, None, Some, Ok, Err, IfOk, IfErr, IfNone, IfSome, OnOk, length, take, drop, map, option_map, string_bytes};
 ghost use Rattle.std.specs.List.{list_all, list_any};
 ghost use Rattle.std.specs.Str.{bytes_eq};
 ghost use Rattle.cell_types.specs.Value.{value_view};
@@ -10,11 +10,15 @@ ghost use Rattle.table_store.specs.Table.{is_called as is_called_by};
 ghost use Rattle.table_store.specs.Fault.{bad_cell, cell_cause};
 ghost use Rattle.table_store.specs.File.{file_bytes};
 ghost use Rattle.table_store.specs.Catalog.{HasTableCause};
+ghost use Rattle.table_store.specs.ColumnReader.{read_on, AreReadOn, HasReader, HaveReaders};
 ghost use Rattle.table_store.specs.Keys.{AreKeysOf};
-ghost use Rattle.table_store.specs.Values.{value_in, value_or_null, FitsColumns, HasValue};
+ghost use Rattle.table_store.specs.TypedColumn.{AreTyped};
+ghost use Rattle.table_store.specs.Values.{rows_in, value_in, value_or_null, values_in, FitsColumns, HasValue};
 ghost use Rattle.table_store.specs.Loading.{mismatch_of, keys_at, bad_cell_of, table_cause, HasFileCause, HasKeyColumns, HasRowsCause, IsBadCell, IsTableAt, IsTableOf, ReadsAs};
 
+use crate::column_reader::{ColumnReader, column_readers, columns_read, number_value};
 use crate::keys::{KeyFault, KeyReader, Keys};
+use crate::typed_column::TypedColumn;
 use cell_types::{CellFault, Column, Value, read_text};
 use csv_index::{Fields, IndexedText, Raw, TextFault};
 use csvw_meta::Schema;
@@ -136,21 +140,58 @@ fn nulls<'a>(alloc: Global, count: usize) -> Result<Vec<Value<'a>>, AllocError>
     Ok(values)
 }
 
-/// The values of a row as far as a key of those places asks for them, or the first cell that has none. The row's fields are the next of
-/// those that are left. A column that takes all texts is passed, where the key does not ask for it.
+/// Reads a field of a row into the reader of its column, where there is one. The value is written where it is asked for.
+fn read_field<'a>(
+    alloc: Global,
+    column: &Column,
+    reader: &mut Option<ColumnReader>,
+    raw: Raw<'a>,
+    asked: bool,
+    value: &mut Value<'a>,
+) -> Result<(), CellFault>
+    requires { HasReader (column_view column.now) reader.old }
+    ensures has { OnOk result (HasValue (column_view column.now) (raw_view raw.entry)) }
+    ensures value { OnOk result (asked ≡ true → value_view value.new
+        ≡ value_or_null (value_in (column_view column.now, raw_view raw.entry))) }
+    ensures reader { OnOk result (reader.new ≡ read_on reader.old
+        (value_or_null (value_in (column_view column.now, raw_view raw.entry)))) }
+    ensures fault { IfErr result (λ e. (e ≡ CellFault.NoMemory)
+        ⊎ (value_in (column_view column.now, raw_view raw.entry) ≡ Err e)) }
+{
+    match reader {
+        Some(reader) => {
+            let number = reader.read(alloc, column, raw)?;
+            if asked {
+                *value = number_value(reader.packed_type(), number);
+            }
+            Ok(())
+        }
+        None => {
+            *value = cell_value(alloc, column, raw)?;
+            Ok(())
+        }
+    }
+}
+
+/// Reads a row into the readers of its columns, or finds the first cell that has no value. The values are those that a key of those places
+/// asks for. The row's fields are the next of those that are left. A column that takes all texts is passed, where the key does not ask for it.
 fn read_row<'a>(
     alloc: Global,
     columns: &[Column],
     places: &[usize],
     fields: &mut Fields<'_, 'a>,
     row: usize,
+    readers: &mut Vec<Option<ColumnReader>>,
     values: &mut Vec<Value<'a>>,
 ) -> Result<(), BadCell>
     requires width { length columns.now ≤ length fields.old }
     requires count { length values.old.items ≡ length columns.now }
+    requires readers { HaveReaders (map column_view columns.now) readers.old.items }
     ensures passed { IfOk result (λ _. fields.new ≡ drop (length columns.now) fields.old) }
     ensures values { IfOk result (λ _. ReadsAs (map column_view columns.now) places.now
         (take (length columns.now) fields.old) (map value_view values.new.items)) }
+    ensures readers { IfOk result (λ _. AreReadOn readers.old.items (values_in
+        (map column_view columns.now) (take (length columns.now) fields.old)) readers.new.items) }
     ensures count { length values.new.items ≡ length columns.now }
     ensures row { IfErr result (λ bad. bad.row ≡ row) }
     ensures fault { IfErr result (λ bad. IsBadCell (map column_view columns.now)
@@ -158,15 +199,23 @@ fn read_row<'a>(
 {
     cell_types::strings_have_values();
     for (col, column) in columns.iter().enumerate() {
-        if column.takes_all_texts() && !is_among(places, col) {
+        let asked = is_among(places, col);
+        if column.takes_all_texts() && !asked {
             fields.pass();
             continue;
         }
         let Some(raw) = fields.next_field() else {
             unreachable!();
         };
-        match cell_value(alloc, column, raw) {
-            Ok(value) => values[col] = value,
+        match read_field(
+            alloc,
+            column,
+            &mut readers[col],
+            raw,
+            asked,
+            &mut values[col],
+        ) {
+            Ok(()) => {}
             Err(fault) => return Err(BadCell { row, col, fault }),
         }
     }
@@ -180,14 +229,20 @@ fn take_all_texts(columns: &[Column]) -> bool
     columns.iter().all(|column| column.takes_all_texts())
 }
 
-/// The keys of the rows, each of whose cells has a value; or the first cell, row by row, that has none, and else why the rows have no keys.
-/// Each cell is read at most once, and none where no row can be wrong.
-fn read_rows(alloc: Global, schema: &Schema, file: &IndexedText) -> Result<Keys, TableFault>
+/// The columns that are none of texts and the keys of the rows, each of whose cells has a value; or the first cell, row by row, that has none,
+/// and else why the rows have no keys. Each cell is read at most once, and none where no row can be wrong.
+fn read_rows(
+    alloc: Global,
+    schema: &Schema,
+    file: &IndexedText,
+) -> Result<(Vec<Option<TypedColumn>>, Keys), TableFault>
     requires fits { FitsColumns (schema_view schema.now).columns file.now }
     requires key { HasKeyColumns (schema_view schema.now) }
     ensures values { IfOk result (λ _. bad_cell_of (schema_view schema.now) file.now.rows ≡ None) }
+    ensures columns { IfOk result (λ found. AreTyped (schema_view schema.now).columns
+        (rows_in (schema_view schema.now).columns file.now.rows) found.0.items) }
     ensures keys { IfOk result
-        (λ keys. AreKeysOf keys (keys_at (schema_view schema.now) file.now.rows)) }
+        (λ found. AreKeysOf found.1 (keys_at (schema_view schema.now) file.now.rows)) }
     ensures fault { IfErr result (λ e.
         IfSome (table_cause e) (HasRowsCause (schema_view schema.now) file.now.rows)) }
     ensures memory { IfErr result (λ e. table_cause e ≡ None → e ≡ TableFault.NoMemory) }
@@ -196,8 +251,11 @@ fn read_rows(alloc: Global, schema: &Schema, file: &IndexedText) -> Result<Keys,
     let columns = schema.columns.as_slice();
     let places = schema.key.as_slice();
     if places.is_empty() && take_all_texts(columns) {
-        return Ok(Keys::Absent);
+        return Ok((Vec::new(alloc), Keys::Absent));
     }
+    let Ok(mut readers) = column_readers(alloc, columns, file.rows()) else {
+        return Err(TableFault::NoMemory);
+    };
     let Ok(mut keys) = KeyReader::new(alloc, schema, file.rows()) else {
         return Err(TableFault::NoMemory);
     };
@@ -206,7 +264,15 @@ fn read_rows(alloc: Global, schema: &Schema, file: &IndexedText) -> Result<Keys,
     };
     let mut fields = file.fields(0);
     for row in 0..file.rows() {
-        match read_row(alloc, columns, places, &mut fields, row, &mut values) {
+        match read_row(
+            alloc,
+            columns,
+            places,
+            &mut fields,
+            row,
+            &mut readers,
+            &mut values,
+        ) {
             Ok(()) => {}
             Err(bad) => return Err(fault_of(bad)),
         }
@@ -214,9 +280,13 @@ fn read_rows(alloc: Global, schema: &Schema, file: &IndexedText) -> Result<Keys,
             return Err(TableFault::NoMemory);
         };
     }
-    match keys.finish() {
-        Ok(keys) => Ok(keys),
-        Err(fault) => Err(TableFault::Key(fault)),
+    let keys = match keys.finish() {
+        Ok(keys) => keys,
+        Err(fault) => return Err(TableFault::Key(fault)),
+    };
+    match columns_read(alloc, readers) {
+        Ok(columns) => Ok((columns, keys)),
+        Err(_) => Err(TableFault::NoMemory),
     }
 }
 
@@ -232,17 +302,19 @@ fn fault_of(bad: BadCell) -> TableFault
     }
 }
 
-/// A file that is the table of a schema, and the keys of its rows; or the first thing that is wrong with it.
+/// A file that is the table of a schema, its columns that are none of texts, and the keys of its rows; or the first thing that is wrong with it.
 fn read_file(
     alloc: Global,
     schema: &Schema,
     bytes: Vec<u8>,
-) -> Result<(IndexedText, Keys), TableFault>
+) -> Result<(IndexedText, Vec<Option<TypedColumn>>, Keys), TableFault>
     requires { HasKeyColumns (schema_view schema.now) }
     ensures read { IfOk result (λ found.
         IsTableAt (schema_view schema.now).columns bytes.items found.0) }
+    ensures columns { IfOk result (λ found. AreTyped (schema_view schema.now).columns
+        (rows_in (schema_view schema.now).columns found.0.rows) found.1.items) }
     ensures keys { IfOk result (λ found.
-        AreKeysOf found.1 (keys_at (schema_view schema.now) found.0.rows)) }
+        AreKeysOf found.2 (keys_at (schema_view schema.now) found.0.rows)) }
     ensures fault { IfErr result (λ e.
         IfSome (table_cause e) (HasFileCause (schema_view schema.now) bytes.items)) }
     ensures memory { IfErr result (λ e. table_cause e ≡ None → e ≡ TableFault.NoMemory) }
@@ -257,22 +329,25 @@ fn read_file(
         Ok(Some(col)) => return Err(TableFault::Header(col)),
         Err(_) => return Err(TableFault::NoMemory),
     }
-    let keys = read_rows(alloc, schema, &file)?;
-    Ok((file, keys))
+    let (columns, keys) = read_rows(alloc, schema, &file)?;
+    Ok((file, columns, keys))
 }
 
-/// The file, at most as long as the limit, that is the table of a schema, and the keys of its rows; or why there is none.
+/// The file, at most as long as the limit, that is the table of a schema, its columns that are none of texts, and the keys of its rows; or why
+/// there is none.
 pub fn read_table(
     alloc: Global,
     limit: u32,
     schema: &Schema,
     file: Option<Vec<u8>>,
-) -> Result<(IndexedText, Keys), TableFault>
+) -> Result<(IndexedText, Vec<Option<TypedColumn>>, Keys), TableFault>
     requires { HasKeyColumns (schema_view schema.now) }
     ensures read { IfOk result (λ found.
         IsTableOf limit (file_bytes file) (schema_view schema.now) found.0) }
+    ensures columns { IfOk result (λ found. AreTyped (schema_view schema.now).columns
+        (rows_in (schema_view schema.now).columns found.0.rows) found.1.items) }
     ensures keys { IfOk result (λ found.
-        AreKeysOf found.1 (keys_at (schema_view schema.now) found.0.rows)) }
+        AreKeysOf found.2 (keys_at (schema_view schema.now) found.0.rows)) }
     ensures fault { IfErr result (λ e.
         IfSome (table_cause e) (HasTableCause limit (file_bytes file) (schema_view schema.now))) }
     ensures memory { IfErr result (λ e. table_cause e ≡ None → e ≡ TableFault.NoMemory) }

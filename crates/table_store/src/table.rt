@@ -1,8 +1,11 @@
 //! A table of a folder: its schema, the values of its cells, and its rows by their keys.
-ghost use Rattle.std.specs.Prelude.{◌≡◌, ◌<◌, Some, None, IfOk, IfErr, IfSome, length, map, slice_get, option_and_then, option_map, string_bytes};
+ghost use Rattle.std.specs.Prelude.{◌≡◌, ◌+◌, ◌^◌, ◌<◌, ◌≤◌, Some, None, IfOk, IfErr, IfSome, length, map, slice_get, option_and_then, option_map, take, drop, string_bytes};
 ghost use Rattle.std.specs.List.{AllByRecursion};
+ghost use Rattle.std.specs.Option.{option_copied};
 ghost use Rattle.cell_types.specs.Value.{value_view};
 ghost use Rattle.csvw_meta.specs.Schema.{schema_view};
+ghost use Rattle.csvw_meta.specs.Laws.{HasShortDefaults};
+ghost use Rattle.table_store.specs.Fits.{HasTableRows};
 ghost use Rattle.table_store.specs.Fault.{bad_table, load_cause};
 ghost use Rattle.table_store.specs.Catalog.{HasTable};
 ghost use Rattle.table_store.specs.File.{file_bytes};
@@ -15,18 +18,21 @@ use crate::cursor::RowCursor;
 use crate::fault::LoadFault;
 use crate::keys::{KeyFault, Keys};
 use crate::loading::{BadCell, TableFault, field_value, read_table};
-use block_summary::BLOCK_ROWS;
+use crate::typed_column::{TypedColumn, typed_column};
+use block_summary::{BLOCK_ROWS, PackedColumn};
 use cell_types::Value;
 use csv_index::IndexedText;
 use csvw_meta::Schema;
 use std::alloc::{AllocError, Global};
 use std::marker::Model;
 
-/// A table, whose values are read from the bytes of its file.
+/// A table. Texts are read from the bytes of its file; the other values are kept by blocks.
 #[derive(Drop)]
 pub struct Table {
     schema: Schema,
     file: IndexedText,
+    /// The columns, but nothing for one of texts.
+    columns: Vec<Option<TypedColumn>>,
     keys: Keys,
 }
 
@@ -43,7 +49,7 @@ impl Model for Table {
 }
 
 impl Table {
-    ghost use Rattle.table_store.specs.Block.{block_count, block_of};
+    ghost use Rattle.table_store.specs.Block.{block_count, block_of, packed_cells};
 
     /// The name that targets have.
     pub fn name(&self) -> &str
@@ -80,8 +86,10 @@ impl Table {
         ensures { IfOk result (λ value.
             option_and_then (λ values. slice_get values col) (slice_get self.now.rows row) ≡ Some (value_view value)) }
     {
-        let raw = self.file.cell(row, col);
-        field_value(alloc, &self.schema.columns[col], raw)
+        match typed_column(self.columns.as_slice(), col) {
+            Some(column) => Ok(column.value(row)),
+            None => field_value(alloc, &self.schema.columns[col], self.file.cell(row, col)),
+        }
     }
 
     /// How many blocks the rows are, each of [`BLOCK_ROWS`] and the last perhaps of fewer.
@@ -106,16 +114,46 @@ impl Table {
         }
     }
 
+    /// The cells of a column in the block of a number; nothing for a column of texts.
+    pub(crate) fn packed(&self, number: usize, col: usize) -> Option<&PackedColumn>
+        requires number { number < block_count (length self.now.rows) }
+        requires col { col < length self.now.schema.columns }
+        ensures { option_copied result ≡ packed_cells (block_of self.now number) col }
+    {
+        match typed_column(self.columns.as_slice(), col) {
+            Some(column) => Some(column.block(number)),
+            None => None,
+        }
+    }
+
     /// The rows, one after another, the first one first.
     pub fn cursor(&self) -> RowCursor<'_>
         ensures { result ≡ self.now.rows }
     {
+        self.rows_from(0, self.rows())
+    }
+
+    /// So many rows, from the one with that number on.
+    pub(crate) fn rows_from(&self, first: usize, rows: usize) -> RowCursor<'_>
+        requires within { first + rows ≤ length self.now.rows }
+        requires fits { first + rows < 2 ^ 64 }
+        ensures { result ≡ take rows (drop first self.now.rows) }
+    {
         RowCursor {
             columns: self.schema.columns.as_slice(),
+            typed: self.columns.as_slice(),
             file: &self.file,
-            row: 0,
-            fields: self.file.fields(0),
+            row: first,
+            end: first + rows,
+            fields: self.file.fields(first),
         }
+    }
+
+    /// Each value is one that its column may have, and no text has more than 2 to the 30 bytes.
+    pub fn values_fit(&self)
+        ensures { HasTableRows self.now }
+    {
+        let _schema = &self.schema;
     }
 
     /// The row, counted from 0, whose values in the columns of the key are those, in the order of the key (Metadata Vocabulary for
@@ -133,14 +171,22 @@ impl Table {
         schema: Schema,
         file: Option<Vec<u8>>,
     ) -> Result<Table, LoadFault>
-        requires { HasKeyColumns (schema_view schema) }
+        requires limit { limit ≤ 2 ^ 30 }
+        requires key { HasKeyColumns (schema_view schema) }
+        requires defaults { HasShortDefaults (schema_view schema) }
         ensures table { IfOk result (HasTable limit (file_bytes file) (schema_view schema)) }
         ensures fault { IfErr result (λ e.
             IfSome (load_cause e) (IsRefusedTable limit (file_bytes file) (schema_view schema))) }
         ensures memory { IfErr result (λ e. load_cause e ≡ None → e ≡ LoadFault.NoMemory) }
     {
+        cell_types::values_fit_columns();
         match read_table(alloc, limit, &schema, file) {
-            Ok((file, keys)) => Ok(Table { schema, file, keys }),
+            Ok((file, columns, keys)) => Ok(Table {
+                schema,
+                file,
+                columns,
+                keys,
+            }),
             Err(fault) => Err(fault_of(schema.url, fault)),
         }
     }

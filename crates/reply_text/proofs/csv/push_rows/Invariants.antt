@@ -1,8 +1,7 @@
-use Rattle.std.proofs.Common.{◌≡◌, ◌++◌, map, take}
+use Rattle.std.proofs.Common.{◌≡◌, ◌++◌, take}
 use Rattle.std.specs.List.{flat_map}
-use Rattle.cell_types.specs.Value.{value_view}
 use Rattle.reply_text.specs.Csv.{row_line}
 use Rattle.reply_text.proofs.csv.push_rows.Given as goal
 
 abbrev pub invariant-loop-row : goal.invariant-loop-row
-invariant-loop-row l = l.out.items ≡ l.initial.out.items ++ flat_map row_line (map (λ row. map value_view row.items) (take l.row-index l.rows))
+invariant-loop-row l = l.out.items ≡ l.initial.out.items ++ flat_map row_line (take l.row l.rows.rows)

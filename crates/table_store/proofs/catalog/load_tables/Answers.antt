@@ -7,6 +7,7 @@ use Rattle.std.proofs.lemmas.List.{map-append}
 use Rattle.std.proofs.lemmas.Map.Keys.{IsDistinct-head, IsDistinct-tail}
 use Rattle.std.proofs.lemmas.Option.{IfSome_then}
 use Rattle.std.proofs.lemmas.Result.{err_from_is_err_and}
+use Rattle.csvw_meta.specs.Laws.{HasShortDefaults}
 use Rattle.csvw_meta.specs.Schema.{SchemaOf, schema_view}
 use Rattle.table_store.specs.File.{file_view, file_named}
 use Rattle.table_store.specs.Fault.{load_cause}
@@ -64,6 +65,7 @@ loop-schema-preserved c =
       all = append_assoc at.yielded (x ∷ []) rest ∙ ap (λ items. at.yielded ++ items) (sym steps) ∙ at.invariant.all;
       tables = rw (map-append schema_view at.yielded (x ∷ []), pushes) more;
       keys = (subst (λ items. AllByRecursion (λ (schema : SchemaOf). AreColumns schema.key schema.columns) (map schema_view items)) steps at.invariant.keys).1;
+      defaults = (subst (λ items. AllByRecursion HasShortDefaults (map schema_view items)) steps at.invariant.defaults).1;
       distinct = IsDistinct-tail bytes_eq (string_bytes x.url) (map (λ (schema : SchemaOf). schema.url) coming) differ;
       files = HaveFiles-past files now next (string_bytes x.url) coming others (IsDistinct-head bytes_eq (string_bytes x.url) (map (λ (schema : SchemaOf). schema.url) coming) differ) have.1;
       count = let gone = c.in-Some.ensures.steps.1 in
@@ -72,8 +74,14 @@ loop-schema-preserved c =
           omega arith;
     }
 
-pub load-requires : goal.load-requires
-load-requires c =
+pub load-requires-clause-key : goal.load-requires-clause-key
+load-requires-clause-key c =
     let at = c.loop-schema in
     let steps : into_iter_items at.schema-iterator ≡ c.in-Some.schema ∷ into_iter_items c.next.new.self = c.in-Some.ensures.steps.0 in
     (subst (λ items. AllByRecursion (λ (schema : SchemaOf). AreColumns schema.key schema.columns) (map schema_view items)) steps at.invariant.keys).0
+
+pub load-requires-clause-defaults : goal.load-requires-clause-defaults
+load-requires-clause-defaults c =
+    let at = c.loop-schema in
+    let steps : into_iter_items at.schema-iterator ≡ c.in-Some.schema ∷ into_iter_items c.next.new.self = c.in-Some.ensures.steps.0 in
+    (subst (λ items. AllByRecursion HasShortDefaults (map schema_view items)) steps at.invariant.defaults).0

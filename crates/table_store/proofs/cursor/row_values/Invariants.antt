@@ -5,8 +5,8 @@ use Rattle.table_store.specs.Values.{values_in}
 use Rattle.table_store.proofs.cursor.row_values.Given as goal
 
 -- the fields of the columns so far are passed, and their values are read
-abbrev pub invariant-loop-column : goal.invariant-loop-column
-invariant-loop-column l = record {
-  passed : l.fields ≡ drop l.column-index l.fn.fields;
-  values : map value_view l.values.items ≡ take l.column-index (values_in (map column_view l.columns) (take (length l.columns) l.fn.fields));
+abbrev pub invariant-loop-col : goal.invariant-loop-col
+invariant-loop-col l = record {
+  passed : l.fields ≡ drop l.col l.fn.fields;
+  values : map value_view l.values.items ≡ take l.col (values_in (map column_view l.columns) (take (length l.columns) l.fn.fields));
 }

@@ -1,4 +1,4 @@
-use Rattle.std.proofs.Common.{◌≡◌, ◌<◌, ◌≤◌, ℕ, List, [], ◌∷◌, ◌++◌, None, Some, Ok, get_or, inl, inr, length, take, map, arith, subst, sym, ap, ◌∙◌}
+use Rattle.std.proofs.Common.{rules, ◌≡◌, ◌<◌, ◌≤◌, ℕ, List, [], ◌∷◌, ◌++◌, None, Some, Ok, get_or, inl, inr, length, take, map, arith, subst, sym, ap, ◌∙◌}
 use Rattle.std.specs.List.{list_all}
 use Rattle.std.specs.Result.{result_err}
 use Rattle.std.proofs.lemmas.List.{length-map, length-take, take_all}
@@ -9,9 +9,12 @@ use Rattle.cell_types.specs.Value.{CellValue, value_view}
 use Rattle.csvw_meta.specs.Schema.{schema_view}
 use Rattle.table_store.specs.Values.{rows_in, values_in}
 use Rattle.table_store.specs.Key.{row_key, row_keys}
+use Rattle.table_store.specs.ColumnReader.{reader_at, AreReadOn, HaveRead, HaveReaders}
 use Rattle.table_store.specs.Keys.{HasRead, Suits}
+use Rattle.table_store.specs.TypedColumn.{AreTyped}
 use Rattle.table_store.specs.Loading.{keys_at, values_of, ReadsAs, StandFor}
 use Rattle.table_store.proofs.InsideLemmas.{length-rows_in, length-values_in, rows_in-more}
+use Rattle.table_store.proofs.ReaderLemmas.{have_readers, none_typed, read_row_on, read_start, typed_read}
 use Rattle.table_store.proofs.LoadingLemmas.{bad_cell-cause, key_fault-cause}
 use Rattle.table_store.proofs.KeyLemmas.{row_keys-last}
 use Rattle.table_store.proofs.CursorLemmas.{RowAt, row_at}
@@ -54,6 +57,9 @@ read_row-requires c =
     record {
       width = omega (arith, same, at.enough);
       count = c.loop-row.invariant.count ∙ sym same;
+      readers = subst (λ columns. HaveReaders (map column_view columns) c.loop-row.readers.items) (sym c.as_slice-columns.ensures.value)
+          (have_readers (length c.args.file.now.rows) (map column_view items) (take c.loop-row.row (rows_in (map column_view items) c.args.file.now.rows)) c.loop-row.readers.items
+          c.loop-row.invariant.read (omega (arith, length-take c.loop-row.row (rows_in (map column_view items) c.args.file.now.rows), c.loop-row-test.true, c.rows-row-end.ensures)));
     }
 
 pub returns-in-Err-clause-fault : goal.returns-in-Err-clause-fault
@@ -116,6 +122,11 @@ loop-row-preserved c =
       right = sym (wrong_in_rows-past schema.columns raws row (get_or raws row []) at.is here.0) ∙ c.loop-row.invariant.right;
       passed = rw c.as_slice-columns.ensures.value at c.in-Ok-read_row.ensures.passed ∙ at.behind;
       count = c.read_row.ensures.count ∙ ap length c.as_slice-columns.ensures.value;
+      read = subst (λ rs. HaveRead (length raws) schema.columns rs c.read_row.new.readers.items) (sym (rows_in-more schema.columns raws row within))
+          (read_row_on (length raws) schema.columns (take row rows) c.loop-row.readers.items (values_in schema.columns (get_or raws row [])) c.read_row.new.readers.items
+          c.loop-row.invariant.read
+          (subst (λ fields. AreReadOn c.loop-row.readers.items (values_in schema.columns fields) c.read_row.new.readers.items) at.front
+          (rw c.as_slice-columns.ensures.value at c.in-Ok-read_row.ensures.readers)));
       keys = subst (HasRead c.read.new.self)
           (ap (λ ps. row_keys ps (take row rows ++ map value_view c.as_slice.result.now ∷ [])) c.as_slice-places.ensures.value
           ∙ ap (λ vs. row_keys schema.key (take row rows ++ vs ∷ [])) (ap (map value_view) c.as_slice.ensures.value)
@@ -125,20 +136,20 @@ loop-row-preserved c =
       suits = λ fields. c.read.ensures.suits (row_key schema.key (values_in schema.columns fields)) (c.loop-row.invariant.suits fields);
     }
 
-pub returns-in-Ok-finish-clause-values : goal.returns-in-Ok-finish-clause-values
-returns-in-Ok-finish-clause-values c =
+pub returns-in-Ok-columns_read-clause-values : goal.returns-in-Ok-columns_read-clause-values
+returns-in-Ok-columns_read-clause-values c =
     sym c.loop-row.invariant.right ∙ wrong_in_rows-end (schema_view c.args.schema.now).columns c.args.file.now.rows c.loop-row.row (omega arith)
 
-pub returns-in-Ok-finish-clause-keys : goal.returns-in-Ok-finish-clause-keys
-returns-in-Ok-finish-clause-keys c =
+pub returns-in-Ok-columns_read-clause-keys : goal.returns-in-Ok-columns_read-clause-keys
+returns-in-Ok-columns_read-clause-keys c =
     let schema = schema_view c.args.schema.now in
     let rows = rows_in schema.columns c.args.file.now.rows in
     let past : length rows ≤ c.loop-row.row = omega (arith, length-rows_in schema.columns c.args.file.now.rows) in
     c.in-Ok-finish.ensures.keys (keys_at schema c.args.file.now.rows)
     (subst (λ rs. HasRead c.loop-row.keys (row_keys schema.key rs)) (take_all c.loop-row.row rows past) c.loop-row.invariant.keys)
 
-pub returns-clause-fault : goal.returns-clause-fault
-returns-clause-fault c =
+pub returns-in-Err-finish-clause-fault : goal.returns-in-Err-finish-clause-fault
+returns-in-Err-finish-clause-fault c =
     let schema = schema_view c.args.schema.now in
     let raws = c.args.file.now.rows in
     let rows = rows_in schema.columns raws in
@@ -147,3 +158,36 @@ returns-clause-fault c =
     (sym c.loop-row.invariant.right ∙ wrong_in_rows-end schema.columns raws c.loop-row.row (omega arith))
     (c.in-Err-finish.ensures.fault (keys_at schema raws)
     (subst (λ rs. HasRead c.loop-row.keys (row_keys schema.key rs)) (take_all c.loop-row.row rows past) c.loop-row.invariant.keys))
+
+pub returns-in-Ok-columns_read-clause-columns : goal.returns-in-Ok-columns_read-clause-columns
+returns-in-Ok-columns_read-clause-columns c =
+    let schema = schema_view c.args.schema.now in
+    let raws = c.args.file.now.rows in
+    let rows = rows_in schema.columns raws in
+    let past : length rows ≤ c.loop-row.row = omega (arith, length-rows_in schema.columns raws) in
+    subst (AreTyped schema.columns rows) (sym c.in-Ok-columns_read.ensures)
+    (typed_read (length raws) schema.columns rows c.loop-row.readers.items
+    (subst (λ rs. HaveRead (length raws) schema.columns rs c.loop-row.readers.items) (take_all c.loop-row.row rows past) c.loop-row.invariant.read))
+
+pub loop-row-init : goal.loop-row-init
+loop-row-init c =
+    let schema = schema_view c.args.schema.now in
+    let raws = c.args.file.now.rows in
+    record {
+      right = search rules;
+      passed = search rules;
+      count = search rules;
+      read = read_start (length raws) schema.columns c.in-Ok.readers.items
+          (c.in-Ok.ensures ∙ ap (λ n. map (λ column. reader_at n column []) (map column_view c.as_slice-columns.result.now)) c.rows.ensures
+          ∙ ap (λ columns. map (λ column. reader_at (length raws) column []) (map column_view columns)) c.as_slice-columns.ensures.value);
+      keys = search rules;
+      suits = search rules;
+    }
+
+pub returns-then-take_all_texts-clause-columns : goal.returns-then-take_all_texts-clause-columns
+returns-then-take_all_texts-clause-columns c =
+    let columns = c.as_slice-columns.ensures.value in
+    let empty : c.new.result.items ≡ [] = search rules in
+    subst (AreTyped (map column_view c.args.schema.now.columns.items) (rows_in (map column_view c.args.schema.now.columns.items) c.args.file.now.rows)) (sym empty)
+    (none_typed c.args.schema.now.columns.items (rows_in (map column_view c.args.schema.now.columns.items) c.args.file.now.rows)
+    (ap (list_all (λ column. takes_all_texts (column_view column))) (sym columns) ∙ sym c.take_all_texts.ensures ∙ c.if-take_all_texts.true))

@@ -4,11 +4,12 @@ use Rattle.csv_index.specs.Index.{row_fields}
 use Rattle.csvw_meta.specs.Schema.{schema_view}
 use Rattle.table_store.specs.Values.{rows_in, values_in}
 use Rattle.table_store.specs.Key.{row_key, row_keys}
+use Rattle.table_store.specs.ColumnReader.{HaveRead}
 use Rattle.table_store.specs.Keys.{HasRead, Suits}
 use Rattle.table_store.proofs.RowLemmas.{wrong_in_rows}
 use Rattle.table_store.proofs.loading.read_rows.Given as goal
 
--- nothing is wrong so far, the fields of the rows so far are passed, there is a value for each column, and the keys are read
+-- nothing is wrong so far, the fields of the rows so far are passed, there is a value for each column, the readers have read them, and the keys are read
 abbrev pub invariant-loop-row : goal.invariant-loop-row
 invariant-loop-row l =
     let schema = schema_view l.schema in
@@ -17,6 +18,7 @@ invariant-loop-row l =
       right : wrong_in_rows l.row schema.columns rows ≡ wrong_in_rows 0 schema.columns rows;
       passed : l.fields ≡ row_fields (drop l.row rows);
       count : length l.values.items ≡ length l.schema.columns.items;
+      read : HaveRead (length rows) schema.columns (take l.row (rows_in schema.columns rows)) l.readers.items;
       keys : HasRead l.keys (row_keys schema.key (take l.row (rows_in schema.columns rows)));
       suits : (fields : List RawField) → Suits l.keys.keys (row_key schema.key (values_in schema.columns fields));
     }

@@ -1,0 +1,14 @@
+//! The columns of a block.
+
+use block_summary::PackedType;
+
+/// The cells of a column, one for each row of the block.
+#[derive(Clone, Copy)]
+pub enum Column<'a> {
+    /// Each cell is null.
+    Nulls,
+    /// The numbers that stand for the cells of a type, and which cells are null. At a null the number may be any.
+    Numbers(PackedType, &'a [i64], &'a [bool]),
+    /// The texts, and none for null.
+    Texts(&'a [Option<&'a str>]),
+}

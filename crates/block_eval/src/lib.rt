@@ -1,0 +1,18 @@
+//! Conditions over blocks of rows (OData 4.01 URL Conventions, section 5.1.1). [`eval_block`] evaluates a condition a column at a time; its
+//! contract speaks of the outcome of each row alone. Where it falls back, the rows are evaluated one by one.
+#![tactic(auto)]
+
+mod arithmetic;
+mod block;
+mod columns;
+mod comparison;
+mod fallback;
+mod filter;
+mod logic;
+mod numbers;
+mod operand;
+
+pub use block::eval_block;
+pub use columns::Column;
+pub use fallback::Fallback;
+pub use filter::filter_block;

@@ -1,0 +1,92 @@
+//! The exchange of a head for its reply, block by block.
+ghost use Rattle.std.specs.Prelude.{◌≡◌, ◌≤◌, ℕ, List, IfOk, IsErr, Ok, OnErr, length};
+ghost use Rattle.query_exec.specs.declared.run.Step.TheVariants.{Done};
+ghost use Rattle.http_heads.specs.Head.{HeadOf, head_view};
+ghost use Rattle.odata_http.specs.Exchange.{Answers, Begins, GivesReply, GoesOn, HasFailed, IsDone, MayGoOn};
+ghost use Rattle.odata_http.specs.Reply.{IsReply};
+
+use crate::work::Work;
+use http_heads::{Head, check_head};
+use odata_request::request_of;
+use query_exec::Step;
+use std::alloc::{AllocError, Global};
+use std::mem;
+use table_store::Catalog;
+
+/// The answering of a head. It owns what the head asks for and the run of its query, and borrows nothing of the catalog between two calls.
+#[derive(Drop)]
+pub struct Exchange {
+    method: Vec<u8>,
+    closes: bool,
+    work: Work,
+}
+
+impl Exchange {
+    /// Before the first block. No block is read.
+    pub fn begin(alloc: Global, catalog: &Catalog, head: Head) -> Result<Exchange, AllocError>
+        requires { length head.target.items ≤ 8192 }
+        ensures { IfOk result (Begins catalog.now.tables (head_view head)) }
+    {
+        Exchange::begin_for(alloc, catalog, &head)
+    }
+
+    /// The same for a head that is kept.
+    fn begin_for(alloc: Global, catalog: &Catalog, head: &Head) -> Result<Exchange, AllocError>
+        requires { length head.now.target.items ≤ 8192 }
+        ensures { IfOk result (Begins catalog.now.tables (head_view head.now)) }
+    {
+        let checks = check_head(head);
+        let method = head.method.clone()?;
+        let request = request_of(alloc, catalog, checks.fault, head.target.as_slice())?;
+        let work = Work::start(alloc, catalog, request)?;
+        Ok(Exchange {
+            method,
+            closes: checks.closes,
+            work,
+        })
+    }
+
+    /// Reads one block of the table at most. It answers Done at the call of the length that a head has, when the reply is there, and after that
+    /// always; and where memory ran out, in this call or before, it says so.
+    pub fn advance(&mut self, alloc: Global, catalog: &Catalog) -> Result<Step, AllocError>
+        requires { MayGoOn catalog.now.tables self.old }
+        ensures goes_on { (head : HeadOf) (left : ℕ) → Answers catalog.now.tables head left self.old
+            → GoesOn catalog.now.tables head left self.new result }
+        ensures done { (reply : List ℕ) → GivesReply self.old reply
+            → (result ≡ Ok Done) × GivesReply self.new reply }
+        ensures failed { HasFailed self.old → IsErr result }
+        ensures refused { OnErr result (HasFailed self.new) }
+    {
+        let work = mem::replace(&mut self.work, Work::Failed);
+        let work = work.go_on(alloc, catalog, self.method.as_slice(), self.closes)?;
+        let step = work.step();
+        let _failed = mem::replace(&mut self.work, work);
+        Ok(step)
+    }
+
+    /// The reply of an exchange that answered Done. It takes no memory.
+    pub fn reply(self) -> Vec<u8>
+        requires { IsDone self }
+        ensures { (reply : List ℕ) → GivesReply self reply → result.items ≡ reply }
+    {
+        let Exchange { work, .. } = self;
+        match work {
+            Work::Replied(reply) => reply,
+            _ => unreachable!(),
+        }
+    }
+}
+
+/// The reply to a head: what the engine calls, head by head.
+pub fn reply_to(alloc: Global, catalog: &Catalog, head: &Head) -> Result<Vec<u8>, AllocError>
+    requires { length head.now.target.items ≤ 8192 }
+    ensures { IfOk result (λ reply. IsReply catalog.now.tables (head_view head.now) reply.items) }
+{
+    let mut exchange = Exchange::begin_for(alloc, catalog, head)?;
+    'calls: loop {
+        match exchange.advance(alloc, catalog)? {
+            Step::More => {}
+            Step::Done => return Ok(exchange.reply()),
+        }
+    }
+}

@@ -1,0 +1,102 @@
+//! The run of a query on its table, block by block.
+ghost use Rattle.std.specs.Prelude.{◌≡◌, ℕ, IfOk};
+ghost use Rattle.http.specs.StatusCode.{IsStatusCode};
+ghost use Rattle.odata_types.specs.Query.{query_typed_view};
+ghost use Rattle.query_plan.specs.Plan.{PlanOf};
+ghost use Rattle.query_exec.specs.Run.{StandsFor, handed_block};
+ghost use Rattle.odata_request.specs.Request.{IsRowsInside, RowsRequestOf, rows_view};
+ghost use Rattle.odata_http.specs.Exchange.{IsReading, TakesRunCalls};
+ghost use Rattle.odata_http.specs.Work.{IsKnown, MayRead, NeedsBlocksOf, ReadsOn, StartsReading};
+
+use crate::response::{Response, error_response, rows_response};
+use odata_parse::Format;
+use odata_request::RowsRequest;
+use query_exec::{ExecFault, Run, Step};
+use query_plan::naive;
+use reply_text::Code;
+use std::alloc::{AllocError, Global};
+use table_store::{Block, Catalog, Table};
+
+/// A query under way.
+#[derive(Drop)]
+pub(crate) struct Reading {
+    /// The number of the table in the catalog, counted from 0.
+    pub(crate) table: usize,
+    /// The format of the answer.
+    pub(crate) format: Format,
+    /// How many calls are left.
+    pub(crate) left: usize,
+    pub(crate) run: Run,
+}
+
+/// How far one call came.
+#[derive(Drop)]
+pub(crate) enum Reached {
+    /// The query goes on.
+    On(Reading),
+    /// The answer is there.
+    Over(Response),
+}
+
+/// The block of its table that a run needs next, where it needs one.
+fn next_block<'t>(run: &Run, table: &'t Table) -> Option<Block<'t>>
+    requires { NeedsBlocksOf run.now table.now }
+    ensures { (plan : PlanOf) (handed : ℕ) → StandsFor run.now plan table.now handed
+        → result ≡ handed_block table.now handed }
+{
+    match run.next() {
+        Some(number) => Some(table.block(number)),
+        None => None,
+    }
+}
+
+impl Reading {
+    /// Before the first block. No block is read.
+    pub(crate) fn start(
+        alloc: Global,
+        catalog: &Catalog,
+        asked: RowsRequest,
+    ) -> Result<Reading, AllocError>
+        requires { IsRowsInside catalog.now.tables (rows_view asked) }
+        ensures { IfOk result (StartsReading catalog.now.tables (rows_view asked)) }
+    {
+        let table = &catalog.tables()[asked.table];
+        let blocks = table.blocks();
+        let plan = naive(alloc, asked.query)?;
+        match Run::start(alloc, table.schema(), blocks, plan) {
+            Ok(run) => Ok(Reading {
+                table: asked.table,
+                format: asked.format,
+                left: blocks.max(1),
+                run,
+            }),
+            Err(_) => Err(AllocError),
+        }
+    }
+
+    /// Reads the next block, where one is needed.
+    pub(crate) fn read_on(self, alloc: Global, catalog: &Catalog) -> Result<Reached, AllocError>
+        requires { MayRead catalog.now.tables self }
+        ensures reads { (asked : RowsRequestOf) (left : ℕ) → IsReading catalog.now.tables asked left self
+            → IfOk result (ReadsOn catalog.now.tables asked left) }
+        ensures known { IfOk result IsKnown }
+    {
+        let table = &catalog.tables()[self.table];
+        let mut run = self.run;
+        let block = next_block(&run, table);
+        match run.advance(alloc, block) {
+            Ok(Step::More) => Ok(Reached::On(Reading {
+                table: self.table,
+                format: self.format,
+                left: self.left - 1,
+                run,
+            })),
+            Ok(Step::Done) => Ok(Reached::Over(rows_response(alloc, &run.finish(), self.format)?)),
+            Err(ExecFault::DivisionByZero) => Ok(Reached::Over(error_response(
+                alloc,
+                Code::DivisionByZero,
+            )?)),
+            Err(ExecFault::NoMemory | ExecFault::Failed) => Err(AllocError),
+        }
+    }
+}

@@ -1,0 +1,92 @@
+//! The work for a request, call by call.
+ghost use Rattle.std.specs.Prelude.{◌≡◌, ℕ, List, IfOk, IsErr, IsOkAnd};
+ghost use Rattle.odata_request.specs.Request.{IsInside, RequestOf, request_view};
+ghost use Rattle.odata_http.specs.Exchange.{IsReplied, IsWork};
+ghost use Rattle.odata_http.specs.declared.work.Work.TheVariants.{Failed};
+ghost use Rattle.odata_http.specs.Work.{MayWork, StartsWork, WorksOn, step_of};
+
+use crate::reading::{Reached, Reading};
+use crate::response::{error_response, reply_of, service_response};
+use odata_request::Request;
+use query_exec::Step;
+use reply_text::Code;
+use std::alloc::{AllocError, Global};
+use table_store::Catalog;
+
+/// What is left to be done for a request.
+#[derive(Drop)]
+pub(crate) enum Work {
+    /// The error of that code is told.
+    Refuse(Code),
+    /// The tables are listed.
+    ListTables,
+    /// A query is under way.
+    Read(Reading),
+    /// Nothing: this is the reply.
+    Replied(Vec<u8>),
+    /// Nothing: memory ran out.
+    Failed,
+}
+
+impl Work {
+    /// The work for a request.
+    pub(crate) fn start(
+        alloc: Global,
+        catalog: &Catalog,
+        request: Request,
+    ) -> Result<Work, AllocError>
+        requires { IsInside catalog.now.tables (request_view request) }
+        ensures { IfOk result (StartsWork catalog.now.tables (request_view request)) }
+    {
+        match request {
+            Request::Refused(code) => Ok(Work::Refuse(code)),
+            Request::Service => Ok(Work::ListTables),
+            Request::Rows(asked) => Ok(Work::Read(Reading::start(alloc, catalog, asked)?)),
+        }
+    }
+
+    /// What a call answers that leaves this work.
+    pub(crate) fn step(&self) -> Step
+        ensures { result ≡ step_of self.now }
+    {
+        match self {
+            Work::Replied(_) => Step::Done,
+            Work::Refuse(_) | Work::ListTables | Work::Read(_) | Work::Failed => Step::More,
+        }
+    }
+
+    /// One call's part of the work for a request of that method.
+    pub(crate) fn go_on(
+        self,
+        alloc: Global,
+        catalog: &Catalog,
+        method: &[u8],
+        closes: bool,
+    ) -> Result<Work, AllocError>
+        requires { MayWork catalog.now.tables self }
+        ensures works { (request : RequestOf) (left : ℕ) → IsWork catalog.now.tables request left self
+            → IfOk result (WorksOn catalog.now.tables method.now closes request left) }
+        ensures replied { (reply : List ℕ) → IsReplied self reply
+            → IsOkAnd result (λ work. IsReplied work reply) }
+        ensures failed { self ≡ Failed → IsErr result }
+    {
+        match self {
+            Work::Refuse(code) => {
+                let response = error_response(alloc, code)?;
+                Ok(Work::Replied(reply_of(alloc, method, response, closes)?))
+            }
+            Work::ListTables => {
+                let response = service_response(alloc, catalog)?;
+                Ok(Work::Replied(reply_of(alloc, method, response, closes)?))
+            }
+            Work::Read(reading) => match reading.read_on(alloc, catalog)? {
+                Reached::On(reading) => Ok(Work::Read(reading)),
+                Reached::Over(response) => {
+                    Ok(Work::Replied(reply_of(alloc, method, response, closes)?))
+                }
+            },
+            Work::Replied(reply) => Ok(Work::Replied(reply)),
+            Work::Failed => Err(AllocError),
+        }
+    }
+}

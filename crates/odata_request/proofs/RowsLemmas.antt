@@ -1,0 +1,42 @@
+-- What the calls that make a request give is what is asked for.
+use Rattle.std.proofs.Common.{◌≡◌, ◌<◌, ℕ, List, length, get_or, Option, Some, Result, Ok, Err, IsErrAnd, refl, sym, ap, ◌∙◌, subst}
+use Rattle.std.specs.Prelude.{slice_get}
+use Rattle.std.proofs.lemmas.Option.{slice_get-get_or}
+use Rattle.csvw_meta.specs.Schema.{SchemaOf}
+use Rattle.table_store.specs.Table.{TableOf}
+use Rattle.odata_parse.specs.declared.format.Format.{Format}
+use Rattle.odata_types.specs.Query.{TypedOf, query_typed_view}
+use Rattle.odata_types.specs.Schema.{inputs_of}
+use Rattle.reply_text.specs.declared.code.Code.{Code}
+use Rattle.odata_request.specs.declared.fault.RequestFault.{RequestFault}
+use Rattle.odata_request.specs.declared.fault.RequestFault.TheVariants.{Refused, NoMemory}
+use Rattle.odata_request.specs.declared.request.Request.{Request}
+use Rattle.odata_request.specs.Fault.{Gives}
+use Rattle.odata_request.specs.Query.{AsksQuery}
+use Rattle.odata_request.specs.Request.{AsksRows, Makes, RequestOf, rows_request}
+
+-- a fault that is passed on as another is that one
+pub made_on : (asks : RequestOf → Type 0) (result : Result Request RequestFault) (made : RequestFault) → IsErrAnd result (λ fault. fault ≡ made)
+    → Makes asks (Err made) → Makes asks result
+made_on asks (Ok request) made h g = absurd h
+made_on asks (Err fault) made h g = subst (λ (f : RequestFault). Makes asks (Err f)) (sym h) g
+
+-- the table of a number that is one of these
+pub table_at : (tables seen : List TableOf) (number : ℕ) (table : TableOf) → seen ≡ tables → number < length tables → table ≡ get_or seen number table
+    → slice_get tables number ≡ Some table
+table_at tables seen number table same less at =
+    let here : table ≡ get_or tables number table = rw same at at in
+    slice_get-get_or tables number table less ∙ ap Some (sym here)
+
+-- a query on the columns of a table is one on its rows
+pub asks_rows : (tables : List TableOf) (number : ℕ) (filter : Option (List ℕ)) (format : Format) (table : TableOf) (schema : SchemaOf)
+    → slice_get tables number ≡ Some table → schema ≡ table.schema → (query : Result TypedOf Code) → AsksQuery (inputs_of schema) filter query
+    → AsksRows tables number filter format (rows_request number format query)
+asks_rows tables number filter format table schema at of query asks =
+    record { table = table; table_is = at; query = query; asks = subst (λ (s : SchemaOf). AsksQuery (inputs_of s) filter query) of asks; request_is = refl }
+
+pub refused_rows : (tables : List TableOf) (number : ℕ) (filter : Option (List ℕ)) (format : Format) (table : TableOf) (schema : SchemaOf)
+    → slice_get tables number ≡ Some table → schema ≡ table.schema → (fault : RequestFault) → Gives query_typed_view (AsksQuery (inputs_of schema) filter) (Err fault)
+    → Makes (AsksRows tables number filter format) (Err fault)
+refused_rows tables number filter format table schema at of (Refused code) h = asks_rows tables number filter format table schema at of (Err code) h
+refused_rows tables number filter format table schema at of NoMemory h = tt

@@ -1,0 +1,9 @@
+pub use Rattle.odata_types.specs.Columns
+pub use Rattle.odata_types.specs.Query as Queries
+pub use Rattle.odata_types.specs.TypedTree
+pub use Rattle.row_eval.specs.Bounds
+pub use Rattle.row_eval.specs.Input
+pub mod Filter
+pub mod Query
+pub mod Plan
+pub mod Laws

@@ -1,0 +1,9 @@
+//! Plans of queries (OData 4.01 URL Conventions, section 5.1): what is done to the rows of a table, step by step. [`naive`] makes the plan
+//! whose meaning is that of its query. The functions without a body are laws of the definitions: each is a theorem, and does nothing.
+#![tactic(auto)]
+
+mod law;
+mod plan;
+
+pub use law::{nodes_in_turn, true_rows_pass};
+pub use plan::{Node, Plan, naive};
