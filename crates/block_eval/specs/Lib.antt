@@ -1,9 +1,10 @@
+pub use Rattle.block_lanes.specs.Arithmetic
 pub use Rattle.block_summary.specs.Types
 pub use Rattle.row_eval.specs.Comparison
 pub use Rattle.row_eval.specs.Logic
 pub use Rattle.row_eval.specs.Outcome
 pub mod Columns
 pub mod Lanes
-pub mod Operands
-pub mod Filter
-pub mod Arithmetic
+pub mod Texts
+pub mod Dates
+pub mod Truths

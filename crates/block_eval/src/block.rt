@@ -5,11 +5,11 @@ ghost use Rattle.odata_types.specs.TypedTree.{truth_view};
 ghost use Rattle.block_eval.specs.Lanes.{AreOutcomes};
 
 use crate::columns::Column;
-use crate::comparison::{compare_decimals, compare_integers};
-use crate::fallback::Fallback;
-use crate::logic::{conjunction, disjunction, negation, open_rows, same_truth, truths_in};
+use crate::leaf::eval_leaf;
+use crate::truths::{compare_truths, truths_among};
+use block_lanes::{Fallback, conjunction, disjunction, negation, open_rows};
 use odata_types::TruthExpr;
-use row_eval::{Truth, truth_of};
+use row_eval::Truth;
 use std::alloc::Global;
 
 /// The truths of a condition on the wanted rows of a block. Where it falls back, the rows are to be evaluated one by one; nothing says
@@ -21,12 +21,10 @@ pub fn eval_block(
     columns: &[Column<'_>],
     wanted: &[bool],
 ) -> Result<Vec<Truth>, Fallback>
-    ensures { IfOk result (λ truths. AreOutcomes (truth_view expr.now) columns.now wanted.now truths.items) }
+    ensures { IfOk result
+        (λ truths. AreOutcomes (truth_view expr.now) columns.now wanted.now truths.items) }
 {
     match expr {
-        TruthExpr::Null => same_truth(alloc, Truth::Null, wanted),
-        TruthExpr::Column(place) => truths_in(alloc, columns, *place, wanted),
-        TruthExpr::Literal(value) => same_truth(alloc, truth_of(*value), wanted),
         TruthExpr::Not(operand) => {
             let truths = eval_block(alloc, operand, columns, wanted)?;
             Ok(negation(truths))
@@ -43,12 +41,17 @@ pub fn eval_block(
             let right = eval_block(alloc, right, columns, asked.as_slice())?;
             Ok(disjunction(left, right))
         }
-        TruthExpr::CompareIntegers(operator, left, right) => {
-            compare_integers(alloc, *operator, left, right, columns, wanted)
+        TruthExpr::CompareTruths(operator, left, right) => {
+            let left = eval_block(alloc, left, columns, wanted)?;
+            let right = eval_block(alloc, right, columns, wanted)?;
+            let truths = compare_truths(alloc, *operator, left.as_slice(), right.as_slice())?;
+            Ok(truths)
         }
-        TruthExpr::CompareDecimals(operator, left, right) => {
-            compare_decimals(alloc, *operator, left, right, columns, wanted)
+        TruthExpr::TruthIn(operand, items) => {
+            let truths = eval_block(alloc, operand, columns, wanted)?;
+            let found = truths_among(alloc, truths.as_slice(), items)?;
+            Ok(found)
         }
-        _ => Err(Fallback),
+        _ => eval_leaf(alloc, expr, columns, wanted),
     }
 }

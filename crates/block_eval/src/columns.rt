@@ -1,14 +1,19 @@
 //! The columns of a block.
 
 use block_summary::PackedType;
+use cell_types::Value;
 
 /// The cells of a column, one for each row of the block.
 #[derive(Clone, Copy)]
 pub enum Column<'a> {
+    /// The column was not read: its cells may be any. What names it falls back.
+    Unread,
     /// Each cell is null.
     Nulls,
     /// The numbers that stand for the cells of a type, and which cells are null. At a null the number may be any.
     Numbers(PackedType, &'a [i64], &'a [bool]),
     /// The texts, and none for null.
     Texts(&'a [Option<&'a str>]),
+    /// The cells themselves, of any types. The texts of such a column are read, and what names it otherwise falls back.
+    Values(&'a [Value<'a>]),
 }

@@ -2,17 +2,17 @@
 //! contract speaks of the outcome of each row alone. Where it falls back, the rows are evaluated one by one.
 #![tactic(auto)]
 
-mod arithmetic;
 mod block;
 mod columns;
 mod comparison;
-mod fallback;
-mod filter;
-mod logic;
+mod dates;
+mod leaf;
+mod lists;
 mod numbers;
-mod operand;
+mod relation;
+mod texts;
+mod truths;
 
 pub use block::eval_block;
+pub use block_lanes::Fallback;
 pub use columns::Column;
-pub use fallback::Fallback;
-pub use filter::filter_block;

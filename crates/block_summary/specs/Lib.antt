@@ -4,5 +4,6 @@ pub mod Types
 pub mod Ranges
 pub mod Reading
 pub mod Rows
+pub mod TextRange
 pub mod Tests
 pub mod Laws

@@ -1,6 +1,6 @@
 //! The cells of a column, read one after another until they fill a block.
 
-ghost use Rattle.std.specs.Prelude.{◌≡◌, ◌⊎◌, ◌<◌, [], Some, Ok, Err, IfOk, IfErr, IsErrOf, length};
+ghost use Rattle.std.specs.Prelude.{◌≡◌, ◌⊎◌, ◌<◌, [], Some, Ok, Err, IfOk, IfErr, IfSome, IsErrOf, length};
 ghost use Rattle.std.specs.Option.{ForSome};
 ghost use Rattle.cell_types.specs.Cell.{NeedsMemory, value_of};
 ghost use Rattle.cell_types.specs.Column.{column_view};
@@ -11,7 +11,7 @@ ghost use Rattle.block_summary.specs.Types.{cell_of, IsNumberOf};
 
 use crate::number::{PackedType, day_number};
 use crate::packed::PackedColumn;
-use cell_types::{CellFault, Column, Datatype, Value, read_cell};
+use cell_types::{CellFault, Column, Datatype, Value, read_cell, read_short_integer};
 use std::alloc::{AllocError, Global};
 use std::marker::Model;
 
@@ -130,6 +130,20 @@ fn number_of_value(packed_type: PackedType, value: &Value<'_>) -> Option<i64>
     }
 }
 
+/// The number of a short integer in a column of integers, which is read in one pass; none of another text.
+#[inline(always)]
+fn short_number(column: &Column, packed_type: PackedType, text: &str) -> Option<i64>
+    requires { packed_type_of_datatype (datatype_view column.now.datatype) ≡ Some packed_type }
+    ensures value { IfSome result (λ number.
+        value_of (column_view column.now) text.now ≡ Ok (cell_of packed_type (Some number))) }
+    ensures number { ForSome result (IsNumberOf packed_type) }
+{
+    match packed_type {
+        PackedType::Integer => read_short_integer(column, text),
+        _ => None,
+    }
+}
+
 /// The number of a text in a column that is none of texts, or null where the text is null.
 pub fn read_number(
     alloc: Global,
@@ -148,6 +162,9 @@ pub fn read_number(
 {
     cell_types::values_fit_columns();
     cell_types::dates_read_back();
+    if let Some(number) = short_number(column, packed_type, text) {
+        return Ok(Some(number));
+    }
     match read_cell(alloc, column, text) {
         Ok(value) => Ok(number_of_value(packed_type, &value)),
         Err(fault) => Err(fault),

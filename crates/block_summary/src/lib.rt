@@ -13,6 +13,7 @@ mod packed;
 mod range;
 mod summary;
 mod test;
+mod text_range;
 
 pub use block::{BLOCK_ROWS, rows_of_a_block};
 pub use bounds::Bounds;
@@ -23,3 +24,4 @@ pub use packed::PackedColumn;
 pub use range::Range;
 pub use summary::{Summary, admits};
 pub use test::{Comparison, Test};
+pub use text_range::TextRange;

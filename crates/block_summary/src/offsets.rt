@@ -69,7 +69,8 @@ pub fn rows_of(offsets: &Offsets) -> usize
 #[inline(always)]
 pub fn offset_at(offsets: &Offsets, row: usize) -> Option<u64>
     ensures { MatchOption result (length (offset_list offsets.now) ≤ row)
-        (λ offset. (row < length (offset_list offsets.now)) × (offset ≡ slice_index_or (offset_list offsets.now) row 0)) }
+        (λ offset. (row < length (offset_list offsets.now))
+        × (offset ≡ slice_index_or (offset_list offsets.now) row 0)) }
 {
     match offsets {
         Offsets::Ones(offsets) => match offsets.get(row) {

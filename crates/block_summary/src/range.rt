@@ -1,7 +1,7 @@
 //! What is known of the cells of one column of a block.
 
 ghost use Rattle.std.specs.Prelude.{◌≡◌, ◌<◌, IfOk, OnOk, OnErr, option_map, Some};
-ghost use Rattle.cell_types.specs.Value.{text as text_cell, value_cmp, value_view};
+ghost use Rattle.cell_types.specs.Value.{value_view};
 ghost use Rattle.block_summary.specs.Ranges.{greater, lesser, no_range, taken, widened, IsRangeOf};
 ghost use Rattle.block_summary.specs.Tests.{admits as admits_test, order_to};
 
@@ -16,9 +16,9 @@ use std::marker::Model;
 /// The least and the greatest cell of a column of a block that are not null, and how many of its cells are null.
 #[derive(Drop)]
 pub struct Range {
-    least: Option<Value<'static>>,
-    greatest: Option<Value<'static>>,
-    null_count: usize,
+    pub(crate) least: Option<Value<'static>>,
+    pub(crate) greatest: Option<Value<'static>>,
+    pub(crate) null_count: usize,
 }
 
 impl Model for Range {
@@ -138,15 +138,6 @@ impl Range {
         take_place(&mut self.least, least);
         take_place(&mut self.greatest, greatest);
         Ok(())
-    }
-
-    /// Takes in one more text.
-    pub fn add_text(&mut self, alloc: Global, text: &str) -> Result<(), AllocError>
-        requires { self.old.null_count < usize.MAX }
-        ensures added { OnOk result (self.new ≡ widened self.old (text_cell text.now)) }
-        ensures err { OnErr result (self.new ≡ self.old) }
-    {
-        self.add(alloc, &Value::Text(CowStr::Borrowed(text)))
     }
 
     /// Whether a column of this range can have a cell that passes the test.

@@ -1,5 +1,5 @@
 -- The text of a decimal reads as that decimal.
-use Rattle.std.proofs.Common.{◌≡◌, ℕ, ℤ, pos, negsuc, zero, suc, true, false, ◌+◌, ◌-◌, ◌*◌, ◌/◌, ◌%◌, ◌^◌, ◌<◌, ◌≤◌, ◌==◌, ◌&&◌, Bool, cond, List, [], ◌∷◌, ◌++◌, length, take, drop, Ok, FitsSigned, w64, refl, sym, ap, ap₂, subst, ◌∙◌, arith, nat_lt, length-append, append-nil, take_all, Err}
+use Rattle.std.proofs.Common.{◌≡◌, ℕ, ℤ, pos, negsuc, suc, true, false, ◌+◌, ◌*◌, ◌/◌, ◌%◌, ◌^◌, ◌<◌, ◌≤◌, ◌==◌, ◌&&◌, Bool, cond, List, [], ◌∷◌, ◌++◌, length, take, drop, Ok, FitsSigned, w64, refl, sym, ap, ap₂, ◌∙◌, arith, nat_lt, length-append, append-nil, take_all, Err}
 use Rattle.std.specs.Prelude.{codes}
 use Rattle.std.specs.Char.{digit_value, is_ascii_digit}
 use Rattle.std.specs.Fmt as fmt
@@ -7,7 +7,7 @@ use Rattle.std.specs.List.{after_first, before_first, list_all, position_or_len}
 use Rattle.std.specs.Str.{all_ascii_digits}
 use Rattle.std.specs.Str.Parse.{digits_value, digits_value_after, starts_with_minus, without_leading_sign}
 use Rattle.std.proofs.Math.Seq.{take-append_seam, drop-append-add}
-use Rattle.std.proofs.lemmas.Bool.{and_from, and_parts, eqb-true, lt-ltb, ltb-true, leb-true}
+use Rattle.std.proofs.lemmas.Bool.{and_from, and_parts, eqb-true, lt-ltb}
 use Rattle.std.proofs.lemmas.Bool.Decides.{nat_tests}
 use Rattle.std.proofs.lemmas.Fmt.{decimal_nonempty, digits_decimal, digits_value-decimal}
 use Rattle.std.proofs.lemmas.List.{drop_all}
@@ -15,8 +15,7 @@ use Rattle.std.proofs.lemmas.Str.{digit_value_digit}
 use Rattle.cell_types.specs.declared.cell.CellFault.TheVariants.{OutOfRange}
 use Rattle.cell_types.specs.Date.{four_digits, two_digits}
 use Rattle.cell_types.specs.Decimal.{are_digits, decimal_of, decimal_text, fraction_part, fraction_text, is_decimal, is_in_millionths, is_point, is_zero, millionths, millionths_text, signed, six_digits, six_places, value_of_millionths, whole_part, without_last_zeros}
-use Rattle.cell_types.specs.Integer.{fits_64_bits}
-use Rattle.cell_types.specs.Value.{CellValue, decimal}
+use Rattle.cell_types.specs.Value.{decimal}
 use Rattle.cell_types.proofs.DecimalLemmas.{after-append, decimal-written, digits-append}
 use Rattle.cell_types.proofs.IntegerLemmas.{digits_model, fits-true}
 

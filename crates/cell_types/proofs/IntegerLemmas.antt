@@ -62,7 +62,7 @@ list_all-is_integer bytes ds is some =
 abbrev parsed : List ℕ → Result ℤ ℕ
 parsed bytes = let z = signed_digits_value 10 bytes in cond (is_integer bytes) (cond (fits_64_bits z) (Ok z) (Err 0)) (Err 0)
 
-is_integer-numeral : (bytes : List ℕ) → IsNumeral 10 (without_leading_sign bytes) → is_integer bytes ≡ true
+pub is_integer-numeral : (bytes : List ℕ) → IsNumeral 10 (without_leading_sign bytes) → is_integer bytes ≡ true
 is_integer-numeral bytes h =
     let ds = without_leading_sign bytes in
     and_from (nat_lt 0 (length ds)) (all_ascii_digits ds) (lt-ltb 0 (length ds) h.0) (digits_model.from ds h.1)

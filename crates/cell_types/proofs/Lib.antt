@@ -1,6 +1,8 @@
 pub mod Lists
+pub mod WordLemmas
 pub mod WhiteSpaceLemmas
 pub mod IntegerLemmas
+pub mod ShortIntegers
 pub mod DateLemmas
 pub mod DecimalLemmas
 pub mod DecimalTexts

@@ -1,12 +1,14 @@
 //! The value of a cell's text.
-ghost use Rattle.std.specs.Prelude.{◌≡◌, ◌⊎◌, ◌≢◌, ◌<◌, Ok, Err, IfOk, IfErr, IsErrOf, length, string_bytes};
+ghost use Rattle.std.specs.Prelude.{◌≡◌, ◌⊎◌, ◌≢◌, ◌<◌, false, Ok, Err, IfOk, IfErr, IfSome, IsErrOf, MatchOption, SomeIff, length, string_bytes};
 ghost use Rattle.std.specs.List.{list_any};
 ghost use Rattle.std.specs.Str.{bytes_eq};
+ghost use Rattle.std.specs.Str.Parse.{signed_digits_value};
 ghost use Rattle.std.specs.Cow.{cow_str_bytes};
 ghost use Rattle.cell_types.specs.Datatype as datatype;
 ghost use Rattle.cell_types.specs.Datatype.{datatype_view};
 ghost use Rattle.cell_types.specs.Column.{column_view};
-ghost use Rattle.cell_types.specs.Value.{value_view, text as text_value};
+ghost use Rattle.cell_types.specs.Value.{value_view, integer as integer_value, text as text_value};
+ghost use Rattle.cell_types.specs.Integer.{IsShortInteger};
 ghost use Rattle.cell_types.specs.Cell.{NeedsMemory, cell_fault_name, content_value, is_null_text as is_null_text_of, null_reading, reading_view, text_or_default as text_or_default_of, value_of};
 
 use crate::boolean::read_boolean;
@@ -14,7 +16,7 @@ use crate::column::Column;
 use crate::datatype::Datatype;
 use crate::date::read_date;
 use crate::decimal::read_decimal;
-use crate::integer::read_integer;
+use crate::integer::{read_integer, short_integer};
 use crate::value::Value;
 use crate::white_space::{is_normal, normal_copy};
 use std::alloc::Global;
@@ -133,6 +135,48 @@ fn read_content<'a>(column: &Column, text: &str) -> Result<Value<'a>, CellFault>
         Datatype::Decimal => read_decimal(content),
         Datatype::Text => unreachable!(),
     }
+}
+
+/// A text, or the column's default in the place of an empty one, which is borrowed.
+fn string_or_default<'a>(column: &'a Column, text: CowStr<'a>) -> CowStr<'a>
+    ensures { cow_str_bytes result
+        ≡ text_or_default_of (column_view column.now) (cow_str_bytes text.entry) }
+{
+    if text.as_str().is_empty() {
+        CowStr::Borrowed(column.default.as_str())
+    } else {
+        text
+    }
+}
+
+/// The value of a text in a column of texts, and none where it stands for null. It takes no memory.
+pub fn string_of<'a>(column: &'a Column, text: CowStr<'a>) -> Option<CowStr<'a>>
+    requires { datatype_view column.now.datatype ≡ datatype.text }
+    ensures { MatchOption result (value_of (column_view column.now) (cow_str_bytes text.entry)
+        ≡ null_reading (column_view column.now)) (λ string. value_of (column_view column.now)
+        (cow_str_bytes text.entry) ≡ Ok (text_value (cow_str_bytes string))) }
+{
+    let string = string_or_default(column, text);
+    if is_null_text(column, string.as_str()) {
+        return None;
+    }
+    Some(string)
+}
+
+/// The number of a sign and at most eighteen digits in a column of integers, where they don't stand for null; none of another text. They are read in
+/// one pass.
+pub fn read_short_integer(column: &Column, text: &str) -> Option<i64>
+    requires { datatype_view column.now.datatype ≡ datatype.integer }
+    ensures number { SomeIff result (IsShortInteger text.now
+        × (is_null_text_of (column_view column.now) text.now ≡ false)) (signed_digits_value 10 text.now) }
+    ensures value { IfSome result (λ number.
+        value_of (column_view column.now) text.now ≡ Ok (integer_value number)) }
+{
+    let number = short_integer(text)?;
+    if is_null_text(column, text) {
+        return None;
+    }
+    Some(number)
 }
 
 /// The value of a text in a column (Model for Tabular Data and Metadata on the Web, section 6.4). Memory is taken only where a text

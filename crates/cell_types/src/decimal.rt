@@ -2,20 +2,13 @@
 //! whole millionths of 64 signed bits.
 ghost use Rattle.std.specs.Prelude.{◌≡◌, ◌++◌, ◌^◌, ◌<◌, ◌≤◌, SomeIff, length};
 ghost use Rattle.std.specs.List.{after_first, before_first, list_all, position_or_len};
-ghost use Rattle.std.specs.Str.Parse.{AllDigits, digits_value, digits_value_after, starts_with_minus};
+ghost use Rattle.std.specs.Str.Parse.{AllDigits, digits_value, digits_value_after};
 ghost use Rattle.cell_types.specs.Cell.{reading_view};
 ghost use Rattle.cell_types.specs.Decimal.{are_digits as are_parts_of_decimal, decimal_of, is_point, is_zero, signed, six_places, value_of_millionths};
 
 use crate::cell::CellFault;
-use crate::integer::{are_digits, without_sign};
+use crate::integer::{are_digits, is_negative, without_sign};
 use crate::value::Value;
-
-/// Whether a text begins with a minus.
-fn is_negative(text: &[u8]) -> bool
-    ensures { result ≡ starts_with_minus text.now }
-{
-    matches!(text, [b'-', ..])
-}
 
 /// How many bytes stand before the first point.
 fn whole_len(text: &[u8]) -> usize

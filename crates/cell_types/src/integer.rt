@@ -1,15 +1,20 @@
-//! Integers (Metadata Vocabulary for Tabular Data, section 5.11.2): an optional sign and one or more digits, in 64 signed bits.
-ghost use Rattle.std.specs.Prelude.{◌≡◌};
+//! Integers (Metadata Vocabulary for Tabular Data, section 5.11.2): an optional sign and one or more digits, in 64 signed bits. One of at most
+//! eighteen digits is read in one pass, in which no sum can leave 64 bits.
+ghost use Rattle.std.specs.Prelude.{◌≡◌, ◌≤◌, length, pos, SomeIff};
 ghost use Rattle.std.specs.Char.{is_ascii_digit};
 ghost use Rattle.std.specs.List.{list_all};
-ghost use Rattle.std.specs.Str.Parse.{without_leading_sign};
+ghost use Rattle.std.specs.Str.Parse.{IsNumeral, digits_value, signed_digits_value, starts_with_minus, without_leading_sign};
 ghost use Rattle.cell_types.specs.Cell.{reading_view};
-ghost use Rattle.cell_types.specs.Integer.{integer_of, is_integer as is_integer_text};
+ghost use Rattle.cell_types.specs.Integer.{integer_of, is_integer as is_integer_text, IsShortInteger};
 
 use crate::cell::CellFault;
 use crate::value::Value;
 
+/// Any number of so many digits fits 64 signed bits.
+const SHORT: usize = 18;
+
 /// A text without its sign.
+#[inline(always)]
 pub fn without_sign(text: &[u8]) -> &[u8]
     ensures { result.now ≡ without_leading_sign text.now }
 {
@@ -17,6 +22,14 @@ pub fn without_sign(text: &[u8]) -> &[u8]
         [b'+' | b'-', digits @ ..] => digits,
         _ => text,
     }
+}
+
+/// Whether a text begins with a minus.
+#[inline(always)]
+pub fn is_negative(text: &[u8]) -> bool
+    ensures { result ≡ starts_with_minus text.now }
+{
+    matches!(text, [b'-', ..])
 }
 
 /// Whether each byte is a digit.
@@ -32,6 +45,42 @@ fn is_integer(text: &str) -> bool
 {
     let digits = without_sign(text.as_bytes());
     !digits.is_empty() && are_digits(digits)
+}
+
+/// The number that a few digits write.
+#[inline(always)]
+fn short_value(digits: &[u8]) -> Option<i64>
+    requires { length digits.now ≤ SHORT }
+    ensures { SomeIff result (IsNumeral 10 digits.now) (pos (digits_value 10 digits.now)) }
+{
+    if digits.is_empty() {
+        return None;
+    }
+    let mut value = 0u64;
+    for byte in digits {
+        let digit = byte.wrapping_sub(b'0');
+        if digit > 9 {
+            return None;
+        }
+        value = value * 10 + u64::from(digit);
+    }
+    Some(value as i64)
+}
+
+/// The number that a sign and a few digits write; none of another text.
+#[inline(always)]
+pub fn short_integer(text: &str) -> Option<i64>
+    ensures { SomeIff result (IsShortInteger text.now) (signed_digits_value 10 text.now) }
+{
+    let bytes = text.as_bytes();
+    let digits = without_sign(bytes);
+    if digits.len() > SHORT {
+        return None;
+    }
+    match short_value(digits) {
+        Some(value) => Some(if is_negative(bytes) { -value } else { value }),
+        None => None,
+    }
 }
 
 /// The number that a text writes.

@@ -59,5 +59,6 @@ pub fn values_compare_as_their_views()
     ensures order { (v w : Value)
         → ⟦<CellValue<'static> as Ord>⟧.cmp v w ≡ value_cmp (value_view v) (value_view w) }
     ensures hash { (v w : Value) → value_view v ≡ value_view w
-        → ⟦<CellValue<'static> as Hash>⟧.hash_input v ≡ ⟦<CellValue<'static> as Hash>⟧.hash_input w }
+        → ⟦<CellValue<'static> as Hash>⟧.hash_input v
+        ≡ ⟦<CellValue<'static> as Hash>⟧.hash_input w }
 {}

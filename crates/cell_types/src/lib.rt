@@ -13,7 +13,7 @@ mod laws;
 mod value;
 mod white_space;
 
-pub use cell::{CellFault, read_cell, read_text};
+pub use cell::{CellFault, read_cell, read_short_integer, read_text, string_of};
 pub use column::Column;
 pub use datatype::{BooleanForm, Datatype, DateForm};
 pub use laws::{

@@ -11,6 +11,7 @@ pub mod WidthLemmas
 pub mod EndLemmas
 pub mod Trees
 pub mod TreeCounts
+pub mod NextBlocks
 pub mod ReadingLemmas
 pub mod StructureLemmas
 pub mod Tables

@@ -6,6 +6,7 @@ use Rattle.csv_grammar.specs.Following.{TextCarry, carry_of}
 use Rattle.csv_index.specs.Blocks.{block_places, AreRanked}
 use Rattle.csv_index.specs.Widths.{uncounted, roles_counted}
 use Rattle.csv_index.specs.declared.blocks.Block.{Block}
+use Rattle.csv_index.specs.declared.reading.Reading.{Reading}
 use Rattle.csv_index.specs.declared.widths.Widths.{Widths}
 
 -- the structural places of bytes of these roles, the first of which stands at that place
@@ -38,6 +39,10 @@ pub record HasRead (text : List ℕ) (n : ℕ) (carry : TextCarry) (blocks : Lis
   pub count : length blocks ≡ n
   pub ranked : AreRanked blocks
   pub state : unended ≡ open_after false roles
+
+-- and so much is known in a reading
+abbrev pub HasReadBlocks : List ℕ → ℕ → Reading → Type 0
+HasReadBlocks text n r = HasRead text n r.carry r.blocks.items r.widths r.unended
 
 -- the whole text is read, of whose last block there is at least one byte
 abbrev pub IsReading : List ℕ → TextCarry → List Block → Widths → Bool → Type 0

@@ -1,7 +1,7 @@
 //! A text, read in blocks of 64 bytes, one after another (RFC 4180, section 2).
 ghost use Rattle.std.specs.Prelude.{◌≡◌, ℕ, ◌+◌, ◌*◌, ◌^◌, ◌<◌, ◌≤◌, min, List, [], length, drop, IfOk, IfErr};
 ghost use Rattle.std.specs.Vec.{vec_len, vec_capacity};
-ghost use Rattle.csv_index.specs.Reading.{HasRead, IsReading, HasFaultFrom};
+ghost use Rattle.csv_index.specs.Reading.{HasReadBlocks, IsReading, HasFaultFrom};
 
 use crate::blocks::Block;
 use crate::widths::Widths;
@@ -58,10 +58,9 @@ impl Reading {
         requires places { self.widths.places < 2 ^ 63 }
         requires records { self.widths.records < 2 ^ 63 }
         ensures read { (text : List ℕ) (n : ℕ) → rest.now ≡ drop (64 * n) text
-            → HasRead text n self.carry self.blocks.items self.widths self.unended
-            → IfOk result (λ r. HasRead text (n + 1) r.carry r.blocks.items r.widths r.unended) }
+            → HasReadBlocks text n self → IfOk result (HasReadBlocks text (n + 1)) }
         ensures fault { (text : List ℕ) (n : ℕ) → rest.now ≡ drop (64 * n) text
-            → HasRead text n self.carry self.blocks.items self.widths self.unended
+            → HasReadBlocks text n self
             → IfErr result (λ left. HasFaultFrom text left) }
         ensures room { IfOk result (λ r. (vec_len r.blocks ≡ vec_len self.blocks + 1)
             × (vec_capacity r.blocks ≡ vec_capacity self.blocks)) }

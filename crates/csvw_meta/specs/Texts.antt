@@ -20,11 +20,6 @@ is_texts d = list_all is_text (parts d)
 abbrev pub texts_in : Data → List (List ℕ)
 texts_in d = filter_map as_str (parts d)
 
--- the texts of such a value, none where there is no value
-abbrev pub texts_of : Option Data → List (List ℕ)
-texts_of None = []
-texts_of (Some d) = texts_in d
-
 -- the values of an object
 abbrev pub member_values : Members → List Data
 member_values no_members = []

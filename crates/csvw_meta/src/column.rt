@@ -80,7 +80,8 @@ pub(crate) fn make_column(
     column: &Value,
 ) -> Result<Column, AllocError>
     ensures { IfOk result (λ made.
-        column_view made ≡ column_of (view schema.now ∷ view table.now ∷ view group.now ∷ []) (view column.now)) }
+        column_view made ≡ column_of (view schema.now ∷ view table.now ∷ view group.now ∷ [])
+        (view column.now)) }
 {
     let levels = [column, schema, table, group];
     Ok(Column {

@@ -178,7 +178,8 @@ fn make_boolean(alloc: Global, format: &str) -> Result<Option<Datatype>, AllocEr
 /// A datatype with a format, where it has that format.
 fn make_with(alloc: Global, base: Datatype, format: &Value) -> Result<Option<Datatype>, AllocError>
     ensures { IfOk result (λ made.
-        option_map datatype_view made ≡ datatype_with (datatype_view base) (Some (view format.now))) }
+        option_map datatype_view made
+        ≡ datatype_with (datatype_view base) (Some (view format.now))) }
 {
     match base {
         Datatype::Boolean(_) => match format.as_str() {

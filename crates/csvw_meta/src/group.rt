@@ -29,7 +29,8 @@ fn check_tables<'v>(
     tables: &'v [Value],
 ) -> Result<(), Refusal<'v>>
     ensures { condition_of result
-        ≡ first_cause (each_conditions (table_conditions (limits_view limits.now) (view group.now)) [] (map view tables.now)) }
+        ≡ first_cause (each_conditions (table_conditions (limits_view limits.now) (view group.now))
+        [] (map view tables.now)) }
 {
     for (i, table) in tables.iter().enumerate() {
         check_table(limits, group, &tables[..i], table)?;

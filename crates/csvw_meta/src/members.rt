@@ -57,7 +57,8 @@ pub(crate) fn check_count<'k>(
     values: &[Value],
 ) -> Result<(), Refusal<'k>>
     ensures { condition_of result
-        ≡ first_cause (count_conditions limit (refusal_cause none.entry) (refusal_cause many.entry) (map view values.now)) }
+        ≡ first_cause (count_conditions limit (refusal_cause none.entry) (refusal_cause many.entry)
+        (map view values.now)) }
 {
     ensure(!values.is_empty(), none)?;
     ensure(values.len() <= limit as usize, many)

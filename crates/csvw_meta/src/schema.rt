@@ -95,7 +95,8 @@ pub(crate) fn check_schema<'v>(
     schema: Option<&'v Value>,
 ) -> Result<(), Refusal<'v>>
     ensures { condition_of result
-        ≡ first_cause (schema_conditions (limits_view limits.now) (option_map (λ v. view v.now) schema.entry)) }
+        ≡ first_cause (schema_conditions (limits_view limits.now)
+        (option_map (λ v. view v.now) schema.entry)) }
 {
     match schema {
         Some(Value::String(_)) => Err(Refusal::Unsupported("tableSchema")),
@@ -112,7 +113,9 @@ pub(crate) fn make_columns(
     group: &Value,
 ) -> Result<Vec<Column>, AllocError>
     ensures { IfOk result (λ made.
-        map column_view made.items ≡ map (column_of (view schema.now ∷ view table.now ∷ view group.now ∷ [])) (columns_of (view schema.now))) }
+        map column_view made.items
+        ≡ map (column_of (view schema.now ∷ view table.now ∷ view group.now ∷ []))
+        (columns_of (view schema.now))) }
 {
     let columns = columns_in(schema);
     let mut made = Vec::with_capacity(alloc, columns.len())?;

@@ -56,7 +56,8 @@ fn check_object<'v>(
     table: &'v Value,
 ) -> Result<(), Refusal<'v>>
     ensures { condition_of result
-        ≡ first_cause (object_table_conditions (limits_view limits.now) (view group.now) (map view earlier.now) (view table.now)) }
+        ≡ first_cause (object_table_conditions (limits_view limits.now) (view group.now)
+        (map view earlier.now) (view table.now)) }
 {
     ensure(is_table_url(url_of(table)), Refusal::BadUrl)?;
     ensure(!has_url(earlier, url_of(table)), Refusal::DuplicateUrl)?;
@@ -73,7 +74,8 @@ pub(crate) fn check_table<'v>(
     table: &'v Value,
 ) -> Result<(), Refusal<'v>>
     ensures { condition_of result
-        ≡ first_cause (table_conditions (limits_view limits.now) (view group.now) (map view earlier.now) (view table.now)) }
+        ≡ first_cause (table_conditions (limits_view limits.now) (view group.now)
+        (map view earlier.now) (view table.now)) }
 {
     if table.is_object() {
         check_object(limits, group, earlier, table)

@@ -4,13 +4,15 @@ use Rattle.std.specs.Prelude.{slice_get, nat_lt, IfSome, option_and_then}
 use Rattle.std.proofs.Math.Nat.{max_comm}
 use Rattle.std.proofs.lemmas.Bool.{ltb-true}
 use Rattle.std.proofs.lemmas.Option.{get_or_from_slice_get}
+use Rattle.block_summary.specs.Ranges.{RangeOf}
 use Rattle.cell_types.specs.Value.{CellValue}
 use Rattle.csvw_meta.specs.Schema.{SchemaOf}
 use Rattle.table_store.specs.Block.{block_count}
+use Rattle.table_store.specs.Summaries.{AreSummariesOf}
 use Rattle.table_store.specs.Table.{TableOf}
 use Rattle.odata_parse.specs.declared.format.Format.{Format}
 use Rattle.odata_types.specs.Columns.{InputOf}
-use Rattle.odata_types.specs.Query.{TypedOf}
+use Rattle.odata_query.specs.Query.{TypedOf}
 use Rattle.odata_types.specs.TypedTree.{TruthExprOf}
 use Rattle.row_eval.specs.Bounds.{TruthFits}
 use Rattle.row_eval.specs.Input.{IsRowOf}
@@ -58,11 +60,14 @@ block_inside table handed number e =
 
 pub asks_for_rows : (query : TypedOf) → query ≡ filtered_rows query.filter → AsksForRows query
 asks_for_rows query e = record {
+  no_key = ap (λ (q : TypedOf). q.key) e;
   rows = ap (λ (q : TypedOf). q.counting) e;
+  unapplied = ap (λ (q : TypedOf). q.apply) e;
   uncounted = ap (λ (q : TypedOf). q.count) e;
   unordered = ap (λ (q : TypedOf). q.order) e;
   first = ap (λ (q : TypedOf). q.skip) e;
   last = ap (λ (q : TypedOf). q.top) e;
+  whole = ap (λ (q : TypedOf). q.select) e;
 }
 
 fit_filter : (inputs : List InputOf) (filter : Option TruthExprOf) → ((row : List CellValue) → IsRowOf inputs row → IfSome filter (λ e. TruthFits e row)) → IsFitFilter inputs filter
@@ -103,15 +108,15 @@ may_be_handed tables seen reading found block may same at given =
 
 -- ---- a run that begins
 
-pub starts : (tables seen : List TableOf) (asked : RowsRequestOf) (number : ℕ) (found table : TableOf) (schema : SchemaOf) (reading : Reading) (plan : PlanOf) (blocks : ℕ)
-    → slice_get tables number ≡ Some table → number ≡ asked.table → seen ≡ tables → found ≡ get_or seen number found → schema ≡ found.schema → blocks ≡ block_count (length found.rows)
-    → plan ≡ naive_plan asked.query → reading.table ≡ number → reading.format ≡ asked.format → reading.left ≡ max blocks 1
-    → ((t : TableOf) → t.schema ≡ schema → block_count (length t.rows) ≡ blocks → StandsFor reading.run plan t 0) → StartsReading tables asked reading
-starts tables seen asked number found table schema reading plan blocks is number_is same at of count planned table_of format left stands =
+pub starts : (tables seen : List TableOf) (asked : RowsRequestOf) (number : ℕ) (found table : TableOf) (schema : SchemaOf) (reading : Reading) (plan : PlanOf) (summaries : List (List RangeOf))
+    → slice_get tables number ≡ Some table → number ≡ asked.table → seen ≡ tables → found ≡ get_or seen number found → schema ≡ found.schema → AreSummariesOf found summaries
+    → plan ≡ naive_plan asked.query → reading.table ≡ number → reading.format ≡ asked.format → reading.left ≡ max (length summaries) 1
+    → ((t : TableOf) → t.schema ≡ schema → AreSummariesOf t summaries → StandsFor reading.run plan t 0) → StartsReading tables asked reading
+starts tables seen asked number found table schema reading plan summaries is number_is same at of those planned table_of format left stands =
     let here = table_is tables seen number found table same at is in
     let asked_is = subst (λ (n : ℕ). slice_get tables n ≡ Some table) number_is is in
-    let rows : blocks ≡ block_count (length table.rows) = count ∙ ap (λ (t : TableOf). block_count (length t.rows)) here in
-    let all : reading.left ≡ run_length table = left ∙ max_turned blocks ∙ ap (max 1) rows in (
+    let known : AreSummariesOf table summaries = subst (λ (t : TableOf). AreSummariesOf t summaries) here those in
+    let all : reading.left ≡ run_length table = left ∙ max_turned (length summaries) ∙ ap (max 1) known.count in (
       run_length table,
       record { table = table; table_is = asked_is; calls_are = refl },
       record {
@@ -120,7 +125,7 @@ starts tables seen asked number found table schema reading plan blocks is number
         number_is = table_of ∙ number_is;
         format_is = format;
         handed = 0;
-        stands = subst (λ (p : PlanOf). StandsFor reading.run p table 0) planned (stands table (ap (λ (t : TableOf). t.schema) (sym here) ∙ sym of) (sym rows));
+        stands = subst (λ (p : PlanOf). StandsFor reading.run p table 0) planned (stands table (ap (λ (t : TableOf). t.schema) (sym here) ∙ sym of) known);
         left_are = omega arith;
         counted = all;
       },

@@ -1,7 +1,7 @@
 //! The run of a query on its table, block by block.
 ghost use Rattle.std.specs.Prelude.{◌≡◌, ℕ, IfOk};
 ghost use Rattle.http.specs.StatusCode.{IsStatusCode};
-ghost use Rattle.odata_types.specs.Query.{query_typed_view};
+ghost use Rattle.odata_query.specs.Query.{query_typed_view};
 ghost use Rattle.query_plan.specs.Plan.{PlanOf};
 ghost use Rattle.query_exec.specs.Run.{StandsFor, handed_block};
 ghost use Rattle.odata_request.specs.Request.{IsRowsInside, RowsRequestOf, rows_view};
@@ -61,13 +61,13 @@ impl Reading {
         ensures { IfOk result (StartsReading catalog.now.tables (rows_view asked)) }
     {
         let table = &catalog.tables()[asked.table];
-        let blocks = table.blocks();
+        let summaries = table.summary();
         let plan = naive(alloc, asked.query)?;
-        match Run::start(alloc, table.schema(), blocks, plan) {
+        match Run::start(alloc, table.schema(), summaries, plan) {
             Ok(run) => Ok(Reading {
                 table: asked.table,
                 format: asked.format,
-                left: blocks.max(1),
+                left: summaries.len().max(1),
                 run,
             }),
             Err(_) => Err(AllocError),
@@ -77,7 +77,8 @@ impl Reading {
     /// Reads the next block, where one is needed.
     pub(crate) fn read_on(self, alloc: Global, catalog: &Catalog) -> Result<Reached, AllocError>
         requires { MayRead catalog.now.tables self }
-        ensures reads { (asked : RowsRequestOf) (left : ℕ) → IsReading catalog.now.tables asked left self
+        ensures reads { (asked : RowsRequestOf) (left : ℕ)
+            → IsReading catalog.now.tables asked left self
             → IfOk result (ReadsOn catalog.now.tables asked left) }
         ensures known { IfOk result IsKnown }
     {

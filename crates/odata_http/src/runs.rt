@@ -50,7 +50,8 @@ pub fn run<R: Source, W: Sink>(
 ) -> Result<(), RunFault>
     requires { CountsFit (R.source input.old) (W.sink out.old) }
     ensures { IsRun (IsReply catalog.now.tables) limit
-        (course (R.source input.old) (R.source input.new) (W.sink out.old) (W.sink out.new)) result }
+        (course (R.source input.old) (R.source input.new) (W.sink out.old) (W.sink out.new))
+        result }
 {
     one_cut();
     cuts_join();

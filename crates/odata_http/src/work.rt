@@ -64,7 +64,8 @@ impl Work {
         closes: bool,
     ) -> Result<Work, AllocError>
         requires { MayWork catalog.now.tables self }
-        ensures works { (request : RequestOf) (left : ℕ) → IsWork catalog.now.tables request left self
+        ensures works { (request : RequestOf) (left : ℕ)
+            → IsWork catalog.now.tables request left self
             → IfOk result (WorksOn catalog.now.tables method.now closes request left) }
         ensures replied { (reply : List ℕ) → IsReplied self reply
             → IsOkAnd result (λ work. IsReplied work reply) }

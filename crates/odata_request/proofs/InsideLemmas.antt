@@ -14,7 +14,7 @@ use Rattle.odata_parse.specs.Expression.{IsFilter}
 use Rattle.odata_parse.specs.Tree.{ExprOf}
 use Rattle.odata_types.specs.declared.fault.TypeFault.{TypeFault}
 use Rattle.odata_types.specs.Columns.{InputOf}
-use Rattle.odata_types.specs.Query.{TypedOf, optional_typing, query_typing}
+use Rattle.odata_query.specs.Query.{TypedOf, optional_typing, query_typing}
 use Rattle.odata_types.specs.Result.{◌>>=◌}
 use Rattle.odata_types.specs.Schema.{inputs_of}
 use Rattle.odata_types.specs.TypedTree.{TruthExprOf}
@@ -93,15 +93,15 @@ chosen_alone : (r : Result (Option TruthExprOf) TypeFault) (query : TypedOf) →
 chosen_alone (Ok filter) query e = alone_as filter query e
 chosen_alone (Err fault) query e = absurd (cc e)
 
-read_alone : (inputs : List InputOf) (tree : Option ExprOf) (query : TypedOf) → query_typing inputs (query_by tree) ≡ Ok query → query ≡ filtered_rows query.filter
-read_alone inputs tree query e = chosen_alone (optional_typing inputs tree) query e
+read_alone : (schema : SchemaOf) (tree : Option ExprOf) (query : TypedOf) → query_typing schema (query_by tree) ≡ Ok query → query ≡ filtered_rows query.filter
+read_alone schema tree query e = chosen_alone (optional_typing (inputs_of schema) tree) query e
 
-query_alone : (inputs : List InputOf) (filter : Option (List ℕ)) (query : TypedOf) → AsksQuery inputs filter (Ok query) → query ≡ filtered_rows query.filter
-query_alone inputs filter query (unread code h e) = absurd (no_tree_here query code e)
-query_alone inputs filter query (read tree h e) = read_alone inputs tree query (typed_as (query_typing inputs (query_by tree)) query e)
+query_alone : (schema : SchemaOf) (filter : Option (List ℕ)) (query : TypedOf) → AsksQuery schema filter (Ok query) → query ≡ filtered_rows query.filter
+query_alone schema filter query (unread code h e) = absurd (no_tree_here query code e)
+query_alone schema filter query (read tree h e) = read_alone schema tree query (typed_as (query_typing schema (query_by tree)) query e)
 
 read_fits : BoundsHold → FiltersAreQueried → TablesAreInputs → (schema : SchemaOf) (filter : Option (List ℕ)) (tree : Option ExprOf) (query : TypedOf)
-    → IfSome filter IsShort → ReadsFilter filter (Ok tree) → query_typing (inputs_of schema) (query_by tree) ≡ Ok query → FitsInput (inputs_of schema) query
+    → IfSome filter IsShort → ReadsFilter filter (Ok tree) → query_typing schema (query_by tree) ≡ Ok query → FitsInput (inputs_of schema) query
 read_fits bounds law inputs schema None None query short h e = no_filter_fits (inputs_of schema) query e
 read_fits bounds law inputs schema None (Some tree) query short h e = let bad : ◌≡◌ {A = Result (Option ExprOf) Code} (Ok (Some tree)) (Ok None) = h in absurd (cc bad)
 read_fits bounds law inputs schema (Some text) None query short h e = absurd h
@@ -109,18 +109,18 @@ read_fits bounds law inputs schema (Some text) (Some tree) query short h e =
     filter_fits bounds schema inputs tree (text_queried law text tree short h) (filter_typing (inputs_of schema) tree) refl query e
 
 query_fits : BoundsHold → FiltersAreQueried → TablesAreInputs → (schema : SchemaOf) (filter : Option (List ℕ)) (query : TypedOf)
-    → IfSome filter IsShort → AsksQuery (inputs_of schema) filter (Ok query) → FitsInput (inputs_of schema) query
+    → IfSome filter IsShort → AsksQuery schema filter (Ok query) → FitsInput (inputs_of schema) query
 query_fits bounds law inputs schema filter query short (unread code h e) = absurd (no_tree_here query code e)
 query_fits bounds law inputs schema filter query short (read tree h e) =
-    read_fits bounds law inputs schema filter tree query short h (typed_as (query_typing (inputs_of schema) (query_by tree)) query e)
+    read_fits bounds law inputs schema filter tree query short h (typed_as (query_typing schema (query_by tree)) query e)
 
 -- ---- a request is inside
 
 result_inside : BoundsHold → FiltersAreQueried → TablesAreInputs → (tables : List TableOf) (number : ℕ) (filter : Option (List ℕ)) (format : Format) (table : TableOf)
-    → slice_get tables number ≡ Some table → (r : Result TypedOf Code) → IfSome filter IsShort → AsksQuery (inputs_of table.schema) filter r
+    → slice_get tables number ≡ Some table → (r : Result TypedOf Code) → IfSome filter IsShort → AsksQuery table.schema filter r
     → IsInside tables (rows_request number format r)
 result_inside bounds law inputs tables number filter format table at (Ok query) short asks =
-    record { table = table; table_is = at; rows_alone = query_alone (inputs_of table.schema) filter query asks; fits = query_fits bounds law inputs table.schema filter query short asks }
+    record { table = table; table_is = at; rows_alone = query_alone table.schema filter query asks; fits = query_fits bounds law inputs table.schema filter query short asks }
 result_inside bounds law inputs tables number filter format table at (Err code) short asks = tt
 
 rows_inside : BoundsHold → FiltersAreQueried → TablesAreInputs → (tables : List TableOf) (number : ℕ) (filter : Option (List ℕ)) (format : Format) (q : RequestOf)

@@ -13,7 +13,8 @@ use Rattle.odata_parse.specs.Tree.{ExprOf, expr_view}
 use Rattle.odata_types.specs.declared.fault.TypeFault.{TypeFault}
 use Rattle.odata_types.specs.declared.fault.TypeFault.TheVariants as type
 use Rattle.odata_types.specs.Columns.{InputOf}
-use Rattle.odata_types.specs.Query.{QueryOf, TypedOf, query_typed_view, query_typing}
+use Rattle.csvw_meta.specs.Schema.{SchemaOf}
+use Rattle.odata_query.specs.Query.{QueryOf, TypedOf, query_typed_view, query_typing}
 use Rattle.odata_types.specs.Result.{IsCause}
 use Rattle.reply_text.specs.declared.code.Code.{Code}
 use Rattle.odata_request.specs.declared.fault.RequestFault.{RequestFault}
@@ -53,28 +54,28 @@ passed_on view R (Ok tree) made h g = absurd h
 passed_on view R (Err fault) made h g = subst (λ (f : RequestFault). Gives view R (Err f)) (sym h) g
 
 -- a filter that does not read is no query
-pub unread_query : {T : Type 0} (view : T → Option ExprOf) (inputs : List InputOf) (filter : Option (List ℕ)) (fault : RequestFault) → Gives view (ReadsFilter filter) (Err fault)
-    → Gives query_typed_view (AsksQuery inputs filter) (Err fault)
-unread_query view inputs filter (Refused code) h = unread code h refl
-unread_query view inputs filter NoMemory h = tt
+pub unread_query : {T : Type 0} (view : T → Option ExprOf) (schema : SchemaOf) (filter : Option (List ℕ)) (fault : RequestFault) → Gives view (ReadsFilter filter) (Err fault)
+    → Gives query_typed_view (AsksQuery schema filter) (Err fault)
+unread_query view schema filter (Refused code) h = unread code h refl
+unread_query view schema filter NoMemory h = tt
 
-unfit_as : (inputs : List InputOf) (filter : Option (List ℕ)) (tree : Option ExprOf) (fault : TypeFault) (code : Code) → ReadsFilter filter (Ok tree)
-    → query_typing inputs (query_by tree) ≡ Err fault → IsTyped (Err fault) (Err code) → AsksQuery inputs filter (Err code)
-unfit_as inputs filter tree fault code h e t = read tree h (subst (λ (w : Result TypedOf TypeFault). IsTyped w (Err code)) (sym e) t)
+unfit_as : (schema : SchemaOf) (filter : Option (List ℕ)) (tree : Option ExprOf) (fault : TypeFault) (code : Code) → ReadsFilter filter (Ok tree)
+    → query_typing schema (query_by tree) ≡ Err fault → IsTyped (Err fault) (Err code) → AsksQuery schema filter (Err code)
+unfit_as schema filter tree fault code h e t = read tree h (subst (λ (w : Result TypedOf TypeFault). IsTyped w (Err code)) (sym e) t)
 
 -- a filter that does not fit is no query
-pub unfit_query : (inputs : List InputOf) (filter : Option (List ℕ)) (tree : Option ExprOf) (query : QueryOf) (fault : TypeFault) → ReadsFilter filter (Ok tree)
-    → query ≡ query_by tree → IsCause fault (query_typing inputs query) → Gives query_typed_view (AsksQuery inputs filter) (Err (fault_of (type_code fault)))
-unfit_query inputs filter tree query type.UnknownName h q e = unfit_as inputs filter tree type.UnknownName _ h (rw q at e) refl
-unfit_query inputs filter tree query type.Mismatch h q e = unfit_as inputs filter tree type.Mismatch _ h (rw q at e) refl
-unfit_query inputs filter tree query type.TooLarge h q e = unfit_as inputs filter tree type.TooLarge _ h (rw q at e) refl
-unfit_query inputs filter tree query type.AliasTaken h q e = tt
-unfit_query inputs filter tree query type.BadKey h q e = tt
-unfit_query inputs filter tree query type.NoMemory h q e = tt
+pub unfit_query : (schema : SchemaOf) (filter : Option (List ℕ)) (tree : Option ExprOf) (query : QueryOf) (fault : TypeFault) → ReadsFilter filter (Ok tree)
+    → query ≡ query_by tree → IsCause fault (query_typing schema query) → Gives query_typed_view (AsksQuery schema filter) (Err (fault_of (type_code fault)))
+unfit_query schema filter tree query type.UnknownName h q e = unfit_as schema filter tree type.UnknownName _ h (rw q at e) refl
+unfit_query schema filter tree query type.Mismatch h q e = unfit_as schema filter tree type.Mismatch _ h (rw q at e) refl
+unfit_query schema filter tree query type.TooLarge h q e = unfit_as schema filter tree type.TooLarge _ h (rw q at e) refl
+unfit_query schema filter tree query type.AliasTaken h q e = tt
+unfit_query schema filter tree query type.BadKey h q e = tt
+unfit_query schema filter tree query type.NoMemory h q e = tt
 
 -- a filter that fits is a query
-pub fit_query : (inputs : List InputOf) (filter : Option (List ℕ)) (tree : Option ExprOf) (query : QueryOf) (typed : TypedOf) → ReadsFilter filter (Ok tree)
-    → query ≡ query_by tree → query_typing inputs query ≡ Ok typed → AsksQuery inputs filter (Ok typed)
-fit_query inputs filter tree query typed h q e =
-    let made : query_typing inputs (query_by tree) ≡ Ok typed = rw q at e in
+pub fit_query : (schema : SchemaOf) (filter : Option (List ℕ)) (tree : Option ExprOf) (query : QueryOf) (typed : TypedOf) → ReadsFilter filter (Ok tree)
+    → query ≡ query_by tree → query_typing schema query ≡ Ok typed → AsksQuery schema filter (Ok typed)
+fit_query schema filter tree query typed h q e =
+    let made : query_typing schema (query_by tree) ≡ Ok typed = rw q at e in
     read tree h (subst (λ (w : Result TypedOf TypeFault). IsTyped w (Ok typed)) (sym made) refl)

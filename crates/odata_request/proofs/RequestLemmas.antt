@@ -8,7 +8,6 @@ use Rattle.odata_parse.specs.declared.format.Format.{Format}
 use Rattle.odata_parse.specs.declared.format.Format.TheVariants.{Json, Csv}
 use Rattle.odata_parse.specs.Laws.{HasOneTree}
 use Rattle.odata_parse.specs.Expression.{IsFilter}
-use Rattle.odata_types.specs.Schema.{inputs_of}
 use Rattle.reply_text.specs.declared.code.Code.{Code}
 use Rattle.http_heads.specs.declared.checks.HeadFault.{HeadFault}
 use Rattle.odata_request.specs.declared.resource.Resource.{Resource}
@@ -23,7 +22,7 @@ rows_one : HasOneTree IsFilter → OneListOfTokens → TokensOrFault → (tables
     → AsksRows tables number filter format q → AsksRows tables number filter format p → q ≡ p
 rows_one one lists faults tables number filter format q p h k =
     let table : h.table ≡ k.table = ap some_table (sym h.table_is ∙ k.table_is) in
-    let query = query_one one lists faults (inputs_of k.table.schema) filter h.query k.query (rw table at h.asks) k.asks in
+    let query = query_one one lists faults k.table.schema filter h.query k.query (rw table at h.asks) k.asks in
     h.request_is ∙ ap (rows_request number format) query ∙ sym k.request_is
   where
     some_table : Option TableOf → TableOf

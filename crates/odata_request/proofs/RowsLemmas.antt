@@ -5,8 +5,7 @@ use Rattle.std.proofs.lemmas.Option.{slice_get-get_or}
 use Rattle.csvw_meta.specs.Schema.{SchemaOf}
 use Rattle.table_store.specs.Table.{TableOf}
 use Rattle.odata_parse.specs.declared.format.Format.{Format}
-use Rattle.odata_types.specs.Query.{TypedOf, query_typed_view}
-use Rattle.odata_types.specs.Schema.{inputs_of}
+use Rattle.odata_query.specs.Query.{TypedOf, query_typed_view}
 use Rattle.reply_text.specs.declared.code.Code.{Code}
 use Rattle.odata_request.specs.declared.fault.RequestFault.{RequestFault}
 use Rattle.odata_request.specs.declared.fault.RequestFault.TheVariants.{Refused, NoMemory}
@@ -30,13 +29,13 @@ table_at tables seen number table same less at =
 
 -- a query on the columns of a table is one on its rows
 pub asks_rows : (tables : List TableOf) (number : ℕ) (filter : Option (List ℕ)) (format : Format) (table : TableOf) (schema : SchemaOf)
-    → slice_get tables number ≡ Some table → schema ≡ table.schema → (query : Result TypedOf Code) → AsksQuery (inputs_of schema) filter query
+    → slice_get tables number ≡ Some table → schema ≡ table.schema → (query : Result TypedOf Code) → AsksQuery schema filter query
     → AsksRows tables number filter format (rows_request number format query)
 asks_rows tables number filter format table schema at of query asks =
-    record { table = table; table_is = at; query = query; asks = subst (λ (s : SchemaOf). AsksQuery (inputs_of s) filter query) of asks; request_is = refl }
+    record { table = table; table_is = at; query = query; asks = subst (λ (s : SchemaOf). AsksQuery s filter query) of asks; request_is = refl }
 
 pub refused_rows : (tables : List TableOf) (number : ℕ) (filter : Option (List ℕ)) (format : Format) (table : TableOf) (schema : SchemaOf)
-    → slice_get tables number ≡ Some table → schema ≡ table.schema → (fault : RequestFault) → Gives query_typed_view (AsksQuery (inputs_of schema) filter) (Err fault)
+    → slice_get tables number ≡ Some table → schema ≡ table.schema → (fault : RequestFault) → Gives query_typed_view (AsksQuery schema filter) (Err fault)
     → Makes (AsksRows tables number filter format) (Err fault)
 refused_rows tables number filter format table schema at of (Refused code) h = asks_rows tables number filter format table schema at of (Err code) h
 refused_rows tables number filter format table schema at of NoMemory h = tt

@@ -9,7 +9,8 @@ use Rattle.odata_parse.specs.Expression.{IsFilter}
 use Rattle.odata_parse.specs.Tree.{ExprOf}
 use Rattle.odata_types.specs.declared.fault.TypeFault.{TypeFault}
 use Rattle.odata_types.specs.Columns.{InputOf}
-use Rattle.odata_types.specs.Query.{TypedOf, query_typing}
+use Rattle.csvw_meta.specs.Schema.{SchemaOf}
+use Rattle.odata_query.specs.Query.{TypedOf, query_typing}
 use Rattle.reply_text.specs.declared.code.Code.{Code}
 use Rattle.reply_text.specs.declared.code.Code.TheVariants.{BadToken}
 use Rattle.odata_request.specs.Fault.{type_code}
@@ -83,14 +84,14 @@ tree_in (Err code) = None
 no_code : {X : Type 0} (x : X) (code : Code) → ◌≡◌ {A = Result X Code} (Ok x) (Err code) → ⊥
 no_code x code e = cc e
 
-pub query_one : HasOneTree IsFilter → OneListOfTokens → TokensOrFault → (inputs : List InputOf) (filter : Option (List ℕ)) (r s : Result TypedOf Code)
-    → AsksQuery inputs filter r → AsksQuery inputs filter s → r ≡ s
-query_one one lists faults inputs filter r s (unread c h e) (unread d k f) =
+pub query_one : HasOneTree IsFilter → OneListOfTokens → TokensOrFault → (schema : SchemaOf) (filter : Option (List ℕ)) (r s : Result TypedOf Code)
+    → AsksQuery schema filter r → AsksQuery schema filter s → r ≡ s
+query_one one lists faults schema filter r s (unread c h e) (unread d k f) =
     e ∙ ap (λ x. Err (code_in x)) (filter_one one lists faults filter (Err c) (Err d) h k) ∙ sym f
-query_one one lists faults inputs filter r s (unread c h e) (read t k f) =
+query_one one lists faults schema filter r s (unread c h e) (read t k f) =
     absurd (no_code t c (filter_one one lists faults filter (Ok t) (Err c) k h))
-query_one one lists faults inputs filter r s (read t h e) (unread d k f) =
+query_one one lists faults schema filter r s (read t h e) (unread d k f) =
     absurd (no_code t d (filter_one one lists faults filter (Ok t) (Err d) h k))
-query_one one lists faults inputs filter r s (read t h e) (read u k f) =
+query_one one lists faults schema filter r s (read t h e) (read u k f) =
     let same = ap tree_in (filter_one one lists faults filter (Ok t) (Ok u) h k) in
-    typed_one (query_typing inputs (query_by u)) r s (subst (λ (x : Option ExprOf). IsTyped (query_typing inputs (query_by x)) r) same e) f
+    typed_one (query_typing schema (query_by u)) r s (subst (λ (x : Option ExprOf). IsTyped (query_typing schema (query_by x)) r) same e) f

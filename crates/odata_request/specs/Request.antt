@@ -7,7 +7,7 @@ use Rattle.odata_url.specs.Target.{TargetOf, QueryOption, target_of}
 use Rattle.odata_parse.specs.declared.format.Format.{Format}
 use Rattle.odata_parse.specs.declared.format.Format.TheVariants.{Json}
 use Rattle.odata_types.specs.Columns.{InputOf}
-use Rattle.odata_types.specs.Query.{TypedOf, query_typed_view}
+use Rattle.odata_query.specs.Query.{TypedOf, query_typed_view}
 use Rattle.odata_types.specs.Schema.{inputs_of}
 use Rattle.odata_types.specs.TypedTree.{TruthExprOf}
 use Rattle.row_eval.specs.Bounds.{TruthFits}
@@ -56,7 +56,7 @@ pub record AsksRows (tables : List TableOf) (number : ℕ) (filter : Option (Lis
   pub table : TableOf
   pub table_is : slice_get tables number ≡ Some table
   pub query : Result TypedOf Code
-  pub asks : AsksQuery (inputs_of table.schema) filter query
+  pub asks : AsksQuery table.schema filter query
   pub request_is : request ≡ rows_request number format query
 
 -- what is asked of a resource in a format, where it is served in it: the service document is in JSON alone
@@ -112,7 +112,17 @@ FitsInput inputs query = (row : List CellValue) → IsRowOf inputs row → IfSom
 
 -- all rows that a filter lets through, where there is one, and nothing else
 abbrev pub filtered_rows : Option TruthExprOf → TypedOf
-filtered_rows filter = record { counting = false; filter = filter; count = false; order = []; skip = 0; top = None }
+filtered_rows filter = record {
+  key = None;
+  counting = false;
+  apply = [];
+  filter = filter;
+  count = false;
+  order = [];
+  skip = 0;
+  top = None;
+  select = None;
+}
 
 -- the table is one of these, the query asks for rows by its filter alone, and it fits the table
 pub record IsRowsInside (tables : List TableOf) (asked : RowsRequestOf) : Type 0 where

@@ -3,8 +3,7 @@ ghost use Rattle.std.specs.Prelude.{◌≡◌, option_map};
 ghost use Rattle.csvw_meta.specs.Schema.{schema_view};
 ghost use Rattle.odata_parse.specs.Expression.{IsFilter};
 ghost use Rattle.odata_parse.specs.Tree.{expr_view};
-ghost use Rattle.odata_types.specs.Query.{query_typed_view, query_view};
-ghost use Rattle.odata_types.specs.Schema.{inputs_of};
+ghost use Rattle.odata_query.specs.Query.{query_typed_view, query_view};
 ghost use Rattle.odata_request.specs.Fault.{Gives};
 ghost use Rattle.odata_request.specs.Query.{AsksQuery, query_by};
 ghost use Rattle.odata_request.specs.Reading.{ReadsFilter, ReadsText};
@@ -14,7 +13,7 @@ use csvw_meta::Schema;
 use odata_lex::lex;
 use odata_parse::parse_filter;
 use odata_parse::tree::Expr;
-use odata_types::{Query, Typed, check};
+use odata_query::{Query, Typed, check};
 use std::alloc::Global;
 
 /// The tree of a filter's text.
@@ -42,12 +41,15 @@ fn query_by(alloc: Global, filter: Option<Expr>) -> Query
     ensures { query_view result ≡ query_by (option_map expr_view filter) }
 {
     Query {
+        key: None,
         counting: false,
+        apply: Vec::new(alloc),
         filter,
         count: false,
         order: Vec::new(alloc),
         skip: 0,
         top: None,
+        select: None,
     }
 }
 
@@ -58,7 +60,7 @@ pub(crate) fn typed_query(
     filter: Option<&str>,
 ) -> Result<Typed, RequestFault>
     ensures { Gives query_typed_view
-        (AsksQuery (inputs_of (schema_view schema.now)) (option_map (λ t. t.now) filter.entry)) result }
+        (AsksQuery (schema_view schema.now) (option_map (λ t. t.now) filter.entry)) result }
 {
     let tree = read_optional_filter(alloc, filter)?;
     Ok(check(alloc, schema, query_by(alloc, tree))?)

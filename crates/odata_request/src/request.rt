@@ -10,7 +10,7 @@ use crate::query::typed_query;
 use crate::resource::{Resource, resource_of};
 use http_heads::HeadFault;
 use odata_parse::Format;
-use odata_types::Typed;
+use odata_query::Typed;
 use odata_url::{OptionName, Target};
 use reply_text::Code;
 use std::alloc::{AllocError, Global};

@@ -5,5 +5,7 @@ pub mod FolderLemmas
 pub mod LineLemmas
 pub mod Numbers
 pub mod Readings
+pub mod PlainRules
+pub mod PlainWalk
 pub mod WalkRows
 pub mod TakenWords

@@ -20,7 +20,8 @@ use Rattle.odata_serve.specs.Words.{IsNumberOf, Says, folder_and_app, folder_app
 use Rattle.odata_serve.specs.declared.words.Words.{Words}
 use Rattle.odata_serve.specs.declared.words.Words.TheVariants.{Nothing, Check, Query, Answer, Serve}
 use Rattle.odata_serve.proofs.Numbers.{number_taken}
-use Rattle.odata_serve.proofs.WalkRows.{ArePlain, HasOne, IsPlainRule, both_none, required_rows}
+use Rattle.odata_serve.proofs.PlainRules.{ArePlain, IsPlainRule, both_none}
+use Rattle.odata_serve.proofs.WalkRows.{HasOne, required_rows}
 
 -- a subcommand as the built command has it
 abbrev leaf : Shape → Shape

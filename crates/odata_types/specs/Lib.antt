@@ -5,4 +5,3 @@ pub mod Typing
 pub mod Result
 pub mod CanFault
 pub mod Schema
-pub mod Query

@@ -12,7 +12,7 @@ use crate::types::{ColumnType, InputColumn};
 use std::alloc::Global;
 
 /// The number of the first column with that name, or how many there are where none has it.
-fn place_of(columns: &[InputColumn<'_>], name: &str) -> usize
+pub fn place_of(columns: &[InputColumn<'_>], name: &str) -> usize
     ensures { result ≡ place_in (inputs_view columns.now) name.now }
 {
     for (i, column) in columns.iter().enumerate() {

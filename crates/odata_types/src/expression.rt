@@ -59,7 +59,8 @@ pub fn typed_filter(
     columns: &[InputColumn<'_>],
     filter: &Expr,
 ) -> Result<Box<TruthExpr>, TypeFault>
-    ensures { Gives boxed_truth (filter_typing (inputs_view columns.now) (expr_view filter.now)) result }
+    ensures { Gives boxed_truth (filter_typing (inputs_view columns.now) (expr_view filter.now))
+        result }
 {
     let expr = typed_expr(alloc, columns, filter)?;
     expr.into_truth(alloc)

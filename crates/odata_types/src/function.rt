@@ -47,7 +47,8 @@ fn test_expr(
     text: Box<TextExpr>,
     part: Box<TextExpr>,
 ) -> Result<TypedExpr, TypeFault>
-    ensures { Gives typed_view (Ok (truth (test_text test (boxed_text text) (boxed_text part)))) result }
+    ensures { Gives typed_view (Ok (truth (test_text test (boxed_text text) (boxed_text part))))
+        result }
 {
     let expr = TruthExpr::TestText(test, text, part);
     Ok(TypedExpr::Boolean(Box::new(alloc, expr)?))
@@ -60,7 +61,8 @@ pub(crate) fn binary_call(
     left: TypedExpr,
     right: TypedExpr,
 ) -> Result<TypedExpr, TypeFault>
-    ensures { Gives typed_view (binary_call_typing function (typed_view left) (typed_view right)) result }
+    ensures { Gives typed_view (binary_call_typing function (typed_view left) (typed_view right))
+        result }
 {
     let left = left.into_text(alloc)?;
     let right = right.into_text(alloc)?;

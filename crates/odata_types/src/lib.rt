@@ -12,21 +12,19 @@ mod list;
 mod literal;
 mod operand;
 mod operator;
-mod query;
 mod schema;
 mod tree;
-mod typed_query;
 mod types;
 
+pub use column::place_of;
 pub use division::{can_fault, truth_can_fault};
 pub use expression::{typed_expr, typed_filter};
 pub use fault::TypeFault;
-pub use query::{OrderBy, Query, Typed};
+pub use operand::{scaled, within};
 pub use schema::schema_columns;
 pub use tree::{
     DateExpr, DatePart, DecimalExpr, IntegerExpr, TextExpr, TextTest, TruthExpr, TypedExpr,
 };
-pub use typed_query::check;
 pub use types::{
     COLUMN_SIZE, ColumnType, ExprType, FUNCTION_SIZE, InputColumn, MILLIONTHS, MOST_SIZE,
 };

@@ -57,7 +57,8 @@ fn are_small(items: &[Literal]) -> bool
 
 /// Whether each value of a list fits a type.
 fn all_fit(wanted: ExprType, items: &[Literal]) -> bool
-    ensures { result ≡ list_all (λ v. fits_in wanted (literal_type_of v)) (map literal_view items.now) }
+    ensures { result
+        ≡ list_all (λ v. fits_in wanted (literal_type_of v)) (map literal_view items.now) }
 {
     for item in items {
         if !fits(wanted, literal_type(item)) {
@@ -122,7 +123,8 @@ fn truth_item(item: &Literal) -> Option<bool>
 }
 
 fn integer_items(alloc: Global, items: &[Literal]) -> Result<Vec<Option<i128>>, AllocError>
-    ensures { IfOk result (λ values. values.items ≡ map integer_item_of (map literal_view items.now)) }
+    ensures { IfOk result
+        (λ values. values.items ≡ map integer_item_of (map literal_view items.now)) }
 {
     let mut values = Vec::with_capacity(alloc, items.len())?;
     for item in items {
@@ -132,7 +134,8 @@ fn integer_items(alloc: Global, items: &[Literal]) -> Result<Vec<Option<i128>>, 
 }
 
 fn decimal_items(alloc: Global, items: &[Literal]) -> Result<Vec<Option<i128>>, TypeFault>
-    ensures { Gives (λ values. values.items) (decimal_items_of (map literal_view items.now)) result }
+    ensures { Gives (λ values. values.items) (decimal_items_of (map literal_view items.now))
+        result }
 {
     let mut values = Vec::with_capacity(alloc, items.len())?;
     for item in items {
@@ -142,7 +145,8 @@ fn decimal_items(alloc: Global, items: &[Literal]) -> Result<Vec<Option<i128>>, 
 }
 
 fn text_items(alloc: Global, items: &[Literal]) -> Result<Vec<Option<String>>, AllocError>
-    ensures { IfOk result (λ values. map optional_text values.items ≡ map text_item_of (map literal_view items.now)) }
+    ensures { IfOk result
+        (λ values. map optional_text values.items ≡ map text_item_of (map literal_view items.now)) }
 {
     let mut values = Vec::with_capacity(alloc, items.len())?;
     for item in items {
@@ -152,7 +156,8 @@ fn text_items(alloc: Global, items: &[Literal]) -> Result<Vec<Option<String>>, A
 }
 
 fn date_items(alloc: Global, items: &[Literal]) -> Result<Vec<Option<Date>>, AllocError>
-    ensures { IfOk result (λ values. map optional_day values.items ≡ map date_item_of (map literal_view items.now)) }
+    ensures { IfOk result
+        (λ values. map optional_day values.items ≡ map date_item_of (map literal_view items.now)) }
 {
     let mut values = Vec::with_capacity(alloc, items.len())?;
     for item in items {
@@ -162,7 +167,8 @@ fn date_items(alloc: Global, items: &[Literal]) -> Result<Vec<Option<Date>>, All
 }
 
 fn truth_items(alloc: Global, items: &[Literal]) -> Result<Vec<Option<bool>>, AllocError>
-    ensures { IfOk result (λ values. values.items ≡ map truth_item_of (map literal_view items.now)) }
+    ensures { IfOk result
+        (λ values. values.items ≡ map truth_item_of (map literal_view items.now)) }
 {
     let mut values = Vec::with_capacity(alloc, items.len())?;
     for item in items {
@@ -178,7 +184,8 @@ fn list_as(
     operand: TypedExpr,
     items: &[Literal],
 ) -> Result<Box<TruthExpr>, TypeFault>
-    ensures { Gives boxed_truth (list_as_of common (typed_view operand) (map literal_view items.now)) result }
+    ensures { Gives boxed_truth
+        (list_as_of common (typed_view operand) (map literal_view items.now)) result }
 {
     let expr = match common {
         ExprType::Integer => {
@@ -212,7 +219,8 @@ fn list_in_type(
     operand: TypedExpr,
     items: &[Literal],
 ) -> Result<TypedExpr, TypeFault>
-    ensures { Gives typed_view (list_in_type common (typed_view operand) (map literal_view items.now)) result }
+    ensures { Gives typed_view
+        (list_in_type common (typed_view operand) (map literal_view items.now)) result }
 {
     if !all_fit(common, items) {
         return Err(TypeFault::Mismatch);
@@ -227,7 +235,8 @@ pub(crate) fn in_expr(
     operand: TypedExpr,
     items: &[Literal],
 ) -> Result<TypedExpr, TypeFault>
-    ensures { Gives typed_view (in_typing (typed_view operand) (map literal_view items.now)) result }
+    ensures { Gives typed_view (in_typing (typed_view operand) (map literal_view items.now))
+        result }
 {
     if !are_small(items) {
         return Err(TypeFault::TooLarge);

@@ -11,7 +11,7 @@ use crate::types::{ExprType, MILLIONTHS, MOST_SIZE};
 use std::alloc::Global;
 
 /// The size, if a number may grow to it.
-pub(crate) fn within(size: u128) -> Result<u128, TypeFault>
+pub fn within(size: u128) -> Result<u128, TypeFault>
     ensures { result ≡ within size size }
 {
     if size <= MOST_SIZE {
@@ -22,7 +22,7 @@ pub(crate) fn within(size: u128) -> Result<u128, TypeFault>
 }
 
 /// The size of a decimal of a number of wholes.
-pub(crate) fn scaled(size: u128) -> Result<u128, TypeFault>
+pub fn scaled(size: u128) -> Result<u128, TypeFault>
     ensures { result ≡ within (size * MILLIONTHS) (size * MILLIONTHS) }
 {
     match size.checked_mul(MILLIONTHS) {

@@ -58,7 +58,8 @@ fn logic_expr(
 
 /// The bound of a computed number.
 fn computed_size(operator: ArithmeticOperator, left: u128, right: u128) -> Result<u128, TypeFault>
-    ensures { result ≡ within (computed_size_of operator left right) (computed_size_of operator left right) }
+    ensures { result
+        ≡ within (computed_size_of operator left right) (computed_size_of operator left right) }
 {
     let size = match operator {
         ArithmeticOperator::Add | ArithmeticOperator::Sub => left.checked_add(right),
@@ -78,7 +79,8 @@ fn integers_expr(
     left: TypedExpr,
     right: TypedExpr,
 ) -> Result<TypedExpr, TypeFault>
-    ensures { Gives typed_view (integers_typing operator (typed_view left) (typed_view right)) result }
+    ensures { Gives typed_view (integers_typing operator (typed_view left) (typed_view right))
+        result }
 {
     let (left, left_bound) = left.into_integer(alloc)?;
     let (right, right_bound) = right.into_integer(alloc)?;
@@ -89,7 +91,8 @@ fn integers_expr(
 
 /// The sum of decimals.
 fn decimal_sum(alloc: Global, left: TypedExpr, right: TypedExpr) -> Result<TypedExpr, TypeFault>
-    ensures { Gives typed_view (decimals_typing decimal_sum (typed_view left) (typed_view right)) result }
+    ensures { Gives typed_view (decimals_typing decimal_sum (typed_view left) (typed_view right))
+        result }
 {
     let (left, left_bound) = left.into_decimal(alloc)?;
     let (right, right_bound) = right.into_decimal(alloc)?;
@@ -103,7 +106,8 @@ fn decimal_difference(
     left: TypedExpr,
     right: TypedExpr,
 ) -> Result<TypedExpr, TypeFault>
-    ensures { Gives typed_view (decimals_typing decimal_difference (typed_view left) (typed_view right)) result }
+    ensures { Gives typed_view
+        (decimals_typing decimal_difference (typed_view left) (typed_view right)) result }
 {
     let (left, left_bound) = left.into_decimal(alloc)?;
     let (right, right_bound) = right.into_decimal(alloc)?;
@@ -129,7 +133,8 @@ fn arithmetic_expr(
     left: TypedExpr,
     right: TypedExpr,
 ) -> Result<TypedExpr, TypeFault>
-    ensures { Gives typed_view (arithmetic_typing operator (typed_view left) (typed_view right)) result }
+    ensures { Gives typed_view (arithmetic_typing operator (typed_view left) (typed_view right))
+        result }
 {
     let common = common_type(left.expr_type(), right.expr_type());
     match (common, operator) {
@@ -147,7 +152,8 @@ fn comparison_as(
     left: TypedExpr,
     right: TypedExpr,
 ) -> Result<Box<TruthExpr>, TypeFault>
-    ensures { Gives boxed_truth (comparison_as_of common operator (typed_view left) (typed_view right)) result }
+    ensures { Gives boxed_truth
+        (comparison_as_of common operator (typed_view left) (typed_view right)) result }
 {
     let expr = match common {
         ExprType::Integer => {
@@ -186,7 +192,8 @@ fn comparison_expr(
     left: TypedExpr,
     right: TypedExpr,
 ) -> Result<TypedExpr, TypeFault>
-    ensures { Gives typed_view (comparison_typing operator (typed_view left) (typed_view right)) result }
+    ensures { Gives typed_view (comparison_typing operator (typed_view left) (typed_view right))
+        result }
 {
     let common = common_type(left.expr_type(), right.expr_type());
     let expr = comparison_as(alloc, common, operator, left, right)?;
@@ -200,7 +207,8 @@ pub(crate) fn binary_expr(
     left: TypedExpr,
     right: TypedExpr,
 ) -> Result<TypedExpr, TypeFault>
-    ensures { Gives typed_view (binary_typing operator (typed_view left) (typed_view right)) result }
+    ensures { Gives typed_view (binary_typing operator (typed_view left) (typed_view right))
+        result }
 {
     match operator {
         BinaryOperator::Logic(operator) => logic_expr(alloc, operator, left, right),

@@ -29,7 +29,8 @@ pub fn schema_columns<'s>(
     alloc: Global,
     schema: &'s Schema,
 ) -> Result<Vec<InputColumn<'s>>, AllocError>
-    ensures { IfOk result (λ columns. inputs_view columns.items ≡ inputs_of (schema_view schema.now)) }
+    ensures { IfOk result
+        (λ columns. inputs_view columns.items ≡ inputs_of (schema_view schema.now)) }
 {
     let mut columns = Vec::with_capacity(alloc, schema.columns.len())?;
     for column in &schema.columns {

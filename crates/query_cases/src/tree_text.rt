@@ -7,6 +7,13 @@ use odata_parse::tree::{
 use std::alloc::Global;
 use std::test::Fail;
 
+fn unary_text(operator: UnaryOperator) -> &'static str {
+    match operator {
+        UnaryOperator::Negate => "(-",
+        UnaryOperator::Not => "(not ",
+    }
+}
+
 fn binary_text(operator: BinaryOperator) -> &'static str {
     match operator {
         BinaryOperator::Logic(LogicOperator::And) => " and ",
@@ -101,10 +108,7 @@ pub(crate) fn print(alloc: Global, out: &mut String, expr: &Expr) -> Result<(), 
         Expr::Literal(literal) => print_literal(alloc, out, literal)?,
         Expr::Name(name) => out.push_str(name.as_str())?,
         Expr::Unary(operator, operand) => {
-            out.push_str(match operator {
-                UnaryOperator::Negate => "(-",
-                UnaryOperator::Not => "(not ",
-            })?;
+            out.push_str(unary_text(*operator))?;
             print(alloc, out, operand)?;
             out.push_str(")")?;
         }

@@ -1,5 +1,11 @@
 -- The rows of a block are rows that a run may take in.
-use Rattle.std.proofs.Common.{◌≡◌, List, [], ◌∷◌, map}
+use Rattle.std.proofs.Common.{◌≡◌, ℕ, suc, ◌<◌, List, [], ◌∷◌, length, map, get_or, sym, ◌∙◌, subst, arith}
+use Rattle.std.proofs.lemmas.List.{get_or_default, length-map}
+use Rattle.std.proofs.Math.ListN.{get_or-map}
+use Rattle.block_summary.specs.Ranges.{column_of}
+use Rattle.query_exec.specs.declared.cells.Cells.{Cells}
+use Rattle.query_exec.specs.Picked.{numbered}
+use Rattle.query_exec.proofs.RowLemmas.{kind_at, length_kinds}
 use Rattle.std.specs.List.{All, AllByRecursion}
 use Rattle.cell_types.specs.Column.{ColumnOf}
 use Rattle.cell_types.specs.Datatype as datatype
@@ -17,7 +23,7 @@ use Rattle.table_store.specs.Table.{TableOf}
 use Rattle.query_plan.specs.declared.plan.Node.{Node}
 use Rattle.query_plan.specs.Plan.{filtering, node_view, plan_view, IsFit, IsFitNode, NodeOf}
 use Rattle.query_exec.specs.declared.run.Run.{Run}
-use Rattle.query_exec.specs.Cells.{kind_of_datatype, IsOfKind}
+use Rattle.query_exec.specs.Cells.{kind_of, kind_of_datatype, IsOfKind}
 use Rattle.query_exec.specs.Kept.{kinds, kinds_of, AreOfKinds}
 use Rattle.query_exec.specs.Taking.{FitsOn, IsSuited}
 
@@ -30,7 +36,7 @@ short_value (boolean b) h = tt
 short_value (date y m d) h = tt
 short_value (decimal n) h = tt
 
-table_row : (columns : List ColumnOf) (row : List CellValue) → IsTableRow columns row → inputs.IsTableRow columns row
+pub table_row : (columns : List ColumnOf) (row : List CellValue) → IsTableRow columns row → inputs.IsTableRow columns row
 table_row [] [] h = tt
 table_row [] (v ∷ row) h = absurd h
 table_row (c ∷ columns) [] h = absurd h
@@ -96,3 +102,36 @@ block_suited law run block rows same fit k d h =
       kinds_are = rw same (of_kinds block.schema.columns _ is);
       fits = all_fit (inputs_of block.schema) run.plan.nodes.items _ fit (law.rows block.schema _ (table_row block.schema.columns _ is));
     }
+
+-- the values that rows of a block have in a column are of its kind
+column_kinds : (old : List Cells) (rows : List (List CellValue)) (i : ℕ) (x : Cells) → All (AreOfKinds (map kind_of old)) rows → i < length old
+    → All (IsOfKind (kind_of (get_or old i x))) (column_of rows i)
+column_kinds old rows i x all h k d within =
+    let cell : List CellValue → CellValue = λ values. get_or values i null in
+    let long = length-map rows cell in
+    let there = all k [] (omega (arith, within, long)) in
+    let wide = length_kinds (map kind_of old) (get_or rows k []) there in
+    let kinds_long = length-map old kind_of in
+    let at : get_or (column_of rows i) k d ≡ get_or (get_or rows k []) i null =
+    get_or_default (column_of rows i) k d (cell []) within ∙ get_or-map cell rows k [] in
+    subst (IsOfKind (kind_of (get_or old i x))) (sym at) (kind_at old (get_or rows k []) i x null there (omega (arith, wide, kinds_long)))
+
+pub block_kinds : (old : List Cells) (block : TableOf) (i : ℕ) (x : Cells) → HasTableRows block → map kind_of old ≡ kinds_of block.schema.columns → i < length old
+    → All (IsOfKind (kind_of (get_or old i x))) (column_of block.rows i)
+block_kinds old block i x rows same h =
+    column_kinds old block.rows i x (λ k d within. rw same (of_kinds block.schema.columns _ (rows k d within))) h
+
+-- rows of a block are as wide as there are columns
+rows_wide : (old : List Cells) (numbers : List ℕ) (rows : List (List CellValue)) → All (AreOfKinds (map kind_of old)) rows → All (λ n. n < length rows) numbers
+    → AllByRecursion (λ row. length row ≡ length old) (numbered numbers rows)
+rows_wide old [] rows all within = tt
+rows_wide old (n ∷ numbers) rows all within =
+    let h : n < length rows = within 0 n (omega arith) in (
+      length_kinds (map kind_of old) (get_or rows n []) (all n [] h) ∙ length-map old kind_of,
+      rows_wide old numbers rows all (λ k d i. within (suc k) d (omega arith)),
+    )
+
+pub block_wide : (old : List Cells) (numbers : List ℕ) (block : TableOf) → HasTableRows block → map kind_of old ≡ kinds_of block.schema.columns
+    → All (λ n. n < length block.rows) numbers → AllByRecursion (λ row. length row ≡ length old) (numbered numbers block.rows)
+block_wide old numbers block rows same within =
+    rows_wide old numbers block.rows (λ k d h. rw same (of_kinds block.schema.columns _ (rows k d h))) within

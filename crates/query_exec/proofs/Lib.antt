@@ -1,6 +1,9 @@
 pub mod TextLemmas
 pub mod KeptLemmas
 pub mod RowLemmas
+pub mod PickedLemmas
 pub mod TakingLemmas
+pub mod LaneLemmas
+pub mod PassingLemmas
 pub mod FitLemmas
 pub mod RunLemmas

@@ -1,7 +1,7 @@
 -- The answer of a query to a table (OData 4.01 Part 2, URL Conventions, section 5.1).
 use Rattle.std.specs.Prelude.{Option, option_map}
 use Rattle.table_store.specs.Table.{TableOf}
-use Rattle.odata_types.specs.Query.{TypedOf}
+use Rattle.odata_query.specs.Query.{TypedOf}
 use Rattle.query_plan.specs.Plan.{PlanOf, meaning}
 use Rattle.query_plan.specs.Query.{query_rows}
 use Rattle.query_exec.specs.Rows.{RowsOf, under_names}

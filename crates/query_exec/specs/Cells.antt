@@ -84,3 +84,9 @@ pub record IsPushed (old : Cells) (value : CellValue) (new : Cells) : Type 0 whe
   pub values : cells_view new ≡ cells_view old ++ value ∷ []
   pub kind : kind_of new ≡ kind_of old
   pub whole : IsWhole new
+
+-- values came behind the others
+pub record IsExtended (old : Cells) (values : List CellValue) (new : Cells) : Type 0 where
+  pub values_are : cells_view new ≡ cells_view old ++ values
+  pub kind : kind_of new ≡ kind_of old
+  pub whole : IsWhole new

@@ -5,6 +5,8 @@ pub use Rattle.query_plan.specs.Query as Queries
 pub mod Answer
 pub mod Cells
 pub mod Kept
+pub mod Picked
+pub mod Lanes
 pub mod Rows
 pub mod Inside
 pub mod Run

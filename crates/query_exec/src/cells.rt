@@ -4,13 +4,17 @@ ghost use Rattle.cell_types.specs.Datatype.{datatype_view};
 ghost use Rattle.cell_types.specs.Value.{value_view, null, integer, decimal, text as text_cell, boolean};
 ghost use Rattle.odata_types.specs.TypedTree.{optional_day};
 ghost use Rattle.row_eval.specs.Outcome.{cell_of, day_value};
-ghost use Rattle.query_exec.specs.Cells.{cells_view, kind_of, kind_of_datatype, IsOfKind, IsPushed, IsWhole};
+ghost use Rattle.std.specs.List.{All};
+ghost use Rattle.block_summary.specs.Ranges.{column_of};
+ghost use Rattle.query_exec.specs.Cells.{cells_view, kind_of, kind_of_datatype, IsExtended, IsOfKind, IsPushed, IsWhole};
+ghost use Rattle.query_exec.specs.Picked.{numbered};
 
 use crate::texts::Texts;
 use cell_types::{Datatype, Value};
 use jiff::civil::Date;
 use std::alloc::{AllocError, Global};
 use std::borrow::CowStr;
+use table_store::Block;
 
 /// Values and nulls of one type. None is null.
 #[derive(Drop)]
@@ -70,6 +74,28 @@ impl Cells {
             (Cells::Dates(values), Value::Date(date)) => values.push(Some(*date))?,
             (Cells::Decimals(values), Value::Decimal(number)) => values.push(Some(*number as i64))?,
             _ => unreachable!(),
+        }
+        Ok(())
+    }
+
+    /// Appends the values that the rows of a block with these numbers have in a column.
+    pub(crate) fn take(
+        &mut self,
+        alloc: Global,
+        block: &Block<'_>,
+        col: usize,
+        numbers: &[usize],
+    ) -> Result<(), AllocError>
+        requires whole { IsWhole self.old }
+        requires col { col < length block.now.schema.columns }
+        requires within { All (λ number. number < length block.now.rows) numbers.now }
+        requires kind { All (IsOfKind (kind_of self.old)) (column_of block.now.rows col) }
+        ensures { OnOk result
+            (IsExtended self.old (column_of (numbered numbers.now block.now.rows) col) self.new) }
+    {
+        for number in numbers {
+            let value = block.value(alloc, *number, col)?;
+            self.push(&value)?;
         }
         Ok(())
     }

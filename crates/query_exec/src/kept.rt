@@ -3,11 +3,14 @@ ghost use Rattle.std.specs.Prelude.{◌≡◌, ◌++◌, ◌∷◌, [], ◌<◌,
 ghost use Rattle.cell_types.specs.Column.{column_view};
 ghost use Rattle.cell_types.specs.Value.{value_view};
 ghost use Rattle.row_eval.specs.Row.{row_view};
+ghost use Rattle.std.specs.List.{All};
+ghost use Rattle.query_exec.specs.Picked.{numbered};
 ghost use Rattle.query_exec.specs.Kept.{kept_rows, kinds, kinds_of, AreAligned, AreOfKinds};
 
 use crate::cells::Cells;
 use cell_types::{Column, Value};
 use std::alloc::{AllocError, Global};
+use table_store::Block;
 
 /// Rows.
 #[derive(Drop)]
@@ -38,7 +41,8 @@ impl Kept {
     pub(crate) fn push(&mut self, values: &[Value<'_>]) -> Result<(), AllocError>
         requires aligned { AreAligned self.old }
         requires kinds { AreOfKinds (kinds self.old) (row_view values.now) }
-        ensures rows { OnOk result (kept_rows self.new ≡ kept_rows self.old ++ row_view values.now ∷ []) }
+        ensures rows { OnOk result
+            (kept_rows self.new ≡ kept_rows self.old ++ row_view values.now ∷ []) }
         ensures kinds { OnOk result (kinds self.new ≡ kinds self.old) }
         ensures aligned { OnOk result (AreAligned self.new) }
     {
@@ -48,6 +52,33 @@ impl Kept {
         };
         for (i, value) in values.iter().enumerate() {
             self.columns[i].push(value)?;
+        }
+        self.len = len;
+        Ok(())
+    }
+
+    /// Appends the rows of a block with these numbers, a column at a time.
+    pub(crate) fn take(
+        &mut self,
+        alloc: Global,
+        block: &Block<'_>,
+        numbers: &[usize],
+    ) -> Result<(), AllocError>
+        requires aligned { AreAligned self.old }
+        requires kinds { kinds self.old ≡ kinds_of block.now.schema.columns }
+        requires within { All (λ number. number < length block.now.rows) numbers.now }
+        ensures rows { OnOk result
+            (kept_rows self.new ≡ kept_rows self.old ++ numbered numbers.now block.now.rows) }
+        ensures kinds { OnOk result (kinds self.new ≡ kinds self.old) }
+        ensures aligned { OnOk result (AreAligned self.new) }
+    {
+        block.values_fit();
+        // Columns of so many rows would not fit in memory.
+        let Some(len) = self.len.checked_add(numbers.len()) else {
+            return Err(AllocError);
+        };
+        for i in 0..self.columns.len() {
+            self.columns[i].take(alloc, block, i, numbers)?;
         }
         self.len = len;
         Ok(())
@@ -65,7 +96,8 @@ impl Kept {
         requires aligned { AreAligned self.now }
         requires row { row < length (kept_rows self.now) }
         requires col { col < length (kinds self.now) }
-        ensures { option_and_then (λ values. slice_get values col) (slice_get (kept_rows self.now) row)
+        ensures { option_and_then (λ values. slice_get values col)
+            (slice_get (kept_rows self.now) row)
             ≡ Some (value_view result) }
     {
         self.columns[col].get(row)

@@ -2,9 +2,13 @@
 //! table: it is handed the blocks that it names, one at a time, and then gives the plan's meaning on the rows of that table.
 #![tactic(auto)]
 
+mod block_texts;
 mod cells;
 mod fault;
 mod kept;
+mod lanes;
+mod named;
+mod passing;
 mod rows;
 mod run;
 mod texts;

@@ -54,7 +54,8 @@ impl Rows {
     pub fn value(&self, row: usize, col: usize) -> Value<'_>
         requires row { row < length self.now.rows }
         requires col { col < length self.now.names }
-        ensures { option_and_then (λ values. slice_get values col) (slice_get self.now.rows row) ≡ Some (value_view result) }
+        ensures { option_and_then (λ values. slice_get values col) (slice_get self.now.rows row)
+            ≡ Some (value_view result) }
     {
         self.kept.value(row, col)
     }

@@ -1,9 +1,9 @@
 //! A run of a plan on a table that it is handed block by block.
-ghost use Rattle.std.specs.Prelude.{◌≡◌, ◌↔◌, ◌∷◌, [], ℕ, None, Ok, IfOk, IfErr, OnErr, OnOk, IsErrOf, length, map, string_bytes};
+ghost use Rattle.std.specs.Prelude.{◌≡◌, ◌↔◌, ◌∷◌, [], ℕ, None, Ok, IfOk, IfErr, OnErr, OnOk, IsErrOf, map, string_bytes};
 ghost use Rattle.std.specs.List.{All, AllByRecursion};
 ghost use Rattle.csvw_meta.specs.Schema.{schema_view};
 ghost use Rattle.odata_types.specs.Schema.{inputs_of};
-ghost use Rattle.table_store.specs.Block.{block_count};
+ghost use Rattle.table_store.specs.Summaries.{AreSummariesOf};
 ghost use Rattle.table_store.specs.Table.{TableOf};
 ghost use Rattle.row_eval.specs.Row.{row_view};
 ghost use Rattle.query_plan.specs.Plan.{node_meaning, node_view, nodes_meaning, plan_view, IsFit, PlanOf};
@@ -16,7 +16,10 @@ ghost use Rattle.query_exec.specs.Taking.{fate_rows, FitsOn, HasTaken, IsSuited}
 
 use crate::fault::ExecFault;
 use crate::kept::Kept;
+use crate::lanes::Lanes;
+use crate::passing::passing_rows;
 use crate::rows::Rows;
+use block_summary::Summary;
 use cell_types::{Column, Value};
 use csvw_meta::Schema;
 use query_plan::{Node, Plan, true_rows_pass};
@@ -49,6 +52,8 @@ pub struct Run {
     handed: usize,
     /// The names of the table's columns.
     names: Vec<String>,
+    /// The columns of a block that a condition names.
+    lanes: Lanes,
     /// The rows that passed.
     kept: Kept,
     /// Whether a step divided by zero on a row.
@@ -157,7 +162,10 @@ impl Run {
     {
         block.values_fit();
         tables_are_inputs();
-        self.take_rows(alloc, block.cursor())
+        match passing_rows(alloc, &self.plan.nodes, &block, &mut self.lanes) {
+            Ok(numbers) => self.kept.take(alloc, &block, &numbers),
+            Err(_) => self.take_rows(alloc, block.cursor()),
+        }
     }
 
     /// Goes on behind a block that was taken in, or none.
@@ -188,25 +196,27 @@ impl Run {
         self.go_on()
     }
 
-    /// A run of the plan on a table of that schema with so many blocks.
+    /// A run of the plan on a table of that schema with those summaries, one for each block.
     pub fn start(
         alloc: Global,
         schema: &Schema,
-        blocks: usize,
+        summaries: &[Summary],
         plan: Plan,
     ) -> Result<Run, ExecFault>
         requires { IsFit (inputs_of (schema_view schema.now)) (plan_view plan) }
         ensures stands { IfOk result (λ run. (table : TableOf) → table.schema ≡ schema_view schema.now
-            → block_count (length table.rows) ≡ blocks → StandsFor run (plan_view plan) table 0) }
+            → AreSummariesOf table summaries.now → StandsFor run (plan_view plan) table 0) }
         ensures refused { IfErr result (λ fault. fault ≡ NoMemory) }
     {
         let names = names_of(alloc, schema.columns.as_slice())?;
+        let lanes = Lanes::new(alloc, schema.columns.len())?;
         let kept = Kept::new(alloc, schema.columns.as_slice())?;
         Ok(Run {
             plan,
-            blocks,
+            blocks: summaries.len(),
             handed: 0,
             names,
+            lanes,
             kept,
             faulted: false,
             stage: Stage::Reading,
@@ -231,8 +241,10 @@ impl Run {
     pub fn advance(&mut self, alloc: Global, block: Option<Block<'_>>) -> Result<Step, ExecFault>
         requires { MayBeHanded self.old block }
         ensures advances { (plan : PlanOf) (table : TableOf) (handed : ℕ) → StandsFor self.old plan table handed
-            → block.entry ≡ handed_block table handed → AdvancesTo plan table handed self.new result }
-        ensures done { (rows : RowsOf) → Gives self.old rows → (result ≡ Ok Done) × Gives self.new rows }
+            → block.entry ≡ handed_block table handed
+            → AdvancesTo plan table handed self.new result }
+        ensures done { (rows : RowsOf) → Gives self.old rows → (result ≡ Ok Done)
+            × Gives self.new rows }
         ensures failed { IsErrOf result Failed ↔ HasFailed self.old }
         ensures refused { OnErr result (HasFailed self.new) }
     {

@@ -57,7 +57,8 @@ impl Texts {
     pub(crate) fn get(&self, number: usize) -> Option<&str>
         requires whole { AreWhole self.now }
         requires within { number < length (texts_view self.now) }
-        ensures { slice_get (texts_view self.now) number ≡ Some (option_map (λ text. text.now) result) }
+        ensures { slice_get (texts_view self.now) number
+            ≡ Some (option_map (λ text. text.now) result) }
     {
         match self.places[number] {
             Some(place) => Some(&self.buffer[place.start..place.end]),

@@ -1,6 +1,6 @@
 -- What a filter keeps of rows.
-use Rattle.std.proofs.Common.{◌≡◌, ◌↔◌, ◌⊎◌, inl, inr, ℕ, zero, suc, ◌<◌, Bool, true, false, ◌||◌, cond, Option, Some, None, List, [], ◌∷◌, ◌++◌, length, refl, sym, ap, ◌∙◌, subst, arith}
-use Rattle.std.specs.Prelude.{filter, is_none, slice_index_or}
+use Rattle.std.proofs.Common.{◌≡◌, ◌↔◌, ◌⊎◌, inl, inr, zero, suc, Bool, true, false, ◌||◌, cond, Option, Some, None, List, [], ◌∷◌, ◌++◌, refl, sym, ap, ◌∙◌, subst, arith}
+use Rattle.std.specs.Prelude.{filter, is_none}
 use Rattle.std.specs.List.{Any, Contains, list_any}
 use Rattle.std.proofs.lemmas.Bool.{false≢true}
 use Rattle.std.proofs.lemmas.List.Elements.{Contains-append_cases, Contains-append_right, filter-append}
@@ -14,20 +14,20 @@ use Rattle.query_plan.specs.Filter.{faults, is_true, passes, passing}
 
 -- ---- what a filter of a list contains
 
-none_in : {X : Type 0} (y : X) → Contains [] y → ⊥
+pub none_in : {X : Type 0} (y : X) → Contains [] y → ⊥
 none_in y h = let lt = h.1 in omega arith
 
-here : {X : Type 0} (x : X) (xs : List X) → Contains (x ∷ xs) x
+pub here : {X : Type 0} (x : X) (xs : List X) → Contains (x ∷ xs) x
 here x xs = (0, omega arith, refl)
 
-later : {X : Type 0} (x y : X) (xs : List X) → Contains xs y → Contains (x ∷ xs) y
+pub later : {X : Type 0} (x y : X) (xs : List X) → Contains xs y → Contains (x ∷ xs) y
 later x y xs h = Contains-append_right (x ∷ []) xs y h
 
 one : {X : Type 0} (x y : X) → Contains (x ∷ []) y → x ≡ y
 one x y (zero, h, e) = e
 one x y (suc k, h, e) = absurd (omega arith)
 
-first_or_later : {X : Type 0} (x y : X) (xs : List X) → Contains (x ∷ xs) y → (x ≡ y) ⊎ Contains xs y
+pub first_or_later : {X : Type 0} (x y : X) (xs : List X) → Contains (x ∷ xs) y → (x ≡ y) ⊎ Contains xs y
 first_or_later x y xs h = elim (Contains-append_cases (x ∷ []) xs y h) [
   | inl front ↦ inl (one x y front)
   | inr back ↦ inr back
@@ -41,7 +41,7 @@ kept_from p x y xs true e more h = elim (first_or_later x y (filter p xs) h) [
 ]
 kept_from p x y xs false e more h = (later x y xs (more h).0, (more h).1)
 
-from_filter : {X : Type 0} (p : X → Bool) (xs : List X) (y : X) → Contains (filter p xs) y → Contains xs y × (p y ≡ true)
+pub from_filter : {X : Type 0} (p : X → Bool) (xs : List X) (y : X) → Contains (filter p xs) y → Contains xs y × (p y ≡ true)
 from_filter p [] y h = absurd (none_in y h)
 from_filter p (x ∷ xs) y h = kept_from p x y xs (p x) refl (from_filter p xs y) h
 
@@ -56,7 +56,7 @@ kept_into p x y xs false e pass more h = elim (first_or_later x y xs h) [
   | inr back ↦ more back
 ]
 
-into_filter : {X : Type 0} (p : X → Bool) (xs : List X) (y : X) → p y ≡ true → Contains xs y → Contains (filter p xs) y
+pub into_filter : {X : Type 0} (p : X → Bool) (xs : List X) (y : X) → p y ≡ true → Contains xs y → Contains (filter p xs) y
 into_filter p [] y pass h = absurd (none_in y h)
 into_filter p (x ∷ xs) y pass h = kept_into p x y xs (p x) refl pass (into_filter p xs y pass) h
 

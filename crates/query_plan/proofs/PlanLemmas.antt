@@ -1,5 +1,5 @@
 -- Steps in turn.
-use Rattle.std.proofs.Common.{◌≡◌, Option, Some, None, List, [], ◌∷◌, ◌++◌, refl, ap, ◌∙◌}
+use Rattle.std.proofs.Common.{◌≡◌, Option, Some, None, List, [], ◌∷◌, ◌++◌, refl}
 use Rattle.std.specs.Prelude.{option_and_then}
 use Rattle.cell_types.specs.Value.{CellValue}
 use Rattle.query_plan.specs.Plan.{node_meaning, nodes_meaning, NodeOf}

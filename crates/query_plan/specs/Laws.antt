@@ -1,11 +1,19 @@
--- What holds of filters and plans.
-use Rattle.std.specs.Prelude.{◌≡◌, ◌↔◌, ◌++◌, List, [], ◌∷◌, Option, Some, None, option_and_then}
-use Rattle.std.specs.List.{Any, Contains}
+-- What holds of filters, orders, groups and plans.
+use Rattle.std.specs.Prelude.{Ok, ◌≡◌, ℕ, ◌↔◌, ◌++◌, List, [], ◌∷◌, Some, None, option_and_then}
+use Rattle.std.specs.List.{Any, Contains, IsDistinct}
+use Rattle.std.specs.List.Sorted.{IsPermutation, IsSorted, IsStable}
 use Rattle.cell_types.specs.Value.{CellValue}
+use Rattle.odata_parse.specs.Tree.{TransformationOf}
+use Rattle.odata_types.specs.Columns.{InputOf}
 use Rattle.odata_types.specs.TypedTree.{TruthExprOf}
 use Rattle.row_eval.specs.declared.truth.Truth.TheVariants.{True}
-use Rattle.row_eval.specs.Outcome.{both, truth_outcome}
+use Rattle.odata_query.specs.Aggregate.{TypedTransformationOf}
+use Rattle.odata_query.specs.Apply.{apply_typing}
+use Rattle.row_eval.specs.Input.{IsInput}
+use Rattle.row_eval.specs.Outcome.{both, outcome, truth_outcome}
+use Rattle.query_plan.specs.Apply.{group_values, rows_of_group, same_values, values_at}
 use Rattle.query_plan.specs.Filter.{passing}
+use Rattle.query_plan.specs.Order.{Item, ordered, rows_cmp, sorted}
 use Rattle.query_plan.specs.Plan.{NodeOf, nodes_meaning}
 
 -- A filter has no rows to give just where it divides by zero on some row. Else a row is kept just where it is one of the rows and its outcome is
@@ -22,3 +30,25 @@ pub record TrueRowsPass : Type 0 where
 pub record NodesInTurn : Type 0 where
   pub empty : (rows : List (List CellValue)) → nodes_meaning [] rows ≡ Some rows
   pub turn : (below above : List NodeOf) (rows : List (List CellValue)) → nodes_meaning (below ++ above) rows ≡ option_and_then (nodes_meaning above) (nodes_meaning below rows)
+
+-- An order faults just where an item divides by zero on some row. Else it is the rows, none less than the one before it by the items in turn, and rows that
+-- tie as they stood.
+pub record RowsAreInOrder : Type 0 where
+  pub fault : (items : List Item) (rows : List (List CellValue)) → (ordered items rows ≡ None) ↔ Any (λ row. Any (λ item. outcome item.0 row ≡ None) items) rows
+  pub rows : (items : List Item) (rows : List (List CellValue)) → IsPermutation rows (sorted (rows_cmp items) rows)
+  pub rising : (items : List Item) (rows : List (List CellValue)) → IsSorted (rows_cmp items) (sorted (rows_cmp items) rows)
+  pub stable : (items : List Item) (rows : List (List CellValue)) → IsStable (rows_cmp items) rows (sorted (rows_cmp items) rows)
+
+-- Each row is in one group, that of its own values: no two groups have the same values, and each has a row.
+pub record RowsAreInGroups : Type 0 where
+  pub distinct : (places : List ℕ) (rows : List (List CellValue)) → IsDistinct same_values (group_values places rows)
+  pub grouped : (places : List ℕ) (rows : List (List CellValue)) (row : List CellValue) → Contains rows row → Contains (group_values places rows) (values_at places row)
+  pub filled : (places : List ℕ) (rows : List (List CellValue)) (values : List CellValue) → Contains (group_values places rows) values
+      → Any (λ row. values_at places row ≡ values) rows
+  pub members : (places : List ℕ) (rows : List (List CellValue)) (values row : List CellValue)
+      → Contains (rows_of_group places rows values) row ↔ (Contains rows row × (values ≡ values_at places row))
+
+-- Where the numbers of an input's columns are not too large, those of a result of `$apply` are not.
+abbrev pub ResultsAreInputs : Type 0
+ResultsAreInputs = (inputs outputs : List InputOf) (ts : List TransformationOf) (made : List TypedTransformationOf) → IsInput inputs
+    → apply_typing inputs ts ≡ Ok (made, outputs) → IsInput outputs

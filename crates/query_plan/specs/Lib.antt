@@ -1,9 +1,13 @@
 pub use Rattle.odata_types.specs.Columns
-pub use Rattle.odata_types.specs.Query as Queries
+pub use Rattle.odata_query.specs.Query as Queries
 pub use Rattle.odata_types.specs.TypedTree
 pub use Rattle.row_eval.specs.Bounds
 pub use Rattle.row_eval.specs.Input
 pub mod Filter
 pub mod Query
+pub mod Order
+pub mod Apply
+pub mod Meaning
 pub mod Plan
+pub mod Worked
 pub mod Laws

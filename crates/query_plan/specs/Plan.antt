@@ -3,7 +3,7 @@ use Rattle.std.specs.Prelude.{List, [], ◌∷◌, Option, Some, None, map, opti
 use Rattle.std.specs.List.{AllByRecursion}
 use Rattle.cell_types.specs.Value.{CellValue}
 use Rattle.odata_types.specs.Columns.{InputOf}
-use Rattle.odata_types.specs.Query.{TypedOf}
+use Rattle.odata_query.specs.Query.{TypedOf}
 use Rattle.odata_types.specs.TypedTree.{TruthExprOf, boxed_truth}
 use Rattle.query_plan.specs.declared.plan.Node.{Node}
 use Rattle.query_plan.specs.declared.plan.Node.TheVariants.{Filter}

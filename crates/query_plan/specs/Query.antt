@@ -1,8 +1,8 @@
 -- The meaning of a query on the rows of a table (OData 4.01 URL Conventions, section 5.1).
-use Rattle.std.specs.Prelude.{◌≡◌, false, ℕ, List, [], Option, Some, None}
+use Rattle.std.specs.Prelude.{◌≡◌, false, List, [], Option, Some, None}
 use Rattle.cell_types.specs.Value.{CellValue}
 use Rattle.odata_types.specs.Columns.{InputOf}
-use Rattle.odata_types.specs.Query.{TypedOf}
+use Rattle.odata_query.specs.Query.{TypedOf}
 use Rattle.odata_types.specs.TypedTree.{TruthExprOf}
 use Rattle.row_eval.specs.Bounds.{TruthFits}
 use Rattle.row_eval.specs.Input.{IsRowOf}
@@ -10,11 +10,14 @@ use Rattle.query_plan.specs.Filter.{passing}
 
 -- the query asks for rows, of `$filter` alone
 pub record AsksForRows (q : TypedOf) : Type 0 where
+  pub no_key : q.key ≡ None
   pub rows : q.counting ≡ false
+  pub unapplied : q.apply ≡ []
   pub uncounted : q.count ≡ false
   pub unordered : q.order ≡ []
   pub first : q.skip ≡ 0
   pub last : q.top ≡ None
+  pub whole : q.select ≡ None
 
 -- all rows, where there is no filter
 abbrev pub filtered : Option TruthExprOf → List (List CellValue) → Option (List (List CellValue))

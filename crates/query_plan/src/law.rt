@@ -1,6 +1,7 @@
 //! The laws of filters and plans: each function is a theorem, and does nothing.
 
-ghost use Rattle.query_plan.specs.Laws.{NodesInTurn, TrueRowsPass};
+ghost use Rattle.query_plan.specs.Laws.{NodesInTurn, ResultsAreInputs, RowsAreInGroups, RowsAreInOrder, TrueRowsPass};
+ghost use Rattle.query_plan.specs.Worked.{WorkedQueries};
 
 /// A row passes a filter just where its outcome is true, and the rows that pass stay in their order; a division by zero on any row is
 /// one of the whole.
@@ -11,4 +12,28 @@ pub fn true_rows_pass()
 /// Each step of a plan is given what those before it give, and a division by zero below is one above.
 pub fn nodes_in_turn()
     ensures { NodesInTurn }
+{}
+
+/// An order is the rows that are put in order, rising, and stable; a division by zero on any row is one of the whole.
+pub fn rows_are_in_order()
+    ensures { RowsAreInOrder }
+{
+    cell_types::values_are_ordered();
+}
+
+/// Each row is in one group, and each group has a row.
+pub fn rows_are_in_groups()
+    ensures { RowsAreInGroups }
+{
+    cell_types::values_are_ordered();
+}
+
+/// The columns of a result of `$apply` are those of an input: no number of them is too large.
+pub fn results_are_inputs()
+    ensures { ResultsAreInputs }
+{}
+
+/// The answers of some queries, written by hand.
+pub fn worked_queries()
+    ensures { WorkedQueries }
 {}

@@ -5,5 +5,8 @@
 mod law;
 mod plan;
 
-pub use law::{nodes_in_turn, true_rows_pass};
+pub use law::{
+    nodes_in_turn, results_are_inputs, rows_are_in_groups, rows_are_in_order, true_rows_pass,
+    worked_queries,
+};
 pub use plan::{Node, Plan, naive};

@@ -2,11 +2,12 @@
 ghost use Rattle.std.specs.Prelude.{◌≡◌, List, IfOk};
 ghost use Rattle.cell_types.specs.Value.{CellValue};
 ghost use Rattle.odata_types.specs.Columns.{InputOf};
-ghost use Rattle.odata_types.specs.Query.{query_typed_view};
+ghost use Rattle.odata_query.specs.Query.{query_typed_view};
 ghost use Rattle.query_plan.specs.Plan.{meaning, naive_plan, plan_view, IsFit};
 ghost use Rattle.query_plan.specs.Query.{query_rows, AsksForRows, IsFitQuery};
 
-use odata_types::{TruthExpr, Typed};
+use odata_query::Typed;
+use odata_types::TruthExpr;
 use std::alloc::{AllocError, Global};
 
 /// A step of a plan, from rows to rows.

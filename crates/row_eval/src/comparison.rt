@@ -50,7 +50,8 @@ pub(crate) fn boolean_order(left: Option<bool>, right: Option<bool>) -> Option<O
 
 /// The order of texts, by their characters.
 pub(crate) fn text_order(left: Option<&str>, right: Option<&str>) -> Option<Ordering>
-    ensures { result ≡ compared (slice_cmp nat_cmp) (option_map (λ t. t.now) left.entry) (option_map (λ t. t.now) right.entry) }
+    ensures { result ≡ compared (slice_cmp nat_cmp) (option_map (λ t. t.now) left.entry)
+        (option_map (λ t. t.now) right.entry) }
 {
     match (left, right) {
         (None, None) => Some(Ordering::Equal),
@@ -137,7 +138,8 @@ fn item_text(item: &Option<String>) -> Option<&str>
 
 /// Whether a text is one of a list.
 pub(crate) fn text_among(value: Option<&str>, items: &[Option<String>]) -> bool
-    ensures { result ≡ is_among (slice_cmp nat_cmp) (option_map (λ t. t.now) value.entry) (map optional_text items.now) }
+    ensures { result ≡ is_among (slice_cmp nat_cmp) (option_map (λ t. t.now) value.entry)
+        (map optional_text items.now) }
 {
     for item in items {
         if is_equal(text_order(value, item_text(item))) {

@@ -36,7 +36,8 @@ fn boolean_at(row: &[Value<'_>], place: usize) -> Option<bool>
 
 /// A comparison of truths.
 fn truths_hold(operator: ComparisonOperator, left: Truth, right: Truth) -> Truth
-    ensures { result ≡ truth_of_bool (holds_of operator (compared bool_cmp (option_of_truth left) (option_of_truth right))) }
+    ensures { result ≡ truth_of_bool
+        (holds_of operator (compared bool_cmp (option_of_truth left) (option_of_truth right))) }
 {
     let order = boolean_order(truth_value(left), truth_value(right));
     truth_of(holds(operator, order))
@@ -45,7 +46,8 @@ fn truths_hold(operator: ComparisonOperator, left: Truth, right: Truth) -> Truth
 /// A condition on a row.
 pub fn eval_truth(alloc: Global, expr: &TruthExpr, row: &[Value<'_>]) -> Result<Truth, EvalFault>
     requires { TruthFits (truth_view expr.now) (row_view row.now) }
-    ensures { Evaluates (λ t. t) (truth_outcome (truth_view expr.now) (row_view row.now)) (truth_concatenates (truth_view expr.now)) result }
+    ensures { Evaluates (λ t. t) (truth_outcome (truth_view expr.now) (row_view row.now))
+        (truth_concatenates (truth_view expr.now)) result }
 {
     match expr {
         TruthExpr::Null => Ok(Truth::Null),

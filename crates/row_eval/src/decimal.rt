@@ -44,7 +44,8 @@ pub fn eval_decimal(
     row: &[Value<'_>],
 ) -> Result<Option<i128>, EvalFault>
     requires { DecimalsFit (decimal_view expr.now) (row_view row.now) }
-    ensures { Evaluates (λ n. n) (decimal_outcome (decimal_view expr.now) (row_view row.now)) (decimal_concatenates (decimal_view expr.now)) result }
+    ensures { Evaluates (λ n. n) (decimal_outcome (decimal_view expr.now) (row_view row.now))
+        (decimal_concatenates (decimal_view expr.now)) result }
 {
     match expr {
         DecimalExpr::Null => Ok(None),

@@ -66,7 +66,8 @@ pub fn eval_integer(
     row: &[Value<'_>],
 ) -> Result<Option<i128>, EvalFault>
     requires { IntegersFit (integer_view expr.now) (row_view row.now) }
-    ensures { Evaluates (λ n. n) (integer_outcome (integer_view expr.now) (row_view row.now)) (integer_concatenates (integer_view expr.now)) result }
+    ensures { Evaluates (λ n. n) (integer_outcome (integer_view expr.now) (row_view row.now))
+        (integer_concatenates (integer_view expr.now)) result }
 {
     match expr {
         IntegerExpr::Null => Ok(None),

@@ -38,7 +38,8 @@ fn borrowed<'t>(text: &'t Option<CowStr<'_>>) -> Option<&'t str>
 
 /// `contains`, `startswith` and `endswith`; null beside a null.
 fn test_texts(test: TextTest, text: Option<&str>, part: Option<&str>) -> Option<bool>
-    ensures { result ≡ joined (text_passes_of test) (option_map (λ t. t.now) text.entry) (option_map (λ t. t.now) part.entry) }
+    ensures { result ≡ joined (text_passes_of test) (option_map (λ t. t.now) text.entry)
+        (option_map (λ t. t.now) part.entry) }
 {
     match (text, part) {
         (Some(text), Some(part)) => Some(text_passes(test, text, part)),

@@ -31,7 +31,8 @@ pub fn eval_text<'r>(
     expr: &'r TextExpr,
     row: &'r [Value<'_>],
 ) -> Result<Option<CowStr<'r>>, AllocError>
-    ensures value { IfOk result (λ text. option_map cow_str_bytes text ≡ text_outcome (text_view expr.now) (row_view row.now)) }
+    ensures value { IfOk result (λ text. option_map cow_str_bytes text
+        ≡ text_outcome (text_view expr.now) (row_view row.now)) }
     ensures memory { IsErr result → text_concatenates (text_view expr.now) ≡ true }
 {
     match expr {

@@ -76,7 +76,8 @@ pub fn eval<'r>(
     row: &'r [Value<'_>],
 ) -> Result<Value<'r>, EvalFault>
     requires { NumbersFit (typed_view expr.now) (row_view row.now) }
-    ensures { Evaluates value_view (outcome (typed_view expr.now) (row_view row.now)) (concatenates (typed_view expr.now)) result }
+    ensures { Evaluates value_view (outcome (typed_view expr.now) (row_view row.now))
+        (concatenates (typed_view expr.now)) result }
 {
     match expr {
         TypedExpr::Null => Ok(Value::Null),

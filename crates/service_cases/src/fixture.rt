@@ -39,51 +39,6 @@ fn files(alloc: Global) -> Result<(Vec<u8>, Vec<NamedFile>), AllocError> {
     ))
 }
 
-/// The three tables of the folder `base` of the examples.
-const BASE_META: &str = r#"{"@context":"http://www.w3.org/ns/csvw","tables":[
-{"url":"cities.csv","tableSchema":{"columns":[{"name":"Id","datatype":"integer"},{"name":"Name"},{"name":"Pop","datatype":"integer"},{"name":"Open","datatype":"boolean"},{"name":"Since","datatype":"date"}],"primaryKey":"Id"}},
-{"url":"people.csv","tableSchema":{"columns":[{"name":"Name","titles":"Full name"},{"name":"Age","datatype":"integer"}],"primaryKey":["Name"]}},
-{"url":"codes.csv","tableSchema":{"columns":[{"name":"Id","datatype":"integer"},{"name":"Code","null":"NA"}],"primaryKey":"Id"}}]}
-"#;
-
-fn base_files(alloc: Global) -> Result<(Vec<u8>, Vec<NamedFile>), AllocError> {
-    let cities = named(
-        alloc,
-        "cities.csv",
-        b"Id,Name,Pop,Open,Since\n1,Oslo,700000,true,1048-01-01\n2,\"Foo, \"\"Bar\"\"\",,false,\n3,,5,,2024-02-29\n",
-    )?;
-    let people = named(alloc, "people.csv", b"Full name,Age\nO'Hara,41\n")?;
-    let codes = named(alloc, "codes.csv", b"Id,Code\n1,NA\n2,\n3,\"a,b\"\n")?;
-    Ok((
-        Vec::from_slice(alloc, BASE_META.as_bytes())?,
-        vec![in alloc; cities, people, codes]?,
-    ))
-}
-
-/// The catalog of the folder `base`.
-pub(crate) fn base(alloc: Global) -> Result<Catalog, LoadFault> {
-    let (meta, files) = base_files(alloc).map_err(|_| LoadFault::NoMemory)?;
-    Catalog::load(alloc, Limits::greatest(), meta, files)
-}
-
-/// The catalog of one table `t`.
-pub(crate) fn one_table(alloc: Global, meta: &str, table: &str) -> Result<Catalog, LoadFault> {
-    let (meta, files) = one_file(alloc, meta, table).map_err(|_| LoadFault::NoMemory)?;
-    Catalog::load(alloc, Limits::greatest(), meta, files)
-}
-
-fn one_file(
-    alloc: Global,
-    meta: &str,
-    table: &str,
-) -> Result<(Vec<u8>, Vec<NamedFile>), AllocError> {
-    let file = named(alloc, "t.csv", table.as_bytes())?;
-    Ok((
-        Vec::from_slice(alloc, meta.as_bytes())?,
-        vec![in alloc; file]?,
-    ))
-}
-
 /// The catalog of the two tables.
 pub(crate) fn two(alloc: Global) -> Result<Catalog, LoadFault> {
     let (meta, files) = files(alloc).map_err(|_| LoadFault::NoMemory)?;
@@ -218,58 +173,4 @@ pub(crate) fn check_pieces(
         sink.taken.as_slice() == replies.as_bytes(),
         "{first} and {others} of {stream:?}"
     );
-}
-
-/// Checks a reply and whether it closes: behind one that stays open the table `x` is answered too.
-pub(crate) fn check_reply(
-    rt: &(impl Abort + AllocGlobal),
-    catalog: &Catalog,
-    request: &str,
-    reply: &str,
-    closes: bool,
-) -> Result<(), AllocError> {
-    let alloc = rt.alloc();
-    let stream = format!(in alloc; "{request}{X_REQUEST}")?;
-    let behind = if closes { "" } else { X_REPLY };
-    let replies = format!(in alloc; "{reply}{behind}")?;
-    check_pieces(rt, catalog, stream.as_str(), 4096, 4096, replies.as_str());
-    Ok(())
-}
-
-/// Checks a reply and whether it closes: behind one that stays open the same request is answered again.
-pub(crate) fn check_whole(
-    rt: &(impl Abort + AllocGlobal),
-    catalog: &Catalog,
-    request: &str,
-    reply: &str,
-    closes: bool,
-) -> Result<(), AllocError> {
-    let alloc = rt.alloc();
-    let stream = format!(in alloc; "{request}{request}")?;
-    let behind = if closes { "" } else { reply };
-    let replies = format!(in alloc; "{reply}{behind}")?;
-    check_pieces(rt, catalog, stream.as_str(), 4096, 4096, replies.as_str());
-    Ok(())
-}
-
-/// Checks the bodies, as JSON and as CSV, of the rows of the table `t` that a filter keeps; of all where it is empty.
-pub(crate) fn check_bodies(
-    rt: &(impl Abort + AllocGlobal),
-    catalog: &Catalog,
-    filter: &str,
-    json: &str,
-    csv: &str,
-) -> Result<(), AllocError> {
-    let alloc = rt.alloc();
-    let name = if filter.is_empty() { "" } else { "$filter=" };
-    let json_len = json.len();
-    let csv_len = csv.len();
-    let request = format!(in alloc;
-        "GET /t?{name}{filter} HTTP/1.1\r\nHost: h\r\n\r\nGET /t?$format=text/csv&{name}{filter} HTTP/1.1\r\nHost: h\r\n\r\n"
-    )?;
-    let replies = format!(in alloc;
-        "HTTP/1.1 200 OK\r\nContent-Type: application/json;odata.metadata=none\r\nOData-Version: 4.0\r\nContent-Length: {json_len}\r\n\r\n{json}HTTP/1.1 200 OK\r\nContent-Type: text/csv;charset=utf-8\r\nOData-Version: 4.0\r\nContent-Length: {csv_len}\r\n\r\n{csv}"
-    )?;
-    check_pieces(rt, catalog, request.as_str(), 4096, 4096, replies.as_str());
-    Ok(())
 }

@@ -1,6 +1,7 @@
 //! Streams in any pieces, and heads as their pieces come.
 use crate::fixture::{REST_REPLY, X_REPLY, X_REQUEST, check_pieces, two};
 use odata_http::{Splitter, Unreadable};
+use reply_text::{Code, error_body};
 use std::test::Fail;
 
 /// A request of the tables.
@@ -69,5 +70,12 @@ fn heads_and_rests(rt: HostRuntime) -> Result<(), Fail> {
     assert!(rt; splitter.feed(alloc, b"GET /n")?.is_empty());
     assert_eq!(rt; splitter.end(), Some(Unreadable));
     assert_eq!(rt; splitter.end(), None);
+    Ok(())
+}
+
+#[test]
+fn error_of_a_rest(rt: HostRuntime) -> Result<(), Fail> {
+    let error = error_body(rt.alloc(), Code::BadRequest)?;
+    assert_eq!(rt; error.len(), 70);
     Ok(())
 }

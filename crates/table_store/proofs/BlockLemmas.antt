@@ -35,7 +35,7 @@ part-fewer table first rows most e =
     ap rows_of (take-fewer (drop first table.rows) rows most (omega (arith, left, e)))
 
 -- ---- the cells of a column
-column_of-part : (rows : List (List CellValue)) (first n col : ℕ) → column_of (take n (drop first rows)) col ≡ take n (drop first (column_of rows col))
+pub column_of-part : (rows : List (List CellValue)) (first n col : ℕ) → column_of (take n (drop first rows)) col ≡ take n (drop first (column_of rows col))
 column_of-part rows first n col =
     let cell : List CellValue → CellValue = λ values. get_or values col null in
     sym (take-map cell n (drop first rows)) ∙ ap (take n) (sym (drop-map cell first rows))
@@ -45,7 +45,7 @@ cells_of_type : {X : Type 0} (type : Option X) (f : List CellValue → List Cell
 cells_of_type None f cells = refl
 cells_of_type (Some type) f cells = refl
 
-there : {X : Type 0} (xs : List X) (n : ℕ) → n < length xs → (x : X) × (slice_get xs n ≡ Some x)
+pub there : {X : Type 0} (xs : List X) (n : ℕ) → n < length xs → (x : X) × (slice_get xs n ≡ Some x)
 there [] n h = absurd (omega arith)
 there (x ∷ xs) zero h = (x, refl)
 there (x ∷ xs) (suc n) h = there xs n (omega arith)
@@ -62,7 +62,7 @@ packed_part table typed first n col are within =
     ∙ ap (typed_cells column) (sym (column_of-part table.rows first n col))
     ∙ ap (option_and_then (λ (column : ColumnOf). typed_cells column (column_of (take n (drop first table.rows)) col))) (sym here.1)
 
-typed_is : {X : Type 0} (type : Option X) (kept cells : List CellValue) → option_map (λ t. kept) type ≡ Some cells → kept ≡ cells
+pub typed_is : {X : Type 0} (type : Option X) (kept cells : List CellValue) → option_map (λ t. kept) type ≡ Some cells → kept ≡ cells
 typed_is None kept cells e = cc
 typed_is (Some type) kept cells e = cc
 

@@ -15,3 +15,4 @@ pub mod CatalogLemmas
 pub mod OneMeaning
 pub mod SomeMeaning
 pub mod KeysOfTables
+pub mod SummaryLemmas

@@ -7,6 +7,7 @@ use Rattle.table_store.specs.Values.{rows_in, AllHaveValues, FitsColumns}
 use Rattle.table_store.specs.TypedColumn.{AreTyped}
 use Rattle.table_store.specs.Keys.{keys_view}
 use Rattle.table_store.specs.Fits.{HasTableRows}
+use Rattle.table_store.specs.Summaries.{AreSummariesOf}
 
 abbrev pub table_view : Inside → TableOf
 table_view table = record {
@@ -14,11 +15,12 @@ table_view table = record {
   rows = rows_in (schema_view table.schema).columns table.file.rows;
 }
 
--- the file has the schema's columns, each cell has a value, those that are no texts are kept, the keys are those of the rows, and the
--- values fit their columns
+-- the file has the schema's columns, each cell has a value, those that are no texts are kept, the keys are those of the rows, the
+-- values fit their columns, and each block has its summary
 pub record IsWhole (table : Inside) : Type 0 where
   pub fits : FitsColumns (schema_view table.schema).columns table.file
   pub values : AllHaveValues (schema_view table.schema).columns table.file.rows
   pub typed : AreTyped (schema_view table.schema).columns (rows_in (schema_view table.schema).columns table.file.rows) table.columns.items
   pub keys : keys_view table.keys ≡ keys_of (table_view table)
   pub fit : HasTableRows (table_view table)
+  pub summaries : AreSummariesOf (table_view table) table.summaries.items

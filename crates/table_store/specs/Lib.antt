@@ -7,6 +7,7 @@ pub mod TypedColumn
 pub mod ColumnReader
 pub mod Fits
 pub mod Cursor
+pub mod Summaries
 pub mod Inside
 pub mod Fault
 pub mod Loading

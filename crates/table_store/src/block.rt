@@ -59,7 +59,8 @@ impl<'t> Block<'t> {
         requires row { row < length self.now.rows }
         requires col { col < length self.now.schema.columns }
         ensures { IfOk result (λ value.
-            option_and_then (λ values. slice_get values col) (slice_get self.now.rows row) ≡ Some (value_view value)) }
+            option_and_then (λ values. slice_get values col) (slice_get self.now.rows row)
+            ≡ Some (value_view value)) }
     {
         self.table.value(alloc, self.first + row, col)
     }

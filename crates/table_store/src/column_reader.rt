@@ -81,7 +81,8 @@ impl ColumnReader {
     fn push(&mut self, alloc: Global, number: Option<i64>) -> Result<(), AllocError>
         requires room { length self.old.cells < self.old.rows }
         requires number { ForSome number (IsNumberOf self.old.packed_type) }
-        ensures { OnOk result (self.new ≡ with_cell self.old (cell_of self.old.packed_type number)) }
+        ensures { OnOk result
+            (self.new ≡ with_cell self.old (cell_of self.old.packed_type number)) }
     {
         if self.buffer.len() == BLOCK_ROWS {
             self.blocks.push(self.buffer.pack(alloc)?)?;
@@ -180,7 +181,8 @@ pub fn column_readers(
     rows: usize,
 ) -> Result<Vec<Option<ColumnReader>>, AllocError>
     ensures { IfOk result
-        (λ readers. readers.items ≡ map (λ column. reader_at rows column []) (map column_view columns.now)) }
+        (λ readers. readers.items
+        ≡ map (λ column. reader_at rows column []) (map column_view columns.now)) }
 {
     let mut readers = Vec::with_capacity(alloc, columns.len())?;
     for column in columns {

@@ -5,7 +5,7 @@ ghost use Rattle.cell_types.specs.Value.{value_view};
 ghost use Rattle.table_store.specs.Cursor.{HoldRow};
 ghost use Rattle.table_store.specs.Values.{values_in, HaveValues};
 
-use crate::loading::field_value;
+use crate::field::field_value;
 use crate::typed_column::{TypedColumn, typed_column};
 use cell_types::{Column, Value};
 use csv_index::{Fields, IndexedText};

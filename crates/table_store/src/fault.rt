@@ -144,7 +144,8 @@ fn cell_text(
     name: &str,
 ) -> Result<String, AllocError>
     ensures { IfOk result (λ text. string_bytes text ≡ file_text_of table.now
-        (codes "Cell row " ++ decimal row ++ codes " col " ++ decimal col ++ codes " " ++ name.now)) }
+        (codes "Cell row " ++ decimal row ++ codes " col " ++ decimal col ++ codes " " ++
+        name.now)) }
 {
     let mut cause = String::from_str(alloc, "Cell row ")?;
     push_number(&mut cause, row)?;

@@ -27,7 +27,8 @@ pub(crate) fn take_bytes(alloc: Global, files: &mut Vec<NamedFile>, name: &str) 
 
     // The files of other names are as they were.
     ensures others { (other : List ℕ) → bytes_eq name.now other ≡ false
-        → file_named other (files_view files.new.items) ≡ file_named other (files_view files.old.items) }
+        → file_named other (files_view files.new.items)
+        ≡ file_named other (files_view files.old.items) }
 {
     let place = first_named(files.as_slice(), name)?;
     let file = &mut files[place];

@@ -53,7 +53,8 @@ impl KeyReader {
         requires { AreColumns (schema_view schema.now).key (schema_view schema.now).columns }
         ensures read { IfOk result (λ reader. HasRead reader []) }
         ensures suits { IfOk result (λ reader. (fields : List RawField)
-            → Suits reader.keys (row_key (schema_view schema.now).key (values_in (schema_view schema.now).columns fields))) }
+            → Suits reader.keys (row_key (schema_view schema.now).key
+            (values_in (schema_view schema.now).columns fields))) }
         ensures room { IfOk result (λ reader. HasRoom reader.keys rows) }
     {
         cell_types::values_fit_columns();
@@ -151,7 +152,8 @@ impl Keys {
         ensures new { IfOk result (λ is. is ≡ not (list_any
             (key_eq (row_key places.now (map value_view values.now))) (keys_view self.old))) }
         ensures keys { IfOk result (λ is. is ≡ true
-            → keys_view self.new ≡ keys_view self.old ++ row_key places.now (map value_view values.now) ∷ []) }
+            → keys_view self.new
+            ≡ keys_view self.old ++ row_key places.now (map value_view values.now) ∷ []) }
         ensures suits { (key : List CellValue) → Suits self.old key → Suits self.new key }
     {
         match self {

@@ -10,9 +10,12 @@ mod catalog;
 mod column_reader;
 mod cursor;
 mod fault;
+mod field;
 mod file;
+mod header;
 mod keys;
 mod loading;
+mod summaries;
 mod table;
 mod typed_column;
 

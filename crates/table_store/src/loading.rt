@@ -1,12 +1,10 @@
 //! The steps of loading a table from its file: the header against the columns, and then each cell.
-ghost use Rattle.std.specs.Prelude.{◌≡◌, ◌≤◌, ◌⊎◌, ◌==◌, List, true, None, Some, Ok, Err, IfOk, IfErr, IfNone, IfSome, OnOk, length, take, drop, map, option_map, string_bytes};
+ghost use Rattle.std.specs.Prelude.{◌≡◌, ◌≤◌, ◌⊎◌, ◌==◌, true, None, Some, Ok, Err, IfOk, IfErr, IfSome, OnOk, length, take, drop, map, option_map};
 ghost use Rattle.std.specs.List.{list_all, list_any};
-ghost use Rattle.std.specs.Str.{bytes_eq};
 ghost use Rattle.cell_types.specs.Value.{value_view};
 ghost use Rattle.cell_types.specs.Column.{column_view, takes_all_texts};
 ghost use Rattle.csv_index.specs.Raw.{raw_view};
 ghost use Rattle.csvw_meta.specs.Schema.{schema_view};
-ghost use Rattle.table_store.specs.Table.{is_called as is_called_by};
 ghost use Rattle.table_store.specs.Fault.{bad_cell, cell_cause};
 ghost use Rattle.table_store.specs.File.{file_bytes};
 ghost use Rattle.table_store.specs.Catalog.{HasTableCause};
@@ -14,12 +12,14 @@ ghost use Rattle.table_store.specs.ColumnReader.{read_on, AreReadOn, HasReader, 
 ghost use Rattle.table_store.specs.Keys.{AreKeysOf};
 ghost use Rattle.table_store.specs.TypedColumn.{AreTyped};
 ghost use Rattle.table_store.specs.Values.{rows_in, value_in, value_or_null, values_in, FitsColumns, HasValue};
-ghost use Rattle.table_store.specs.Loading.{mismatch_of, keys_at, bad_cell_of, table_cause, HasFileCause, HasKeyColumns, HasRowsCause, IsBadCell, IsTableAt, IsTableOf, ReadsAs};
+ghost use Rattle.table_store.specs.Loading.{keys_at, bad_cell_of, table_cause, HasFileCause, HasKeyColumns, HasRowsCause, IsBadCell, IsTableAt, IsTableOf, ReadsAs};
 
 use crate::column_reader::{ColumnReader, column_readers, columns_read, number_value};
+use crate::field::cell_value;
+use crate::header::first_mismatch;
 use crate::keys::{KeyFault, KeyReader, Keys};
 use crate::typed_column::TypedColumn;
-use cell_types::{CellFault, Column, Value, read_text};
+use cell_types::{CellFault, Column, Value};
 use csv_index::{Fields, IndexedText, Raw, TextFault};
 use csvw_meta::Schema;
 use std::alloc::{AllocError, Global};
@@ -49,77 +49,6 @@ pub enum TableFault {
     Key(KeyFault),
     /// Memory ran out.
     NoMemory,
-}
-
-/// Whether a text is among some titles.
-fn is_title(titles: &[String], text: &str) -> bool
-    ensures { result ≡ list_any (λ title. bytes_eq (string_bytes title) text.now) titles.now }
-{
-    titles.iter().any(|title| title.as_str() == text)
-}
-
-/// Whether a header cell of a column may be that text.
-fn is_called(column: &Column, text: &str) -> bool
-    ensures { result ≡ is_called_by (column_view column.now) text.now }
-{
-    column.name.as_str() == text || is_title(column.titles.as_slice(), text)
-}
-
-/// The first place where a column and a header cell do not match or one is missing.
-fn first_mismatch(
-    alloc: Global,
-    columns: &[Column],
-    file: &IndexedText,
-) -> Result<Option<usize>, AllocError>
-    ensures { IfOk result (λ place.
-        place ≡ mismatch_of (map column_view columns.now) file.now.header) }
-{
-    let width = file.width();
-    for (col, column) in columns.iter().enumerate() {
-        if col >= width {
-            return Ok(Some(col));
-        }
-        let text = file.header(col).text(alloc)?;
-        if !is_called(column, text.as_str()) {
-            return Ok(Some(col));
-        }
-    }
-    if columns.len() < width {
-        return Ok(Some(columns.len()));
-    }
-    Ok(None)
-}
-
-/// The value of a field in a column.
-pub fn cell_value<'a>(alloc: Global, column: &Column, raw: Raw<'a>) -> Result<Value<'a>, CellFault>
-    ensures value { IfOk result (λ value.
-        value_in (column_view column.now, raw_view raw.entry) ≡ Ok (value_view value)) }
-    ensures fault { IfErr result (λ e. (e ≡ CellFault.NoMemory)
-        ⊎ (value_in (column_view column.now, raw_view raw.entry) ≡ Err e)) }
-{
-    match raw.text(alloc) {
-        Ok(text) => read_text(alloc, column, text),
-        Err(_) => Err(CellFault::NoMemory),
-    }
-}
-
-/// The value of a field in a column, which has one there.
-pub fn field_value<'a>(
-    alloc: Global,
-    column: &Column,
-    raw: Raw<'a>,
-) -> Result<Value<'a>, AllocError>
-    requires { HasValue (column_view column.now) (raw_view raw) }
-    ensures { IfOk result (λ value.
-        value_view value ≡ value_or_null (value_in (column_view column.now, raw_view raw.entry))) }
-{
-    match cell_value(alloc, column, raw) {
-        Ok(value) => Ok(value),
-        Err(fault) => match fault {
-            CellFault::NoMemory => Err(AllocError),
-            _ => unreachable!(),
-        },
-    }
 }
 
 /// Whether a column is one of those places.

@@ -11,15 +11,18 @@ ghost use Rattle.table_store.specs.Catalog.{HasTable};
 ghost use Rattle.table_store.specs.File.{file_bytes};
 ghost use Rattle.table_store.specs.Key.{row_of};
 ghost use Rattle.table_store.specs.Loading.{table_cause, HasKeyColumns, IsRefusedTable};
+ghost use Rattle.table_store.specs.Summaries.{AreSummariesOf};
 ghost use Rattle.table_store.specs.Table.{keys_of};
 
 use crate::block::Block;
 use crate::cursor::RowCursor;
 use crate::fault::LoadFault;
+use crate::field::field_value;
 use crate::keys::{KeyFault, Keys};
-use crate::loading::{BadCell, TableFault, field_value, read_table};
+use crate::loading::{BadCell, TableFault, read_table};
+use crate::summaries::summaries_of;
 use crate::typed_column::{TypedColumn, typed_column};
-use block_summary::{BLOCK_ROWS, PackedColumn};
+use block_summary::{BLOCK_ROWS, PackedColumn, Summary};
 use cell_types::Value;
 use csv_index::IndexedText;
 use csvw_meta::Schema;
@@ -34,6 +37,8 @@ pub struct Table {
     /// The columns, but nothing for one of texts.
     columns: Vec<Option<TypedColumn>>,
     keys: Keys,
+    /// Of each block of rows.
+    summaries: Vec<Summary>,
 }
 
 impl Model for Table {
@@ -84,7 +89,8 @@ impl Table {
         requires row { row < length self.now.rows }
         requires col { col < length self.now.schema.columns }
         ensures { IfOk result (λ value.
-            option_and_then (λ values. slice_get values col) (slice_get self.now.rows row) ≡ Some (value_view value)) }
+            option_and_then (λ values. slice_get values col) (slice_get self.now.rows row)
+            ≡ Some (value_view value)) }
     {
         match typed_column(self.columns.as_slice(), col) {
             Some(column) => Ok(column.value(row)),
@@ -97,6 +103,13 @@ impl Table {
         ensures { result ≡ block_count (length self.now.rows) }
     {
         self.rows().div_ceil(BLOCK_ROWS)
+    }
+
+    /// The summary of each block: the range of each of its columns.
+    pub fn summary(&self) -> &[Summary]
+        ensures { AreSummariesOf self.now result.now }
+    {
+        self.summaries.as_slice()
     }
 
     /// The block of a number, counted from 0.
@@ -180,14 +193,19 @@ impl Table {
         ensures memory { IfErr result (λ e. load_cause e ≡ None → e ≡ LoadFault.NoMemory) }
     {
         cell_types::values_fit_columns();
-        match read_table(alloc, limit, &schema, file) {
-            Ok((file, columns, keys)) => Ok(Table {
+        let (file, columns, keys) = match read_table(alloc, limit, &schema, file) {
+            Ok(parts) => parts,
+            Err(fault) => return Err(fault_of(schema.url, fault)),
+        };
+        match summaries_of(alloc, &schema, columns.as_slice(), &file) {
+            Ok(summaries) => Ok(Table {
                 schema,
                 file,
                 columns,
                 keys,
+                summaries,
             }),
-            Err(fault) => Err(fault_of(schema.url, fault)),
+            Err(_) => Err(LoadFault::NoMemory),
         }
     }
 }

@@ -1,10 +1,10 @@
 use Rattle.std.proofs.Common.{◌≡◌, sym, ap, subst, ◌∙◌}
 use Rattle.row_eval.specs.declared.truth.Truth.TheVariants.{False, True}
-use Rattle.odata_types.specs.TypedTree.{conjunction, disjunction, negation, truth_view}
+use Rattle.odata_types.specs.TypedTree.{compare_truths, conjunction, disjunction, negation, truth_in, truth_view}
 use Rattle.row_eval.specs.Outcome.{truth_outcome}
-use Rattle.block_eval.specs.Columns.{row_at}
 use Rattle.block_eval.specs.Lanes.{AreAsked, AreOutcomes}
 use Rattle.block_eval.proofs.LogicLemmas.{both-gives, either-gives, opposite-gives}
+use Rattle.block_eval.proofs.TruthLemmas.{among-gives, compared-gives}
 use Rattle.block_eval.proofs.block.+eval_block.Goals as goal
 
 pub returns-in_ok-right-in-And : goal.returns-in_ok-right-in-And
@@ -22,7 +22,7 @@ returns-in_ok-right-in-And t c =
     let e : conjunction l r ≡ truth_view c.args.expr.now =
     ap (λ x. conjunction x r) (ap truth_view c.deref-in-And.ensures) ∙ ap (conjunction (truth_view c.in-And.left.value)) (ap truth_view c.deref-in-And-2.ensures) ∙ sym is in
     subst (λ tree. AreOutcomes tree columns wanted c.conjunction.result.items) e
-    (both-gives (λ row. truth_outcome l (row_at columns row)) (λ row. truth_outcome r (row_at columns row)) wanted asked ls rs c.conjunction.result.items c.in_ok-left-in-And.ensures open_rows right c.conjunction.ensures)
+    (both-gives (truth_outcome l) (truth_outcome r) columns wanted asked ls rs c.conjunction.result.items c.in_ok-left-in-And.ensures open_rows right c.conjunction.ensures)
 
 pub returns-in_ok-right-in-Or : goal.returns-in_ok-right-in-Or
 returns-in_ok-right-in-Or t c =
@@ -39,7 +39,7 @@ returns-in_ok-right-in-Or t c =
     let e : disjunction l r ≡ truth_view c.args.expr.now =
     ap (λ x. disjunction x r) (ap truth_view c.deref-in-Or.ensures) ∙ ap (disjunction (truth_view c.in-Or.left.value)) (ap truth_view c.deref-in-Or-2.ensures) ∙ sym is in
     subst (λ tree. AreOutcomes tree columns wanted c.disjunction.result.items) e
-    (either-gives (λ row. truth_outcome l (row_at columns row)) (λ row. truth_outcome r (row_at columns row)) wanted asked ls rs c.disjunction.result.items c.in_ok-left-in-Or.ensures open_rows right c.disjunction.ensures)
+    (either-gives (truth_outcome l) (truth_outcome r) columns wanted asked ls rs c.disjunction.result.items c.in_ok-left-in-Or.ensures open_rows right c.disjunction.ensures)
 
 pub returns-in_ok-truths-in-Not : goal.returns-in_ok-truths-in-Not
 returns-in_ok-truths-in-Not t c =
@@ -48,4 +48,28 @@ returns-in_ok-truths-in-Not t c =
     let a = truth_view c.deref.result.now in
     let e : negation a ≡ truth_view c.args.expr.now = ap negation (ap truth_view c.deref.ensures) ∙ sym (ap truth_view c.in-Not.is) in
     subst (λ tree. AreOutcomes tree columns wanted c.negation.result.items) e
-    (opposite-gives (λ row. truth_outcome a (row_at columns row)) wanted c.in_ok-truths-in-Not.truths.items c.negation.result.items c.in_ok-truths-in-Not.ensures c.negation.ensures)
+    (opposite-gives (truth_outcome a) columns wanted c.in_ok-truths-in-Not.truths.items c.negation.result.items c.in_ok-truths-in-Not.ensures c.negation.ensures)
+
+pub returns-in_ok-truths-in-CompareTruths : goal.returns-in_ok-truths-in-CompareTruths
+returns-in_ok-truths-in-CompareTruths t c =
+    let columns = c.args.columns.now in
+    let wanted = c.args.wanted.now in
+    let o = c.in-CompareTruths.operator in
+    let l = truth_view c.deref-in-CompareTruths.result.now in
+    let r = truth_view c.deref-in-CompareTruths-2.result.now in
+    let e : compare_truths o l r ≡ truth_view c.args.expr.now =
+    ap (λ x. compare_truths o x r) (ap truth_view c.deref-in-CompareTruths.ensures) ∙ ap (compare_truths o (truth_view c.in-CompareTruths.left.value)) (ap truth_view c.deref-in-CompareTruths-2.ensures) ∙ sym (ap truth_view c.in-CompareTruths.is) in
+    subst (λ tree. AreOutcomes tree columns wanted c.in_ok-truths-in-CompareTruths.truths.items) e
+    (compared-gives o (truth_outcome l) (truth_outcome r) columns wanted c.in_ok-left-in-CompareTruths.left.items c.in_ok-right-in-CompareTruths.right.items c.as_slice-in-CompareTruths.result.now c.as_slice-in-CompareTruths-2.result.now
+    c.in_ok-truths-in-CompareTruths.truths.items c.as_slice-in-CompareTruths.ensures.value c.as_slice-in-CompareTruths-2.ensures.value c.in_ok-left-in-CompareTruths.ensures c.in_ok-right-in-CompareTruths.ensures c.in_ok-truths-in-CompareTruths.ensures)
+
+pub returns-in_ok-found-in-TruthIn : goal.returns-in_ok-found-in-TruthIn
+returns-in_ok-found-in-TruthIn t c =
+    let columns = c.args.columns.now in
+    let wanted = c.args.wanted.now in
+    let items = c.deref-in-TruthIn-2.result.now in
+    let a = truth_view c.deref-in-TruthIn.result.now in
+    let found = c.in_ok-found-in-TruthIn.found.items in
+    let e : truth_in a items ≡ truth_view c.args.expr.now = ap (truth_in a) c.deref-in-TruthIn-2.ensures.value ∙ ap (λ x. truth_in x c.in-TruthIn.items.items) (ap truth_view c.deref-in-TruthIn.ensures) ∙ sym (ap truth_view c.in-TruthIn.is) in
+    subst (λ tree. AreOutcomes tree columns wanted found) e
+    (among-gives (truth_outcome a) columns wanted c.in_ok-truths-in-TruthIn.truths.items c.as_slice-in-TruthIn.result.now found items c.as_slice-in-TruthIn.ensures.value c.in_ok-truths-in-TruthIn.ensures c.in_ok-found-in-TruthIn.ensures)

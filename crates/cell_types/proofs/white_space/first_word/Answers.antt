@@ -3,7 +3,7 @@ use Rattle.std.proofs.Common.{◌≡◌, ◌<◌, ◌∷◌, length, drop, arith
 use Rattle.std.proofs.lemmas.Bool.{eqb-true, eqb-false}
 use Rattle.std.specs.List.{prefix_len, position_or_len}
 use Rattle.cell_types.specs.WhiteSpace.{is_white, words}
-use Rattle.cell_types.proofs.WhiteSpaceLemmas.{boundary-white, boundary-word, words-parts, words-none}
+use Rattle.cell_types.proofs.WordLemmas.{boundary-white, boundary-word, words-parts, words-none}
 use Rattle.cell_types.proofs.white_space.first_word.Goals as goal
 
 pub split_at-requires : goal.split_at-requires

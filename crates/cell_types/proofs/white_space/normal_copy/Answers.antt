@@ -1,6 +1,6 @@
 -- Before the first word.
 use Rattle.std.proofs.Common.{length, string_bytes, ap}
-use Rattle.cell_types.proofs.WhiteSpaceLemmas.{text_before-empty}
+use Rattle.cell_types.proofs.WordLemmas.{text_before-empty}
 use Rattle.cell_types.proofs.white_space.normal_copy.Goals as goal
 
 pub loop-word-init : goal.loop-word-init

@@ -2,7 +2,7 @@ use Rattle.std.proofs.Common.{◌≡◌, length, string_bytes}
 use denote.Shadow.{shadow}
 use denote.Text.{Utf8}
 use Rattle.cell_types.specs.WhiteSpace.{words, normal_text}
-use Rattle.cell_types.proofs.WhiteSpaceLemmas.{text_before}
+use Rattle.cell_types.proofs.WordLemmas.{text_before}
 use Rattle.cell_types.proofs.white_space.normal_copy.Given as goal
 
 abbrev pub invariant-loop-word : goal.invariant-loop-word

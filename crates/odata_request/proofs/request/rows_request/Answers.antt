@@ -1,6 +1,6 @@
 use Rattle.std.proofs.Common.{Ok, option_map}
 use Rattle.csvw_meta.specs.Schema.{schema_view}
-use Rattle.odata_types.specs.Query.{query_typed_view}
+use Rattle.odata_query.specs.Query.{query_typed_view}
 use Rattle.odata_request.specs.Request.{AsksRows}
 use Rattle.odata_request.proofs.RowsLemmas.{asks_rows, made_on, refused_rows, table_at}
 use Rattle.odata_request.proofs.request.rows_request.Goals as goal

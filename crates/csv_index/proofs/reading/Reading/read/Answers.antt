@@ -4,7 +4,8 @@ use Rattle.lane_class.specs.Classes.{AreClasses}
 use Rattle.std.proofs.lemmas.Nat.Bits.{shr_and_one}
 use Rattle.csv_index.specs.Reading.{HasRead}
 use Rattle.csv_index.proofs.Bits.{ends_within}
-use Rattle.csv_index.proofs.ReadingLemmas.{StepsTo, steps_to, lowest_within, read_fault, has_read_more}
+use Rattle.csv_index.proofs.NextBlocks.{StepsTo, steps_to, lowest_within, read_fault}
+use Rattle.csv_index.proofs.ReadingLemmas.{has_read_more}
 use Rattle.csv_index.proofs.reading.Reading.read.Goals.{After-step-carry}
 use Rattle.csv_index.proofs.reading.Reading.read.Goals as goal
 

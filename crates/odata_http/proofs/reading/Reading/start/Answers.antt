@@ -1,7 +1,7 @@
 use Rattle.std.proofs.Common.{ap, ◌∙◌, sym, refl, subst}
 use Rattle.csvw_meta.specs.Schema.{SchemaOf, schema_view}
 use Rattle.table_store.specs.Table.{TableOf}
-use Rattle.odata_types.specs.Query.{query_typed_view}
+use Rattle.odata_query.specs.Query.{query_typed_view}
 use Rattle.odata_types.specs.Schema.{inputs_of}
 use Rattle.query_plan.specs.Plan.{IsFit, plan_view}
 use Rattle.odata_request.specs.Request.{rows_view}
@@ -18,5 +18,5 @@ start-requires c =
 pub returns-in-Ok : goal.returns-in-Ok
 returns-in-Ok c =
     starts c.args.catalog.now.tables c.tables.result.now (rows_view c.args.asked) c.args.asked.table c.index-tables-asked.result c.requires.table (schema_view c.schema.result.now) _
-    (plan_view c.in_ok-plan.plan) c.blocks-blocks.result c.requires.table_is refl c.tables.ensures c.index-tables-asked.is c.schema.ensures c.blocks-blocks.ensures c.in_ok-plan.ensures.plan
+    (plan_view c.in_ok-plan.plan) c.summary-summaries.result.now c.requires.table_is refl c.tables.ensures c.index-tables-asked.is c.schema.ensures c.summary-summaries.ensures c.in_ok-plan.ensures.plan
     refl refl c.max.ensures c.in-Ok.ensures.stands

@@ -18,8 +18,9 @@ invariant_of-result c =
     let read = c.in-Ok.ensures.read in
     let size : length read.0 ≤ 2 ^ 30 = omega (arith, read.1.1, c.requires.limit) in record {
       fits = read.2.fits;
+      summaries = c.in-Ok-summaries_of.ensures;
       values = read.2.values;
       typed = c.in-Ok.ensures.columns;
       keys = c.in-Ok.ensures.keys.are;
-      fit = table-fits c.values_fit_columns.ensures columns read.0 c.in-Ok.file size c.requires.defaults read.2;
+      fit = table-fits c.values_fit_columns.ensures columns read.0 c.in-Ok.parts.0 size c.requires.defaults read.2;
     }

@@ -1,0 +1,12 @@
+use Rattle.std.proofs.Common.{refl, slice_get}
+use Rattle.block_eval.proofs.NumberLemmas.{found-column}
+use Rattle.block_eval.proofs.texts.texts_in.Goals as goal
+
+pub returns : goal.returns
+returns c =
+    let columns = c.args.columns.now in
+    let column = c.in-Some.column.now in
+    let is = found-column columns c.args.place column column c.in-Some.ensures.lookup.3.0 c.in-Some.ensures.lookup.1 refl in record {
+      each = λ row cells h at. c.in_ok-texts.ensures.each row (slice_get cells c.args.place) (at.each c.args.place column is);
+      long = c.in_ok-texts.ensures.long;
+    }

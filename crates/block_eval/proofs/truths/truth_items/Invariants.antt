@@ -1,0 +1,7 @@
+use Rattle.std.proofs.Common.{◌≡◌, map, take}
+use Rattle.std.specs.Prelude.{option_map}
+use Rattle.block_eval.specs.Truths.{number_of_truth}
+use Rattle.block_eval.proofs.truths.truth_items.Given as goal
+
+abbrev pub invariant-loop-item : goal.invariant-loop-item
+invariant-loop-item l = l.numbers.items ≡ map (option_map number_of_truth) (take l.item-index l.items)

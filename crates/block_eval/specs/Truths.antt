@@ -1,0 +1,15 @@
+-- Truths of a block by their numbers: false is 0, and true 1.
+use Rattle.std.specs.Prelude.{◌≡◌, ◌<◌, ℕ, ℤ, pos, Bool, true, false, List, length, option_map}
+use Rattle.row_eval.specs.declared.truth.Truth.{Truth}
+use Rattle.row_eval.specs.Logic.{option_of_truth}
+use Rattle.block_lanes.specs.declared.numbers.Numbers.{Numbers}
+use Rattle.block_eval.specs.Lanes.{number_lane, truth_lane, AreLong}
+
+abbrev pub number_of_truth : Bool → ℤ
+number_of_truth true = pos 1
+number_of_truth false = pos 0
+
+-- the lanes are the numbers of truths, and null where these are null
+pub record AreTruthNumbers (truths : List Truth) (v : Numbers) : Type 0 where
+  pub each : (row : ℕ) → row < length truths → number_lane v row ≡ option_map number_of_truth (option_of_truth (truth_lane truths row))
+  pub long : AreLong (length truths) v

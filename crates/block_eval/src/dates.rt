@@ -1,0 +1,77 @@
+//! Dates on the rows of a block, by the numbers of their days.
+
+ghost use Rattle.std.specs.Prelude.{◌≡◌, IfOk};
+ghost use Rattle.odata_types.specs.TypedTree.{compare_dates as dates_compared, date_view, day_view};
+ghost use Rattle.row_eval.specs.Row.{cell, day_in};
+ghost use Rattle.block_eval.specs.Dates.{day_of, AreDays, GivesDays};
+ghost use Rattle.block_eval.specs.Lanes.{AreOutcomes};
+
+use crate::columns::Column;
+use block_lanes::{Fallback, Numbers, cells, compare};
+use block_summary::{PackedType, day_number};
+use jiff::civil::Date;
+use odata_parse::tree::ComparisonOperator;
+use odata_types::DateExpr;
+use row_eval::Truth;
+use std::alloc::Global;
+
+/// The number of a day.
+pub fn number_of(day: Date) -> i64
+    ensures { day_of result ≡ day_view day }
+{
+    day_number(day)
+}
+
+/// The days of a column.
+fn days_in<'a>(
+    columns: &[Column<'a>],
+    place: usize,
+    wanted: &[bool],
+) -> Result<Numbers<'a>, Fallback>
+    ensures { IfOk result (GivesDays (λ cells. cell day_in cells place) columns.now wanted.now) }
+{
+    match columns.get(place) {
+        Some(Column::Numbers(PackedType::Date, values, nulls)) => {
+            let numbers = cells(values, nulls, wanted.len())?;
+            Ok(numbers)
+        }
+        _ => Err(Fallback),
+    }
+}
+
+/// The days of an expression on the wanted rows of a block.
+pub fn eval_dates<'a>(
+    expr: &DateExpr,
+    columns: &[Column<'a>],
+    wanted: &[bool],
+) -> Result<Numbers<'a>, Fallback>
+    ensures { IfOk result (AreDays (date_view expr.now) columns.now wanted.now) }
+{
+    match expr {
+        DateExpr::Null => Ok(Numbers::Null),
+        DateExpr::Column(place) => {
+            let numbers = days_in(columns, *place, wanted)?;
+            Ok(numbers)
+        }
+        DateExpr::Literal(day) => Ok(Numbers::Same(number_of(*day))),
+    }
+}
+
+/// Whether a comparison holds between dates, on the wanted rows of a block.
+pub fn compare_dates(
+    alloc: Global,
+    operator: ComparisonOperator,
+    left: &DateExpr,
+    right: &DateExpr,
+    columns: &[Column<'_>],
+    wanted: &[bool],
+) -> Result<Vec<Truth>, Fallback>
+    ensures { IfOk result (λ truths. AreOutcomes
+        (dates_compared operator (date_view left.now) (date_view right.now)) columns.now wanted.now
+        truths.items) }
+{
+    let left = eval_dates(left, columns, wanted)?;
+    let right = eval_dates(right, columns, wanted)?;
+    let truths = compare(alloc, operator, &left, &right, wanted.len())?;
+    Ok(truths)
+}

@@ -1,0 +1,59 @@
+//! Conditions that have no condition as a part.
+
+ghost use Rattle.std.specs.Prelude.{◌≡◌, IfOk};
+ghost use Rattle.odata_types.specs.TypedTree.{truth_view};
+ghost use Rattle.block_eval.specs.Lanes.{AreOutcomes};
+
+use crate::columns::Column;
+use crate::comparison::{compare_decimals, compare_integers};
+use crate::dates::compare_dates;
+use crate::lists::{dates_in, decimals_in, integers_in, texts_in};
+use crate::relation::{compare_texts, test_texts};
+use crate::truths::truths_in;
+use block_lanes::{Fallback, same_truth};
+use odata_types::TruthExpr;
+use row_eval::{Truth, truth_of};
+use std::alloc::Global;
+
+/// The truths of such a condition on the wanted rows of a block; for any other it falls back.
+pub fn eval_leaf(
+    alloc: Global,
+    expr: &TruthExpr,
+    columns: &[Column<'_>],
+    wanted: &[bool],
+) -> Result<Vec<Truth>, Fallback>
+    ensures { IfOk result
+        (λ truths. AreOutcomes (truth_view expr.now) columns.now wanted.now truths.items) }
+{
+    match expr {
+        TruthExpr::Null => {
+            let truths = same_truth(alloc, Truth::Null, wanted)?;
+            Ok(truths)
+        }
+        TruthExpr::Literal(value) => {
+            let truths = same_truth(alloc, truth_of(*value), wanted)?;
+            Ok(truths)
+        }
+        TruthExpr::Column(place) => truths_in(alloc, columns, *place, wanted),
+        TruthExpr::CompareIntegers(operator, left, right) => {
+            compare_integers(alloc, *operator, left, right, columns, wanted)
+        }
+        TruthExpr::CompareDecimals(operator, left, right) => {
+            compare_decimals(alloc, *operator, left, right, columns, wanted)
+        }
+        TruthExpr::CompareTexts(operator, left, right) => {
+            compare_texts(alloc, *operator, left, right, columns, wanted)
+        }
+        TruthExpr::CompareDates(operator, left, right) => {
+            compare_dates(alloc, *operator, left, right, columns, wanted)
+        }
+        TruthExpr::TestText(test, text, part) => {
+            test_texts(alloc, *test, text, part, columns, wanted)
+        }
+        TruthExpr::IntegerIn(operand, items) => integers_in(alloc, operand, items, columns, wanted),
+        TruthExpr::DecimalIn(operand, items) => decimals_in(alloc, operand, items, columns, wanted),
+        TruthExpr::TextIn(operand, items) => texts_in(alloc, operand, items, columns, wanted),
+        TruthExpr::DateIn(operand, items) => dates_in(alloc, operand, items, columns, wanted),
+        _ => Err(Fallback),
+    }
+}

@@ -1,0 +1,239 @@
+//! Lists of values on the rows of a block (`in`, OData 4.01 URL Conventions, section 5.1.1.1.12): a value is in a list where it equals one
+//! of the items. The value is evaluated once.
+
+ghost use Rattle.std.specs.Prelude.{◌≡◌, ℕ, Option, ℤ, IfOk, length, map, option_map};
+ghost use Rattle.std.specs.Cmp.Lexicographic.{slice_cmp};
+ghost use Rattle.std.specs.Ordering.{int_cmp, nat_cmp};
+ghost use Rattle.odata_types.specs.TypedTree.{date_in as date_in_of, date_view, decimal_in as decimal_in_of, decimal_view, integer_in as integer_in_of, integer_view, optional_day, optional_text, text_in as text_in_of, text_view};
+ghost use Rattle.row_eval.specs.Comparison.{is_among};
+ghost use Rattle.row_eval.specs.Logic.{greatest, truth_of};
+ghost use Rattle.block_eval.specs.Dates.{day_of};
+ghost use Rattle.block_eval.specs.Lanes.{comparison, number_lane, truth_lane, AreLong, AreOutcomes, HasTruths};
+ghost use Rattle.block_eval.specs.Texts.{text_lane, AreAmong, AreFoundOrEqual, AreTextsLong};
+
+use crate::columns::Column;
+use crate::dates::{eval_dates, number_of};
+use crate::numbers::{eval_decimals, eval_integers};
+use crate::relation::{TextRelation, relate};
+use crate::texts::{Texts, eval_texts};
+use block_lanes::{Fallback, Numbers, compare, disjunction};
+use jiff::civil::Date;
+use odata_parse::tree::ComparisonOperator;
+use odata_types::{DateExpr, DecimalExpr, IntegerExpr, TextExpr};
+use row_eval::Truth;
+use std::alloc::Global;
+
+/// An item on each row.
+fn item_of<'a>(item: Option<i64>) -> Numbers<'a>
+    ensures lane { (row : ℕ) → number_lane result row ≡ item }
+    ensures long { (rows : ℕ) → AreLong rows result }
+{
+    match item {
+        Some(number) => Numbers::Same(number),
+        None => Numbers::Null,
+    }
+}
+
+/// Which numbers were found in the items before, or equal this one.
+fn with_item(
+    alloc: Global,
+    found: Vec<Truth>,
+    numbers: &Numbers<'_>,
+    item: Option<i64>,
+    rows: usize,
+) -> Result<Vec<Truth>, Fallback>
+    requires numbers { AreLong rows numbers.now }
+    requires found { length found.items ≡ rows }
+    ensures { IfOk result (λ more. HasTruths rows
+        (λ row. greatest (truth_lane found.items row)
+        (comparison ComparisonOperator.Equal (number_lane numbers.now row) item)) more.items) }
+{
+    let side = item_of(item);
+    let equal = compare(alloc, ComparisonOperator::Equal, numbers, &side, rows)?;
+    Ok(disjunction(found, equal))
+}
+
+/// Which numbers are in a list.
+pub fn among(
+    alloc: Global,
+    numbers: &Numbers<'_>,
+    items: &[Option<i64>],
+    rows: usize,
+) -> Result<Vec<Truth>, Fallback>
+    requires { AreLong rows numbers.now }
+    ensures { IfOk result (λ truths. HasTruths rows
+        (λ row. truth_of (is_among int_cmp (number_lane numbers.now row) items.now)) truths.items) }
+{
+    let mut truths = Vec::from_elem(alloc, Truth::False, rows)?;
+    for item in items {
+        truths = with_item(alloc, truths, numbers, *item, rows)?;
+    }
+    Ok(truths)
+}
+
+/// An item, where it fits.
+fn number_item(item: Option<i128>) -> Result<Option<i64>, Fallback>
+    ensures { IfOk result (λ number. number ≡ item) }
+{
+    match item {
+        None => Ok(None),
+        Some(number) => match i64::try_from(number) {
+            Ok(number) => Ok(Some(number)),
+            Err(_) => Err(Fallback),
+        },
+    }
+}
+
+/// The items, where each fits.
+fn number_items(alloc: Global, items: &[Option<i128>]) -> Result<Vec<Option<i64>>, Fallback>
+    ensures { IfOk result (λ numbers. numbers.items ≡ items.now) }
+{
+    let mut numbers = Vec::with_capacity(alloc, items.len())?;
+    for item in items {
+        let number = number_item(*item)?;
+        if numbers.push(number).is_err() {
+            return Err(Fallback);
+        }
+    }
+    Ok(numbers)
+}
+
+/// The number of a day.
+fn day_item(item: Option<Date>) -> Option<i64>
+    ensures { option_map day_of result ≡ optional_day item }
+{
+    match item {
+        Some(day) => Some(number_of(day)),
+        None => None,
+    }
+}
+
+/// The numbers of days.
+fn day_items(alloc: Global, items: &[Option<Date>]) -> Result<Vec<Option<i64>>, Fallback>
+    ensures { IfOk result
+        (λ numbers. map (option_map day_of) numbers.items ≡ map optional_day items.now) }
+{
+    let mut numbers = Vec::with_capacity(alloc, items.len())?;
+    for item in items {
+        if numbers.push(day_item(*item)).is_err() {
+            return Err(Fallback);
+        }
+    }
+    Ok(numbers)
+}
+
+/// Whether integers are in a list, on the wanted rows of a block.
+pub fn integers_in(
+    alloc: Global,
+    operand: &IntegerExpr,
+    items: &[Option<i128>],
+    columns: &[Column<'_>],
+    wanted: &[bool],
+) -> Result<Vec<Truth>, Fallback>
+    ensures { IfOk result (λ truths. AreOutcomes
+        (integer_in_of (integer_view operand.now) items.now) columns.now wanted.now truths.items) }
+{
+    let items = number_items(alloc, items)?;
+    let numbers = eval_integers(alloc, operand, columns, wanted)?;
+    let truths = among(alloc, &numbers, items.as_slice(), wanted.len())?;
+    Ok(truths)
+}
+
+/// Whether decimals are in a list, on the wanted rows of a block.
+pub fn decimals_in(
+    alloc: Global,
+    operand: &DecimalExpr,
+    items: &[Option<i128>],
+    columns: &[Column<'_>],
+    wanted: &[bool],
+) -> Result<Vec<Truth>, Fallback>
+    ensures { IfOk result (λ truths. AreOutcomes
+        (decimal_in_of (decimal_view operand.now) items.now) columns.now wanted.now truths.items) }
+{
+    let items = number_items(alloc, items)?;
+    let numbers = eval_decimals(alloc, operand, columns, wanted)?;
+    let truths = among(alloc, &numbers, items.as_slice(), wanted.len())?;
+    Ok(truths)
+}
+
+/// Whether dates are in a list, on the wanted rows of a block.
+pub fn dates_in(
+    alloc: Global,
+    operand: &DateExpr,
+    items: &[Option<Date>],
+    columns: &[Column<'_>],
+    wanted: &[bool],
+) -> Result<Vec<Truth>, Fallback>
+    ensures { IfOk result (λ truths. AreOutcomes
+        (date_in_of (date_view operand.now) (map optional_day items.now)) columns.now wanted.now
+        truths.items) }
+{
+    let items = day_items(alloc, items)?;
+    let numbers = eval_dates(operand, columns, wanted)?;
+    let truths = among(alloc, &numbers, items.as_slice(), wanted.len())?;
+    Ok(truths)
+}
+
+/// An item on each row.
+fn text_item<'a>(item: &'a Option<String>) -> Texts<'a>
+    ensures lane { (row : ℕ) → text_lane result row ≡ optional_text item.now }
+    ensures long { (rows : ℕ) → AreTextsLong rows result }
+{
+    match item {
+        Some(text) => Texts::Same(text.as_str()),
+        None => Texts::Null,
+    }
+}
+
+/// Which texts of the wanted rows were found in the items before, or equal this one.
+fn with_text(
+    alloc: Global,
+    found: Vec<Truth>,
+    texts: Texts<'_>,
+    item: &Option<String>,
+    wanted: &[bool],
+) -> Result<Vec<Truth>, Fallback>
+    requires texts { AreTextsLong (length wanted.now) texts }
+    requires found { length found.items ≡ length wanted.now }
+    ensures { IfOk result (λ more. AreFoundOrEqual found.items texts.entry (optional_text item.now)
+        wanted.now more.items) }
+{
+    let equal = TextRelation::Comparison(ComparisonOperator::Equal);
+    let equal = relate(alloc, equal, texts, text_item(item), wanted)?;
+    Ok(disjunction(found, equal))
+}
+
+/// Which texts of the wanted rows are in a list.
+fn texts_among(
+    alloc: Global,
+    texts: Texts<'_>,
+    items: &[Option<String>],
+    wanted: &[bool],
+) -> Result<Vec<Truth>, Fallback>
+    requires { AreTextsLong (length wanted.now) texts }
+    ensures { IfOk result
+        (λ truths. AreAmong texts.entry (map optional_text items.now) wanted.now truths.items) }
+{
+    let mut truths = Vec::from_elem(alloc, Truth::False, wanted.len())?;
+    for item in items {
+        truths = with_text(alloc, truths, texts, item, wanted)?;
+    }
+    Ok(truths)
+}
+
+/// Whether texts are in a list, on the wanted rows of a block.
+pub fn texts_in(
+    alloc: Global,
+    operand: &TextExpr,
+    items: &[Option<String>],
+    columns: &[Column<'_>],
+    wanted: &[bool],
+) -> Result<Vec<Truth>, Fallback>
+    ensures { IfOk result (λ truths. AreOutcomes
+        (text_in_of (text_view operand.now) (map optional_text items.now)) columns.now wanted.now
+        truths.items) }
+{
+    let texts = eval_texts(operand, columns, wanted)?;
+    let truths = texts_among(alloc, texts, items, wanted)?;
+    Ok(truths)
+}

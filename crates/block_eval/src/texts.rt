@@ -1,0 +1,101 @@
+//! Texts on the rows of a block.
+
+ghost use Rattle.std.specs.Prelude.{◌≡◌, ◌<◌, ℕ, Option, IfOk, length, option_and_then, option_map};
+ghost use Rattle.cell_types.specs.Value.{CellValue, value_view};
+ghost use Rattle.odata_types.specs.TypedTree.{text_view};
+ghost use Rattle.row_eval.specs.Row.{cell, text_in as text_in_cell};
+ghost use Rattle.block_eval.specs.Columns.{IsCell};
+ghost use Rattle.block_eval.specs.Texts.{text_lane, AreTexts, AreTextsLong, GivesTexts};
+
+use crate::columns::Column;
+use block_lanes::Fallback;
+use cell_types::Value;
+use odata_types::TextExpr;
+
+/// A text or null for each row of a block.
+#[derive(Clone, Copy)]
+pub enum Texts<'a> {
+    /// Null on each row.
+    Null,
+    /// The same text on each row.
+    Same(&'a str),
+    /// The texts of a column.
+    Cells(&'a [Option<&'a str>]),
+    /// The cells of a column; null for one that is no text.
+    Values(&'a [Value<'a>]),
+}
+
+/// The text of a cell.
+#[inline(always)]
+fn text_of<'a>(cell: &'a Value<'_>) -> Option<&'a str>
+    ensures { option_map (λ t. t.now) result ≡ text_in_cell (value_view cell.now) }
+{
+    match cell {
+        Value::Text(text) => Some(text.as_str()),
+        _ => None,
+    }
+}
+
+impl<'a> Texts<'a> {
+    /// The text of a row.
+    #[inline(always)]
+    pub fn at(self, row: usize) -> Option<&'a str>
+        requires { (rows : ℕ) × (row < rows) × AreTextsLong rows self }
+        ensures { option_map (λ t. t.now) result ≡ text_lane self.entry row }
+    {
+        match self {
+            Texts::Null => None,
+            Texts::Same(text) => Some(text),
+            Texts::Cells(texts) => texts[row],
+            Texts::Values(cells) => text_of(&cells[row]),
+        }
+    }
+}
+
+/// The texts of a column of that many rows.
+fn texts_of<'a>(column: Column<'a>, rows: usize) -> Result<Texts<'a>, Fallback>
+    ensures each { IfOk result (λ v. (row : ℕ) (cells : Option CellValue)
+        → IsCell column.entry row cells → option_and_then text_in_cell cells ≡ text_lane v row) }
+    ensures long { IfOk result (AreTextsLong rows) }
+{
+    match column {
+        Column::Texts(texts) if texts.len() == rows => Ok(Texts::Cells(texts)),
+        Column::Values(cells) if cells.len() == rows => Ok(Texts::Values(cells)),
+        _ => Err(Fallback),
+    }
+}
+
+/// The texts of a column.
+fn texts_in<'a>(
+    columns: &[Column<'a>],
+    place: usize,
+    wanted: &[bool],
+) -> Result<Texts<'a>, Fallback>
+    ensures { IfOk result
+        (GivesTexts (λ cells. cell text_in_cell cells place) columns.now wanted.now) }
+{
+    let Some(column) = columns.get(place) else {
+        return Err(Fallback);
+    };
+    let texts = texts_of(*column, wanted.len())?;
+    Ok(texts)
+}
+
+/// The texts of an expression on the wanted rows of a block.
+pub fn eval_texts<'a>(
+    expr: &'a TextExpr,
+    columns: &[Column<'a>],
+    wanted: &[bool],
+) -> Result<Texts<'a>, Fallback>
+    ensures { IfOk result (AreTexts (text_view expr.now) columns.now wanted.now) }
+{
+    match expr {
+        TextExpr::Null => Ok(Texts::Null),
+        TextExpr::Column(place) => {
+            let texts = texts_in(columns, *place, wanted)?;
+            Ok(texts)
+        }
+        TextExpr::Literal(text) => Ok(Texts::Same(text.as_str())),
+        TextExpr::Concat(_, _) => Err(Fallback),
+    }
+}

@@ -1,0 +1,255 @@
+//! Sums, differences and products on the rows of a block (OData 4.01 URL Conventions, section 5.1.1.2). One pass tells whether all numbers
+//! are small; the loop that joins them then cannot leave 64 bits.
+
+ghost use Rattle.std.specs.Prelude.{◌≡◌, ◌<◌, ◌||◌, ◌*ℤ◌, ℕ, neg_ℤ, pos, true, IfOk, IsTrue, OnOk, FitsSigned, length, slice_index_or, unsigned_abs};
+ghost use Rattle.std.specs.Int.{w64};
+ghost use Rattle.block_lanes.specs.Arithmetic.{exact as exact_of, operator_of, AreMapped, HasNulls, HasValues};
+ghost use Rattle.block_lanes.specs.Lanes.{AreComputed, AreLong};
+ghost use Rattle.block_lanes.specs.Operands.{null_at, value_at, IsLong};
+
+use crate::fallback::Fallback;
+use crate::numbers::Numbers;
+use crate::operand::Operand;
+use odata_types::MILLIONTHS;
+use std::alloc::Global;
+
+/// Sums and differences of numbers whose sizes are below this fit 64 bits.
+const SUM_LIMIT: u64 = 4_611_686_018_427_387_904;
+
+/// Products of numbers whose sizes are below this fit 64 bits.
+const PRODUCT_LIMIT: u64 = 2_147_483_648;
+
+/// The operators that join any two numbers.
+#[derive(Clone, Copy)]
+pub enum ExactOperator {
+    Add,
+    Sub,
+    Mul,
+}
+
+#[inline(always)]
+fn exact(operator: ExactOperator, left: i64, right: i64) -> i64
+    requires { FitsSigned w64 (exact_of operator left right) }
+    ensures { result ≡ exact_of operator left right }
+{
+    match operator {
+        ExactOperator::Add => left + right,
+        ExactOperator::Sub => left - right,
+        ExactOperator::Mul => left * right,
+    }
+}
+
+/// Whether the size of each number is below the limit.
+#[inline(always)]
+fn each_below(operand: Operand<'_>, rows: usize, limit: u64) -> bool
+    requires { IsLong rows operand }
+    ensures { IsTrue result → (i : ℕ) → i < rows → unsigned_abs (value_at operand.entry i) < limit }
+{
+    let mut below = true;
+    for i in 0..rows {
+        below &= operand.value(i).unsigned_abs() < limit;
+    }
+    below
+}
+
+/// The same, with a loop of its own for the numbers of a column.
+fn are_below(operand: Operand<'_>, rows: usize, limit: u64) -> bool
+    requires { IsLong rows operand }
+    ensures { IsTrue result → (i : ℕ) → i < rows → unsigned_abs (value_at operand.entry i) < limit }
+{
+    match operand {
+        Operand::Each(values, nulls) => each_below(Operand::Each(values, nulls), rows, limit),
+        _ => each_below(operand, rows, limit),
+    }
+}
+
+#[inline(always)]
+fn compute_each(operator: ExactOperator, left: Operand<'_>, right: Operand<'_>, out: &mut [i64])
+    requires left { IsLong (length out.old) left }
+    requires right { IsLong (length out.old) right }
+    requires fits { (i : ℕ) → i < length out.old
+        → FitsSigned w64 (exact_of operator (value_at left i) (value_at right i)) }
+    ensures { (i : ℕ) → i < length out.new → slice_index_or out.new i (pos 0)
+        ≡ exact_of operator (value_at left.entry i) (value_at right.entry i) }
+{
+    for i in 0..out.len() {
+        let left_value = left.value(i);
+        let right_value = right.value(i);
+        out[i] = exact(operator, left_value, right_value);
+    }
+}
+
+/// `compute_each`, with a loop of its own for each shape of the sides.
+#[inline(always)]
+fn compute_shaped(operator: ExactOperator, left: Operand<'_>, right: Operand<'_>, out: &mut [i64])
+    requires left { IsLong (length out.old) left }
+    requires right { IsLong (length out.old) right }
+    requires fits { (i : ℕ) → i < length out.old
+        → FitsSigned w64 (exact_of operator (value_at left i) (value_at right i)) }
+    ensures { (i : ℕ) → i < length out.new → slice_index_or out.new i (pos 0)
+        ≡ exact_of operator (value_at left.entry i) (value_at right.entry i) }
+{
+    match (left, right) {
+        (Operand::Each(a, a_nulls), Operand::Each(b, b_nulls)) => {
+            compute_each(
+                operator,
+                Operand::Each(a, a_nulls),
+                Operand::Each(b, b_nulls),
+                out,
+            )
+        }
+        (Operand::Each(a, a_nulls), Operand::Same(b)) => {
+            compute_each(operator, Operand::Each(a, a_nulls), Operand::Same(b), out)
+        }
+        (Operand::Same(a), Operand::Each(b, b_nulls)) => {
+            compute_each(operator, Operand::Same(a), Operand::Each(b, b_nulls), out)
+        }
+        _ => compute_each(operator, left, right, out),
+    }
+}
+
+/// Which rows have a null on a side.
+#[inline(always)]
+fn either_null_each(left: Operand<'_>, right: Operand<'_>, out: &mut [bool])
+    requires left { IsLong (length out.old) left }
+    requires right { IsLong (length out.old) right }
+    ensures { (i : ℕ) → i < length out.new → slice_index_or out.new i true
+        ≡ (null_at left.entry i || null_at right.entry i) }
+{
+    for i in 0..out.len() {
+        out[i] = left.is_null(i) | right.is_null(i);
+    }
+}
+
+/// `either_null_each`, with a loop of its own for each shape of the sides.
+fn either_null_shaped(left: Operand<'_>, right: Operand<'_>, out: &mut [bool])
+    requires left { IsLong (length out.old) left }
+    requires right { IsLong (length out.old) right }
+    ensures { (i : ℕ) → i < length out.new → slice_index_or out.new i true
+        ≡ (null_at left.entry i || null_at right.entry i) }
+{
+    match (left, right) {
+        (Operand::Each(a, a_nulls), Operand::Each(b, b_nulls)) => {
+            either_null_each(Operand::Each(a, a_nulls), Operand::Each(b, b_nulls), out)
+        }
+        (Operand::Each(a, a_nulls), Operand::Same(b)) => {
+            either_null_each(Operand::Each(a, a_nulls), Operand::Same(b), out)
+        }
+        (Operand::Same(a), Operand::Each(b, b_nulls)) => {
+            either_null_each(Operand::Same(a), Operand::Each(b, b_nulls), out)
+        }
+        _ => either_null_each(left, right, out),
+    }
+}
+
+/// Sums, differences or products, unless one may not fit.
+fn exact_each(
+    operator: ExactOperator,
+    left: Operand<'_>,
+    right: Operand<'_>,
+    out: &mut [i64],
+) -> Result<(), Fallback>
+    requires left { IsLong (length out.old) left }
+    requires right { IsLong (length out.old) right }
+    ensures { OnOk result ((i : ℕ) → i < length out.new → slice_index_or out.new i (pos 0)
+        ≡ exact_of operator (value_at left.entry i) (value_at right.entry i)) }
+{
+    let limit = match operator {
+        ExactOperator::Add | ExactOperator::Sub => SUM_LIMIT,
+        ExactOperator::Mul => PRODUCT_LIMIT,
+    };
+    if !are_below(left, out.len(), limit) || !are_below(right, out.len(), limit) {
+        return Err(Fallback);
+    }
+    match operator {
+        ExactOperator::Add => compute_shaped(ExactOperator::Add, left, right, out),
+        ExactOperator::Sub => compute_shaped(ExactOperator::Sub, left, right, out),
+        ExactOperator::Mul => compute_shaped(ExactOperator::Mul, left, right, out),
+    }
+    Ok(())
+}
+
+/// Which rows have a null on a side.
+pub fn nulls_of(
+    alloc: Global,
+    left: Operand<'_>,
+    right: Operand<'_>,
+    rows: usize,
+) -> Result<Vec<bool>, Fallback>
+    requires left { IsLong rows left }
+    requires right { IsLong rows right }
+    ensures { IfOk result (λ nulls. HasNulls rows left.entry right.entry nulls.items) }
+{
+    let mut nulls = Vec::from_elem(alloc, true, rows)?;
+    either_null_shaped(left, right, nulls.as_mut_slice());
+    Ok(nulls)
+}
+
+/// Sums, differences or products.
+fn exact_values(
+    alloc: Global,
+    operator: ExactOperator,
+    left: Operand<'_>,
+    right: Operand<'_>,
+    rows: usize,
+) -> Result<Vec<i64>, Fallback>
+    requires left { IsLong rows left }
+    requires right { IsLong rows right }
+    ensures { IfOk result (λ values. HasValues rows operator left.entry right.entry values.items) }
+{
+    let mut values = Vec::from_elem(alloc, 0i64, rows)?;
+    exact_each(operator, left, right, values.as_mut_slice())?;
+    Ok(values)
+}
+
+/// The sums, differences or products of numbers on the wanted rows; null beside a null.
+pub fn compute<'a>(
+    alloc: Global,
+    operator: ExactOperator,
+    left: &Numbers<'_>,
+    right: &Numbers<'_>,
+    wanted: &[bool],
+) -> Result<Numbers<'a>, Fallback>
+    requires left { AreLong (length wanted.now) left.now }
+    requires right { AreLong (length wanted.now) right.now }
+    ensures { IfOk result (AreComputed (operator_of operator) left.now right.now wanted.now) }
+{
+    let left = left.operand();
+    let right = right.operand();
+    let nulls = nulls_of(alloc, left, right, wanted.len())?;
+    let values = exact_values(alloc, operator, left, right, wanted.len())?;
+    Ok(Numbers::Computed(values, nulls))
+}
+
+/// The numbers with the other sign on the wanted rows.
+pub fn negate<'a>(
+    alloc: Global,
+    numbers: &Numbers<'_>,
+    wanted: &[bool],
+) -> Result<Numbers<'a>, Fallback>
+    requires { AreLong (length wanted.now) numbers.now }
+    ensures { IfOk result (AreMapped neg_ℤ numbers.now wanted.now) }
+{
+    let negated = compute(
+        alloc,
+        ExactOperator::Sub,
+        &Numbers::Same(0),
+        numbers,
+        wanted,
+    )?;
+    Ok(negated)
+}
+
+/// Integers as decimals, in millionths, on the wanted rows.
+pub fn scale<'a>(
+    alloc: Global,
+    numbers: &Numbers<'_>,
+    wanted: &[bool],
+) -> Result<Numbers<'a>, Fallback>
+    requires { AreLong (length wanted.now) numbers.now }
+    ensures { IfOk result (AreMapped (λ n. n *ℤ pos MILLIONTHS) numbers.now wanted.now) }
+{
+    let millionths = Numbers::Same(MILLIONTHS as i64);
+    let scaled = compute(alloc, ExactOperator::Mul, numbers, &millionths, wanted)?;
+    Ok(scaled)
+}

@@ -1,0 +1,112 @@
+//! Quotients and remainders on the rows of a block (OData 4.01 URL Conventions, section 5.1.1.2): `div` truncates towards zero, and `mod` has
+//! the sign of the left number. Of rows that are not wanted, and of those with a null on a side, nothing is computed.
+
+ghost use Rattle.std.specs.Prelude.{◌≡◌, ◌<◌, ℕ, pos, true, false, Some, IfOk, IfSome, IsTrue, OnOk, length, slice_index_or};
+ghost use Rattle.row_eval.specs.Outcome.{operation};
+ghost use Rattle.block_lanes.specs.Arithmetic.{operator_of_quotient, HasQuotients};
+ghost use Rattle.block_lanes.specs.Lanes.{AreComputed, AreLong, IsWanted};
+ghost use Rattle.block_lanes.specs.Operands.{value_at, IsLong};
+
+use crate::arithmetic::nulls_of;
+use crate::fallback::Fallback;
+use crate::numbers::Numbers;
+use crate::operand::Operand;
+use std::alloc::Global;
+
+/// The operators that divide.
+#[derive(Clone, Copy)]
+pub enum QuotientOperator {
+    Div,
+    Mod,
+}
+
+/// A quotient or a remainder; none where the divisor is zero, and where it may not fit.
+fn quotient(operator: QuotientOperator, left: i64, right: i64) -> Option<i64>
+    ensures { IfSome result (λ n. operation (operator_of_quotient operator) left right ≡ Some n) }
+{
+    match operator {
+        QuotientOperator::Div => left.checked_div(right),
+        QuotientOperator::Mod => left.checked_rem(right),
+    }
+}
+
+/// The same, of a row that is asked for; of another any number.
+#[inline(always)]
+fn quotient_where(is_asked: bool, operator: QuotientOperator, left: i64, right: i64) -> Option<i64>
+    ensures { IsTrue is_asked
+        → IfSome result (λ n. operation (operator_of_quotient operator) left right ≡ Some n) }
+{
+    if !is_asked {
+        return Some(0);
+    }
+    quotient(operator, left, right)
+}
+
+/// Quotients or remainders of the wanted rows that have no null, unless a divisor is zero or one may not fit.
+fn divide_each(
+    operator: QuotientOperator,
+    left: Operand<'_>,
+    right: Operand<'_>,
+    wanted: &[bool],
+    nulls: &[bool],
+    out: &mut [i64],
+) -> Result<(), Fallback>
+    requires left { IsLong (length out.old) left }
+    requires right { IsLong (length out.old) right }
+    requires wanted { length wanted.now ≡ length out.old }
+    requires nulls { length nulls.now ≡ length out.old }
+    ensures { OnOk result ((i : ℕ) → i < length out.new → IsWanted wanted.now i
+        → slice_index_or nulls.now i true ≡ false
+        → operation (operator_of_quotient operator) (value_at left.entry i) (value_at right.entry i)
+        ≡ Some (slice_index_or out.new i (pos 0))) }
+{
+    for i in 0..out.len() {
+        let left_value = left.value(i);
+        let right_value = right.value(i);
+        match quotient_where(wanted[i] & !nulls[i], operator, left_value, right_value) {
+            Some(number) => out[i] = number,
+            None => return Err(Fallback),
+        }
+    }
+    Ok(())
+}
+
+/// Quotients or remainders.
+fn quotients(
+    alloc: Global,
+    operator: QuotientOperator,
+    left: Operand<'_>,
+    right: Operand<'_>,
+    wanted: &[bool],
+    nulls: &[bool],
+) -> Result<Vec<i64>, Fallback>
+    requires left { IsLong (length wanted.now) left }
+    requires right { IsLong (length wanted.now) right }
+    requires nulls { length nulls.now ≡ length wanted.now }
+    ensures { IfOk result
+        (λ values. HasQuotients operator left.entry right.entry wanted.now nulls.now values.items) }
+{
+    let mut values = Vec::from_elem(alloc, 0i64, wanted.len())?;
+    divide_each(operator, left, right, wanted, nulls, values.as_mut_slice())?;
+    Ok(values)
+}
+
+/// The quotients or remainders of numbers on the wanted rows; null beside a null.
+pub fn divide<'a>(
+    alloc: Global,
+    operator: QuotientOperator,
+    left: &Numbers<'_>,
+    right: &Numbers<'_>,
+    wanted: &[bool],
+) -> Result<Numbers<'a>, Fallback>
+    requires left { AreLong (length wanted.now) left.now }
+    requires right { AreLong (length wanted.now) right.now }
+    ensures { IfOk result
+        (AreComputed (operator_of_quotient operator) left.now right.now wanted.now) }
+{
+    let left = left.operand();
+    let right = right.operand();
+    let nulls = nulls_of(alloc, left, right, wanted.len())?;
+    let values = quotients(alloc, operator, left, right, wanted, nulls.as_slice())?;
+    Ok(Numbers::Computed(values, nulls))
+}

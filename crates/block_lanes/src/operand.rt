@@ -1,0 +1,39 @@
+//! The numbers that an operator joins.
+
+ghost use Rattle.std.specs.Prelude.{◌≡◌, ◌<◌, ℕ};
+ghost use Rattle.block_lanes.specs.Operands.{null_at, value_at, IsLong};
+
+/// A number or null for each row.
+#[derive(Clone, Copy)]
+pub enum Operand<'v> {
+    Null,
+    Same(i64),
+    Each(&'v [i64], &'v [bool]),
+}
+
+impl<'v> Operand<'v> {
+    #[inline(always)]
+    pub fn is_null(self, row: usize) -> bool
+        requires { (rows : ℕ) × (row < rows) × IsLong rows self }
+        ensures { result ≡ null_at self.entry row }
+    {
+        match self {
+            Operand::Null => true,
+            Operand::Same(_) => false,
+            Operand::Each(_, nulls) => nulls[row],
+        }
+    }
+
+    /// The number; of a null, any.
+    #[inline(always)]
+    pub fn value(self, row: usize) -> i64
+        requires { (rows : ℕ) × (row < rows) × IsLong rows self }
+        ensures { result ≡ value_at self.entry row }
+    {
+        match self {
+            Operand::Null => 0,
+            Operand::Same(number) => number,
+            Operand::Each(values, _) => values[row],
+        }
+    }
+}

@@ -1,0 +1,2 @@
+pub mod FirstSeenLemmas
+pub mod ColumnLemmas

@@ -1,0 +1,21 @@
+-- Some rows of a block.
+use Rattle.std.specs.Prelude.{ℕ, Bool, true, false, List, [], ◌∷◌, map, slice_index_or}
+use Rattle.cell_types.specs.Value.{CellValue}
+use Rattle.row_eval.specs.declared.truth.Truth.{Truth}
+use Rattle.row_eval.specs.declared.truth.Truth.TheVariants.{True}
+
+-- a condition keeps a row where it is true, not where it is false or null
+abbrev pub is_true : Truth → Bool
+is_true True = true
+is_true _ = false
+
+-- the elements that are marked, in their order
+abbrev pub marked : {X : Type 0} → List Bool → List X → List X
+marked [] xs = []
+marked (mark ∷ marks) [] = []
+marked (true ∷ marks) (x ∷ xs) = x ∷ marked marks xs
+marked (false ∷ marks) (x ∷ xs) = marked marks xs
+
+-- the rows with these numbers, counted from 0
+abbrev pub numbered : List ℕ → List (List CellValue) → List (List CellValue)
+numbered numbers rows = map (λ number. slice_index_or rows number []) numbers

@@ -1,0 +1,94 @@
+//! The columns that a condition names.
+
+use odata_types::{DateExpr, DecimalExpr, IntegerExpr, TextExpr, TruthExpr};
+
+fn mark(place: usize, named: &mut [bool]) {
+    if place < named.len() {
+        named[place] = true;
+    }
+}
+
+fn mark_date(expr: &DateExpr, named: &mut [bool]) {
+    match expr {
+        DateExpr::Null | DateExpr::Literal(_) => {}
+        DateExpr::Column(place) => mark(*place, named),
+    }
+}
+
+fn mark_text(expr: &TextExpr, named: &mut [bool]) {
+    match expr {
+        TextExpr::Null | TextExpr::Literal(_) => {}
+        TextExpr::Column(place) => mark(*place, named),
+        TextExpr::Concat(left, right) => {
+            mark_text(left, named);
+            mark_text(right, named);
+        }
+    }
+}
+
+fn mark_integer(expr: &IntegerExpr, named: &mut [bool]) {
+    match expr {
+        IntegerExpr::Null | IntegerExpr::Literal(_) => {}
+        IntegerExpr::Column(place) => mark(*place, named),
+        IntegerExpr::Negate(operand) => mark_integer(operand, named),
+        IntegerExpr::Arithmetic(_, left, right) => {
+            mark_integer(left, named);
+            mark_integer(right, named);
+        }
+        IntegerExpr::Length(text) => mark_text(text, named),
+        IntegerExpr::IndexOf(text, part) => {
+            mark_text(text, named);
+            mark_text(part, named);
+        }
+        IntegerExpr::PartOf(_, date) => mark_date(date, named),
+    }
+}
+
+fn mark_decimal(expr: &DecimalExpr, named: &mut [bool]) {
+    match expr {
+        DecimalExpr::Null | DecimalExpr::Literal(_) => {}
+        DecimalExpr::Column(place) => mark(*place, named),
+        DecimalExpr::Negate(operand) => mark_decimal(operand, named),
+        DecimalExpr::Add(left, right) | DecimalExpr::Sub(left, right) => {
+            mark_decimal(left, named);
+            mark_decimal(right, named);
+        }
+        DecimalExpr::Scaled(integer) => mark_integer(integer, named),
+    }
+}
+
+/// Marks the columns that a condition names, by their numbers.
+pub(crate) fn mark_truth(expr: &TruthExpr, named: &mut [bool]) {
+    match expr {
+        TruthExpr::Null | TruthExpr::Literal(_) => {}
+        TruthExpr::Column(place) => mark(*place, named),
+        TruthExpr::Not(operand) => mark_truth(operand, named),
+        TruthExpr::And(left, right)
+        | TruthExpr::Or(left, right)
+        | TruthExpr::CompareTruths(_, left, right) => {
+            mark_truth(left, named);
+            mark_truth(right, named);
+        }
+        TruthExpr::CompareIntegers(_, left, right) => {
+            mark_integer(left, named);
+            mark_integer(right, named);
+        }
+        TruthExpr::CompareDecimals(_, left, right) => {
+            mark_decimal(left, named);
+            mark_decimal(right, named);
+        }
+        TruthExpr::CompareTexts(_, left, right) | TruthExpr::TestText(_, left, right) => {
+            mark_text(left, named);
+            mark_text(right, named);
+        }
+        TruthExpr::CompareDates(_, left, right) => {
+            mark_date(left, named);
+            mark_date(right, named);
+        }
+        TruthExpr::IntegerIn(operand, _) => mark_integer(operand, named),
+        TruthExpr::DecimalIn(operand, _) => mark_decimal(operand, named),
+        TruthExpr::TextIn(operand, _) => mark_text(operand, named),
+        TruthExpr::DateIn(operand, _) => mark_date(operand, named),
+        TruthExpr::TruthIn(operand, _) => mark_truth(operand, named),
+    }
+}

@@ -1,0 +1,108 @@
+//! The rows of a block that pass the steps of a plan, found a column at a time.
+ghost use Rattle.std.specs.Prelude.{◌≡◌, ◌<◌, ◌&&◌, ℕ, List, Some, OnOk, IfOk, length, map, slice_index_or, false};
+ghost use Rattle.std.specs.List.{All};
+ghost use Rattle.cell_types.specs.Value.{CellValue};
+ghost use Rattle.block_eval.specs.Lanes.{truth_lane};
+ghost use Rattle.odata_types.specs.TypedTree.{truth_view};
+ghost use Rattle.query_plan.specs.Filter.{passing};
+ghost use Rattle.query_plan.specs.Plan.{node_meaning, node_view, nodes_meaning};
+ghost use Rattle.query_exec.specs.Picked.{is_true, marked, numbered};
+
+use crate::block_texts::texts_of;
+use crate::lanes::Lanes;
+use crate::named::mark_truth;
+use block_eval::{Fallback, eval_block};
+use odata_types::TruthExpr;
+use query_plan::{Node, true_rows_pass};
+use row_eval::Truth;
+use std::alloc::{AllocError, Global};
+use table_store::Block;
+
+/// Leaves those rows wanted whose truth is true.
+fn keep_true(truths: &[Truth], wanted: &mut [bool])
+    requires { length truths.now ≡ length wanted.old }
+    ensures { (row : ℕ) → row < length wanted.old → slice_index_or wanted.new row false
+        ≡ (slice_index_or wanted.old row false && is_true (truth_lane truths.now row)) }
+{
+    for row in 0..wanted.len() {
+        wanted[row] = wanted[row] & (truths[row] == Truth::True);
+    }
+}
+
+/// Leaves those rows of a block wanted on which a condition is true.
+fn narrow_by(
+    alloc: Global,
+    condition: &TruthExpr,
+    block: &Block<'_>,
+    lanes: &mut Lanes,
+    wanted: &mut [bool],
+) -> Result<(), Fallback>
+    requires { length wanted.old ≡ length block.now.rows }
+    ensures { OnOk result (passing (truth_view condition.now) (marked wanted.old block.now.rows)
+        ≡ Some (marked wanted.new block.now.rows)) }
+{
+    true_rows_pass();
+    let mut named = Vec::from_elem(alloc, false, block.schema().columns.len())?;
+    mark_truth(condition, named.as_mut_slice());
+    lanes.read(alloc, block, named.as_slice())?;
+    let texts = texts_of(alloc, block, named.as_slice())?;
+    let columns = lanes.columns(alloc, texts.as_slice())?;
+    let truths = eval_block(alloc, condition, columns.as_slice(), wanted)?;
+    keep_true(truths.as_slice(), wanted);
+    Ok(())
+}
+
+/// Leaves those rows of a block wanted that pass a step.
+fn narrow(
+    alloc: Global,
+    node: &Node,
+    block: &Block<'_>,
+    lanes: &mut Lanes,
+    wanted: &mut [bool],
+) -> Result<(), Fallback>
+    requires { length wanted.old ≡ length block.now.rows }
+    ensures { OnOk result (node_meaning (node_view node.now) (marked wanted.old block.now.rows)
+        ≡ Some (marked wanted.new block.now.rows)) }
+{
+    match node {
+        Node::Filter(condition) => narrow_by(alloc, condition, block, lanes, wanted),
+    }
+}
+
+/// The numbers of the rows that are wanted.
+fn numbers_of(alloc: Global, wanted: &[bool]) -> Result<Vec<usize>, AllocError>
+    ensures rows { IfOk result (λ numbers. (rows : List (List CellValue))
+        → length rows ≡ length wanted.now → numbered numbers.items rows ≡ marked wanted.now rows) }
+    ensures within { IfOk result (λ numbers. All (λ n. n < length wanted.now) numbers.items) }
+{
+    let mut numbers = Vec::new(alloc);
+    for (row, is_wanted) in wanted.iter().enumerate() {
+        if *is_wanted {
+            numbers.push(row)?;
+        }
+    }
+    Ok(numbers)
+}
+
+/// The numbers of the rows of a block that pass the steps, in turn. Where it falls back, the rows are to be taken one by one: so it is
+/// where a step divides by zero, and where there is no step, since a cursor finds each text from the one before it.
+pub(crate) fn passing_rows(
+    alloc: Global,
+    nodes: &[Node],
+    block: &Block<'_>,
+    lanes: &mut Lanes,
+) -> Result<Vec<usize>, Fallback>
+    ensures rows { IfOk result (λ numbers. nodes_meaning (map node_view nodes.now) block.now.rows
+        ≡ Some (numbered numbers.items block.now.rows)) }
+    ensures within { IfOk result (λ numbers. All (λ n. n < length block.now.rows) numbers.items) }
+{
+    if nodes.is_empty() {
+        return Err(Fallback);
+    }
+    let mut wanted = Vec::from_elem(alloc, true, block.rows())?;
+    for node in nodes {
+        narrow(alloc, node, block, lanes, wanted.as_mut_slice())?;
+    }
+    let numbers = numbers_of(alloc, wanted.as_slice())?;
+    Ok(numbers)
+}

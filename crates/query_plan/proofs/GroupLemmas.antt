@@ -1,0 +1,106 @@
+-- Rows in groups.
+use Rattle.std.proofs.Common.{◌≡◌, ◌↔◌, inl, inr, ℕ, suc, Bool, true, false, not, ◌&&◌, List, [], ◌∷◌, map, refl, ap, subst, arith}
+use Rattle.std.specs.List.{AllByRecursion, Any, Contains, IsDistinct, filter}
+use Rattle.std.proofs.lemmas.Bool.{cases_Bool, false≢true}
+use Rattle.cell_types.specs.Value.{CellValue, value_eq}
+use Rattle.odata_query.specs.FirstSeen.{first_seen}
+use Rattle.query_plan.specs.Apply.{group_values, rows_of_group, same_values, values_at}
+use Rattle.query_plan.proofs.FilterLemmas.{first_or_later, from_filter, here, into_filter, later, none_in}
+
+-- ---- lists without what was there before
+
+module _ {X : Type 0} (eq : X → X → Bool) where
+  all_filter : (P : X → Type 0) (p : X → Bool) (zs : List X) → AllByRecursion P zs → AllByRecursion P (filter p zs)
+  all_filter P p [] a = a
+  all_filter P p (z ∷ zs) a = elim (cases_Bool (p z)) [ inl e ↦ rw e (a.0, all_filter P p zs a.1) | inr e ↦ rw e (all_filter P p zs a.1) ]
+
+  distinct_filter : (p : X → Bool) (zs : List X) → IsDistinct eq zs → IsDistinct eq (filter p zs)
+  unfolding IsDistinct
+  distinct_filter p [] d = d
+  distinct_filter p (z ∷ zs) d = elim (cases_Bool (p z)) [
+    | inl e ↦ rw e (all_filter (λ y. eq z y ≡ false) p zs d.0, distinct_filter p zs d.1)
+    | inr e ↦ rw e (distinct_filter p zs d.1)
+  ]
+
+  all_others : (x : X) (zs : List X) → AllByRecursion (λ y. eq x y ≡ false) (filter (λ z. not (eq x z)) zs)
+  all_others x [] = tt
+  all_others x (z ∷ zs) = elim (cases_Bool (eq x z)) [ inl e ↦ rw e (all_others x zs) | inr e ↦ rw e (e, all_others x zs) ]
+
+  first_distinct : (xs : List X) → IsDistinct eq (first_seen eq xs)
+  unfolding IsDistinct
+  first_distinct [] = tt
+  first_distinct (x ∷ xs) = (all_others x (first_seen eq xs), distinct_filter (λ z. not (eq x z)) (first_seen eq xs) (first_distinct xs))
+
+  module _ (is : (a b : X) → eq a b ≡ true → a ≡ b) where
+    seen : (xs : List X) (x : X) → Contains xs x → Contains (first_seen eq xs) x
+    seen [] x h = absurd (none_in x h)
+    seen (y ∷ ys) x h = elim (first_or_later y x ys h) [
+      | inl same ↦ subst (Contains (first_seen eq (y ∷ ys))) same (here y (filter (λ z. not (eq y z)) (first_seen eq ys)))
+      | inr back ↦ elim (cases_Bool (eq y x)) [
+        | inl e ↦ subst (Contains (first_seen eq (y ∷ ys))) (is y x e) (here y (filter (λ z. not (eq y z)) (first_seen eq ys)))
+        | inr e ↦ later y x (filter (λ z. not (eq y z)) (first_seen eq ys)) (into_filter (λ z. not (eq y z)) (first_seen eq ys) x (ap not e) (seen ys x back))
+      ]
+    ]
+
+  seen_before : (xs : List X) (x : X) → Contains (first_seen eq xs) x → Contains xs x
+  seen_before [] x h = h
+  seen_before (y ∷ ys) x h = elim (first_or_later y x (filter (λ z. not (eq y z)) (first_seen eq ys)) h) [
+    | inl same ↦ subst (Contains (y ∷ ys)) same (here y ys)
+    | inr back ↦ later y x ys (seen_before ys x (from_filter (λ z. not (eq y z)) (first_seen eq ys) x back).0)
+  ]
+
+module _ {X Y : Type 0} (f : X → Y) where
+  map_into : (xs : List X) (x : X) → Contains xs x → Contains (map f xs) (f x)
+  map_into [] x h = absurd (none_in x h)
+  map_into (y ∷ ys) x h = elim (first_or_later y x ys h) [
+    | inl same ↦ subst (λ (z : X). Contains (f y ∷ map f ys) (f z)) same (here (f y) (map f ys))
+    | inr back ↦ later (f y) (f x) (map f ys) (map_into ys x back)
+  ]
+
+  map_from : (xs : List X) (v : Y) → Contains (map f xs) v → Any (λ x. f x ≡ v) xs
+  map_from [] v h = absurd (none_in v h)
+  map_from (x ∷ xs) v h = elim (first_or_later (f x) v (map f xs) h) [
+    | inl same ↦ (0, x, omega arith, refl, same)
+    | inr back ↦ (let m = map_from xs v back in (suc m.0, m.1, omega (arith, m.2), m.3, m.4))
+  ]
+
+-- ---- groups
+
+first_so : (a b : Bool) → (a && b) ≡ true → a ≡ true
+first_so true b e = refl
+first_so false b e = e
+
+second_so : (a b : Bool) → (a && b) ≡ true → b ≡ true
+second_so true b e = e
+second_so false b e = absurd (false≢true e)
+
+module _ (equal : (a b : CellValue) → (value_eq a b ≡ true) ↔ (a ≡ b)) where
+  same_is : (a b : List CellValue) → same_values a b ≡ true → a ≡ b
+  same_is [] [] e = refl
+  same_is [] (y ∷ ys) e = absurd (false≢true e)
+  same_is (x ∷ xs) [] e = absurd (false≢true e)
+  same_is (x ∷ xs) (y ∷ ys) e =
+      let head : x ≡ y = (equal x y).0 (first_so (value_eq x y) (same_values xs ys) e) in
+      let tail : xs ≡ ys = same_is xs ys (second_so (value_eq x y) (same_values xs ys) e) in
+      cc
+
+  same_self : (a : List CellValue) → same_values a a ≡ true
+  same_self [] = refl
+  same_self (x ∷ xs) = rw ((equal x x).1 refl) (same_self xs)
+
+  pub distinct : (places : List ℕ) (rows : List (List CellValue)) → IsDistinct same_values (group_values places rows)
+  distinct places rows = first_distinct same_values (map (values_at places) rows)
+
+  pub grouped : (places : List ℕ) (rows : List (List CellValue)) (row : List CellValue) → Contains rows row → Contains (group_values places rows) (values_at places row)
+  grouped places rows row h = seen same_values same_is (map (values_at places) rows) (values_at places row) (map_into (values_at places) rows row h)
+
+  pub filled : (places : List ℕ) (rows : List (List CellValue)) (values : List CellValue) → Contains (group_values places rows) values
+      → Any (λ row. values_at places row ≡ values) rows
+  filled places rows values h = map_from (values_at places) rows values (seen_before same_values (map (values_at places) rows) values h)
+
+  pub members : (places : List ℕ) (rows : List (List CellValue)) (values row : List CellValue)
+      → Contains (rows_of_group places rows values) row ↔ (Contains rows row × (values ≡ values_at places row))
+  members places rows values row = (
+    λ h. let found = from_filter (λ r. same_values values (values_at places r)) rows row h in (found.0, same_is values (values_at places row) found.1),
+    λ h. into_filter (λ r. same_values values (values_at places r)) rows row (subst (λ (v : List CellValue). same_values values v ≡ true) h.1 (same_self values)) h.0,
+  )

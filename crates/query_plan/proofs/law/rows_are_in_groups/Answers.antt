@@ -1,0 +1,10 @@
+use Rattle.query_plan.proofs.GroupLemmas.{distinct, filled, grouped, members}
+use Rattle.query_plan.proofs.law.rows_are_in_groups.Goals as goal
+
+pub returns : goal.returns
+returns c = record {
+  distinct = distinct c.values_are_ordered.ensures.equal;
+  grouped = grouped c.values_are_ordered.ensures.equal;
+  filled = filled c.values_are_ordered.ensures.equal;
+  members = members c.values_are_ordered.ensures.equal;
+}

@@ -1,0 +1,17 @@
+use Rattle.std.proofs.Common.{refl}
+use Rattle.cell_types.specs.Value.{value_cmp, value_eq}
+use Rattle.query_plan.proofs.law.worked_queries.Goals as goal
+
+pub returns : goal.returns
+unfolding value_cmp value_eq
+returns c = record {
+  selected = refl;
+  grouped = refl;
+  descending = refl;
+  ascending = refl;
+  counted = refl;
+  empty = refl;
+  keyed = refl;
+  keyless = refl;
+  numbered = refl;
+}

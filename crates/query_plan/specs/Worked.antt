@@ -1,0 +1,88 @@
+-- Queries with their answers, on a table of three cities.
+use Rattle.std.specs.Prelude.{◌≡◌, ℕ, pos, true, false, List, [], ◌∷◌, codes, Option, Some, None}
+use Rattle.cell_types.specs.declared.datatype.DateForm.TheVariants.{YearMonthDay}
+use Rattle.cell_types.specs.declared.datatype.BooleanForm.TheVariants.{Standard}
+use Rattle.cell_types.specs.Column.{ColumnOf}
+use Rattle.cell_types.specs.Datatype as datatype
+use Rattle.cell_types.specs.Datatype.{DatatypeOf, boolean_view}
+use Rattle.cell_types.specs.Value.{CellValue, null, integer, text, boolean, date}
+use Rattle.csvw_meta.specs.Schema.{SchemaOf}
+use Rattle.odata_parse.specs.declared.tree.ComparisonOperator.TheVariants.{GreaterThan}
+use Rattle.odata_types.specs.declared.types.TheConstants.{COLUMN_SIZE}
+use Rattle.odata_types.specs.TypedTree as typed
+use Rattle.odata_types.specs.TypedTree.{TypedExprOf, TruthExprOf}
+use Rattle.odata_query.specs.declared.aggregate.Aggregate.TheVariants.{Count, SumOfIntegers, Max}
+use Rattle.odata_query.specs.Aggregate.{filter_rows, aggregate_rows, group_rows}
+use Rattle.odata_query.specs.Query.{TypedOf}
+use Rattle.query_plan.specs.Meaning.{result, number, single, no_row, query_meaning}
+
+abbrev pub column : List ℕ → DatatypeOf → ColumnOf
+column name type = record { name = name; titles = []; datatype = type; nulls = codes "" ∷ []; default = []; required = false }
+
+abbrev pub schema : SchemaOf
+schema = record {
+  url = codes "cities.csv";
+  name = codes "cities";
+  columns =
+      column (codes "Id") datatype.integer
+      ∷ column (codes "Name") datatype.text
+      ∷ column (codes "Pop") datatype.integer
+      ∷ column (codes "Open") (boolean_view Standard)
+      ∷ column (codes "Since") (datatype.date YearMonthDay)
+      ∷ [];
+  key = 0 ∷ [];
+}
+
+abbrev pub oslo : List CellValue
+oslo = integer (pos 1) ∷ text (codes "Oslo") ∷ integer (pos 700_000) ∷ boolean true ∷ date (pos 1048) 1 1 ∷ []
+
+abbrev pub foo : List CellValue
+foo = integer (pos 2) ∷ text (codes "Foo, Bar") ∷ null ∷ boolean false ∷ null ∷ []
+
+abbrev pub nameless : List CellValue
+nameless = integer (pos 3) ∷ null ∷ integer (pos 5) ∷ null ∷ date (pos 2024) 2 29 ∷ []
+
+abbrev pub cities : List (List CellValue)
+cities = oslo ∷ foo ∷ nameless ∷ []
+
+-- a query without options
+abbrev pub every : TypedOf
+every = record { key = None; counting = false; apply = []; filter = None; count = false; order = []; skip = 0; top = None; select = None }
+
+abbrev pub pop : TypedExprOf
+pop = typed.integer (typed.integer_column 2) COLUMN_SIZE
+
+-- `Id gt 9`
+abbrev pub beyond : TruthExprOf
+beyond = typed.compare_integers GreaterThan (typed.integer_column 0) (typed.integer_literal (pos 9))
+
+-- what a query without a key gives: these rows under these names, with this count
+abbrev pub Gives : TypedOf → List (List ℕ) → List (List CellValue) → Option ℕ → Type 0
+Gives q names rows count = query_meaning schema q cities ≡ Some (result (record { names = names; rows = rows; count = count }))
+
+pub record WorkedQueries : Type 0 where
+  -- `$select=Id,Name`
+  pub selected : Gives (record every { select = Some (0 ∷ 1 ∷ []) }) (codes "Id" ∷ codes "Name" ∷ [])
+      ((integer (pos 1) ∷ text (codes "Oslo") ∷ []) ∷ (integer (pos 2) ∷ text (codes "Foo, Bar") ∷ []) ∷ (integer (pos 3) ∷ null ∷ []) ∷ []) None
+  -- `$apply=groupby((Open),aggregate(Pop with sum as S,$count as N))`
+  pub grouped : Gives (record every {
+    apply = group_rows (3 ∷ []) (record { alias = codes "S"; aggregate = SumOfIntegers 2 } ∷ record { alias = codes "N"; aggregate = Count } ∷ []) ∷ [];
+  }) (codes "Open" ∷ codes "S" ∷ codes "N" ∷ [])
+      ((boolean true ∷ integer (pos 700_000) ∷ integer (pos 1) ∷ []) ∷ (boolean false ∷ null ∷ integer (pos 1) ∷ []) ∷ (null ∷ integer (pos 5) ∷ integer (pos 1) ∷ []) ∷ []) None
+  -- `$orderby=Pop desc&$select=Id`, and `$orderby=Pop&$select=Id`
+  pub descending : Gives (record every { order = (pop, true) ∷ []; select = Some (0 ∷ []) }) (codes "Id" ∷ [])
+      ((integer (pos 1) ∷ []) ∷ (integer (pos 3) ∷ []) ∷ (integer (pos 2) ∷ []) ∷ []) None
+  pub ascending : Gives (record every { order = (pop, false) ∷ []; select = Some (0 ∷ []) }) (codes "Id" ∷ [])
+      ((integer (pos 2) ∷ []) ∷ (integer (pos 3) ∷ []) ∷ (integer (pos 1) ∷ []) ∷ []) None
+  -- `$count=true&$top=0`
+  pub counted : Gives (record every { count = true; top = Some 0 }) (codes "Id" ∷ codes "Name" ∷ codes "Pop" ∷ codes "Open" ∷ codes "Since" ∷ []) [] (Some 3)
+  -- `$apply=filter(Id gt 9)/aggregate(Pop with max as M,$count as N)`
+  pub empty : Gives (record every {
+    apply =
+        filter_rows beyond ∷ aggregate_rows (record { alias = codes "M"; aggregate = Max 2 } ∷ record { alias = codes "N"; aggregate = Count } ∷ []) ∷ [];
+  }) (codes "M" ∷ codes "N" ∷ []) ((null ∷ integer (pos 0) ∷ []) ∷ []) None
+  -- keys: `(Id=2)` and `(9)`; `/$count`
+  pub keyed : query_meaning schema (record every { key = Some (integer (pos 2) ∷ []); select = Some (0 ∷ []) }) cities
+      ≡ Some (single (codes "Id" ∷ []) (integer (pos 2) ∷ []))
+  pub keyless : query_meaning schema (record every { key = Some (integer (pos 9) ∷ []) }) cities ≡ Some no_row
+  pub numbered : query_meaning schema (record every { counting = true; order = (pop, true) ∷ []; top = Some 1 }) cities ≡ Some (number 3)
