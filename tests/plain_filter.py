@@ -52,8 +52,13 @@ def scaled(kind, operand):
     return operand[1] * 10**6 if kind == "Decimal" and operand[0] == "Integer" else operand[1]
 
 
+def bounded(columns):
+    """The types of a table's columns with the bounds of their numbers."""
+    return {name: (kind, 2**63 if kind in ("Integer", "Decimal") else 0) for name, kind in columns.items()}
+
+
 def type_of(tree, columns):
-    """The type of a tree and the bound of its numbers, 0 where it has none."""
+    """The type of a tree and the bound of its numbers, 0 where it has none, over columns of such types and bounds."""
     head = tree[0]
     if head == "literal":
         _, kind, value, _ = tree
@@ -63,8 +68,7 @@ def type_of(tree, columns):
     if head == "name":
         if tree[1] not in columns:
             raise Refused("UnknownName")
-        kind = columns[tree[1]]
-        return kind, 2**63 if kind in ("Integer", "Decimal") else 0
+        return columns[tree[1]]
     if head == "call":
         return call_type(tree, [type_of(argument, columns) for argument in tree[2]])
     if head == "in":
@@ -189,15 +193,23 @@ def call(function, arguments):
 def answer(tree, columns, rows):
     """The rows for which a condition is true, or the code under which it is refused."""
     try:
-        kind, _ = type_of(tree, columns)
-        if kind not in ("Boolean", "Null"):
-            raise Refused("Mismatch")
-        outcomes = [outcome(tree, row) for row in rows]
+        check_condition(tree, bounded(columns))
+        return kept(tree, rows), None
     except Refused as refused:
         return None, refused.args[0]
     except Fault:
         return None, "DivisionByZero"
-    return [row for row, said in zip(rows, outcomes) if said is True], None
+
+
+def check_condition(tree, columns):
+    if type_of(tree, columns)[0] not in ("Boolean", "Null"):
+        raise Refused("Mismatch")
+
+
+def kept(tree, rows):
+    """The rows for which a condition is true; a fault on any row is a fault."""
+    outcomes = [outcome(tree, row) for row in rows]
+    return [row for row, said in zip(rows, outcomes) if said is True]
 
 
 # ---- random conditions

@@ -1,5 +1,6 @@
 pub mod HeadLemmas
 pub mod ReadingLemmas
+pub mod FindingLemmas
 pub mod WorkLemmas
 pub mod ReplyLemmas
 pub mod RepliesLemmas

@@ -1,9 +1,10 @@
 -- Replies put together from their parts.
 use Rattle.std.proofs.Common.{◌≡◌, ℕ, Bool, Option, Some, None, if◌then◌else◌, List, ◌++◌, Result, Ok, Err, OnOk, IfOk, is_ok, length, append_assoc, refl, sym, ap, ◌∙◌}
+use Rattle.table_store.specs.Catalog.{CatalogOf}
 use Rattle.table_store.specs.Table.{TableOf}
 use Rattle.odata_http.specs.declared.media.Media.{Media}
 use Rattle.http_heads.specs.Checks.{head_fault, closes}
-use Rattle.query_exec.specs.Answer.{answer_of}
+use Rattle.query_plan.specs.Meaning.{query_meaning}
 use Rattle.odata_request.specs.Laws.{OneRequest}
 use Rattle.odata_request.specs.Request.{RequestOf, refused, rows, service}
 use Rattle.odata_http.specs.Reply.{IsReply, ResponseOf, RespondsWith, body_for, reply_lines, reply_of, reply_with, rows_response}
@@ -27,20 +28,20 @@ pub two_parts : {X E : Type 0} (view : X → List ℕ) (r : Result X E) (head bo
 two_parts view (Ok x) head body method content status size media closing all first counted second = rw (all, first, counted, second) refl
 two_parts view (Err e) head body method content status size media closing all first counted second = tt
 
-response_one : (tables : List TableOf) (request : RequestOf) (r s : ResponseOf) → RespondsWith tables request r → RespondsWith tables request s → r ≡ s
-response_one tables (refused code) r s h k = h ∙ sym k
-response_one tables service r s h k = h ∙ sym k
-response_one tables (rows asked) r s h k =
+response_one : (catalog : CatalogOf) (request : RequestOf) (r s : ResponseOf) → RespondsWith catalog request r → RespondsWith catalog request s → r ≡ s
+response_one catalog (refused code) r s h k = h ∙ sym k
+response_one catalog service r s h k = h ∙ sym k
+response_one catalog (rows asked) r s h k =
     let table : h.table ≡ k.table = ap some_table (sym h.table_is ∙ k.table_is) in
-    h.response_is ∙ ap (λ t. rows_response asked.format (answer_of asked.query t)) table ∙ sym k.response_is
+    h.response_is ∙ ap (λ t. rows_response asked.format (query_meaning t.schema asked.query t.rows)) table ∙ sym k.response_is
   where
     some_table : Option TableOf → TableOf
     some_table (Some t) = t
     some_table None = h.table
 
 -- a head has one reply at most
-pub one_reply : OneRequest → (tables : List TableOf) → OneReply (IsReply tables)
-one_reply law tables head reply other x y =
-    let request = law tables (head_fault head) head.target x.request y.request x.asks y.asks in
-    let response = response_one tables y.request x.response y.response (rw request at x.responds) y.responds in
+pub one_reply : OneRequest → (catalog : CatalogOf) → OneReply (IsReply catalog)
+one_reply law catalog head reply other x y =
+    let request = law catalog (head_fault head) head.target x.request y.request x.asks y.asks in
+    let response = response_one catalog y.request x.response y.response (rw request at x.responds) y.responds in
     x.reply_is ∙ ap (λ r. reply_of head.method r (closes head)) response ∙ sym y.reply_is

@@ -1,69 +1,109 @@
 -- The work for a request, call by call.
-use Rattle.std.proofs.Common.{◌≡◌, ◌<◌, ◌-◌, ℕ, Bool, List, Ok, Vec, Global, refl, sym, ap, ap₂, ◌∙◌, subst, arith}
-use Rattle.table_store.specs.Table.{TableOf}
+use Rattle.std.proofs.Common.{◌≡◌, ◌<◌, ◌-◌, ℕ, Bool, List, Option, Some, None, Ok, Vec, Global, refl, sym, ap, ap₂, ◌∙◌, subst, arith}
+use Rattle.cell_types.specs.Value.{CellValue}
+use Rattle.table_store.specs.Catalog.{CatalogOf}
+use Rattle.odata_query.specs.Query.{optional_numbers, values_view}
+use Rattle.odata_request.specs.Laws.{KeysStandAlone}
 use Rattle.reply_text.specs.declared.code.Code.{Code}
 use Rattle.http_heads.specs.Head.{HeadOf}
 use Rattle.query_exec.specs.declared.run.Step.{Step}
 use Rattle.query_exec.specs.declared.run.Step.TheVariants.{More, Done}
-use Rattle.odata_request.specs.Request.{RequestOf, RowsRequestOf, refused, rows, service}
+use Rattle.odata_request.specs.Request.{IsRowsInside, RequestOf, RowsRequestOf, refused, rows, service}
 use Rattle.odata_http.specs.declared.exchange.Exchange.{Exchange}
+use Rattle.odata_http.specs.declared.finding.Finding.{Finding}
 use Rattle.odata_http.specs.declared.reading.Reached.{Reached}
 use Rattle.odata_http.specs.declared.reading.Reached.TheVariants.{Over}
 use Rattle.odata_http.specs.declared.reading.Reading.{Reading}
 use Rattle.odata_http.specs.declared.response.Response.{Response}
 use Rattle.odata_http.specs.declared.work.Work.{Work}
-use Rattle.odata_http.specs.declared.work.Work.TheVariants.{Refuse, ListTables, Read, Replied, Failed}
-use Rattle.odata_http.specs.Exchange.{Answers, GivesReply, GoesOn, IsReading, IsWork, calls_left, left_in}
-use Rattle.odata_http.specs.Reply.{IsReply, ResponseOf, error_response, reply_of, service_response}
-use Rattle.odata_http.specs.Work.{ReadsOn, StartsWork, WorksOn, response_view, step_of}
+use Rattle.odata_http.specs.declared.work.Work.TheVariants.{Refuse, ListTables, Find, Read, Replied, Failed}
+use Rattle.odata_http.specs.Exchange.{Answers, GivesReply, GoesOn, IsFinding, IsReading, IsWork, QueryTakes, calls_left, left_in}
+use Rattle.odata_http.specs.Reply.{IsReply, RespondsWithRows, ResponseOf, error_response, reply_of, service_response}
+use Rattle.odata_http.specs.Work.{IsAsked, ReadsOn, StartsReading, StartsWork, WorksOn, response_view, step_of}
 
-pub starts_refusal : (tables : List TableOf) (code : Code) → StartsWork tables (refused code) (Refuse code)
-starts_refusal tables code = (1, refl, (refl, refl))
+pub starts_refusal : (catalog : CatalogOf) (code : Code) → StartsWork catalog (refused code) (Refuse code)
+starts_refusal catalog code = (1, refl, (refl, refl))
 
-pub starts_listing : (tables : List TableOf) → StartsWork tables service ListTables
-starts_listing tables = (1, refl, refl)
+pub starts_listing : (catalog : CatalogOf) → StartsWork catalog service ListTables
+starts_listing catalog = (1, refl, refl)
 
-pub works_refuse : (tables : List TableOf) (method : List ℕ) (closing : Bool) (request : RequestOf) (left : ℕ) (work : Work) (code : Code) (response : ResponseOf) (bytes : Vec ℕ Global)
-    → work ≡ Refuse code → response ≡ error_response code → bytes.items ≡ reply_of method response closing → IsWork tables request left work
-    → WorksOn tables method closing request left (Replied bytes)
-works_refuse tables method closing request left work code response bytes at made reply is =
-    of request (subst (IsWork tables request left) at is)
+pub starts_finding : (catalog : CatalogOf) (asked : RowsRequestOf) (finding : Finding) → KeysStandAlone → IsAsked catalog (rows asked) → IsRowsInside catalog asked
+    → finding.table ≡ asked.table → finding.format ≡ asked.format → asked.query.key ≡ Some (values_view finding.key) → optional_numbers finding.select ≡ asked.query.select
+    → StartsWork catalog (rows asked) (Find finding)
+starts_finding catalog asked finding alone head inside table format key select = (
+  1,
+  subst (λ (k : Option (List CellValue)). QueryTakes catalog asked k 1) (sym key) refl,
+  (
+    record {
+      table = inside.table;
+      table_is = inside.table_is;
+      number_is = table;
+      format_is = format;
+      typed = inside.typed;
+      key_is = key;
+      unapplied = alone catalog head.0 head.1 asked (values_view finding.key) head.2 key;
+      select_is = select;
+    },
+    refl,
+  ),
+)
+
+pub starts_run : (catalog : CatalogOf) (asked : RowsRequestOf) (reading : Reading) → asked.query.key ≡ None → StartsReading catalog asked reading
+    → StartsWork catalog (rows asked) (Read reading)
+starts_run catalog asked reading unkeyed starts = (starts.0, subst (λ (k : Option (List CellValue)). QueryTakes catalog asked k starts.0) (sym unkeyed) starts.1, starts.2)
+
+pub works_refuse : (catalog : CatalogOf) (method : List ℕ) (closing : Bool) (request : RequestOf) (left : ℕ) (work : Work) (code : Code) (response : ResponseOf) (bytes : Vec ℕ Global)
+    → work ≡ Refuse code → response ≡ error_response code → bytes.items ≡ reply_of method response closing → IsWork catalog request left work
+    → WorksOn catalog method closing request left (Replied bytes)
+works_refuse catalog method closing request left work code response bytes at made reply is =
+    of request (subst (IsWork catalog request left) at is)
   where
-    of : (q : RequestOf) → IsWork tables q left (Refuse code) → WorksOn tables method closing q left (Replied bytes)
+    of : (q : RequestOf) → IsWork catalog q left (Refuse code) → WorksOn catalog method closing q left (Replied bytes)
     of (refused other) h = (h.1, response, made ∙ ap error_response h.0, reply)
     of service h = absurd h
     of (rows asked) h = absurd h
 
-pub works_list : (tables : List TableOf) (method : List ℕ) (closing : Bool) (request : RequestOf) (left : ℕ) (work : Work) (response : ResponseOf) (bytes : Vec ℕ Global)
-    → work ≡ ListTables → response ≡ service_response tables → bytes.items ≡ reply_of method response closing → IsWork tables request left work
-    → WorksOn tables method closing request left (Replied bytes)
-works_list tables method closing request left work response bytes at made reply is =
-    of request (subst (IsWork tables request left) at is)
+pub works_list : (catalog : CatalogOf) (method : List ℕ) (closing : Bool) (request : RequestOf) (left : ℕ) (work : Work) (response : ResponseOf) (bytes : Vec ℕ Global)
+    → work ≡ ListTables → response ≡ service_response catalog → bytes.items ≡ reply_of method response closing → IsWork catalog request left work
+    → WorksOn catalog method closing request left (Replied bytes)
+works_list catalog method closing request left work response bytes at made reply is =
+    of request (subst (IsWork catalog request left) at is)
   where
-    of : (q : RequestOf) → IsWork tables q left ListTables → WorksOn tables method closing q left (Replied bytes)
+    of : (q : RequestOf) → IsWork catalog q left ListTables → WorksOn catalog method closing q left (Replied bytes)
     of (refused other) h = absurd h
     of service h = (h, response, made, reply)
     of (rows asked) h = absurd h
 
-pub works_over : (tables : List TableOf) (method : List ℕ) (closing : Bool) (request : RequestOf) (left : ℕ) (work : Work) (reading : Reading) (reached : Reached) (response : Response)
-    (bytes : Vec ℕ Global) → work ≡ Read reading → reached ≡ Over response → ((asked : RowsRequestOf) (n : ℕ) → IsReading tables asked n reading → ReadsOn tables asked n reached)
-    → bytes.items ≡ reply_of method (response_view response) closing → IsWork tables request left work → WorksOn tables method closing request left (Replied bytes)
-works_over tables method closing request left work reading reached response bytes at over reads reply is =
-    of request (subst (IsWork tables request left) at is)
+pub works_find : (catalog : CatalogOf) (method : List ℕ) (closing : Bool) (request : RequestOf) (left : ℕ) (work : Work) (finding : Finding) (response : ResponseOf) (bytes : Vec ℕ Global)
+    → work ≡ Find finding → ((asked : RowsRequestOf) → IsFinding catalog asked finding → RespondsWithRows catalog asked response)
+    → bytes.items ≡ reply_of method response closing → IsWork catalog request left work → WorksOn catalog method closing request left (Replied bytes)
+works_find catalog method closing request left work finding response bytes at responds reply is =
+    of request (subst (IsWork catalog request left) at is)
   where
-    of : (q : RequestOf) → IsWork tables q left (Read reading) → WorksOn tables method closing q left (Replied bytes)
+    of : (q : RequestOf) → IsWork catalog q left (Find finding) → WorksOn catalog method closing q left (Replied bytes)
+    of (refused other) h = absurd h
+    of service h = absurd h
+    of (rows asked) h = (h.1, response, responds asked h.0, reply)
+
+pub works_over : (catalog : CatalogOf) (method : List ℕ) (closing : Bool) (request : RequestOf) (left : ℕ) (work : Work) (reading : Reading) (reached : Reached) (response : Response)
+    (bytes : Vec ℕ Global) → work ≡ Read reading → reached ≡ Over response → ((asked : RowsRequestOf) (n : ℕ) → IsReading catalog asked n reading → ReadsOn catalog asked n reached)
+    → bytes.items ≡ reply_of method (response_view response) closing → IsWork catalog request left work → WorksOn catalog method closing request left (Replied bytes)
+works_over catalog method closing request left work reading reached response bytes at over reads reply is =
+    of request (subst (IsWork catalog request left) at is)
+  where
+    of : (q : RequestOf) → IsWork catalog q left (Read reading) → WorksOn catalog method closing q left (Replied bytes)
     of (refused other) h = absurd h
     of service h = absurd h
     of (rows asked) h =
-        let r = subst (ReadsOn tables asked left) over (reads asked left h) in
+        let r = subst (ReadsOn catalog asked left) over (reads asked left h) in
         (r.0, response_view response, r.1, reply)
 
 abbrev with_work : Exchange → Work → Exchange
 with_work exchange work = record exchange { work = work }
 
-pub goes_on : (tables : List TableOf) (head : HeadOf) (left : ℕ) (old : Exchange) (work : Work) → (a : Answers tables head left old)
-    → WorksOn tables old.method.items old.closes a.request left work → GoesOn tables head left (with_work old work) (Ok (step_of work))
-goes_on tables head left old (Replied bytes) a w = (
+pub goes_on : (catalog : CatalogOf) (head : HeadOf) (left : ℕ) (old : Exchange) (work : Work) → (a : Answers catalog head left old)
+    → WorksOn catalog old.method.items old.closes a.request left work → GoesOn catalog head left (with_work old work) (Ok (step_of work))
+goes_on catalog head left old (Replied bytes) a w = (
   w.0,
   bytes.items,
   record {
@@ -75,54 +115,58 @@ goes_on tables head left old (Replied bytes) a w = (
   },
   refl,
 )
-goes_on tables head left old (Read reading) a w = (w.0, record { method_is = a.method_is; closes_is = a.closes_is; request = a.request; asks = a.asks; work = w.1 })
-goes_on tables head left old (Refuse code) a w = (w.0, record { method_is = a.method_is; closes_is = a.closes_is; request = a.request; asks = a.asks; work = w.1 })
-goes_on tables head left old ListTables a w = (w.0, record { method_is = a.method_is; closes_is = a.closes_is; request = a.request; asks = a.asks; work = w.1 })
-goes_on tables head left old Failed a w = (w.0, record { method_is = a.method_is; closes_is = a.closes_is; request = a.request; asks = a.asks; work = w.1 })
+goes_on catalog head left old (Read reading) a w = (w.0, record { method_is = a.method_is; closes_is = a.closes_is; request = a.request; asks = a.asks; work = w.1 })
+goes_on catalog head left old (Refuse code) a w = (w.0, record { method_is = a.method_is; closes_is = a.closes_is; request = a.request; asks = a.asks; work = w.1 })
+goes_on catalog head left old (Find finding) a w = (w.0, record { method_is = a.method_is; closes_is = a.closes_is; request = a.request; asks = a.asks; work = w.1 })
+goes_on catalog head left old ListTables a w = (w.0, record { method_is = a.method_is; closes_is = a.closes_is; request = a.request; asks = a.asks; work = w.1 })
+goes_on catalog head left old Failed a w = (w.0, record { method_is = a.method_is; closes_is = a.closes_is; request = a.request; asks = a.asks; work = w.1 })
 
 -- the same of an exchange that was given the work
-pub goes_to : (tables : List TableOf) (head : HeadOf) (left : ℕ) (old : Exchange) (work given : Work) (step : Step) → given ≡ work → step ≡ step_of work
-    → (a : Answers tables head left old) → WorksOn tables old.method.items old.closes a.request left work → GoesOn tables head left (with_work old given) (Ok step)
-goes_to tables head left old work given step same told a w =
-    let here = subst (λ (x : Work). GoesOn tables head left (with_work old x) (Ok (step_of work))) (sym same) (goes_on tables head left old work a w) in
-    subst (λ (s : Step). GoesOn tables head left (with_work old given) (Ok s)) (sym told) here
+pub goes_to : (catalog : CatalogOf) (head : HeadOf) (left : ℕ) (old : Exchange) (work given : Work) (step : Step) → given ≡ work → step ≡ step_of work
+    → (a : Answers catalog head left old) → WorksOn catalog old.method.items old.closes a.request left work → GoesOn catalog head left (with_work old given) (Ok step)
+goes_to catalog head left old work given step same told a w =
+    let here = subst (λ (x : Work). GoesOn catalog head left (with_work old x) (Ok (step_of work))) (sym same) (goes_on catalog head left old work a w) in
+    subst (λ (s : Step). GoesOn catalog head left (with_work old given) (Ok s)) (sym told) here
 
-left_counted : (tables : List TableOf) (request : RequestOf) (left : ℕ) (work : Work) → IsWork tables request left work → left ≡ left_in work
-left_counted tables (refused code) left (Refuse other) h = h.1
-left_counted tables (refused code) left ListTables h = absurd h
-left_counted tables (refused code) left (Read reading) h = absurd h
-left_counted tables (refused code) left (Replied bytes) h = absurd h
-left_counted tables (refused code) left Failed h = absurd h
-left_counted tables service left (Refuse other) h = absurd h
-left_counted tables service left ListTables h = h
-left_counted tables service left (Read reading) h = absurd h
-left_counted tables service left (Replied bytes) h = absurd h
-left_counted tables service left Failed h = absurd h
-left_counted tables (rows asked) left (Refuse other) h = absurd h
-left_counted tables (rows asked) left ListTables h = absurd h
-left_counted tables (rows asked) left (Read reading) h = sym h.counted
-left_counted tables (rows asked) left (Replied bytes) h = absurd h
-left_counted tables (rows asked) left Failed h = absurd h
+left_counted : (catalog : CatalogOf) (request : RequestOf) (left : ℕ) (work : Work) → IsWork catalog request left work → left ≡ left_in work
+left_counted catalog (refused code) left (Refuse other) h = h.1
+left_counted catalog (refused code) left ListTables h = absurd h
+left_counted catalog (refused code) left (Find finding) h = absurd h
+left_counted catalog (refused code) left (Read reading) h = absurd h
+left_counted catalog (refused code) left (Replied bytes) h = absurd h
+left_counted catalog (refused code) left Failed h = absurd h
+left_counted catalog service left (Refuse other) h = absurd h
+left_counted catalog service left ListTables h = h
+left_counted catalog service left (Find finding) h = absurd h
+left_counted catalog service left (Read reading) h = absurd h
+left_counted catalog service left (Replied bytes) h = absurd h
+left_counted catalog service left Failed h = absurd h
+left_counted catalog (rows asked) left (Refuse other) h = absurd h
+left_counted catalog (rows asked) left ListTables h = absurd h
+left_counted catalog (rows asked) left (Find finding) h = h.1
+left_counted catalog (rows asked) left (Read reading) h = sym h.counted
+left_counted catalog (rows asked) left (Replied bytes) h = absurd h
+left_counted catalog (rows asked) left Failed h = absurd h
 
 -- the calls that are left are those that the exchange counts
-pub calls_are : (tables : List TableOf) (head : HeadOf) (left : ℕ) (exchange : Exchange) → Answers tables head left exchange → left ≡ calls_left exchange
-calls_are tables head left exchange a = left_counted tables a.request left exchange.work a.work
+pub calls_are : (catalog : CatalogOf) (head : HeadOf) (left : ℕ) (exchange : Exchange) → Answers catalog head left exchange → left ≡ calls_left exchange
+calls_are catalog head left exchange a = left_counted catalog a.request left exchange.work a.work
 
-pub answers_counted : (tables : List TableOf) (head : HeadOf) (left : ℕ) (exchange : Exchange) → Answers tables head left exchange
-    → Answers tables head (calls_left exchange) exchange
-answers_counted tables head left exchange a = subst (λ (n : ℕ). Answers tables head n exchange) (calls_are tables head left exchange a) a
+pub answers_counted : (catalog : CatalogOf) (head : HeadOf) (left : ℕ) (exchange : Exchange) → Answers catalog head left exchange
+    → Answers catalog head (calls_left exchange) exchange
+answers_counted catalog head left exchange a = subst (λ (n : ℕ). Answers catalog head n exchange) (calls_are catalog head left exchange a) a
 
 -- one call more
-pub calls_fall : (tables : List TableOf) (head : HeadOf) (left : ℕ) (exchange : Exchange) (step : Step) → step ≡ More → GoesOn tables head left exchange (Ok step)
-    → (calls_left exchange < left) × Answers tables head (calls_left exchange) exchange
-calls_fall tables head left exchange step e h =
-    let on = subst (λ (s : Step). GoesOn tables head left exchange (Ok s)) e h in
+pub calls_fall : (catalog : CatalogOf) (head : HeadOf) (left : ℕ) (exchange : Exchange) (step : Step) → step ≡ More → GoesOn catalog head left exchange (Ok step)
+    → (calls_left exchange < left) × Answers catalog head (calls_left exchange) exchange
+calls_fall catalog head left exchange step e h =
+    let on = subst (λ (s : Step). GoesOn catalog head left exchange (Ok s)) e h in
     let less = on.0 in
-    let count = calls_are tables head (left - 1) exchange on.1 in
-    (omega (arith, less, count), answers_counted tables head (left - 1) exchange on.1)
+    let count = calls_are catalog head (left - 1) exchange on.1 in
+    (omega (arith, less, count), answers_counted catalog head (left - 1) exchange on.1)
 
 -- the last call
-pub calls_end : (tables : List TableOf) (head : HeadOf) (left : ℕ) (exchange : Exchange) (step : Step) → step ≡ Done → GoesOn tables head left exchange (Ok step)
-    → (reply : List ℕ) × IsReply tables head reply × GivesReply exchange reply
-calls_end tables head left exchange step e h =
-    let on = subst (λ (s : Step). GoesOn tables head left exchange (Ok s)) e h in (on.1, on.2, on.3)
+pub calls_end : (catalog : CatalogOf) (head : HeadOf) (left : ℕ) (exchange : Exchange) (step : Step) → step ≡ Done → GoesOn catalog head left exchange (Ok step)
+    → (reply : List ℕ) × IsReply catalog head reply × GivesReply exchange reply
+calls_end catalog head left exchange step e h =
+    let on = subst (λ (s : Step). GoesOn catalog head left exchange (Ok s)) e h in (on.1, on.2, on.3)

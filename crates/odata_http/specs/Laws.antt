@@ -1,6 +1,6 @@
 -- What holds of the replies of every stream.
 use Rattle.std.specs.Prelude.{◌≡◌, ℕ, Bool, true, false, List, ◌++◌}
-use Rattle.table_store.specs.Table.{TableOf}
+use Rattle.table_store.specs.Catalog.{CatalogOf}
 use Rattle.http_heads.specs.Head.{HeadOf}
 use Rattle.odata_http.specs.Reply.{IsReply}
 use Rattle.odata_http.specs.Replies.{IsCertain, AreReplies}
@@ -22,6 +22,6 @@ pub record Joins (R : HeadOf → List ℕ → Type 0) : Type 0 where
   pub certain_closed : (s p c r : List ℕ) → IsCertain R s c r true → IsCertain R (s ++ p) c r true
   pub replies_closed : (s p c : List ℕ) → AreReplies R s c true → AreReplies R (s ++ p) c true
 
--- of the replies to heads under some tables
+-- of the replies to heads under the tables of some folder
 abbrev pub UnderTables : ((HeadOf → List ℕ → Type 0) → Type 0) → Type 0
-UnderTables law = (tables : List TableOf) → law (IsReply tables)
+UnderTables law = (catalog : CatalogOf) → law (IsReply catalog)

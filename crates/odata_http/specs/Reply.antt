@@ -3,13 +3,15 @@ use Rattle.std.specs.Prelude.{◌≡◌, ℕ, Bool, true, List, [], ◌∷◌, �
 use Rattle.std.specs.Str.{bytes_eq}
 use Rattle.std.specs.Fmt.{decimal}
 use Rattle.http.specs.StatusCode.{reason_phrase}
+use Rattle.cell_types.specs.Value.{CellValue}
+use Rattle.table_store.specs.Catalog.{CatalogOf}
 use Rattle.table_store.specs.Table.{TableOf}
-use Rattle.query_exec.specs.Answer.{answer_of}
-use Rattle.query_exec.specs.Rows.{RowsOf}
+use Rattle.query_plan.specs.Meaning.{MeaningOf, ResultOf, query_meaning, result, number, single, no_row}
 use Rattle.reply_text.specs.declared.code.Code.{Code}
-use Rattle.reply_text.specs.declared.code.Code.TheVariants.{BadRequest, MethodNotAllowed, DivisionByZero}
+use Rattle.reply_text.specs.declared.code.Code.TheVariants.{BadRequest, MethodNotAllowed, NoSuchRow, DivisionByZero}
 use Rattle.reply_text.specs.Body.{rows_text, service_text, error_text}
 use Rattle.reply_text.specs.Csv.{csv_text}
+use Rattle.reply_text.specs.Json.{json_row}
 use Rattle.odata_parse.specs.declared.format.Format.{Format}
 use Rattle.odata_parse.specs.declared.format.Format.TheVariants.{Json, Csv}
 use Rattle.reply_text.specs.Code.{status_of}
@@ -73,40 +75,66 @@ pub record ResponseOf : Type 0 where
 abbrev pub error_response : Code → ResponseOf
 error_response code = record { status = status_of code; media = media.Json; body = error_text code }
 
-abbrev pub service_response : List TableOf → ResponseOf
-service_response tables = record { status = OK; media = media.Json; body = service_text tables }
+abbrev pub service_response : CatalogOf → ResponseOf
+service_response catalog = record { status = OK; media = media.Json; body = service_text catalog.tables }
 
-abbrev pub rows_body : RowsOf → Format → List ℕ
+abbrev pub rows_body : ResultOf → Format → List ℕ
 rows_body answer Json = rows_text answer
 rows_body answer Csv = csv_text answer
 
--- the answer to a query in a format; where it is none, a number is divided by zero
-abbrev pub rows_response : Format → Option RowsOf → ResponseOf
-rows_response format (Some answer) = record { status = OK; media = media_of format; body = rows_body answer format }
+-- one row under names
+abbrev pub one_row : List (List ℕ) → List CellValue → ResultOf
+one_row names row = record { names = names; rows = row ∷ []; count = None }
+
+-- the object of a row, and no list of rows; or a line of the names and that of the row
+abbrev pub row_body : List (List ℕ) → List CellValue → Format → List ℕ
+row_body names row Json = json_row names row
+row_body names row Csv = csv_text (one_row names row)
+
+abbrev pub list_response : Format → ResultOf → ResponseOf
+list_response format answer = record { status = OK; media = media_of format; body = rows_body answer format }
+
+-- a number is plain text, whatever the format
+abbrev pub number_response : ℕ → ResponseOf
+number_response n = record { status = OK; media = media.Plain; body = decimal n }
+
+abbrev pub row_response : Format → List (List ℕ) → List CellValue → ResponseOf
+row_response format names row = record { status = OK; media = media_of format; body = row_body names row format }
+
+-- what a query means, in a format
+abbrev pub meaning_response : Format → MeaningOf → ResponseOf
+meaning_response format (result answer) = list_response format answer
+meaning_response format (number n) = number_response n
+meaning_response format (single names row) = row_response format names row
+meaning_response format no_row = error_response NoSuchRow
+
+-- where it means nothing, a number is divided by zero
+abbrev pub rows_response : Format → Option MeaningOf → ResponseOf
+rows_response format (Some meaning) = meaning_response format meaning
 rows_response format None = error_response DivisionByZero
 
 -- a query is answered from its table
-pub record RespondsWithRows (tables : List TableOf) (asked : RowsRequestOf) (response : ResponseOf) : Type 0 where
+pub record RespondsWithRows (catalog : CatalogOf) (asked : RowsRequestOf) (response : ResponseOf) : Type 0 where
   pub table : TableOf
-  pub table_is : slice_get tables asked.table ≡ Some table
-  pub response_is : response ≡ rows_response asked.format (answer_of asked.query table)
+  pub table_is : slice_get catalog.tables asked.table ≡ Some table
+  pub response_is : response ≡ rows_response asked.format (query_meaning table.schema asked.query table.rows)
 
 -- what a request is answered with
-abbrev pub RespondsWith : List TableOf → RequestOf → ResponseOf → Type 0
-RespondsWith tables (refused code) response = response ≡ error_response code
-RespondsWith tables service response = response ≡ service_response tables
-RespondsWith tables (rows asked) response = RespondsWithRows tables asked response
+abbrev pub RespondsWith : CatalogOf → RequestOf → ResponseOf → Type 0
+RespondsWith catalog (refused code) response = response ≡ error_response code
+RespondsWith catalog service response = response ≡ service_response catalog
+RespondsWith catalog (rows asked) response = RespondsWithRows catalog asked response
 
 -- a response to a request of that method
 abbrev pub reply_of : List ℕ → ResponseOf → Bool → List ℕ
 reply_of method response closing = reply_with method response.status response.media response.body closing
 
 -- The bytes are the reply to the head: a response to what it asks for. Whether the connection closes behind it hangs on the head alone.
-pub record IsReply (tables : List TableOf) (head : HeadOf) (reply : List ℕ) : Type 0 where
+pub record IsReply (catalog : CatalogOf) (head : HeadOf) (reply : List ℕ) : Type 0 where
   pub request : RequestOf
-  pub asks : AsksFor tables (head_fault head) head.target request
+  pub asks : AsksFor catalog (head_fault head) head.target request
   pub response : ResponseOf
-  pub responds : RespondsWith tables request response
+  pub responds : RespondsWith catalog request response
   pub reply_is : reply ≡ reply_of head.method response (closes head)
 
 -- the reply to a rest that is no head, which closes; no method is known, so it has its body

@@ -60,7 +60,7 @@ fn answer_heads<O: Outlet>(
     out: &mut O,
 ) -> Result<(), AnswerFault>
     requires { AreSmall (map head_view heads.now) }
-    ensures { IsAnswered (IsReply catalog.now.tables) O.takes
+    ensures { IsAnswered (IsReply catalog.now) O.takes
         (map head_view heads.now) out.old out.new result }
 {
     for head in heads {
@@ -78,7 +78,7 @@ pub(crate) fn take_in<O: Outlet>(
     piece: &[u8],
     out: &mut O,
 ) -> Result<bool, AnswerFault>
-    ensures { IsTakenIn (IsReply catalog.now.tables) O.takes
+    ensures { IsTakenIn (IsReply catalog.now) O.takes
         (splitter.old ++ piece.now) splitter.new out.old out.new result }
 {
     head_limits();

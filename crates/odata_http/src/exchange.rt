@@ -25,7 +25,7 @@ impl Exchange {
     /// Before the first block. No block is read.
     pub fn begin(alloc: Global, catalog: &Catalog, head: Head) -> Result<Exchange, AllocError>
         requires { length head.target.items ≤ 8192 }
-        ensures { IfOk result (Begins catalog.now.tables (head_view head)) }
+        ensures { IfOk result (Begins catalog.now (head_view head)) }
     {
         Exchange::begin_for(alloc, catalog, &head)
     }
@@ -33,7 +33,7 @@ impl Exchange {
     /// The same for a head that is kept.
     fn begin_for(alloc: Global, catalog: &Catalog, head: &Head) -> Result<Exchange, AllocError>
         requires { length head.now.target.items ≤ 8192 }
-        ensures { IfOk result (Begins catalog.now.tables (head_view head.now)) }
+        ensures { IfOk result (Begins catalog.now (head_view head.now)) }
     {
         let checks = check_head(head);
         let method = head.method.clone()?;
@@ -49,9 +49,9 @@ impl Exchange {
     /// Reads one block of the table at most. It answers Done at the call of the length that a head has, when the reply is there, and after that
     /// always; and where memory ran out, in this call or before, it says so.
     pub fn advance(&mut self, alloc: Global, catalog: &Catalog) -> Result<Step, AllocError>
-        requires { MayGoOn catalog.now.tables self.old }
-        ensures goes_on { (head : HeadOf) (left : ℕ) → Answers catalog.now.tables head left self.old
-            → GoesOn catalog.now.tables head left self.new result }
+        requires { MayGoOn catalog.now self.old }
+        ensures goes_on { (head : HeadOf) (left : ℕ) → Answers catalog.now head left self.old
+            → GoesOn catalog.now head left self.new result }
         ensures done { (reply : List ℕ) → GivesReply self.old reply
             → (result ≡ Ok Done) × GivesReply self.new reply }
         ensures failed { HasFailed self.old → IsErr result }
@@ -80,7 +80,7 @@ impl Exchange {
 /// The reply to a head: what the engine calls, head by head.
 pub fn reply_to(alloc: Global, catalog: &Catalog, head: &Head) -> Result<Vec<u8>, AllocError>
     requires { length head.now.target.items ≤ 8192 }
-    ensures { IfOk result (λ reply. IsReply catalog.now.tables (head_view head.now) reply.items) }
+    ensures { IfOk result (λ reply. IsReply catalog.now (head_view head.now) reply.items) }
 {
     let mut exchange = Exchange::begin_for(alloc, catalog, head)?;
     'calls: loop {

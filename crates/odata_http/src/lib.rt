@@ -6,6 +6,7 @@ mod answer;
 mod counted;
 mod device;
 mod exchange;
+mod finding;
 mod laws;
 mod media;
 mod output;

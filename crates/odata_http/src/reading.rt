@@ -1,14 +1,13 @@
 //! The run of a query on its table, block by block.
-ghost use Rattle.std.specs.Prelude.{◌≡◌, ℕ, IfOk};
+ghost use Rattle.std.specs.Prelude.{◌≡◌, ℕ, None, IfOk};
 ghost use Rattle.http.specs.StatusCode.{IsStatusCode};
-ghost use Rattle.odata_query.specs.Query.{query_typed_view};
 ghost use Rattle.query_plan.specs.Plan.{PlanOf};
 ghost use Rattle.query_exec.specs.Run.{StandsFor, handed_block};
 ghost use Rattle.odata_request.specs.Request.{IsRowsInside, RowsRequestOf, rows_view};
 ghost use Rattle.odata_http.specs.Exchange.{IsReading, TakesRunCalls};
 ghost use Rattle.odata_http.specs.Work.{IsKnown, MayRead, NeedsBlocksOf, ReadsOn, StartsReading};
 
-use crate::response::{Response, error_response, rows_response};
+use crate::response::{Response, answer_response, error_response};
 use odata_parse::Format;
 use odata_request::RowsRequest;
 use query_exec::{ExecFault, Run, Step};
@@ -24,6 +23,8 @@ pub(crate) struct Reading {
     pub(crate) table: usize,
     /// The format of the answer.
     pub(crate) format: Format,
+    /// Whether only the number of rows is asked for.
+    pub(crate) counting: bool,
     /// How many calls are left.
     pub(crate) left: usize,
     pub(crate) run: Run,
@@ -57,16 +58,20 @@ impl Reading {
         catalog: &Catalog,
         asked: RowsRequest,
     ) -> Result<Reading, AllocError>
-        requires { IsRowsInside catalog.now.tables (rows_view asked) }
-        ensures { IfOk result (StartsReading catalog.now.tables (rows_view asked)) }
+        requires inside { IsRowsInside catalog.now (rows_view asked) }
+        requires unkeyed { (rows_view asked).query.key ≡ None }
+        ensures { IfOk result (StartsReading catalog.now (rows_view asked)) }
     {
         let table = &catalog.tables()[asked.table];
+        table.values_fit();
         let summaries = table.summary();
+        let counting = asked.query.counting;
         let plan = naive(alloc, asked.query)?;
         match Run::start(alloc, table.schema(), summaries, plan) {
             Ok(run) => Ok(Reading {
                 table: asked.table,
                 format: asked.format,
+                counting,
                 left: summaries.len().max(1),
                 run,
             }),
@@ -76,10 +81,10 @@ impl Reading {
 
     /// Reads the next block, where one is needed.
     pub(crate) fn read_on(self, alloc: Global, catalog: &Catalog) -> Result<Reached, AllocError>
-        requires { MayRead catalog.now.tables self }
+        requires { MayRead catalog.now self }
         ensures reads { (asked : RowsRequestOf) (left : ℕ)
-            → IsReading catalog.now.tables asked left self
-            → IfOk result (ReadsOn catalog.now.tables asked left) }
+            → IsReading catalog.now asked left self
+            → IfOk result (ReadsOn catalog.now asked left) }
         ensures known { IfOk result IsKnown }
     {
         let table = &catalog.tables()[self.table];
@@ -89,10 +94,16 @@ impl Reading {
             Ok(Step::More) => Ok(Reached::On(Reading {
                 table: self.table,
                 format: self.format,
+                counting: self.counting,
                 left: self.left - 1,
                 run,
             })),
-            Ok(Step::Done) => Ok(Reached::Over(rows_response(alloc, &run.finish(), self.format)?)),
+            Ok(Step::Done) => Ok(Reached::Over(answer_response(
+                alloc,
+                &run.finish(),
+                self.counting,
+                self.format,
+            )?)),
             Err(ExecFault::DivisionByZero) => Ok(Reached::Over(error_response(
                 alloc,
                 Code::DivisionByZero,

@@ -1,15 +1,17 @@
 //! What requests are answered with.
-ghost use Rattle.std.specs.Prelude.{◌≡◌, IfOk, Some};
+ghost use Rattle.std.specs.Prelude.{◌≡◌, ℕ, List, IfOk, length};
+ghost use Rattle.cell_types.specs.Value.{CellValue};
 ghost use Rattle.http.specs.StatusCode.{IsStatusCode};
+ghost use Rattle.query_plan.specs.Plan.{answer_of};
 ghost use Rattle.reply_text.specs.Code.{status_of};
-ghost use Rattle.odata_http.specs.Reply.{error_response, reply_of, rows_body, rows_response, service_response};
+ghost use Rattle.odata_http.specs.Reply.{error_response, list_response, meaning_response, number_response, one_row, reply_of, row_body, row_response, rows_body, service_response};
 ghost use Rattle.odata_http.specs.Work.{response_view};
 
 use crate::media::Media;
 use crate::reply::reply_with;
 use odata_parse::Format;
 use query_exec::Rows;
-use reply_text::{Code, csv_body, error_body, json_body, service_body};
+use reply_text::{Code, csv_body, error_body, json_body, number_body, row_body, service_body};
 use std::alloc::{AllocError, Global};
 use table_store::Catalog;
 
@@ -48,7 +50,7 @@ pub(crate) fn error_response(alloc: Global, code: Code) -> Result<Response, Allo
 /// The service document.
 pub(crate) fn service_response(alloc: Global, catalog: &Catalog) -> Result<Response, AllocError>
     ensures response { IfOk result
-        (λ response. response_view response ≡ service_response catalog.now.tables) }
+        (λ response. response_view response ≡ service_response catalog.now) }
     ensures known { IfOk result (λ response. IsStatusCode response.status) }
 {
     let body = service_body(alloc, catalog)?;
@@ -70,16 +72,74 @@ fn rows_body(alloc: Global, rows: &Rows, format: Format) -> Result<Vec<u8>, Allo
 }
 
 /// Rows in a format.
-pub(crate) fn rows_response(
+fn list_response(alloc: Global, rows: &Rows, format: Format) -> Result<Response, AllocError>
+    ensures response { IfOk result
+        (λ response. response_view response ≡ list_response format rows.now) }
+    ensures known { IfOk result (λ response. IsStatusCode response.status) }
+{
+    let body = rows_body(alloc, rows, format)?;
+    Ok(Response {
+        status: OK,
+        media: Media::of(format),
+        body,
+    })
+}
+
+/// A number, as plain text.
+fn number_response(alloc: Global, number: u64) -> Result<Response, AllocError>
+    ensures response { IfOk result (λ response. response_view response ≡ number_response number) }
+    ensures known { IfOk result (λ response. IsStatusCode response.status) }
+{
+    let body = number_body(alloc, number)?;
+    Ok(Response {
+        status: OK,
+        media: Media::Plain,
+        body,
+    })
+}
+
+/// What the rows of a run answer: where their number alone is asked for, it is their count.
+pub(crate) fn answer_response(
+    alloc: Global,
+    rows: &Rows,
+    counting: bool,
+    format: Format,
+) -> Result<Response, AllocError>
+    ensures response { IfOk result (λ response. response_view response
+        ≡ meaning_response format (answer_of counting rows.now)) }
+    ensures known { IfOk result (λ response. IsStatusCode response.status) }
+{
+    if counting {
+        number_response(alloc, rows.count().unwrap_or(0))
+    } else {
+        list_response(alloc, rows, format)
+    }
+}
+
+/// The body of one row in a format.
+fn single_body(alloc: Global, rows: &Rows, format: Format) -> Result<Vec<u8>, AllocError>
+    requires { length rows.now.rows ≡ 1 }
+    ensures { IfOk result (λ body. (names : List (List ℕ)) (row : List CellValue)
+        → rows.now ≡ one_row names row → body.items ≡ row_body names row format) }
+{
+    match format {
+        Format::Json => row_body(alloc, rows),
+        Format::Csv => csv_body(alloc, rows),
+    }
+}
+
+/// One row in a format.
+pub(crate) fn row_response(
     alloc: Global,
     rows: &Rows,
     format: Format,
 ) -> Result<Response, AllocError>
-    ensures response { IfOk result
-        (λ response. response_view response ≡ rows_response format (Some rows.now)) }
+    requires { length rows.now.rows ≡ 1 }
+    ensures response { IfOk result (λ response. (names : List (List ℕ)) (row : List CellValue)
+        → rows.now ≡ one_row names row → response_view response ≡ row_response format names row) }
     ensures known { IfOk result (λ response. IsStatusCode response.status) }
 {
-    let body = rows_body(alloc, rows, format)?;
+    let body = single_body(alloc, rows, format)?;
     Ok(Response {
         status: OK,
         media: Media::of(format),

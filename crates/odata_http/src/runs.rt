@@ -49,7 +49,7 @@ pub fn run<R: Source, W: Sink>(
     limit: u32,
 ) -> Result<(), RunFault>
     requires { CountsFit (R.source input.old) (W.sink out.old) }
-    ensures { IsRun (IsReply catalog.now.tables) limit
+    ensures { IsRun (IsReply catalog.now) limit
         (course (R.source input.old) (R.source input.new) (W.sink out.old) (W.sink out.new))
         result }
 {

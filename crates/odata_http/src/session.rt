@@ -79,7 +79,7 @@ impl Session {
         catalog: &Catalog,
         piece: &[u8],
     ) -> Result<(), SessionFault>
-        ensures { IsFed (IsReply catalog.now.tables) piece.now self.old self.new result }
+        ensures { IsFed (IsReply catalog.now) piece.now self.old self.new result }
     {
         self.check_live()?;
         if self.closed {

@@ -1,13 +1,14 @@
 //! The work for a request, call by call.
 ghost use Rattle.std.specs.Prelude.{◌≡◌, ℕ, List, IfOk, IsErr, IsOkAnd};
-ghost use Rattle.odata_request.specs.Request.{IsInside, RequestOf, request_view};
+ghost use Rattle.odata_request.specs.Request.{IsInside, IsRowsInside, RequestOf, request_view, rows, rows_view};
 ghost use Rattle.odata_http.specs.Exchange.{IsReplied, IsWork};
 ghost use Rattle.odata_http.specs.declared.work.Work.TheVariants.{Failed};
-ghost use Rattle.odata_http.specs.Work.{MayWork, StartsWork, WorksOn, step_of};
+ghost use Rattle.odata_http.specs.Work.{IsAsked, MayWork, StartsWork, WorksOn, step_of};
 
+use crate::finding::Finding;
 use crate::reading::{Reached, Reading};
 use crate::response::{error_response, reply_of, service_response};
-use odata_request::Request;
+use odata_request::{Request, RowsRequest, keys_stand_alone};
 use query_exec::Step;
 use reply_text::Code;
 use std::alloc::{AllocError, Global};
@@ -20,6 +21,8 @@ pub(crate) enum Work {
     Refuse(Code),
     /// The tables are listed.
     ListTables,
+    /// A row is asked for by its key.
+    Find(Finding),
     /// A query is under way.
     Read(Reading),
     /// Nothing: this is the reply.
@@ -29,19 +32,50 @@ pub(crate) enum Work {
 }
 
 impl Work {
+    /// The work for a query: the row of a key is found in one call, and any other query is a run.
+    fn for_query(alloc: Global, catalog: &Catalog, asked: RowsRequest) -> Result<Work, AllocError>
+        requires asked { IsAsked catalog.now (rows (rows_view asked)) }
+        requires inside { IsRowsInside catalog.now (rows_view asked) }
+        ensures { IfOk result (StartsWork catalog.now (rows (rows_view asked))) }
+    {
+        keys_stand_alone();
+        let RowsRequest {
+            table,
+            mut query,
+            format,
+        } = asked;
+        match query.key.take() {
+            Some(key) => Ok(Work::Find(Finding {
+                table,
+                key,
+                select: query.select,
+                format,
+            })),
+            None => {
+                let asked = RowsRequest {
+                    table,
+                    query,
+                    format,
+                };
+                Ok(Work::Read(Reading::start(alloc, catalog, asked)?))
+            }
+        }
+    }
+
     /// The work for a request.
     pub(crate) fn start(
         alloc: Global,
         catalog: &Catalog,
         request: Request,
     ) -> Result<Work, AllocError>
-        requires { IsInside catalog.now.tables (request_view request) }
-        ensures { IfOk result (StartsWork catalog.now.tables (request_view request)) }
+        requires asked { IsAsked catalog.now (request_view request) }
+        requires inside { IsInside catalog.now (request_view request) }
+        ensures { IfOk result (StartsWork catalog.now (request_view request)) }
     {
         match request {
             Request::Refused(code) => Ok(Work::Refuse(code)),
             Request::Service => Ok(Work::ListTables),
-            Request::Rows(asked) => Ok(Work::Read(Reading::start(alloc, catalog, asked)?)),
+            Request::Rows(asked) => Work::for_query(alloc, catalog, asked),
         }
     }
 
@@ -51,7 +85,8 @@ impl Work {
     {
         match self {
             Work::Replied(_) => Step::Done,
-            Work::Refuse(_) | Work::ListTables | Work::Read(_) | Work::Failed => Step::More,
+            Work::Refuse(_) | Work::ListTables | Work::Find(_) => Step::More,
+            Work::Read(_) | Work::Failed => Step::More,
         }
     }
 
@@ -63,10 +98,10 @@ impl Work {
         method: &[u8],
         closes: bool,
     ) -> Result<Work, AllocError>
-        requires { MayWork catalog.now.tables self }
+        requires { MayWork catalog.now self }
         ensures works { (request : RequestOf) (left : ℕ)
-            → IsWork catalog.now.tables request left self
-            → IfOk result (WorksOn catalog.now.tables method.now closes request left) }
+            → IsWork catalog.now request left self
+            → IfOk result (WorksOn catalog.now method.now closes request left) }
         ensures replied { (reply : List ℕ) → IsReplied self reply
             → IsOkAnd result (λ work. IsReplied work reply) }
         ensures failed { self ≡ Failed → IsErr result }
@@ -78,6 +113,10 @@ impl Work {
             }
             Work::ListTables => {
                 let response = service_response(alloc, catalog)?;
+                Ok(Work::Replied(reply_of(alloc, method, response, closes)?))
+            }
+            Work::Find(finding) => {
+                let response = finding.answer(alloc, catalog)?;
                 Ok(Work::Replied(reply_of(alloc, method, response, closes)?))
             }
             Work::Read(reading) => match reading.read_on(alloc, catalog)? {

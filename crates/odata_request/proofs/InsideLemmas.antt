@@ -1,40 +1,45 @@
--- What is asked for is inside of the tables: the table is one of them, and the query fits it, by the laws of outcomes.
-use Rattle.std.proofs.Common.{◌∙◌, ◌≡◌, ◌≤◌, ◌^◌, ℕ, Bool, true, false, List, [], ◌∷◌, length, Option, Some, None, Result, Ok, Err, IfSome, IfOk, ap, sym, refl, subst, arith}
-use Rattle.std.specs.Prelude.{slice_get, find, option_map, cond}
+-- What is asked for is inside of the tables: the table is one of them, and the query is one on its columns, by the laws of expressions.
+use Rattle.std.proofs.Common.{◌≡◌, ◌≤◌, ◌^◌, ℕ, Bool, true, false, List, [], ◌∷◌, length, Option, Some, None, Result, Ok, Err, IfSome, IfOk, ap, sym, subst, arith}
+use Rattle.std.specs.Prelude.{All, slice_get, find, option_map, cond}
+use Rattle.std.proofs.lemmas.List.Elements.{All-cons, All-head, All-nil, All-tail}
 use Rattle.csvw_meta.specs.Schema.{SchemaOf}
+use Rattle.table_store.specs.Catalog.{CatalogOf}
 use Rattle.table_store.specs.Table.{TableOf}
-use Rattle.odata_lex.specs.Token.{token_views}
+use Rattle.odata_lex.specs.Token.{TokenOf, token_views}
 use Rattle.odata_lex.specs.Lexer.{AreTokens}
 use Rattle.odata_lex.specs.declared.token.Token.{Token}
 use Rattle.odata_url.specs.declared.fault.UrlFault.{UrlFault}
+use Rattle.odata_url.specs.declared.option_name.OptionName.{OptionName}
+use Rattle.odata_url.specs.declared.option_name.OptionName.TheVariants as name
 use Rattle.odata_url.specs.Target.{TargetOf, QueryOption, target_of}
 use Rattle.odata_parse.specs.declared.format.Format.{Format}
 use Rattle.odata_parse.specs.declared.format.Format.TheVariants.{Json, Csv}
 use Rattle.odata_parse.specs.Expression.{IsFilter}
-use Rattle.odata_parse.specs.Tree.{ExprOf}
+use Rattle.odata_parse.specs.Options.{IsOrder}
+use Rattle.odata_parse.specs.Tree.{ExprOf, OrderItemOf, TransformationOf, aggregate, filter_by, group_by, order_item}
 use Rattle.odata_types.specs.declared.fault.TypeFault.{TypeFault}
-use Rattle.odata_types.specs.Columns.{InputOf}
-use Rattle.odata_query.specs.Query.{TypedOf, optional_typing, query_typing}
-use Rattle.odata_types.specs.Result.{◌>>=◌}
-use Rattle.odata_types.specs.Schema.{inputs_of}
-use Rattle.odata_types.specs.TypedTree.{TruthExprOf}
-use Rattle.odata_types.specs.Typing.{filter_typing}
-use Rattle.row_eval.specs.Bounds.{TruthFits}
-use Rattle.row_eval.specs.Input.{IsQueried, IsShort}
-use Rattle.row_eval.specs.Laws.{BoundsHold, FiltersAreQueried, TablesAreInputs}
+use Rattle.odata_query.specs.Query.{QueryOf, TypedOf, query_typing}
+use Rattle.row_eval.specs.Input.{IsQueried, IsQueriedItem, IsQueriedTransformation, IsShort}
+use Rattle.row_eval.specs.Laws.{ExpressionsAreQueried, FiltersAreQueried}
+use Rattle.query_plan.specs.Fitting as plan
+use Rattle.query_plan.specs.Fitting.{AreQueried, IsTypedFor}
 use Rattle.reply_text.specs.declared.code.Code.{Code}
 use Rattle.http_heads.specs.declared.checks.HeadFault.{HeadFault}
-use Rattle.odata_request.specs.declared.resource.Resource.{Resource}
-use Rattle.odata_request.specs.declared.resource.Resource.TheVariants as resource
 use Rattle.odata_request.specs.Fault.{type_code, url_code}
-use Rattle.odata_request.specs.Reading.{ReadsTokens, too_deep, no_tree, has_tree, ReadsText, bad_token, too_many, has_tokens, ReadsFilter}
-use Rattle.odata_request.specs.Query.{AsksQuery, unread, read, IsRefusedBy, IsTyped, query_by}
-use Rattle.odata_request.specs.Resource.{path_resource}
-use Rattle.odata_request.specs.Options.{filter_text, format_in, format_text, is_filter, options_fault}
-use Rattle.odata_request.specs.Request.{AsksFor, AsksInFormat, AsksResource, AsksRows, AsksTarget, AsksUnder, AsksUnless, FitsInput, IsInside, filtered_rows, RequestOf, refused, rows_request}
+use Rattle.odata_request.specs.Reading.{ReadsApply, ReadsOption, ReadsOr, ReadsText, ReadsTokens, ReadsTree, Then, bad_token, goes_on, has_tokens, has_tree, no_tree, stops, too_deep, too_many}
+use Rattle.odata_request.specs.Query.{AsksQuery, IsRefusedBy, IsTyped, ReadsQuery}
+use Rattle.odata_request.specs.Resource as resource
+use Rattle.odata_request.specs.Resource.{ResourceOf, path_resource}
+use Rattle.odata_request.specs.Options.{TextsOf, asked_format, is_named, options_fault, texts_of, value_of}
+use Rattle.odata_request.specs.Request.{AsksFitting, AsksFor, AsksResource, AsksRows, AsksService, AsksTable, AsksTarget, AsksUnder, AsksUnless, IsInside, RequestOf, refused, rows_request}
 use Rattle.odata_request.proofs.LengthLemmas.{HaveShortValues, target_short}
 
--- ---- what a filter's text reads as is a filter of a query
+-- the laws of expressions
+pub record Queried : Type 0 where
+  pub filters : FiltersAreQueried
+  pub expressions : ExpressionsAreQueried
+
+-- ---- what a text reads as
 
 ok_tree : {X : Type 0} (tree other : X) → ◌≡◌ {A = Result X Code} (Ok tree) (Ok other) → other ≡ tree
 ok_tree {X} tree other e = sym (ap value_in e)
@@ -43,139 +48,185 @@ ok_tree {X} tree other e = sym (ap value_in e)
     value_in (Ok x) = x
     value_in (Err code) = tree
 
-no_tree_here : {X : Type 0} (tree : X) (code : Code) → ◌≡◌ {A = Result X Code} (Ok tree) (Err code) → ⊥
-no_tree_here tree code e = cc e
+no_code : {X : Type 0} (tree : X) (code : Code) → ◌≡◌ {A = Result X Code} (Ok tree) (Err code) → ⊥
+no_code tree code e = cc e
 
-tokens_queried : FiltersAreQueried → (text : List ℕ) (tokens : List Token) (tree : ExprOf) → AreTokens text tokens → IsShort text
-    → ReadsTokens IsFilter (token_views text tokens) (Ok tree) → IsQueried tree
-tokens_queried law text tokens tree are short (too_deep d e) = absurd (no_tree_here tree _ e)
-tokens_queried law text tokens tree are short (no_tree d n e) = absurd (no_tree_here tree _ e)
-tokens_queried law text tokens tree are short (has_tree other d is e) = subst IsQueried (ok_tree tree other e) (law text tokens other are short is)
+-- tokens of the text that are the tree
+pub record HasTree {X : Type 0} (IsTree : List TokenOf → X → Type 0) (text : List ℕ) (tree : X) : Type 0 where
+  pub tokens : List Token
+  pub are : AreTokens text tokens
+  pub is : IsTree (token_views text tokens) tree
 
-text_queried : FiltersAreQueried → (text : List ℕ) (tree : ExprOf) → IsShort text → ReadsText IsFilter text (Ok tree) → IsQueried tree
-text_queried law text tree short (bad_token b e) = absurd (no_tree_here tree _ e)
-text_queried law text tree short (too_many m e) = absurd (no_tree_here tree _ e)
-text_queried law text tree short (has_tokens tokens are h) = tokens_queried law text tokens tree are short h
+tokens_tree : {X : Type 0} (IsDeep : List TokenOf → Type 0) (IsTree : List TokenOf → X → Type 0) (text : List ℕ) (tokens : List Token) (tree : X) → AreTokens text tokens
+    → ReadsTokens IsDeep IsTree (token_views text tokens) (Ok tree) → HasTree IsTree text tree
+tokens_tree IsDeep IsTree text tokens tree are (too_deep d e) = absurd (no_code tree _ e)
+tokens_tree IsDeep IsTree text tokens tree are (no_tree d n e) = absurd (no_code tree _ e)
+tokens_tree IsDeep IsTree text tokens tree are (has_tree other d is e) =
+    record { tokens = tokens; are = are; is = subst (IsTree (token_views text tokens)) (ok_tree tree other e) is }
 
--- ---- a typed filter fits
+text_tree : {X : Type 0} (IsDeep : List TokenOf → Type 0) (IsTree : List TokenOf → X → Type 0) (text : List ℕ) (tree : X)
+    → ReadsText IsDeep IsTree text (Ok tree) → HasTree IsTree text tree
+text_tree IsDeep IsTree text tree (bad_token b e) = absurd (no_code tree _ e)
+text_tree IsDeep IsTree text tree (too_many m e) = absurd (no_code tree _ e)
+text_tree IsDeep IsTree text tree (has_tokens tokens are h) = tokens_tree IsDeep IsTree text tokens tree are h
 
-abbrev filter_in : Result TypedOf TypeFault → Option TruthExprOf
-filter_in (Ok query) = query.filter
-filter_in (Err fault) = None
+-- ---- the expressions of a query
 
-filter_fits : BoundsHold → (schema : SchemaOf) → TablesAreInputs → (tree : ExprOf) → IsQueried tree → (r : Result TruthExprOf TypeFault)
-    → filter_typing (inputs_of schema) tree ≡ r → (query : TypedOf) → (r >>= λ t. Ok (Some t)) >>= (λ filter. Ok (filtered_rows filter)) ≡ Ok query
-    → FitsInput (inputs_of schema) query
-filter_fits bounds schema inputs tree queried (Ok t) e query f row is =
-    subst (λ (o : Option TruthExprOf). IfSome o (λ filter. TruthFits filter row)) (ap filter_in f)
-    (bounds.filters (inputs_of schema) row tree t (inputs.input schema) is queried e)
-filter_fits bounds schema inputs tree queried (Err fault) e query f row is = absurd (cc f)
+each_item : (items : List OrderItemOf) → All IsQueriedItem items → All plan.IsQueriedItem items
+each_item [] h = All-nil plan.IsQueriedItem
+each_item (order_item e d ∷ items) h =
+    All-cons plan.IsQueriedItem (order_item e d) items (All-head IsQueriedItem (order_item e d) items h) (each_item items (All-tail IsQueriedItem (order_item e d) items h))
 
-no_filter_fits : (inputs : List InputOf) (query : TypedOf) → ◌≡◌ {A = Result TypedOf TypeFault} (Ok (filtered_rows None)) (Ok query) → FitsInput inputs query
-no_filter_fits inputs query f row is = subst (λ (o : Option TruthExprOf). IfSome o (λ filter. TruthFits filter row)) (ap filter_in f) tt
+transformation : (t : TransformationOf) → IsQueriedTransformation t → plan.IsQueriedTransformation t
+transformation (filter_by e) h = h
+transformation (aggregate items) h = tt
+transformation (group_by names items) h = tt
+
+each_transformation : (ts : List TransformationOf) → All IsQueriedTransformation ts → All plan.IsQueriedTransformation ts
+each_transformation [] h = All-nil plan.IsQueriedTransformation
+each_transformation (t ∷ ts) h =
+    All-cons plan.IsQueriedTransformation t ts (transformation t (All-head IsQueriedTransformation t ts h)) (each_transformation ts (All-tail IsQueriedTransformation t ts h))
+
+apply_queried : Queried → (limit : ℕ) (text : Option (List ℕ)) (ts : List TransformationOf) → IfSome text IsShort → ReadsOr [] (ReadsApply limit) text (Ok ts)
+    → All plan.IsQueriedTransformation ts
+apply_queried laws limit None ts short h = subst (All plan.IsQueriedTransformation) (ok_tree ts [] h) (All-nil plan.IsQueriedTransformation)
+apply_queried laws limit (Some text) ts short h =
+    let read = text_tree _ _ text ts h in each_transformation ts (laws.expressions.apply text read.tokens ts read.are short read.is)
+
+order_queried : Queried → (text : Option (List ℕ)) (items : List OrderItemOf) → IfSome text IsShort → ReadsOr [] (ReadsTree IsOrder) text (Ok items)
+    → All plan.IsQueriedItem items
+order_queried laws None items short h = subst (All plan.IsQueriedItem) (ok_tree items [] h) (All-nil plan.IsQueriedItem)
+order_queried laws (Some text) items short h =
+    let read = text_tree _ _ text items h in each_item items (laws.expressions.order text read.tokens items read.are short read.is)
+
+filter_queried : Queried → (text : Option (List ℕ)) (filter : Option ExprOf) → IfSome text IsShort → ReadsOption (ReadsTree IsFilter) text (Ok filter)
+    → IfSome filter IsQueried
+filter_queried laws text None short h = tt
+filter_queried laws None (Some tree) short h = let bad : ◌≡◌ {A = Result (Option ExprOf) Code} (Ok (Some tree)) (Ok None) = h in absurd (cc bad)
+filter_queried laws (Some text) (Some tree) short h =
+    let read = text_tree _ _ text tree h in laws.filters text read.tokens tree read.are short read.is
+
+-- ---- queries
+
+then_ok : {X Y : Type 0} {step : Result X Code → Type 0} {next : X → Result Y Code → Type 0} {y : Y} → Then step next (Ok y) → (x : X) × step (Ok x) × next x (Ok y)
+then_ok {y = y} (stops c h e) = absurd (no_code y c e)
+then_ok (goes_on x h n) = (x, h, n)
+
+-- the texts that hold expressions are short
+pub record AreShort (texts : TextsOf) : Type 0 where
+  pub apply : IfSome texts.apply IsShort
+  pub filter : IfSome texts.filter IsShort
+  pub order : IfSome texts.order IsShort
+
+query_queried : Queried → (limit : ℕ) (texts : TextsOf) (query : QueryOf) → AreShort texts → ReadsQuery limit texts (Ok query) → AreQueried query
+query_queried laws limit texts query short h =
+    let key = then_ok h in
+    let apply = then_ok key.2 in
+    let filter = then_ok apply.2 in
+    let count = then_ok filter.2 in
+    let order = then_ok count.2 in
+    let skip = then_ok order.2 in
+    let top = then_ok skip.2 in
+    let select = then_ok top.2 in
+    subst AreQueried (ok_tree query _ select.2) (record {
+      apply = apply_queried laws limit texts.apply apply.0 short.apply apply.1;
+      filter = filter_queried laws texts.filter filter.0 short.filter filter.1;
+      order = order_queried laws texts.order order.0 short.order order.1;
+    })
 
 refusal_is_none : (code : Option Code) (query : TypedOf) → IsRefusedBy code (Ok query) → ⊥
 refusal_is_none None query h = h
-refusal_is_none (Some code) query h = no_tree_here query code h
+refusal_is_none (Some code) query h = no_code query code h
 
 typed_as : (w : Result TypedOf TypeFault) (query : TypedOf) → IsTyped w (Ok query) → w ≡ Ok query
 typed_as (Ok other) query h = ap Ok (ok_tree query other h)
 typed_as (Err fault) query h = absurd (refusal_is_none (type_code fault) query h)
 
-abbrev query_in : TypedOf → Result TypedOf TypeFault → TypedOf
-query_in query (Ok other) = other
-query_in query (Err fault) = query
-
-alone_as : (filter : Option TruthExprOf) (query : TypedOf) → ◌≡◌ {A = Result TypedOf TypeFault} (Ok (filtered_rows filter)) (Ok query) → query ≡ filtered_rows query.filter
-alone_as filter query e = sym (ap (query_in query) e) ∙ ap filtered_rows (ap filter_in e)
-
-chosen_alone : (r : Result (Option TruthExprOf) TypeFault) (query : TypedOf) → r >>= (λ filter. Ok (filtered_rows filter)) ≡ Ok query → query ≡ filtered_rows query.filter
-chosen_alone (Ok filter) query e = alone_as filter query e
-chosen_alone (Err fault) query e = absurd (cc e)
-
-read_alone : (schema : SchemaOf) (tree : Option ExprOf) (query : TypedOf) → query_typing schema (query_by tree) ≡ Ok query → query ≡ filtered_rows query.filter
-read_alone schema tree query e = chosen_alone (optional_typing (inputs_of schema) tree) query e
-
-query_alone : (schema : SchemaOf) (filter : Option (List ℕ)) (query : TypedOf) → AsksQuery schema filter (Ok query) → query ≡ filtered_rows query.filter
-query_alone schema filter query (unread code h e) = absurd (no_tree_here query code e)
-query_alone schema filter query (read tree h e) = read_alone schema tree query (typed_as (query_typing schema (query_by tree)) query e)
-
-read_fits : BoundsHold → FiltersAreQueried → TablesAreInputs → (schema : SchemaOf) (filter : Option (List ℕ)) (tree : Option ExprOf) (query : TypedOf)
-    → IfSome filter IsShort → ReadsFilter filter (Ok tree) → query_typing schema (query_by tree) ≡ Ok query → FitsInput (inputs_of schema) query
-read_fits bounds law inputs schema None None query short h e = no_filter_fits (inputs_of schema) query e
-read_fits bounds law inputs schema None (Some tree) query short h e = let bad : ◌≡◌ {A = Result (Option ExprOf) Code} (Ok (Some tree)) (Ok None) = h in absurd (cc bad)
-read_fits bounds law inputs schema (Some text) None query short h e = absurd h
-read_fits bounds law inputs schema (Some text) (Some tree) query short h e =
-    filter_fits bounds schema inputs tree (text_queried law text tree short h) (filter_typing (inputs_of schema) tree) refl query e
-
-query_fits : BoundsHold → FiltersAreQueried → TablesAreInputs → (schema : SchemaOf) (filter : Option (List ℕ)) (query : TypedOf)
-    → IfSome filter IsShort → AsksQuery schema filter (Ok query) → FitsInput (inputs_of schema) query
-query_fits bounds law inputs schema filter query short (unread code h e) = absurd (no_tree_here query code e)
-query_fits bounds law inputs schema filter query short (read tree h e) =
-    read_fits bounds law inputs schema filter tree query short h (typed_as (query_typing schema (query_by tree)) query e)
+query_typed : Queried → (limit : ℕ) (schema : SchemaOf) (texts : TextsOf) (typed : TypedOf) → AreShort texts → AsksQuery limit schema texts (Ok typed)
+    → IsTypedFor schema typed
+query_typed laws limit schema texts typed short h =
+    let query = then_ok h in
+    (query.0, query_queried laws limit texts query.0 short query.1, typed_as (query_typing schema query.0) typed query.2)
 
 -- ---- a request is inside
 
-result_inside : BoundsHold → FiltersAreQueried → TablesAreInputs → (tables : List TableOf) (number : ℕ) (filter : Option (List ℕ)) (format : Format) (table : TableOf)
-    → slice_get tables number ≡ Some table → (r : Result TypedOf Code) → IfSome filter IsShort → AsksQuery table.schema filter r
-    → IsInside tables (rows_request number format r)
-result_inside bounds law inputs tables number filter format table at (Ok query) short asks =
-    record { table = table; table_is = at; rows_alone = query_alone table.schema filter query asks; fits = query_fits bounds law inputs table.schema filter query short asks }
-result_inside bounds law inputs tables number filter format table at (Err code) short asks = tt
+result_inside : Queried → (catalog : CatalogOf) (number : ℕ) (texts : TextsOf) (format : Format) (table : TableOf) → slice_get catalog.tables number ≡ Some table
+    → (r : Result TypedOf Code) → AreShort texts → AsksQuery catalog.limits.transformations table.schema texts r → IsInside catalog (rows_request number format r)
+result_inside laws catalog number texts format table at (Ok query) short asks =
+    record { table = table; table_is = at; typed = query_typed laws catalog.limits.transformations table.schema texts query short asks }
+result_inside laws catalog number texts format table at (Err code) short asks = tt
 
-rows_inside : BoundsHold → FiltersAreQueried → TablesAreInputs → (tables : List TableOf) (number : ℕ) (filter : Option (List ℕ)) (format : Format) (q : RequestOf)
-    → IfSome filter IsShort → AsksRows tables number filter format q → IsInside tables q
-rows_inside bounds law inputs tables number filter format q short h =
-    subst (IsInside tables) (sym h.request_is) (result_inside bounds law inputs tables number filter format h.table h.table_is h.query short h.asks)
+rows_inside : Queried → (catalog : CatalogOf) (number : ℕ) (texts : TextsOf) (format : Format) (q : RequestOf) → AreShort texts
+    → AsksRows catalog number texts format q → IsInside catalog q
+rows_inside laws catalog number texts format q short h =
+    subst (IsInside catalog) (sym h.request_is) (result_inside laws catalog number texts format h.table h.table_is h.query short h.asks)
 
-refused_inside : (tables : List TableOf) (code : Code) (q : RequestOf) → q ≡ refused code → IsInside tables q
-refused_inside tables code q e = subst (IsInside tables) (sym e) tt
+refused_inside : (catalog : CatalogOf) (code : Code) (q : RequestOf) → q ≡ refused code → IsInside catalog q
+refused_inside catalog code q e = subst (IsInside catalog) (sym e) tt
 
-format_inside : BoundsHold → FiltersAreQueried → TablesAreInputs → (tables : List TableOf) (r : Resource) (filter : Option (List ℕ)) (format : Option Format) (q : RequestOf)
-    → IfSome filter IsShort → AsksInFormat tables r filter format q → IsInside tables q
-format_inside bounds law inputs tables resource.Service filter None q short h = refused_inside tables _ q h
-format_inside bounds law inputs tables resource.Service filter (Some Json) q short h = subst (IsInside tables) (sym h) tt
-format_inside bounds law inputs tables resource.Service filter (Some Csv) q short h = refused_inside tables _ q h
-format_inside bounds law inputs tables (resource.Rows n) filter None q short h = refused_inside tables _ q h
-format_inside bounds law inputs tables (resource.Rows n) filter (Some format) q short h = rows_inside bounds law inputs tables n filter format q short h
+table_inside : Queried → (catalog : CatalogOf) (number : ℕ) (texts : TextsOf) (format : Option Format) (q : RequestOf) → AreShort texts
+    → AsksTable catalog number texts format q → IsInside catalog q
+table_inside laws catalog number texts None q short h = refused_inside catalog _ q h
+table_inside laws catalog number texts (Some format) q short h = rows_inside laws catalog number texts format q short h
 
-unless_inside : (tables : List TableOf) (code : Option Code) (asks : RequestOf → Type 0) (q : RequestOf) → (asks q → IsInside tables q) → AsksUnless code asks q → IsInside tables q
-unless_inside tables None asks q inside h = inside h
-unless_inside tables (Some code) asks q inside h = refused_inside tables code q h
+service_inside : (catalog : CatalogOf) (format : Option Format) (q : RequestOf) → AsksService format q → IsInside catalog q
+service_inside catalog None q h = refused_inside catalog _ q h
+service_inside catalog (Some Json) q h = subst (IsInside catalog) (sym h) tt
+service_inside catalog (Some Csv) q h = refused_inside catalog _ q h
+
+fitting_inside : Queried → (catalog : CatalogOf) (r : ResourceOf) (options : List QueryOption) (q : RequestOf)
+    → ((key : Option (List ℕ)) (counting : Bool) → AreShort (texts_of key counting options)) → AsksFitting catalog r options q → IsInside catalog q
+fitting_inside laws catalog resource.service options q short h = service_inside catalog (asked_format options) q h
+fitting_inside laws catalog (resource.rows n) options q short h = table_inside laws catalog n _ (asked_format options) q (short _ _) h
+fitting_inside laws catalog (resource.count n) options q short h = table_inside laws catalog n _ (asked_format options) q (short _ _) h
+fitting_inside laws catalog (resource.key n text) options q short h = table_inside laws catalog n _ (asked_format options) q (short _ _) h
+
+unless_inside : (catalog : CatalogOf) (code : Option Code) (asks : RequestOf → Type 0) (q : RequestOf) → (asks q → IsInside catalog q) → AsksUnless code asks q → IsInside catalog q
+unless_inside catalog None asks q inside h = inside h
+unless_inside catalog (Some code) asks q inside h = refused_inside catalog code q h
+
+-- ---- lengths
 
 found_short : (n : ℕ) (b : Bool) (option : QueryOption) (o : Option QueryOption) → length option.1 ≤ n → IfSome (option_map (λ x. x.1) o) (λ text. length text ≤ n)
     → IfSome (option_map (λ x. x.1) (cond b (Some option) o)) (λ text. length text ≤ n)
 found_short n true option o h k = h
 found_short n false option o h k = k
 
-filter_short : (n : ℕ) (options : List QueryOption) → HaveShortValues n options → IfSome (filter_text options) (λ text. length text ≤ n)
-filter_short n [] h = tt
-filter_short n (option ∷ options) h = found_short n (is_filter option) option (find is_filter options) h.0 (filter_short n options h.1)
+value_short : (n : ℕ) (wanted : OptionName) (options : List QueryOption) → HaveShortValues n options → IfSome (value_of wanted options) (λ text. length text ≤ n)
+value_short n wanted [] h = tt
+value_short n wanted (option ∷ options) h = found_short n (is_named wanted option) option (find (is_named wanted) options) h.0 (value_short n wanted options h.1)
 
 widen_short : (n : ℕ) (o : Option (List ℕ)) → n ≤ 2 ^ 30 → IfSome o (λ text. length text ≤ n) → IfSome o IsShort
 widen_short n None k h = tt
 widen_short n (Some text) k h = omega (arith, h, k)
 
-resource_inside : BoundsHold → FiltersAreQueried → TablesAreInputs → (tables : List TableOf) (options : List QueryOption) (r : Result Resource Code) (q : RequestOf)
-    → IfSome (filter_text options) IsShort → AsksResource tables options r q → IsInside tables q
-resource_inside bounds law inputs tables options (Ok r) q short h =
-    unless_inside tables (options_fault r options) (AsksInFormat tables r (filter_text options) (format_in (format_text options))) q
-    (format_inside bounds law inputs tables r (filter_text options) (format_in (format_text options)) q short) h
-resource_inside bounds law inputs tables options (Err code) q short h = refused_inside tables code q h
+texts_short : (n : ℕ) (options : List QueryOption) → n ≤ 2 ^ 30 → HaveShortValues n options → (key : Option (List ℕ)) (counting : Bool) → AreShort (texts_of key counting options)
+texts_short n options k h key counting = record {
+  apply = widen_short n _ k (value_short n name.Apply options h);
+  filter = widen_short n _ k (value_short n name.Filter options h);
+  order = widen_short n _ k (value_short n name.OrderBy options h);
+}
 
-under_inside : (tables : List TableOf) (code : Option Code) (q : RequestOf) → AsksUnder code q → IsInside tables q
-under_inside tables None q h = absurd h
-under_inside tables (Some code) q h = refused_inside tables code q h
+-- ---- targets
 
-target_inside : BoundsHold → FiltersAreQueried → TablesAreInputs → (tables : List TableOf) (target : Result TargetOf UrlFault) (n : ℕ) (q : RequestOf) → n ≤ 2 ^ 30
-    → IfOk target (λ t. HaveShortValues n t.options) → AsksTarget tables target q → IsInside tables q
-target_inside bounds law inputs tables (Ok target) n q k short h =
-    resource_inside bounds law inputs tables target.options (path_resource tables target.segments) q
-    (widen_short n (filter_text target.options) k (filter_short n target.options short)) h
-target_inside bounds law inputs tables (Err fault) n q k short h = under_inside tables (url_code fault) q h
+resource_inside : Queried → (catalog : CatalogOf) (options : List QueryOption) (r : Result ResourceOf Code) (q : RequestOf)
+    → ((key : Option (List ℕ)) (counting : Bool) → AreShort (texts_of key counting options)) → AsksResource catalog options r q → IsInside catalog q
+resource_inside laws catalog options (Ok r) q short h =
+    unless_inside catalog (options_fault r options) (AsksFitting catalog r options) q (fitting_inside laws catalog r options q short) h
+resource_inside laws catalog options (Err code) q short h = refused_inside catalog code q h
 
-pub request_inside : BoundsHold → FiltersAreQueried → TablesAreInputs → (tables : List TableOf) (fault : Option HeadFault) (target : List ℕ) (q : RequestOf)
-    → length target ≤ 8_192 → AsksFor tables fault target q → IsInside tables q
-request_inside bounds law inputs tables (Some fault) target q k h = refused_inside tables _ q h
-request_inside bounds law inputs tables None target q k h =
-    target_inside bounds law inputs tables (target_of target) 8_193 q (omega arith) (target_short target 8_192 k) h
+under_inside : (catalog : CatalogOf) (code : Option Code) (q : RequestOf) → AsksUnder code q → IsInside catalog q
+under_inside catalog None q h = absurd h
+under_inside catalog (Some code) q h = refused_inside catalog code q h
+
+target_inside : Queried → (catalog : CatalogOf) (target : Result TargetOf UrlFault) (n : ℕ) (q : RequestOf) → n ≤ 2 ^ 30
+    → IfOk target (λ t. HaveShortValues n t.options) → AsksTarget catalog target q → IsInside catalog q
+target_inside laws catalog (Ok target) n q k short h =
+    resource_inside laws catalog target.options (path_resource catalog.tables target.segments) q (texts_short n target.options k short) h
+target_inside laws catalog (Err fault) n q k short h = under_inside catalog (url_code fault) q h
+
+pub request_inside : Queried → (catalog : CatalogOf) (fault : Option HeadFault) (target : List ℕ) (q : RequestOf)
+    → length target ≤ 8_192 → AsksFor catalog fault target q → IsInside catalog q
+request_inside laws catalog (Some fault) target q k h = refused_inside catalog _ q h
+request_inside laws catalog None target q k h =
+    target_inside laws catalog (target_of target) 8_193 q (omega arith) (target_short target 8_192 k) h

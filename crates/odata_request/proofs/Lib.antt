@@ -5,5 +5,7 @@ pub mod ReadingLemmas
 pub mod RowsLemmas
 pub mod LengthLemmas
 pub mod UniqueLemmas
-pub mod InsideLemmas
 pub mod RequestLemmas
+pub mod InsideLemmas
+pub mod QueryLemmas
+pub mod AloneLemmas

@@ -1,27 +1,27 @@
--- What the calls that read a text and type a query give is how the text reads and what is asked for.
-use Rattle.std.proofs.Common.{◌≡◌, ℕ, List, Option, Result, Ok, Err, IsErrAnd, refl, sym, subst}
+-- What the calls that read texts and type a query give is how the texts read and what is asked for.
+use Rattle.std.proofs.Common.{◌≡◌, ℕ, List, Result, Ok, Err, IsErrAnd, refl, sym, subst}
 use Rattle.odata_lex.specs.Lexer.{AreTokens, IsFault}
+use Rattle.odata_lex.specs.Token.{TokenOf, token_views}
 use Rattle.odata_lex.specs.declared.fault.LexFault.{LexFault}
 use Rattle.odata_lex.specs.declared.fault.LexFault.TheVariants as lex
 use Rattle.odata_lex.specs.declared.token.Token.{Token}
 use Rattle.odata_parse.specs.declared.fault.ParseFault.{ParseFault}
 use Rattle.odata_parse.specs.declared.fault.ParseFault.TheVariants as parse
-use Rattle.odata_parse.specs.declared.tree.Expr.{Expr}
-use Rattle.odata_parse.specs.Expression.{IsFilter}
-use Rattle.odata_parse.specs.Parsing.{IsParsed}
-use Rattle.odata_parse.specs.Tree.{ExprOf, expr_view}
+use Rattle.odata_parse.specs.Parsing.{IsParsedUnless}
 use Rattle.odata_types.specs.declared.fault.TypeFault.{TypeFault}
 use Rattle.odata_types.specs.declared.fault.TypeFault.TheVariants as type
-use Rattle.odata_types.specs.Columns.{InputOf}
 use Rattle.csvw_meta.specs.Schema.{SchemaOf}
-use Rattle.odata_query.specs.Query.{QueryOf, TypedOf, query_typed_view, query_typing}
+use Rattle.odata_query.specs.Query.{QueryOf, TypedOf, query_typing}
 use Rattle.odata_types.specs.Result.{IsCause}
 use Rattle.reply_text.specs.declared.code.Code.{Code}
 use Rattle.odata_request.specs.declared.fault.RequestFault.{RequestFault}
 use Rattle.odata_request.specs.declared.fault.RequestFault.TheVariants.{Refused, NoMemory}
-use Rattle.odata_request.specs.Fault.{Gives, fault_of, lex_code, parse_code, type_code}
-use Rattle.odata_request.specs.Query.{AsksQuery, read, unread, IsTyped, query_by}
-use Rattle.odata_request.specs.Reading.{ReadsFilter, ReadsText, bad_token, too_many, has_tokens, too_deep, no_tree, has_tree}
+use Rattle.odata_request.specs.Fault.{Gives, Refuses, fault_of, lex_code, parse_code, type_code}
+use Rattle.odata_request.specs.Options.{TextsOf}
+use Rattle.odata_request.specs.Query.{AsksQuery, IsTyped, ReadsQuery}
+use Rattle.odata_request.specs.Reading.{ReadsText, bad_token, goes_on, has_tokens, has_tree, no_tree, stops, too_deep, too_many}
+
+-- ---- texts
 
 syntax_not_deep : {X : Type 0} → ◌≡◌ {A = Result X ParseFault} (Err parse.Syntax) (Err parse.TooDeep) → ⊥
 syntax_not_deep e = cc e
@@ -30,22 +30,24 @@ tree_not_deep : {X : Type 0} (x : X) → ◌≡◌ {A = Result X ParseFault} (Ok
 tree_not_deep x e = cc e
 
 -- a text that has no tokens
-pub unread_lex : (text : List ℕ) (fault : LexFault) → IsFault text fault → Gives expr_view (ReadsText IsFilter text) (Err (fault_of (lex_code fault)))
-unread_lex text lex.Bad h = bad_token h refl
-unread_lex text lex.TooMany h = too_many h refl
-unread_lex text lex.NoMemory h = tt
+pub unread_lex : {T X : Type 0} (view : T → X) (IsDeep : List TokenOf → Type 0) (IsTree : List TokenOf → X → Type 0) (text : List ℕ) (fault : LexFault)
+    → IsFault text fault → Gives view (ReadsText IsDeep IsTree text) (Err (fault_of (lex_code fault)))
+unread_lex view IsDeep IsTree text lex.Bad h = bad_token h refl
+unread_lex view IsDeep IsTree text lex.TooMany h = too_many h refl
+unread_lex view IsDeep IsTree text lex.NoMemory h = tt
 
 -- a text whose tokens have no tree
-pub unread_tree : (text : List ℕ) (tokens : List Token) (fault : ParseFault) → AreTokens text tokens → IsParsed expr_view IsFilter text tokens (Err fault)
-    → Gives expr_view (ReadsText IsFilter text) (Err (fault_of (parse_code fault)))
-unread_tree text tokens parse.TooDeep are h = has_tokens tokens are (too_deep (h.too_deep.0 refl) refl)
-unread_tree text tokens parse.Syntax are h = has_tokens tokens are (no_tree (λ d. syntax_not_deep (h.too_deep.1 d)) (h.syntax refl) refl)
-unread_tree text tokens parse.NoMemory are h = tt
+pub unread_tree : {T X : Type 0} (view : T → X) (IsDeep : List TokenOf → Type 0) (IsTree : List TokenOf → X → Type 0) (text : List ℕ) (tokens : List Token) (fault : ParseFault)
+    → AreTokens text tokens → IsParsedUnless IsDeep view IsTree (token_views text tokens) (Err fault)
+    → Gives view (ReadsText IsDeep IsTree text) (Err (fault_of (parse_code fault)))
+unread_tree view IsDeep IsTree text tokens parse.TooDeep are h = has_tokens tokens are (too_deep (h.too_deep.0 refl) refl)
+unread_tree view IsDeep IsTree text tokens parse.Syntax are h = has_tokens tokens are (no_tree (λ d. syntax_not_deep (h.too_deep.1 d)) (h.syntax refl) refl)
+unread_tree view IsDeep IsTree text tokens parse.NoMemory are h = tt
 
 -- a text with a tree
-pub read_tree : (text : List ℕ) (tokens : List Token) (tree : Expr) → AreTokens text tokens → IsParsed expr_view IsFilter text tokens (Ok tree)
-    → ReadsText IsFilter text (Ok (expr_view tree))
-read_tree text tokens tree are h = has_tokens tokens are (has_tree (expr_view tree) (λ d. tree_not_deep tree (h.too_deep.1 d)) h.tree refl)
+pub read_tree : {T X : Type 0} (view : T → X) (IsDeep : List TokenOf → Type 0) (IsTree : List TokenOf → X → Type 0) (text : List ℕ) (tokens : List Token) (tree : T)
+    → AreTokens text tokens → IsParsedUnless IsDeep view IsTree (token_views text tokens) (Ok tree) → ReadsText IsDeep IsTree text (Ok (view tree))
+read_tree view IsDeep IsTree text tokens tree are h = has_tokens tokens are (has_tree (view tree) (λ d. tree_not_deep tree (h.too_deep.1 d)) h.tree refl)
 
 -- a fault that is passed on as another is that one
 pub passed_on : {T X : Type 0} (view : T → X) (R : Result X Code → Type 0) (result : Result T RequestFault) (made : RequestFault) → IsErrAnd result (λ fault. fault ≡ made)
@@ -53,29 +55,37 @@ pub passed_on : {T X : Type 0} (view : T → X) (R : Result X Code → Type 0) (
 passed_on view R (Ok tree) made h g = absurd h
 passed_on view R (Err fault) made h g = subst (λ (f : RequestFault). Gives view R (Err f)) (sym h) g
 
--- a filter that does not read is no query
-pub unread_query : {T : Type 0} (view : T → Option ExprOf) (schema : SchemaOf) (filter : Option (List ℕ)) (fault : RequestFault) → Gives view (ReadsFilter filter) (Err fault)
-    → Gives query_typed_view (AsksQuery schema filter) (Err fault)
-unread_query view schema filter (Refused code) h = unread code h refl
-unread_query view schema filter NoMemory h = tt
+-- ---- types
 
-unfit_as : (schema : SchemaOf) (filter : Option (List ℕ)) (tree : Option ExprOf) (fault : TypeFault) (code : Code) → ReadsFilter filter (Ok tree)
-    → query_typing schema (query_by tree) ≡ Err fault → IsTyped (Err fault) (Err code) → AsksQuery schema filter (Err code)
-unfit_as schema filter tree fault code h e t = read tree h (subst (λ (w : Result TypedOf TypeFault). IsTyped w (Err code)) (sym e) t)
+unfit_as : (schema : SchemaOf) (query : QueryOf) (fault : TypeFault) (code : Code) → query_typing schema query ≡ Err fault → IsTyped (Err fault) (Err code)
+    → IsTyped (query_typing schema query) (Err code)
+unfit_as schema query fault code e t = subst (λ (w : Result TypedOf TypeFault). IsTyped w (Err code)) (sym e) t
 
--- a filter that does not fit is no query
-pub unfit_query : (schema : SchemaOf) (filter : Option (List ℕ)) (tree : Option ExprOf) (query : QueryOf) (fault : TypeFault) → ReadsFilter filter (Ok tree)
-    → query ≡ query_by tree → IsCause fault (query_typing schema query) → Gives query_typed_view (AsksQuery schema filter) (Err (fault_of (type_code fault)))
-unfit_query schema filter tree query type.UnknownName h q e = unfit_as schema filter tree type.UnknownName _ h (rw q at e) refl
-unfit_query schema filter tree query type.Mismatch h q e = unfit_as schema filter tree type.Mismatch _ h (rw q at e) refl
-unfit_query schema filter tree query type.TooLarge h q e = unfit_as schema filter tree type.TooLarge _ h (rw q at e) refl
-unfit_query schema filter tree query type.AliasTaken h q e = tt
-unfit_query schema filter tree query type.BadKey h q e = tt
-unfit_query schema filter tree query type.NoMemory h q e = tt
+-- a query that does not fit
+unfit : (schema : SchemaOf) (query : QueryOf) (fault : TypeFault) → IsCause fault (query_typing schema query)
+    → Refuses (IsTyped (query_typing schema query)) (fault_of (type_code fault))
+unfit schema query type.UnknownName e = unfit_as schema query type.UnknownName _ e refl
+unfit schema query type.Mismatch e = unfit_as schema query type.Mismatch _ e refl
+unfit schema query type.TooLarge e = unfit_as schema query type.TooLarge _ e refl
+unfit schema query type.AliasTaken e = unfit_as schema query type.AliasTaken _ e refl
+unfit schema query type.BadKey e = unfit_as schema query type.BadKey _ e refl
+unfit schema query type.NoMemory e = tt
 
--- a filter that fits is a query
-pub fit_query : (schema : SchemaOf) (filter : Option (List ℕ)) (tree : Option ExprOf) (query : QueryOf) (typed : TypedOf) → ReadsFilter filter (Ok tree)
-    → query ≡ query_by tree → query_typing schema query ≡ Ok typed → AsksQuery schema filter (Ok typed)
-fit_query schema filter tree query typed h q e =
-    let made : query_typing schema (query_by tree) ≡ Ok typed = rw q at e in
-    read tree h (subst (λ (w : Result TypedOf TypeFault). IsTyped w (Ok typed)) (sym made) refl)
+-- texts that do not read
+pub unread_query : (limit : ℕ) (schema : SchemaOf) (texts : TextsOf) (fault : RequestFault) → Refuses (ReadsQuery limit texts) fault → Refuses (AsksQuery limit schema texts) fault
+unread_query limit schema texts (Refused code) h = stops code h refl
+unread_query limit schema texts NoMemory h = tt
+
+read_as : (limit : ℕ) (schema : SchemaOf) (texts : TextsOf) (query : QueryOf) (fault : RequestFault) → ReadsQuery limit texts (Ok query)
+    → Refuses (IsTyped (query_typing schema query)) fault → Refuses (AsksQuery limit schema texts) fault
+read_as limit schema texts query (Refused code) r h = goes_on query r h
+read_as limit schema texts query NoMemory r h = tt
+
+pub unfit_query : (limit : ℕ) (schema : SchemaOf) (texts : TextsOf) (query : QueryOf) (fault : TypeFault) → ReadsQuery limit texts (Ok query)
+    → IsCause fault (query_typing schema query) → Refuses (AsksQuery limit schema texts) (fault_of (type_code fault))
+unfit_query limit schema texts query fault r e = read_as limit schema texts query (fault_of (type_code fault)) r (unfit schema query fault e)
+
+-- a query that fits
+pub fit_query : (limit : ℕ) (schema : SchemaOf) (texts : TextsOf) (query : QueryOf) (typed : TypedOf) → ReadsQuery limit texts (Ok query)
+    → query_typing schema query ≡ Ok typed → AsksQuery limit schema texts (Ok typed)
+fit_query limit schema texts query typed r e = goes_on query r (subst (λ (w : Result TypedOf TypeFault). IsTyped w (Ok typed)) (sym e) refl)

@@ -1,8 +1,9 @@
 -- What the calls that make a request give is what is asked for.
-use Rattle.std.proofs.Common.{◌≡◌, ◌<◌, ℕ, List, length, get_or, Option, Some, Result, Ok, Err, IsErrAnd, refl, sym, ap, ◌∙◌, subst}
+use Rattle.std.proofs.Common.{◌≡◌, ◌<◌, ℕ, List, length, get_or, Some, Result, Ok, Err, IsErrAnd, refl, sym, ap, ◌∙◌, subst}
 use Rattle.std.specs.Prelude.{slice_get}
 use Rattle.std.proofs.lemmas.Option.{slice_get-get_or}
 use Rattle.csvw_meta.specs.Schema.{SchemaOf}
+use Rattle.table_store.specs.Catalog.{CatalogOf}
 use Rattle.table_store.specs.Table.{TableOf}
 use Rattle.odata_parse.specs.declared.format.Format.{Format}
 use Rattle.odata_query.specs.Query.{TypedOf, query_typed_view}
@@ -11,6 +12,7 @@ use Rattle.odata_request.specs.declared.fault.RequestFault.{RequestFault}
 use Rattle.odata_request.specs.declared.fault.RequestFault.TheVariants.{Refused, NoMemory}
 use Rattle.odata_request.specs.declared.request.Request.{Request}
 use Rattle.odata_request.specs.Fault.{Gives}
+use Rattle.odata_request.specs.Options.{TextsOf}
 use Rattle.odata_request.specs.Query.{AsksQuery}
 use Rattle.odata_request.specs.Request.{AsksRows, Makes, RequestOf, rows_request}
 
@@ -28,14 +30,19 @@ table_at tables seen number table same less at =
     slice_get-get_or tables number table less ∙ ap Some (sym here)
 
 -- a query on the columns of a table is one on its rows
-pub asks_rows : (tables : List TableOf) (number : ℕ) (filter : Option (List ℕ)) (format : Format) (table : TableOf) (schema : SchemaOf)
-    → slice_get tables number ≡ Some table → schema ≡ table.schema → (query : Result TypedOf Code) → AsksQuery schema filter query
-    → AsksRows tables number filter format (rows_request number format query)
-asks_rows tables number filter format table schema at of query asks =
-    record { table = table; table_is = at; query = query; asks = subst (λ (s : SchemaOf). AsksQuery s filter query) of asks; request_is = refl }
+pub asks_rows : (catalog : CatalogOf) (number : ℕ) (texts : TextsOf) (format : Format) (table : TableOf) (schema : SchemaOf) (limit : ℕ)
+    → slice_get catalog.tables number ≡ Some table → schema ≡ table.schema → limit ≡ catalog.limits.transformations → (query : Result TypedOf Code)
+    → AsksQuery limit schema texts query → AsksRows catalog number texts format (rows_request number format query)
+asks_rows catalog number texts format table schema limit at of most query asks = record {
+  table = table;
+  table_is = at;
+  query = query;
+  asks = subst (λ (l : ℕ). AsksQuery l table.schema texts query) most (subst (λ (s : SchemaOf). AsksQuery limit s texts query) of asks);
+  request_is = refl;
+}
 
-pub refused_rows : (tables : List TableOf) (number : ℕ) (filter : Option (List ℕ)) (format : Format) (table : TableOf) (schema : SchemaOf)
-    → slice_get tables number ≡ Some table → schema ≡ table.schema → (fault : RequestFault) → Gives query_typed_view (AsksQuery schema filter) (Err fault)
-    → Makes (AsksRows tables number filter format) (Err fault)
-refused_rows tables number filter format table schema at of (Refused code) h = asks_rows tables number filter format table schema at of (Err code) h
-refused_rows tables number filter format table schema at of NoMemory h = tt
+pub refused_rows : (catalog : CatalogOf) (number : ℕ) (texts : TextsOf) (format : Format) (table : TableOf) (schema : SchemaOf) (limit : ℕ)
+    → slice_get catalog.tables number ≡ Some table → schema ≡ table.schema → limit ≡ catalog.limits.transformations → (fault : RequestFault)
+    → Gives query_typed_view (AsksQuery limit schema texts) (Err fault) → Makes (AsksRows catalog number texts format) (Err fault)
+refused_rows catalog number texts format table schema limit at of most (Refused code) h = asks_rows catalog number texts format table schema limit at of most (Err code) h
+refused_rows catalog number texts format table schema limit at of most NoMemory h = tt

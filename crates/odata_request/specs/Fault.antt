@@ -9,7 +9,7 @@ use Rattle.odata_parse.specs.declared.fault.ParseFault.TheVariants as parse
 use Rattle.odata_types.specs.declared.fault.TypeFault.{TypeFault}
 use Rattle.odata_types.specs.declared.fault.TypeFault.TheVariants as type
 use Rattle.reply_text.specs.declared.code.Code.{Code}
-use Rattle.reply_text.specs.declared.code.Code.TheVariants.{BadHost, BadLength, NotServed, MethodNotAllowed, BadTarget, BadEscape, BadUtf8, UnknownOption, OptionTwice, BadToken, TooMany, TooDeep, Syntax, UnknownName, Mismatch, TooLarge}
+use Rattle.reply_text.specs.declared.code.Code.TheVariants.{BadHost, BadLength, NotServed, MethodNotAllowed, BadTarget, BadEscape, BadUtf8, UnknownOption, OptionTwice, BadToken, TooMany, TooDeep, Syntax, UnknownName, Mismatch, TooLarge, AliasTaken, BadKey}
 use Rattle.http_heads.specs.declared.checks.HeadFault.{HeadFault}
 use Rattle.http_heads.specs.declared.checks.HeadFault.TheVariants as head
 use Rattle.odata_request.specs.declared.fault.RequestFault.{RequestFault}
@@ -40,13 +40,12 @@ parse_code parse.TooDeep = Some TooDeep
 parse_code parse.Syntax = Some Syntax
 parse_code parse.NoMemory = None
 
--- no query has an alias or a key yet
 abbrev pub type_code : TypeFault → Option Code
 type_code type.UnknownName = Some UnknownName
 type_code type.Mismatch = Some Mismatch
 type_code type.TooLarge = Some TooLarge
-type_code type.AliasTaken = None
-type_code type.BadKey = None
+type_code type.AliasTaken = Some AliasTaken
+type_code type.BadKey = Some BadKey
 type_code type.NoMemory = None
 
 -- refused under the code, where there is one
@@ -54,8 +53,12 @@ abbrev pub fault_of : Option Code → RequestFault
 fault_of (Some code) = Refused code
 fault_of None = NoMemory
 
+-- a call is refused under a code of which a relation speaks; or memory ran out
+abbrev pub Refuses : {X : Type 0} → (Result X Code → Type 0) → RequestFault → Type 0
+Refuses R (Refused code) = R (Err code)
+Refuses R NoMemory = ⊤
+
 -- A call gives what a relation says: a value, seen by view, or the code under which it is refused; or memory ran out.
 abbrev pub Gives : {T X : Type 0} → (T → X) → (Result X Code → Type 0) → Result T RequestFault → Type 0
 Gives view R (Ok value) = R (Ok (view value))
-Gives view R (Err (Refused code)) = R (Err code)
-Gives view R (Err NoMemory) = ⊤
+Gives view R (Err fault) = Refuses R fault

@@ -1,54 +1,89 @@
 -- The options of a query on what its path leads to (OData 4.01 Part 2, URL Conventions, section 5).
-use Rattle.std.specs.Prelude.{ℕ, Bool, true, false, List, [], ◌∷◌, Option, None, Some, find, option_map}
+use Rattle.std.specs.Prelude.{ℕ, Bool, List, [], ◌∷◌, Option, None, Some, find, option_map}
+use Rattle.std.specs.Borrow.{Bor}
 use Rattle.std.specs.Option.{option_or}
+use Rattle.std.specs.Str.{bytes_eq}
 use Rattle.odata_url.specs.declared.option_name.OptionName.{OptionName}
 use Rattle.odata_url.specs.declared.option_name.OptionName.TheVariants as name
+use Rattle.odata_url.specs.OptionName.{option_text}
 use Rattle.odata_url.specs.Target.{QueryOption}
 use Rattle.odata_parse.specs.declared.format.Format.{Format}
 use Rattle.odata_parse.specs.declared.format.Format.TheVariants.{Json}
 use Rattle.odata_parse.specs.Format.{format_of}
 use Rattle.reply_text.specs.declared.code.Code.{Code}
-use Rattle.reply_text.specs.declared.code.Code.TheVariants.{NotServed, OptionNotAllowed}
-use Rattle.odata_request.specs.declared.resource.Resource.{Resource}
-use Rattle.odata_request.specs.declared.resource.Resource.TheVariants.{Service, Rows}
+use Rattle.reply_text.specs.declared.code.Code.TheVariants.{OptionNotAllowed}
+use Rattle.odata_request.specs.declared.options.Texts.{Texts}
+use Rattle.odata_request.specs.Resource as resource
+use Rattle.odata_request.specs.Resource.{ResourceOf}
 
--- why an option does not fit, whatever its value is: the service document takes `$format` alone; of those of rows the filter and the format are served
-abbrev pub option_fault : Resource → OptionName → Option Code
-option_fault resource name.Format = None
-option_fault Service option = Some OptionNotAllowed
-option_fault (Rows number) name.Filter = None
-option_fault (Rows number) option = Some NotServed
+-- why an option does not fit, whatever its value is: the service document takes `$format` alone, and a row by its key `$select` too
+abbrev pub option_fault : ResourceOf → OptionName → Option Code
+option_fault path name.Format = None
+option_fault resource.service option = Some OptionNotAllowed
+option_fault (resource.key number text) name.Select = None
+option_fault (resource.key number text) option = Some OptionNotAllowed
+option_fault (resource.rows number) option = None
+option_fault (resource.count number) option = None
 
 -- why the first option does not fit that does not, in the query's order
-abbrev pub options_fault : Resource → List QueryOption → Option Code
-options_fault resource [] = None
-options_fault resource (option ∷ options) = option_or (option_fault resource option.0) (options_fault resource options)
+abbrev pub options_fault : ResourceOf → List QueryOption → Option Code
+options_fault path [] = None
+options_fault path (option ∷ options) = option_or (option_fault path option.0) (options_fault path options)
 
--- the option is `$format`
-abbrev pub is_format : QueryOption → Bool
-is_format option = is_format_name option.0
-  where
-    is_format_name : OptionName → Bool
-    is_format_name name.Format = true
-    is_format_name other = false
+-- the option has that name
+abbrev pub is_named : OptionName → QueryOption → Bool
+is_named name option = bytes_eq (option_text option.0) (option_text name)
 
--- the option is `$filter`
-abbrev pub is_filter : QueryOption → Bool
-is_filter option = is_filter_name option.0
-  where
-    is_filter_name : OptionName → Bool
-    is_filter_name name.Filter = true
-    is_filter_name other = false
-
--- the value of `$filter`
-abbrev pub filter_text : List QueryOption → Option (List ℕ)
-filter_text options = option_map (λ option. option.1) (find is_filter options)
-
--- the value of `$format`
-abbrev pub format_text : List QueryOption → Option (List ℕ)
-format_text options = option_map (λ option. option.1) (find is_format options)
+-- the value of the option of that name, where it is one of these
+abbrev pub value_of : OptionName → List QueryOption → Option (List ℕ)
+value_of name options = option_map (λ option. option.1) (find (is_named name) options)
 
 -- the format that a value asks for: JSON where there is none; none where the value is not served
 abbrev pub format_in : Option (List ℕ) → Option Format
 format_in None = Some Json
 format_in (Some text) = format_of text
+
+-- the format that options ask for
+abbrev pub asked_format : List QueryOption → Option Format
+asked_format options = format_in (value_of name.Format options)
+
+-- the texts of a query on a table: its key, whether its rows are counted by the path, and the values of its options, each where it is there
+pub record TextsOf : Type 0 where
+  pub key : Option (List ℕ)
+  pub counting : Bool
+  pub apply : Option (List ℕ)
+  pub filter : Option (List ℕ)
+  pub count : Option (List ℕ)
+  pub order : Option (List ℕ)
+  pub skip : Option (List ℕ)
+  pub top : Option (List ℕ)
+  pub select : Option (List ℕ)
+
+abbrev pub text_view : Option (Bor (List ℕ)) → Option (List ℕ)
+text_view text = option_map (λ t. t.now) text
+
+abbrev pub texts_view : Texts → TextsOf
+texts_view texts = record {
+  key = text_view texts.key;
+  counting = texts.counting;
+  apply = text_view texts.apply;
+  filter = text_view texts.filter;
+  count = text_view texts.count;
+  order = text_view texts.order;
+  skip = text_view texts.skip;
+  top = text_view texts.top;
+  select = text_view texts.select;
+}
+
+abbrev pub texts_of : Option (List ℕ) → Bool → List QueryOption → TextsOf
+texts_of key counting options = record {
+  key = key;
+  counting = counting;
+  apply = value_of name.Apply options;
+  filter = value_of name.Filter options;
+  count = value_of name.Count options;
+  order = value_of name.OrderBy options;
+  skip = value_of name.Skip options;
+  top = value_of name.Top options;
+  select = value_of name.Select options;
+}

@@ -1,26 +1,37 @@
--- The typed query that options ask for (OData 4.01 Part 2, URL Conventions, section 5.1).
-use Rattle.std.specs.Prelude.{◌≡◌, ℕ, List, [], false, Option, None, Some, Result, Ok, Err}
+-- The typed query that a key and options ask for (OData 4.01 Part 2, URL Conventions, sections 4.3.1 and 5.1).
+use Rattle.std.specs.Prelude.{◌≡◌, ℕ, [], false, Option, None, Some, Result, Ok, Err}
 use Rattle.csvw_meta.specs.Schema.{SchemaOf}
-use Rattle.odata_parse.specs.Tree.{ExprOf}
+use Rattle.odata_parse.specs.Expression.{IsFilter}
+use Rattle.odata_parse.specs.Options.{IsKey, IsOrder, IsSelection}
 use Rattle.odata_types.specs.declared.fault.TypeFault.{TypeFault}
 use Rattle.odata_query.specs.Query.{QueryOf, TypedOf, query_typing}
 use Rattle.reply_text.specs.declared.code.Code.{Code}
 use Rattle.odata_request.specs.Fault.{type_code}
-use Rattle.odata_request.specs.Reading.{ReadsFilter}
+use Rattle.odata_request.specs.Options.{TextsOf}
+use Rattle.odata_request.specs.Reading.{◌>>=◌, Is, ReadsApply, ReadsFlag, ReadsNumber, ReadsOption, ReadsOr, ReadsTree}
 
--- all rows that a filter lets through, where there is one
-abbrev pub query_by : Option ExprOf → QueryOf
-query_by filter = record {
-  key = None;
-  counting = false;
-  apply = [];
-  filter = filter;
-  count = false;
-  order = [];
-  skip = 0;
-  top = None;
-  select = None;
-}
+-- how the texts of a query read, one after another: the first code is told
+abbrev pub ReadsQuery : ℕ → TextsOf → Result QueryOf Code → Type 0
+ReadsQuery limit texts = do
+  key ← ReadsOption (ReadsTree IsKey) texts.key
+  apply ← ReadsOr [] (ReadsApply limit) texts.apply
+  filter ← ReadsOption (ReadsTree IsFilter) texts.filter
+  count ← ReadsOr false ReadsFlag texts.count
+  order ← ReadsOr [] (ReadsTree IsOrder) texts.order
+  skip ← ReadsOr 0 ReadsNumber texts.skip
+  top ← ReadsOption ReadsNumber texts.top
+  select ← ReadsOption (ReadsTree IsSelection) texts.select
+  Is (Ok (record {
+    key = key;
+    counting = texts.counting;
+    apply = apply;
+    filter = filter;
+    count = count;
+    order = order;
+    skip = skip;
+    top = top;
+    select = select;
+  }))
 
 -- refused under the code, where there is one
 abbrev pub IsRefusedBy : {X : Type 0} → Option Code → Result X Code → Type 0
@@ -32,7 +43,8 @@ abbrev pub IsTyped : Result TypedOf TypeFault → Result TypedOf Code → Type 0
 IsTyped (Ok query) result = result ≡ Ok query
 IsTyped (Err fault) result = IsRefusedBy (type_code fault) result
 
--- the query that this value of `$filter` asks for on a table: all values are read before any is typed
-pub data AsksQuery (schema : SchemaOf) (filter : Option (List ℕ)) (result : Result TypedOf Code) : Type 0 where
-  unread : (code : Code) → ReadsFilter filter (Err code) → result ≡ Err code → AsksQuery schema filter result
-  read : (tree : Option ExprOf) → ReadsFilter filter (Ok tree) → IsTyped (query_typing schema (query_by tree)) result → AsksQuery schema filter result
+-- the query that texts ask for on a table: all of them are read before any is typed
+abbrev pub AsksQuery : ℕ → SchemaOf → TextsOf → Result TypedOf Code → Type 0
+AsksQuery limit schema texts = do
+  query ← ReadsQuery limit texts
+  IsTyped (query_typing schema query)

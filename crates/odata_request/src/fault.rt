@@ -4,7 +4,7 @@ ghost use Rattle.odata_request.specs.Fault.{fault_of, head_code, lex_code, parse
 
 use http_heads::HeadFault;
 use odata_lex::LexFault;
-use odata_parse::ParseFault;
+use odata_parse::{ParseFault, Syntax};
 use odata_types::TypeFault;
 use odata_url::UrlFault;
 use reply_text::Code;
@@ -79,7 +79,7 @@ fn parse_code(fault: ParseFault) -> Option<Code>
     }
 }
 
-/// The code of a fault of types. No query has an alias or a key yet.
+/// The code of a fault of types.
 fn type_code(fault: TypeFault) -> Option<Code>
     ensures { result ≡ type_code fault }
 {
@@ -87,7 +87,9 @@ fn type_code(fault: TypeFault) -> Option<Code>
         TypeFault::UnknownName => Some(Code::UnknownName),
         TypeFault::Mismatch => Some(Code::Mismatch),
         TypeFault::TooLarge => Some(Code::TooLarge),
-        TypeFault::AliasTaken | TypeFault::BadKey | TypeFault::NoMemory => None,
+        TypeFault::AliasTaken => Some(Code::AliasTaken),
+        TypeFault::BadKey => Some(Code::BadKey),
+        TypeFault::NoMemory => None,
     }
 }
 
@@ -140,5 +142,16 @@ impl From<TypeFault> for RequestFault {
 
     fn from(fault: TypeFault) -> RequestFault {
         RequestFault::of(type_code(fault))
+    }
+}
+
+impl From<Syntax> for RequestFault {
+    ghost use Rattle.reply_text.specs.declared.code.Code.TheVariants as code;
+    ghost use Rattle.odata_request.specs.declared.fault.RequestFault.TheVariants.{Refused};
+
+    ghost from_gives = { λ _ made. made ≡ Refused code.Syntax };
+
+    fn from(_: Syntax) -> RequestFault {
+        RequestFault::Refused(Code::Syntax)
     }
 }

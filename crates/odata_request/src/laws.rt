@@ -1,5 +1,5 @@
-//! What holds of all heads, targets and tables. The function here is a theorem, and does nothing.
-ghost use Rattle.odata_request.specs.Laws.{OneRequest};
+//! What holds of all heads, targets and tables. The functions here are theorems, and do nothing.
+ghost use Rattle.odata_request.specs.Laws.{KeysStandAlone, OneRequest};
 
 /// A head and a target ask for one request at most.
 pub fn one_request()
@@ -9,3 +9,8 @@ pub fn one_request()
     odata_lex::tokens_or_fault();
     odata_parse::one_tree();
 }
+
+/// A query with a key has no `$apply`: the row that it asks for is one of the table.
+pub fn keys_stand_alone()
+    ensures { KeysStandAlone }
+{}

@@ -7,9 +7,10 @@ mod fault;
 mod laws;
 mod options;
 mod query;
+mod reading;
 mod request;
 mod resource;
 
-pub use laws::one_request;
+pub use laws::{keys_stand_alone, one_request};
 pub use request::{Request, RowsRequest, request_of};
 pub use resource::{Resource, resource_of};

@@ -1,29 +1,33 @@
 //! The options of a query: whether each fits what the path leads to, in the query's order, and then their values, by their names.
-ghost use Rattle.std.specs.Prelude.{◌≡◌, find, map, option_map};
+ghost use Rattle.std.specs.Prelude.{◌≡◌, map};
 ghost use Rattle.odata_url.specs.Target.{option_view};
-ghost use Rattle.odata_request.specs.Options.{filter_text, format_in, format_text, is_filter, is_format, option_fault, options_fault};
+ghost use Rattle.odata_request.specs.Options.{asked_format, format_in, option_fault, options_fault, text_view, texts_of, texts_view, value_of};
+ghost use Rattle.odata_request.specs.Resource.{resource_view};
 
 use crate::resource::Resource;
 use odata_parse::{Format, parse_format};
 use odata_url::OptionName;
 use reply_text::Code;
 
-/// The code under which an option is refused whatever its value is, if it does not fit what the path leads to. An option that is served enters
-/// here, and in [`Options`].
-fn option_fault(resource: Resource, option: OptionName) -> Option<Code>
-    ensures { result ≡ option_fault resource option }
+/// The code under which an option is refused whatever its value is, if it does not fit what the path leads to.
+fn option_fault(resource: Resource<'_>, option: OptionName) -> Option<Code>
+    ensures { result ≡ option_fault (resource_view resource.entry) option }
 {
     match (resource, option) {
         (_, OptionName::Format) => None,
         (Resource::Service, _) => Some(Code::OptionNotAllowed),
-        (Resource::Rows(_), OptionName::Filter) => None,
-        (Resource::Rows(_), _) => Some(Code::NotServed),
+        (Resource::Key(_, _), OptionName::Select) => None,
+        (Resource::Key(_, _), _) => Some(Code::OptionNotAllowed),
+        (Resource::Rows(_) | Resource::Count(_), _) => None,
     }
 }
 
 /// The code of the first option that does not fit, in the query's order.
-pub(crate) fn options_fault(resource: Resource, options: &[(OptionName, String)]) -> Option<Code>
-    ensures { result ≡ options_fault resource (map option_view options.now) }
+pub(crate) fn options_fault(
+    resource: Resource<'_>,
+    options: &[(OptionName, String)],
+) -> Option<Code>
+    ensures { result ≡ options_fault (resource_view resource.entry) (map option_view options.now) }
 {
     for option in options {
         if let Some(code) = option_fault(resource, option.0) {
@@ -33,69 +37,71 @@ pub(crate) fn options_fault(resource: Resource, options: &[(OptionName, String)]
     None
 }
 
-/// The values of the options that are served, by their names; none where the query does not have the option.
-#[derive(Clone, Copy)]
-pub(crate) struct Options<'a> {
-    pub(crate) filter: Option<&'a str>,
-    pub(crate) format: Option<&'a str>,
-}
-
-/// Whether an option is `$filter`.
-fn is_filter(option: &(OptionName, String)) -> bool
-    ensures { result ≡ is_filter (option_view option.now) }
+/// The value of the option of that name, where it is one of these.
+fn value_of(options: &[(OptionName, String)], name: OptionName) -> Option<&str>
+    ensures { text_view result ≡ value_of name (map option_view options.now) }
 {
-    matches!(option.0, OptionName::Filter)
-}
-
-/// The option `$filter`, where it is one of these.
-fn filter_option(options: &[(OptionName, String)]) -> Option<&(OptionName, String)>
-    ensures { option_map (λ option. option_view option.now) result
-        ≡ find is_filter (map option_view options.now) }
-{
-    options.iter().find(|option| is_filter(option))
-}
-
-/// Whether an option is `$format`.
-fn is_format(option: &(OptionName, String)) -> bool
-    ensures { result ≡ is_format (option_view option.now) }
-{
-    matches!(option.0, OptionName::Format)
-}
-
-/// The option `$format`, where it is one of these.
-fn format_option(options: &[(OptionName, String)]) -> Option<&(OptionName, String)>
-    ensures { option_map (λ option. option_view option.now) result
-        ≡ find is_format (map option_view options.now) }
-{
-    options.iter().find(|option| is_format(option))
-}
-
-impl<'a> Options<'a> {
-    /// The values of these options.
-    pub(crate) fn of(options: &'a [(OptionName, String)]) -> Options<'a>
-        ensures filter { option_map (λ text. text.now) result.filter
-            ≡ filter_text (map option_view options.now) }
-        ensures format { option_map (λ text. text.now) result.format
-            ≡ format_text (map option_view options.now) }
-    {
-        let filter = match filter_option(options) {
-            Some(option) => Some(option.1.as_str()),
-            None => None,
-        };
-        let format = match format_option(options) {
-            Some(option) => Some(option.1.as_str()),
-            None => None,
-        };
-        Options { filter, format }
+    for option in options {
+        if option.0 == name {
+            return Some(option.1.as_str());
+        }
     }
+    None
+}
 
-    /// The format that is asked for, if it is one that is served; JSON where none is.
-    pub(crate) fn format(self) -> Option<Format>
-        ensures { result ≡ format_in (option_map (λ text. text.now) self.entry.format) }
+/// The format that a value asks for, if it is one that is served; JSON where there is none.
+fn format_in(text: Option<&str>) -> Option<Format>
+    ensures { result ≡ format_in (text_view text.entry) }
+{
+    match text {
+        Some(text) => parse_format(text).ok(),
+        None => Some(Format::Json),
+    }
+}
+
+/// The format that options ask for, if it is one that is served.
+pub(crate) fn asked_format(options: &[(OptionName, String)]) -> Option<Format>
+    ensures { result ≡ asked_format (map option_view options.now) }
+{
+    format_in(value_of(options, OptionName::Format))
+}
+
+/// The texts of a query on a table, none where the path has no key and the query does not have the option.
+#[derive(Clone, Copy)]
+pub(crate) struct Texts<'a> {
+    /// The key in the path.
+    pub(crate) key: Option<&'a str>,
+    /// Whether the path asks for the number of rows alone.
+    pub(crate) counting: bool,
+    pub(crate) apply: Option<&'a str>,
+    pub(crate) filter: Option<&'a str>,
+    pub(crate) count: Option<&'a str>,
+    pub(crate) order: Option<&'a str>,
+    pub(crate) skip: Option<&'a str>,
+    pub(crate) top: Option<&'a str>,
+    pub(crate) select: Option<&'a str>,
+}
+
+impl<'a> Texts<'a> {
+    /// Those of a path and of these options.
+    pub(crate) fn of(
+        key: Option<&'a str>,
+        counting: bool,
+        options: &'a [(OptionName, String)],
+    ) -> Texts<'a>
+        ensures { texts_view result
+            ≡ texts_of (text_view key.entry) counting (map option_view options.now) }
     {
-        match self.format {
-            Some(text) => parse_format(text).ok(),
-            None => Some(Format::Json),
+        Texts {
+            key,
+            counting,
+            apply: value_of(options, OptionName::Apply),
+            filter: value_of(options, OptionName::Filter),
+            count: value_of(options, OptionName::Count),
+            order: value_of(options, OptionName::OrderBy),
+            skip: value_of(options, OptionName::Skip),
+            top: value_of(options, OptionName::Top),
+            select: value_of(options, OptionName::Select),
         }
     }
 }

@@ -1,67 +1,55 @@
-//! From the values of options to a typed query.
-ghost use Rattle.std.specs.Prelude.{◌≡◌, option_map};
+//! From the texts of a query to a typed query.
 ghost use Rattle.csvw_meta.specs.Schema.{schema_view};
-ghost use Rattle.odata_parse.specs.Expression.{IsFilter};
-ghost use Rattle.odata_parse.specs.Tree.{expr_view};
 ghost use Rattle.odata_query.specs.Query.{query_typed_view, query_view};
 ghost use Rattle.odata_request.specs.Fault.{Gives};
-ghost use Rattle.odata_request.specs.Query.{AsksQuery, query_by};
-ghost use Rattle.odata_request.specs.Reading.{ReadsFilter, ReadsText};
+ghost use Rattle.odata_request.specs.Options.{texts_view};
+ghost use Rattle.odata_request.specs.Query.{AsksQuery, ReadsQuery};
 
 use crate::fault::RequestFault;
+use crate::options::Texts;
+use crate::reading::{
+    apply_or_none, flag_or_false, number_or_zero, optional_filter, optional_key, optional_number,
+    optional_selection, order_or_none,
+};
 use csvw_meta::Schema;
-use odata_lex::lex;
-use odata_parse::parse_filter;
-use odata_parse::tree::Expr;
 use odata_query::{Query, Typed, check};
 use std::alloc::Global;
 
-/// The tree of a filter's text.
-fn read_filter(alloc: Global, text: &str) -> Result<Expr, RequestFault>
-    ensures { Gives expr_view (ReadsText IsFilter text.now) result }
+/// The query of these texts, which are read one after another.
+fn read_query(alloc: Global, limit: u32, texts: Texts<'_>) -> Result<Query, RequestFault>
+    ensures { Gives query_view (ReadsQuery limit (texts_view texts.entry)) result }
 {
-    odata_lex::tokens_or_fault();
-    let tokens = lex(alloc, text)?;
-    Ok(parse_filter(alloc, text, tokens.as_slice())?)
-}
-
-/// The tree of the value of `$filter`, where the query has that option.
-fn read_optional_filter(alloc: Global, text: Option<&str>) -> Result<Option<Expr>, RequestFault>
-    ensures { Gives (λ tree. option_map expr_view tree)
-        (ReadsFilter (option_map (λ t. t.now) text.entry)) result }
-{
-    match text {
-        Some(text) => Ok(Some(read_filter(alloc, text)?)),
-        None => Ok(None),
-    }
-}
-
-/// The query for all rows that a filter lets through, where there is one.
-fn query_by(alloc: Global, filter: Option<Expr>) -> Query
-    ensures { query_view result ≡ query_by (option_map expr_view filter) }
-{
-    Query {
-        key: None,
-        counting: false,
-        apply: Vec::new(alloc),
+    let key = optional_key(alloc, texts.key)?;
+    let apply = apply_or_none(alloc, limit, texts.apply)?;
+    let filter = optional_filter(alloc, texts.filter)?;
+    let count = flag_or_false(texts.count)?;
+    let order = order_or_none(alloc, texts.order)?;
+    let skip = number_or_zero(texts.skip)?;
+    let top = optional_number(texts.top)?;
+    let select = optional_selection(alloc, texts.select)?;
+    Ok(Query {
+        key,
+        counting: texts.counting,
+        apply,
         filter,
-        count: false,
-        order: Vec::new(alloc),
-        skip: 0,
-        top: None,
-        select: None,
-    }
+        count,
+        order,
+        skip,
+        top,
+        select,
+    })
 }
 
-/// The typed query that this value of `$filter` asks for on the columns of a table.
+/// The typed query that these texts ask for on the columns of a table, where `$apply` may have so many transformations at most.
 pub(crate) fn typed_query(
     alloc: Global,
+    limit: u32,
     schema: &Schema,
-    filter: Option<&str>,
+    texts: Texts<'_>,
 ) -> Result<Typed, RequestFault>
     ensures { Gives query_typed_view
-        (AsksQuery (schema_view schema.now) (option_map (λ t. t.now) filter.entry)) result }
+        (AsksQuery limit (schema_view schema.now) (texts_view texts.entry)) result }
 {
-    let tree = read_optional_filter(alloc, filter)?;
-    Ok(check(alloc, schema, query_by(alloc, tree))?)
+    let query = read_query(alloc, limit, texts)?;
+    Ok(check(alloc, schema, query)?)
 }

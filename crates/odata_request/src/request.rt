@@ -1,11 +1,12 @@
 //! From a head and the tables to a request.
-ghost use Rattle.std.specs.Prelude.{◌≡◌, ◌≤◌, IfOk, Ok, Some, length, map, option_map, slice_get, string_bytes};
+ghost use Rattle.std.specs.Prelude.{◌<◌, ◌≤◌, IfOk, length, map, string_bytes};
 ghost use Rattle.odata_url.specs.Target.{option_view, target_of};
-ghost use Rattle.odata_request.specs.Request.{AsksFor, AsksOptions, AsksPath, AsksRows, AsksTarget, IsInside, Makes, request_view};
-ghost use Rattle.odata_request.specs.Resource.{LeadsInside};
+ghost use Rattle.odata_request.specs.Options.{texts_view};
+ghost use Rattle.odata_request.specs.Request.{AsksFitting, AsksFor, AsksOptions, AsksPath, AsksRows, AsksService, AsksTable, AsksTarget, IsInside, Makes, request_view};
+ghost use Rattle.odata_request.specs.Resource.{IsOfTables, resource_view};
 
 use crate::fault::RequestFault;
-use crate::options::{Options, options_fault};
+use crate::options::{Texts, asked_format, options_fault};
 use crate::query::typed_query;
 use crate::resource::{Resource, resource_of};
 use http_heads::HeadFault;
@@ -37,20 +38,20 @@ pub enum Request {
     Rows(RowsRequest),
 }
 
-/// What a filter, where there is one, asks of the table of that number in a format.
+/// What texts ask of the table of that number in a format.
 fn rows_request(
     alloc: Global,
     catalog: &Catalog,
     number: usize,
-    filter: Option<&str>,
+    texts: Texts<'_>,
     format: Format,
 ) -> Result<Request, RequestFault>
-    requires { LeadsInside catalog.now.tables (Ok (Resource.Rows number)) }
-    ensures { Makes (AsksRows catalog.now.tables number
-        (option_map (λ t. t.now) filter.entry) format) result }
+    requires { number < length catalog.now.tables }
+    ensures { Makes (AsksRows catalog.now number (texts_view texts.entry) format) result }
 {
     let table = &catalog.tables()[number];
-    let query = typed_query(alloc, table.schema(), filter)?;
+    let limit = catalog.limits().transformations;
+    let query = typed_query(alloc, limit, table.schema(), texts)?;
     Ok(Request::Rows(RowsRequest {
         table: number,
         query,
@@ -58,27 +59,76 @@ fn rows_request(
     }))
 }
 
+/// The same, where the format is one that is served.
+fn table_request(
+    alloc: Global,
+    catalog: &Catalog,
+    number: usize,
+    texts: Texts<'_>,
+    format: Option<Format>,
+) -> Result<Request, RequestFault>
+    requires { number < length catalog.now.tables }
+    ensures { Makes (AsksTable catalog.now number (texts_view texts.entry) format) result }
+{
+    match format {
+        Some(format) => rows_request(alloc, catalog, number, texts, format),
+        None => Err(RequestFault::Refused(Code::NotAcceptable)),
+    }
+}
+
+/// The service document in a format.
+fn service_request(format: Option<Format>) -> Result<Request, RequestFault>
+    ensures { Makes (AsksService format) result }
+{
+    match format {
+        Some(Format::Json) => Ok(Request::Service),
+        _ => Err(RequestFault::Refused(Code::NotAcceptable)),
+    }
+}
+
+/// What options that fit ask of a resource.
+fn fitting_request(
+    alloc: Global,
+    catalog: &Catalog,
+    resource: Resource<'_>,
+    options: &[(OptionName, String)],
+) -> Result<Request, RequestFault>
+    requires { IsOfTables catalog.now.tables (resource_view resource) }
+    ensures { Makes (AsksFitting catalog.now (resource_view resource.entry)
+        (map option_view options.now)) result }
+{
+    let format = asked_format(options);
+    match resource {
+        Resource::Service => service_request(format),
+        Resource::Rows(number) => {
+            let texts = Texts::of(None, false, options);
+            table_request(alloc, catalog, number, texts, format)
+        }
+        Resource::Count(number) => {
+            let texts = Texts::of(None, true, options);
+            table_request(alloc, catalog, number, texts, format)
+        }
+        Resource::Key(number, key) => {
+            let texts = Texts::of(Some(key), false, options);
+            table_request(alloc, catalog, number, texts, format)
+        }
+    }
+}
+
 /// What options ask of a resource.
 fn request_for(
     alloc: Global,
     catalog: &Catalog,
-    resource: Resource,
+    resource: Resource<'_>,
     options: &[(OptionName, String)],
 ) -> Result<Request, RequestFault>
-    requires { LeadsInside catalog.now.tables (Ok resource) }
-    ensures { Makes (AsksOptions catalog.now.tables resource
+    requires { IsOfTables catalog.now.tables (resource_view resource) }
+    ensures { Makes (AsksOptions catalog.now (resource_view resource.entry)
         (map option_view options.now)) result }
 {
-    if let Some(code) = options_fault(resource, options) {
-        return Err(RequestFault::Refused(code));
-    }
-    let options = Options::of(options);
-    match (resource, options.format()) {
-        (Resource::Service, Some(Format::Json)) => Ok(Request::Service),
-        (Resource::Rows(number), Some(format)) => {
-            rows_request(alloc, catalog, number, options.filter, format)
-        }
-        _ => Err(RequestFault::Refused(Code::NotAcceptable)),
+    match options_fault(resource, options) {
+        Some(code) => Err(RequestFault::Refused(code)),
+        None => fitting_request(alloc, catalog, resource, options),
     }
 }
 
@@ -89,7 +139,7 @@ fn path_request(
     segments: &[String],
     options: &[(OptionName, String)],
 ) -> Result<Request, RequestFault>
-    ensures { Makes (AsksPath catalog.now.tables
+    ensures { Makes (AsksPath catalog.now
         (map string_bytes segments.now) (map option_view options.now)) result }
 {
     let resource = resource_of(catalog, segments)?;
@@ -98,7 +148,7 @@ fn path_request(
 
 /// What a target asks for.
 fn target_request(alloc: Global, catalog: &Catalog, target: &[u8]) -> Result<Request, RequestFault>
-    ensures { Makes (AsksTarget catalog.now.tables (target_of target.now)) result }
+    ensures { Makes (AsksTarget catalog.now (target_of target.now)) result }
 {
     let target = Target::read(alloc, target)?;
     path_request(
@@ -116,7 +166,7 @@ fn head_request(
     fault: Option<HeadFault>,
     target: &[u8],
 ) -> Result<Request, RequestFault>
-    ensures { Makes (AsksFor catalog.now.tables fault target.now) result }
+    ensures { Makes (AsksFor catalog.now fault target.now) result }
 {
     match fault {
         Some(fault) => Err(RequestFault::from(fault)),
@@ -133,14 +183,13 @@ pub fn request_of(
 ) -> Result<Request, AllocError>
     requires { length target.now ≤ 8192 }
     ensures asks { IfOk result
-        (λ request. AsksFor catalog.now.tables fault target.now (request_view request)) }
-    // The number of a table is that of one, and the query asks for rows by a filter alone that fits it.
+        (λ request. AsksFor catalog.now fault target.now (request_view request)) }
+    // The number of a table is that of one, and the query is one on its columns.
     ensures inside { IfOk result
-        (λ request. IsInside catalog.now.tables (request_view request)) }
+        (λ request. IsInside catalog.now (request_view request)) }
 {
-    row_eval::bounds_hold();
     row_eval::filters_are_queried();
-    row_eval::tables_are_inputs();
+    row_eval::expressions_are_queried();
     match head_request(alloc, catalog, fault, target) {
         Ok(request) => Ok(request),
         Err(RequestFault::Refused(code)) => Ok(Request::Refused(code)),

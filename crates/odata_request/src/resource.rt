@@ -1,32 +1,38 @@
 //! What a path leads to.
-ghost use Rattle.std.specs.Prelude.{◌≡◌, map, position, string_bytes};
-ghost use Rattle.std.specs.List.{list_any};
+ghost use Rattle.std.specs.Prelude.{◌≡◌, map, option_map, position, string_bytes, true, false};
+ghost use Rattle.std.specs.List.{after_first, before_first, list_any};
+ghost use Rattle.std.specs.Option.{MatchOption};
 ghost use Rattle.std.specs.Str.{bytes_eq};
 ghost use Rattle.odata_url.specs.OptionName.{begins_with, dollar_sign};
-ghost use Rattle.odata_request.specs.Resource.{LeadsInside, is_count_path, is_parenthesis, one_resource, other_resource, path_resource, rows_resource, segment_resource, table_number, unserved_resource};
+ghost use Rattle.odata_request.specs.Resource.{LeadsInside, count, has_parenthesis, in_table, is_count_path, is_parenthesis, key_resource, one_resource, other_resource, path_resource, path_view, segment_resource, table_number, without_end};
 
 use reply_text::Code;
 use table_store::{Catalog, Table};
 
-/// What a path leads to.
+/// What a path leads to. A table is named by its number in the catalog, counted from 0.
 #[derive(Clone, Copy)]
-pub enum Resource {
+pub enum Resource<'p> {
     /// The service document.
     Service,
-    /// The rows of a table, by its number in the catalog, counted from 0.
+    /// The rows of a table.
     Rows(usize),
+    /// The number of rows of a table.
+    Count(usize),
+    /// The row of a table with a key, which is the text between the parentheses.
+    Key(usize, &'p str),
 }
 
 /// Whether a table has that name.
-fn is_called(table: &Table, name: &[u8]) -> bool
+fn is_called(table: &Table, name: &str) -> bool
     ensures { result ≡ bytes_eq table.now.schema.name name.now }
 {
-    table.name().as_bytes() == name
+    table.name() == name
 }
 
-/// The number of the table of that name.
-fn table_number(catalog: &Catalog, name: &[u8]) -> Option<usize>
-    ensures { result ≡ table_number catalog.now.tables name.now }
+/// The place of the first table of that name.
+fn table_place(catalog: &Catalog, name: &str) -> Option<usize>
+    ensures { result
+        ≡ position (λ table. bytes_eq table.schema.name name.now) catalog.now.tables }
 {
     catalog
         .tables()
@@ -34,63 +40,82 @@ fn table_number(catalog: &Catalog, name: &[u8]) -> Option<usize>
         .position(|table| is_called(table, name))
 }
 
-/// What a table's name leads to.
-fn rows_resource(catalog: &Catalog, name: &[u8]) -> Result<Resource, Code>
-    ensures { result ≡ rows_resource (table_number catalog.now.tables name.now) }
+/// The number of the table of that name.
+fn table_number(catalog: &Catalog, name: &str) -> Result<usize, Code>
+    ensures { result ≡ table_number catalog.now.tables name.now }
 {
-    match table_number(catalog, name) {
-        Some(number) => Ok(Resource::Rows(number)),
+    match table_place(catalog, name) {
+        Some(number) => Ok(number),
         None => Err(Code::UnknownSet),
     }
 }
 
-/// What something else of a table leads to: it is refused.
-fn unserved_resource(catalog: &Catalog, name: &[u8]) -> Result<Resource, Code>
-    ensures { result ≡ unserved_resource (table_number catalog.now.tables name.now) }
+/// Whether a key begins in a segment.
+fn has_parenthesis(segment: &str) -> bool
+    ensures { result ≡ has_parenthesis segment.now }
 {
-    match table_number(catalog, name) {
-        Some(_) => Err(Code::NotServed),
-        None => Err(Code::UnknownSet),
-    }
+    segment.as_bytes().iter().any(|byte| *byte == b'(')
 }
 
-/// The place of the first opening parenthesis.
-fn key_place(segment: &[u8]) -> Option<usize>
-    ensures { result ≡ position is_parenthesis segment.now }
+/// What stands before the first `(` and behind it.
+fn key_parts(segment: &str) -> Option<(&str, &str)>
+    ensures { MatchOption result (has_parenthesis segment.now ≡ false)
+        (λ parts. (has_parenthesis segment.now ≡ true)
+        × (parts.0.now ≡ before_first is_parenthesis segment.now)
+        × (parts.1.now ≡ after_first is_parenthesis segment.now)) }
 {
-    segment.iter().position(|byte| *byte == b'(')
+    segment.split_once('(')
+}
+
+/// What stands before a `)` at the end.
+fn without_end(text: &str) -> Option<&str>
+    ensures { option_map (λ t. t.now) result ≡ without_end text.now }
+{
+    text.strip_suffix(')')
+}
+
+/// What a table's name with a key behind it leads to, where that ended.
+fn key_resource<'p>(
+    catalog: &Catalog,
+    name: &str,
+    key: Option<&'p str>,
+) -> Result<Resource<'p>, Code>
+    ensures { path_view result
+        ≡ key_resource catalog.now.tables name.now (option_map (λ t. t.now) key.entry) }
+{
+    match key {
+        Some(text) => Ok(Resource::Key(table_number(catalog, name)?, text)),
+        None => Err(Code::NotFound),
+    }
 }
 
 /// What one segment leads to that is not reserved.
-fn segment_resource(catalog: &Catalog, segment: &[u8]) -> Result<Resource, Code>
-    ensures { result ≡ segment_resource catalog.now.tables segment.now }
+fn segment_resource<'p>(catalog: &Catalog, segment: &'p str) -> Result<Resource<'p>, Code>
+    ensures { path_view result ≡ segment_resource catalog.now.tables segment.now }
 {
-    match key_place(segment) {
-        None => rows_resource(catalog, segment),
-        Some(place) if segment.ends_with(b")") => unserved_resource(catalog, &segment[..place]),
-        Some(_) => Err(Code::NotFound),
+    match key_parts(segment) {
+        Some((name, behind)) => key_resource(catalog, name, without_end(behind)),
+        None => Ok(Resource::Rows(table_number(catalog, segment)?)),
     }
 }
 
 /// Whether a segment is reserved: it begins with `$`.
-fn is_reserved(segment: &[u8]) -> bool
+fn is_reserved(segment: &str) -> bool
     ensures { result ≡ begins_with dollar_sign segment.now }
 {
-    matches!(segment.first(), Some(b'$'))
+    matches!(segment.as_bytes().first(), Some(b'$'))
 }
 
 /// Whether a segment is reserved among these.
 fn has_reserved(segments: &[String]) -> bool
     ensures { result ≡ list_any (begins_with dollar_sign) (map string_bytes segments.now) }
 {
-    segments
-        .iter()
-        .any(|segment| is_reserved(segment.as_bytes()))
+    segments.iter().any(|segment| is_reserved(segment.as_str()))
 }
 
 /// What a path of other segments leads to: it is refused.
-fn other_resource(segments: &[String]) -> Result<Resource, Code>
-    ensures { result ≡ other_resource (map string_bytes segments.now) }
+fn other_resource<'p>(segments: &'p [String]) -> Result<Resource<'p>, Code>
+    ensures { path_view result ≡ other_resource (map string_bytes segments.now) }
 {
     if has_reserved(segments) {
         Err(Code::NotServed)
@@ -100,15 +125,15 @@ fn other_resource(segments: &[String]) -> Result<Resource, Code>
 }
 
 /// Whether two segments are a table's name and `$count`.
-fn is_count_path(segment: &[u8], count: &[u8]) -> bool
-    ensures { result ≡ is_count_path segment.now count.now }
+fn is_count_path(segment: &str, behind: &str) -> bool
+    ensures { result ≡ is_count_path segment.now behind.now }
 {
-    !is_reserved(segment) && key_place(segment).is_none() && count == b"$count".as_slice()
+    !is_reserved(segment) && !has_parenthesis(segment) && behind == "$count"
 }
 
 /// What a path of one segment leads to.
-fn one_resource(catalog: &Catalog, segment: &[u8]) -> Result<Resource, Code>
-    ensures { result ≡ one_resource catalog.now.tables segment.now }
+fn one_resource<'p>(catalog: &Catalog, segment: &'p str) -> Result<Resource<'p>, Code>
+    ensures { path_view result ≡ one_resource catalog.now.tables segment.now }
 {
     if segment.is_empty() {
         Ok(Resource::Service)
@@ -119,26 +144,34 @@ fn one_resource(catalog: &Catalog, segment: &[u8]) -> Result<Resource, Code>
     }
 }
 
+/// What a table's name with `$count` behind it leads to.
+fn count_resource<'p>(catalog: &Catalog, name: &'p str) -> Result<Resource<'p>, Code>
+    ensures { path_view result ≡ in_table count (table_number catalog.now.tables name.now) }
+{
+    Ok(Resource::Count(table_number(catalog, name)?))
+}
+
 /// What a path leads to, or the code under which it is refused.
-fn path_resource(catalog: &Catalog, segments: &[String]) -> Result<Resource, Code>
-    ensures { result ≡ path_resource catalog.now.tables (map string_bytes segments.now) }
+fn path_resource<'p>(catalog: &Catalog, segments: &'p [String]) -> Result<Resource<'p>, Code>
+    ensures { path_view result ≡ path_resource catalog.now.tables (map string_bytes segments.now) }
 {
     let count = segments.len();
     if count == 1 {
-        return one_resource(catalog, segments[0].as_bytes());
+        return one_resource(catalog, segments[0].as_str());
     }
-    if count == 2 && is_count_path(segments[0].as_bytes(), segments[1].as_bytes()) {
-        return unserved_resource(catalog, segments[0].as_bytes());
+    if count == 2 && is_count_path(segments[0].as_str(), segments[1].as_str()) {
+        return count_resource(catalog, segments[0].as_str());
     }
     other_resource(segments)
 }
 
 /// What a path leads to, or the code under which it is refused.
 #[tactic(auto, using(crate::proofs::ResourceLemmas::path_inside))]
-pub fn resource_of(catalog: &Catalog, segments: &[String]) -> Result<Resource, Code>
-    ensures resource { result ≡ path_resource catalog.now.tables (map string_bytes segments.now) }
+pub fn resource_of<'p>(catalog: &Catalog, segments: &'p [String]) -> Result<Resource<'p>, Code>
+    ensures resource { path_view result
+        ≡ path_resource catalog.now.tables (map string_bytes segments.now) }
     // The number of a table is that of one.
-    ensures inside { LeadsInside catalog.now.tables result }
+    ensures inside { LeadsInside catalog.now.tables (path_view result) }
 {
     path_resource(catalog, segments)
 }

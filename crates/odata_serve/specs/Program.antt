@@ -36,7 +36,7 @@ pub record IsLoaded (l : Loading) (catalog : CatalogOf) : Type 0 where
 pub record RunsOver (l : Loading) (c : Course) (r : Result ⊤ RunFault) : Type 0 where
   pub catalog : CatalogOf
   pub loaded : IsLoaded l catalog
-  pub run : IsRun (IsReply catalog.tables) MAX_READS c r
+  pub run : IsRun (IsReply catalog) MAX_READS c r
 
 -- nothing was read and nothing written
 abbrev pub IsStill : Course → Type 0

@@ -74,7 +74,7 @@ impl CountedListener {
         out: &mut W,
     ) -> Result<(), ProgramFault>
         requires { CountsFit (R.source input.old) (W.sink out.old) }
-        ensures stream { IsConnection (IsReply catalog.now.tables)
+        ensures stream { IsConnection (IsReply catalog.now)
             (course (R.source input.old) (R.source input.new) (W.sink out.old) (W.sink out.new))
             result }
         ensures port { (⟦<CountedListener as Listener>⟧.listener self.new).port

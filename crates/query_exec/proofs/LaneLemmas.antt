@@ -27,7 +27,19 @@ use Rattle.table_store.specs.Table.{TableOf}
 use Rattle.query_exec.specs.declared.lanes.Lane.{Lane}
 use Rattle.query_exec.specs.Lanes.{texts_view, AreColumnsOf, AreLanesOf, AreTextsOf, AreValuesOf, IsColumnOf, IsLaneOf, StandAt}
 use Rattle.query_exec.proofs.FitLemmas.{table_row}
-use Rattle.query_exec.proofs.PickedLemmas.{value_there}
+
+-- ---- the value of a row and a column
+
+value_in : (values : List CellValue) (col : ℕ) (value : CellValue) → slice_get values col ≡ Some value → get_or values col null ≡ value
+value_in [] col value e = absurd (cc)
+value_in (v ∷ values) zero value e = cc
+value_in (v ∷ values) (suc col) value e = value_in values col value e
+
+value_there : (rows : List (List CellValue)) (row col : ℕ) (value : CellValue)
+    → option_and_then (λ values. slice_get values col) (slice_get rows row) ≡ Some value → get_or (get_or rows row []) col null ≡ value
+value_there [] row col value e = absurd (cc)
+value_there (values ∷ rows) zero col value e = value_in values col value e
+value_there (values ∷ rows) (suc row) col value e = value_there rows row col value e
 
 -- ---- the cell that a number stands for
 
@@ -107,7 +119,7 @@ pub column_stands : TablesAreInputs → (block : TableOf) (col : ℕ) (column : 
 column_stands law block col column type numbers nulls fit at p unpacked marks row h =
     let values = get_or block.rows row [] in
     let cell : List CellValue → CellValue = λ vs. get_or vs col null in
-    let is = fit row [] h in
+    let is = fit.each row [] h in
     let typed = typed_at block.schema.columns values col column is (law.rows block.schema values (table_row block.schema.columns values is)) at in
     let long = length-map block.rows cell in
     let value : get_or (column_of block.rows col) row null ≡ cell values = get_or-map cell block.rows row [] null h in
@@ -187,7 +199,7 @@ pub values_stand : (block : TableOf) (col : ℕ) (values : List CellValue) → H
 values_stand block col values fit h are row within =
     let cells = get_or block.rows row [] in
     let cell : List CellValue → CellValue = λ vs. get_or vs col null in
-    let wide = row_wide block.schema.columns cells (fit row [] within) in
+    let wide = row_wide block.schema.columns cells (fit.each row [] within) in
     slice_get-get_or cells col null (omega (arith, h, wide))
     ∙ ap (λ v. Some v) (sym (ap (λ vs. get_or vs row null) are ∙ get_or-map cell block.rows row [] null within))
 

@@ -1,9 +1,8 @@
-pub mod TextLemmas
-pub mod KeptLemmas
+pub mod ConditionLemmas
 pub mod RowLemmas
-pub mod PickedLemmas
 pub mod TakingLemmas
 pub mod LaneLemmas
 pub mod PassingLemmas
 pub mod FitLemmas
 pub mod RunLemmas
+pub mod StepLemmas

@@ -1,11 +1,12 @@
 -- Rows that are marked, and those that pass a step.
 use Rattle.std.proofs.Common.{◌≡◌, ℕ, zero, suc, ◌+◌, ◌<◌, Bool, true, false, ◌&&◌, cond, Some, List, [], ◌∷◌, ◌++◌, length, map, take, drop, replicate, get_or, refl, sym, ap, ◌∙◌, arith}
-use Rattle.std.specs.Prelude.{option_and_then}
+use Rattle.std.specs.Prelude.{Box, option_and_then}
 use Rattle.std.specs.List.{All}
 use Rattle.std.proofs.lemmas.List.{append-nil, drop_more, map_push}
 use Rattle.std.proofs.lemmas.List.Elements.{All-push}
 use Rattle.cell_types.specs.Value.{CellValue}
-use Rattle.odata_types.specs.TypedTree.{TruthExprOf}
+use Rattle.odata_types.specs.declared.tree.TruthExpr.{TruthExpr}
+use Rattle.odata_types.specs.TypedTree.{boxed_truth, TruthExprOf}
 use Rattle.row_eval.specs.declared.truth.Truth.{Truth}
 use Rattle.row_eval.specs.declared.truth.Truth.TheVariants.{False, Null, True}
 use Rattle.row_eval.specs.Outcome.{both, truth_outcome}
@@ -13,10 +14,10 @@ use Rattle.block_eval.specs.declared.columns.Column.{Column}
 use Rattle.block_eval.specs.Lanes.{truth_lane, AreOutcomes}
 use Rattle.query_plan.specs.Filter.{passing}
 use Rattle.query_plan.specs.Laws.{TrueRowsPass}
-use Rattle.query_plan.specs.Plan.{node_meaning, node_view, nodes_meaning}
-use Rattle.query_plan.specs.declared.plan.Node.{Node}
 use Rattle.query_exec.specs.Lanes.{AreColumnsOf}
-use Rattle.query_exec.specs.Picked.{is_true, marked, numbered}
+use Rattle.row_columns.specs.Picked.{numbered}
+use Rattle.query_exec.specs.Conditions.{passing_all}
+use Rattle.query_exec.specs.Picked.{is_true, marked}
 
 -- ---- a filter on the rows that are marked
 
@@ -125,11 +126,11 @@ unmarked_row marks i numbers h at so_far = record {
   within = so_far.within;
 }
 
--- ---- steps in turn
+-- ---- conditions in turn
 
-pub next_step : (nodes : List Node) (i : ℕ) (node : Node) (rows : List (List CellValue)) (was now : List Bool) → i < length nodes → node ≡ get_or nodes i node
-    → node_meaning (node_view node) (marked was rows) ≡ Some (marked now rows)
-    → nodes_meaning (map node_view (drop i nodes)) (marked was rows) ≡ nodes_meaning (map node_view (drop (i + 1) nodes)) (marked now rows)
-next_step nodes i node rows was now h at is =
-    ap (λ ns. nodes_meaning (map node_view ns) (marked was rows)) (drop_more nodes i node h ∙ ap (λ n. n ∷ drop (i + 1) nodes) (sym at))
-    ∙ ap (option_and_then (nodes_meaning (map node_view (drop (i + 1) nodes)))) is
+pub next_condition : {A : Type 0} (conditions : List (Box TruthExpr A)) (i : ℕ) (condition : Box TruthExpr A) (rows : List (List CellValue)) (was now : List Bool)
+    → i < length conditions → condition ≡ get_or conditions i condition → passing (boxed_truth condition) (marked was rows) ≡ Some (marked now rows)
+    → passing_all (map boxed_truth (drop i conditions)) (marked was rows) ≡ passing_all (map boxed_truth (drop (i + 1) conditions)) (marked now rows)
+next_condition conditions i condition rows was now h at is =
+    ap (λ cs. passing_all (map boxed_truth cs) (marked was rows)) (drop_more conditions i condition h ∙ ap (λ c. c ∷ drop (i + 1) conditions) (sym at))
+    ∙ ap (option_and_then (passing_all (map boxed_truth (drop (i + 1) conditions)))) is

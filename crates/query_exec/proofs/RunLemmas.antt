@@ -1,6 +1,6 @@
 -- A run behind the blocks that were handed in.
-use Rattle.std.proofs.Common.{◌≡◌, ◌⊎◌, inl, inr, ℕ, ◌+◌, ◌*◌, ◌/◌, ◌<◌, ◌≤◌, Bool, true, false, cond, nat_lt, Some, None, List, [], ◌∷◌, ◌++◌, length, map, take, refl, sym, ap, ◌∙◌, subst, arith, string_bytes}
-use Rattle.std.specs.Prelude.{Ok, Err, max, option_map}
+use Rattle.std.proofs.Common.{◌≡◌, ◌⊎◌, inl, inr, ℕ, ◌+◌, ◌*◌, ◌/◌, ◌<◌, ◌≤◌, Bool, true, false, cond, nat_lt, Option, Some, None, List, [], ◌∷◌, ◌++◌, length, map, take, refl, sym, ap, ◌∙◌, subst, arith, string_bytes}
+use Rattle.std.specs.Prelude.{Result, Ok, Err, max, option_and_then, option_map}
 use Rattle.std.proofs.Math.Nat.{le-max_right, max-eq_left, max-eq_right}
 use Rattle.std.proofs.Math.Seq.{take-add}
 use Rattle.std.proofs.lemmas.Bool.{cases_lt, ltb-false, ltb-true}
@@ -8,20 +8,25 @@ use Rattle.std.proofs.lemmas.List.{length-map, take_all}
 use Rattle.block_summary.specs.declared.block.TheConstants.{BLOCK_ROWS}
 use Rattle.cell_types.specs.declared.column.Column.{Column}
 use Rattle.cell_types.specs.Column.{ColumnOf, column_view}
-use Rattle.odata_types.specs.Schema.{inputs_of}
+use Rattle.cell_types.specs.Value.{CellValue}
+use Rattle.odata_types.specs.TypedTree.{boxed_truth}
 use Rattle.table_store.specs.Block.{block_count, block_of}
 use Rattle.table_store.specs.Table.{TableOf}
-use Rattle.query_plan.specs.Laws.{TrueRowsPass}
-use Rattle.query_plan.specs.Plan.{plan_view, meaning, IsFit, PlanOf}
-use Rattle.query_exec.specs.declared.fault.ExecFault.TheVariants.{DivisionByZero}
+use Rattle.query_plan.specs.Fitting.{AreTableRows, IsFitFor, NodesFit}
+use Rattle.query_plan.specs.Laws.{NodesInTurn, TrueRowsPass}
+use Rattle.query_plan.specs.Meaning.{table_names}
+use Rattle.query_plan.specs.Plan.{PlanOf, node_view, nodes_result, table_result}
+use Rattle.row_columns.specs.Kinds.{kinds_of}
+use Rattle.query_exec.specs.declared.fault.ExecFault.{ExecFault}
+use Rattle.query_exec.specs.declared.fault.ExecFault.TheVariants.{DivisionByZero, NoMemory, Failed}
 use Rattle.query_exec.specs.declared.run.Run.{Run}
 use Rattle.query_exec.specs.declared.run.Stage.TheVariants.{Reading}
-use Rattle.query_exec.specs.declared.run.Step.TheVariants.{More, Done}
-use Rattle.query_exec.specs.Kept.{kept_rows, kinds, kinds_of, AreAligned}
-use Rattle.query_exec.specs.Rows.{names_of, under_names}
-use Rattle.query_exec.specs.Run.{first_rows, goes_on, handed_block, rows_so_far, run_length, StandsFor, StepsTo}
+use Rattle.query_exec.specs.Answer.{plan_answer}
+use Rattle.query_exec.specs.Conditions.{condition_nodes, passing_all}
+use Rattle.query_exec.specs.Rows.{RowsOf}
+use Rattle.query_exec.specs.Run.{conditions_of, handed_block, handed_rows, kept_answer, kept_result, rows_so_far, run_length, steps_of, GoesOn, IsReady, StandsFor, StepsTo}
 use Rattle.query_exec.specs.Taking.{HasTaken}
-use Rattle.query_exec.proofs.TakingLemmas.{joined, nodes_in_parts}
+use Rattle.query_exec.proofs.ConditionLemmas.{conditions_give, joined, pass_in_parts, steps_behind}
 
 -- the names of a table's columns
 pub names-column_view : (columns : List Column) → map (λ (c : ColumnOf). c.name) (map column_view columns) ≡ map (λ c. string_bytes c.name) columns
@@ -59,128 +64,159 @@ enough : (rows handed : ℕ) → (rows + 4_095) / 4_096 ≤ handed → rows ≤ 
 enough rows handed h = omega (arith, h)
 
 -- all rows are those of all blocks
-all_rows : (table : TableOf) (handed : ℕ) → block_count (length table.rows) ≤ handed → first_rows table handed ≡ table.rows
+all_rows : (table : TableOf) (handed : ℕ) → block_count (length table.rows) ≤ handed → handed_rows table handed ≡ table.rows
 all_rows table handed h = take_all (handed * BLOCK_ROWS) table.rows (enough (length table.rows) handed h)
 
 -- the rows of one block more
-more_rows : (table : TableOf) (handed : ℕ) → first_rows table (handed + 1) ≡ first_rows table handed ++ (block_of table handed).rows
+more_rows : (table : TableOf) (handed : ℕ) → handed_rows table (handed + 1) ≡ handed_rows table handed ++ (block_of table handed).rows
 more_rows table handed =
     let n : (handed + 1) * BLOCK_ROWS ≡ handed * BLOCK_ROWS + BLOCK_ROWS = omega arith in
     ap (λ k. take k table.rows) n ∙ take-add (handed * BLOCK_ROWS) BLOCK_ROWS table.rows
 
 -- ---- what a run answers
 
--- a run that has what the plan makes of the rows of the first so many blocks
+-- a run that has what the conditions make of the rows of the first so many blocks
 pub record HasRead (run : Run) (plan : PlanOf) (table : TableOf) (blocks : ℕ) : Type 0 where
-  pub plan_is : plan_view run.plan ≡ plan
-  pub fits : IsFit (inputs_of table.schema) plan
+  pub plan_is : condition_nodes (conditions_of run) ++ steps_of run ≡ plan.nodes
+  pub fits : IsFitFor table.schema plan
+  pub are_rows : AreTableRows table.schema table.rows
   pub reads : run.stage ≡ Reading
   pub blocks_are : run.blocks ≡ block_count (length table.rows)
   pub handed_are : run.handed ≡ blocks
-  pub names_are : map string_bytes run.names.items ≡ names_of table
-  pub kinds_are : kinds run.kept ≡ kinds_of table.schema.columns
-  pub aligned : AreAligned run.kept
-  pub passed : rows_so_far run ≡ meaning plan (first_rows table blocks)
+  pub names_are : map string_bytes run.names.items ≡ table_names table.schema
+  pub kinds_are : run.kept.kinds ≡ kinds_of table.schema.columns
+  pub passed : rows_so_far run ≡ passing_all (conditions_of run) (handed_rows table blocks)
 
--- behind the last block
-ended : (run : Run) (plan : PlanOf) (table : TableOf) (handed blocks : ℕ) (f : Bool) → HasRead run plan table blocks → handed + 1 ≡ run_length table
-    → cond f None (Some (kept_rows run.kept)) ≡ meaning plan table.rows → StepsTo plan table handed run (cond f (Err DivisionByZero) (Ok Done))
-ended run plan table handed blocks true has last is = (last, ap (option_map (under_names table)) (sym is))
-ended run plan table handed blocks false has last is = (
-  under_names table (kept_rows run.kept),
-  last,
-  ap (option_map (under_names table)) (sym is),
-  record {
-    names_are = has.names_are;
-    width = ap length has.kinds_are ∙ length-map table.schema.columns _ ∙ sym (length-map table.schema.columns _);
-    aligned = has.aligned;
-    rows_are = refl;
-    uncounted = refl;
-  },
-)
+pub no_block_read : (run : Run) (plan : PlanOf) (table : TableOf) (handed : ℕ) → StandsFor run plan table handed → HasRead run plan table handed
+no_block_read run plan table handed stands = record {
+  plan_is = stands.plan_is;
+  fits = stands.fits;
+  are_rows = stands.are_rows;
+  reads = stands.reads;
+  blocks_are = stands.blocks_are;
+  handed_are = stands.handed_are;
+  names_are = stands.names_are;
+  kinds_are = stands.kinds_are;
+  passed = stands.passed;
+}
 
-stepped : (run : Run) (plan : PlanOf) (table : TableOf) (handed blocks : ℕ) (b : Bool) → nat_lt run.handed run.blocks ≡ b → HasRead run plan table blocks
+pub block_read : TrueRowsPass → (old new : Run) (plan : PlanOf) (table : TableOf) (handed : ℕ) → StandsFor old plan table handed
+    → HasTaken old new (block_of table handed).rows → HasRead (record new { handed = new.handed + 1 }) plan table (handed + 1)
+block_read law old new plan table handed stands taken =
+    let same : conditions_of new ≡ conditions_of old = ap (λ cs. map boxed_truth cs.items) taken.conditions_are in record {
+      plan_is =
+          ap (λ es. condition_nodes es ++ steps_of new) same
+          ∙ ap (λ ns. condition_nodes (conditions_of old) ++ map node_view ns.items) taken.steps_are
+          ∙ stands.plan_is;
+      fits = stands.fits;
+      are_rows = stands.are_rows;
+      reads = taken.stage_is ∙ stands.reads;
+      blocks_are = taken.blocks_are ∙ stands.blocks_are;
+      handed_are = ap (λ k. k + 1) (taken.handed_are ∙ stands.handed_are);
+      names_are = ap (λ names. map string_bytes names.items) taken.names_are ∙ stands.names_are;
+      kinds_are = taken.kinds_are ∙ stands.kinds_are;
+      passed =
+          taken.passed
+          ∙ ap (λ rows. joined rows (passing_all (conditions_of old) (block_of table handed).rows)) stands.passed
+          ∙ sym (pass_in_parts law (conditions_of old) (handed_rows table handed) (block_of table handed).rows)
+          ∙ ap (passing_all (conditions_of old)) (sym (more_rows table handed))
+          ∙ ap (λ es. passing_all es (handed_rows table (handed + 1))) (sym same);
+    }
+
+-- the rows that passed of the whole table may go through the steps
+fits_behind : NodesInTurn → (run : Run) (plan : PlanOf) (table : TableOf) (blocks : ℕ) → HasRead run plan table blocks → block_count (length table.rows) ≤ blocks
+    → (rows : List (List CellValue)) → rows_so_far run ≡ Some rows → NodesFit (steps_of run) (record (kept_result run) { rows = rows })
+fits_behind law run plan table blocks has beyond rows is =
+    let es = conditions_of run in
+    let whole : passing_all es table.rows ≡ Some rows = ap (passing_all es) (sym (all_rows table blocks beyond)) ∙ sym has.passed ∙ is in
+    let fit : NodesFit (condition_nodes es ++ steps_of run) (table_result table.schema table.rows) =
+    subst (λ ns. NodesFit ns (table_result table.schema table.rows)) (sym has.plan_is) (has.fits table.rows has.are_rows) in
+    subst (λ names. NodesFit (steps_of run) (record { names = names; rows = rows; count = None })) (sym has.names_are)
+    (law.above_fit (condition_nodes es) (steps_of run) (table_result table.schema table.rows) (table_result table.schema rows) fit
+    (conditions_give es (table_result table.schema table.rows) table.rows rows whole))
+
+pub is_ready : NodesInTurn → (run : Run) (plan : PlanOf) (table : TableOf) (blocks : ℕ) → HasRead run plan table blocks → run.blocks ≤ run.handed → IsReady run
+is_ready law run plan table blocks has beyond = record {
+  width =
+      ap length has.kinds_are ∙ length-map table.schema.columns _ ∙ sym (length-map table.schema.columns _)
+      ∙ ap length (sym has.names_are) ∙ length-map run.names.items string_bytes;
+  fits = fits_behind law run plan table blocks has (omega (arith, beyond, has.blocks_are, has.handed_are));
+}
+
+-- what the run gives then is the answer of the plan
+answer_is : (run : Run) (plan : PlanOf) (table : TableOf) (blocks : ℕ) → HasRead run plan table blocks → block_count (length table.rows) ≤ blocks
+    → plan_answer plan table ≡ kept_answer run
+answer_is run plan table blocks has beyond =
+    let es = conditions_of run in
+    let whole : passing_all es table.rows ≡ rows_so_far run = ap (passing_all es) (sym (all_rows table blocks beyond)) ∙ sym has.passed in
+    ap (λ ns. nodes_result ns (table_result table.schema table.rows)) (sym has.plan_is)
+    ∙ steps_behind es (steps_of run) (table_result table.schema table.rows) table.rows
+    ∙ ap (λ names. option_and_then (λ kept. nodes_result (steps_of run) (record { names = names; rows = kept; count = None })) (passing_all es table.rows)) (sym has.names_are)
+    ∙ ap (option_and_then (λ kept. nodes_result (steps_of run) (record (kept_result run) { rows = kept }))) whole
+
+-- where no block is left from the first on, the first call is the last
+last : (table : TableOf) (handed : ℕ) → handed < run_length table → block_count (length table.rows) ≤ handed → handed + 1 ≡ run_length table
+last table handed within beyond = omega (arith, within, beyond, max_cases 1 (block_count (length table.rows)))
+
+pub answers : (run new : Run) (plan : PlanOf) (table : TableOf) (handed blocks : ℕ) (result : Result (Option RowsOf) ExecFault) → HasRead run plan table blocks
     → (blocks < block_count (length table.rows) → blocks ≡ handed + 1) → (block_count (length table.rows) ≤ blocks → handed + 1 ≡ run_length table)
-    → StepsTo plan table handed run (cond b (Ok More) (cond run.faulted (Err DivisionByZero) (Ok Done)))
-stepped run plan table handed blocks true e has more last =
+    → GoesOn run new result → StepsTo plan table handed new result
+answers run new plan table handed blocks (Ok None) has more last goes =
     let n = block_count (length table.rows) in
-    let inside : blocks < n = omega (arith, ltb-true run.handed run.blocks e, has.blocks_are, has.handed_are) in
+    let inside : blocks < n = omega (arith, goes.0, has.blocks_are, has.handed_are) in
     let next : blocks ≡ handed + 1 = more inside in
     let within : handed + 1 < run_length table = omega (arith, inside, next, le-max_right 1 n) in (
       within,
-      record {
+      subst (λ (r : Run). StandsFor r plan table (handed + 1)) (sym goes.1) (record {
         plan_is = has.plan_is;
         fits = has.fits;
+        are_rows = has.are_rows;
         reads = has.reads;
         blocks_are = has.blocks_are;
         handed_are = has.handed_are ∙ next;
         goes_on = within;
         names_are = has.names_are;
         kinds_are = has.kinds_are;
-        aligned = has.aligned;
-        passed = has.passed ∙ ap (λ k. meaning plan (first_rows table k)) next;
-      },
+        passed = has.passed ∙ ap (λ k. passing_all (conditions_of run) (handed_rows table k)) next;
+      }),
     )
-stepped run plan table handed blocks false e has more last =
-    let n = block_count (length table.rows) in
-    let beyond : n ≤ blocks = omega (arith, ltb-false run.handed run.blocks e, has.blocks_are, has.handed_are) in
-    ended run plan table handed blocks run.faulted has (last beyond) (has.passed ∙ ap (meaning plan) (all_rows table blocks beyond))
+answers run new plan table handed blocks (Ok (Some rows)) has more last goes =
+    let beyond : block_count (length table.rows) ≤ blocks = omega (arith, goes.0, has.blocks_are, has.handed_are) in
+    (last beyond, answer_is run plan table blocks has beyond ∙ goes.1)
+answers run new plan table handed blocks (Err DivisionByZero) has more last goes =
+    let beyond : block_count (length table.rows) ≤ blocks = omega (arith, goes.0, has.blocks_are, has.handed_are) in
+    (last beyond, answer_is run plan table blocks has beyond ∙ goes.1)
+answers run new plan table handed blocks (Err NoMemory) has more last goes = goes
+answers run new plan table handed blocks (Err Failed) has more last goes = goes
 
-answers : (run : Run) (plan : PlanOf) (table : TableOf) (handed blocks : ℕ) → HasRead run plan table blocks
-    → (blocks < block_count (length table.rows) → blocks ≡ handed + 1) → (block_count (length table.rows) ≤ blocks → handed + 1 ≡ run_length table)
-    → StepsTo plan table handed run (goes_on run)
-answers run plan table handed blocks has more last = stepped run plan table handed blocks (nat_lt run.handed run.blocks) refl has more last
-
--- ---- with a block, and without one
-
--- where no block is left from the first on, the first call is the last
-last : (table : TableOf) (handed : ℕ) → handed < run_length table → block_count (length table.rows) ≤ handed → handed + 1 ≡ run_length table
-last table handed within beyond = omega (arith, within, beyond, max_cases 1 (block_count (length table.rows)))
-
-block_read : TrueRowsPass → (old new : Run) (plan : PlanOf) (table : TableOf) (handed : ℕ) → StandsFor old plan table handed
-    → HasTaken old new (block_of table handed).rows → HasRead (record new { handed = new.handed + 1 }) plan table (handed + 1)
-block_read law old new plan table handed stands taken = record {
-  plan_is = ap plan_view taken.plan_is ∙ stands.plan_is;
-  fits = stands.fits;
-  reads = taken.stage_is ∙ stands.reads;
-  blocks_are = taken.blocks_are ∙ stands.blocks_are;
-  handed_are = ap (λ k. k + 1) (taken.handed_are ∙ stands.handed_are);
-  names_are = ap (λ names. map string_bytes names.items) taken.names_are ∙ stands.names_are;
-  kinds_are = taken.kinds_are ∙ stands.kinds_are;
-  aligned = taken.aligned;
-  passed =
-      taken.passed
-      ∙ ap (λ p. joined (rows_so_far old) (meaning p (block_of table handed).rows)) stands.plan_is
-      ∙ ap (λ rows. joined rows (meaning plan (block_of table handed).rows)) stands.passed
-      ∙ sym (nodes_in_parts law plan.nodes (first_rows table handed) (block_of table handed).rows)
-      ∙ ap (meaning plan) (sym (more_rows table handed));
-}
-
-pub after_block : TrueRowsPass → (old new : Run) (block : TableOf) (plan : PlanOf) (table : TableOf) (handed : ℕ) → StandsFor old plan table handed
-    → Some block ≡ handed_block table handed → HasTaken old new block.rows
-    → StepsTo plan table handed (record new { handed = new.handed + 1 }) (goes_on (record new { handed = new.handed + 1 }))
-after_block law old new block plan table handed stands is taken =
+pub after_block : TrueRowsPass → (old new next : Run) (block : TableOf) (plan : PlanOf) (table : TableOf) (handed : ℕ) (result : Result (Option RowsOf) ExecFault)
+    → StandsFor old plan table handed → Some block ≡ handed_block table handed → HasTaken old new block.rows
+    → GoesOn (record new { handed = new.handed + 1 }) next result → StepsTo plan table handed next result
+after_block law old new next block plan table handed result stands is taken goes =
     let n = block_count (length table.rows) in
     let at = is_block table handed block is in
     let inside = at.1 in
     let within = stands.goes_on in
-    answers (record new { handed = new.handed + 1 }) plan table handed (handed + 1)
+    answers (record new { handed = new.handed + 1 }) next plan table handed (handed + 1) result
     (block_read law old new plan table handed stands (subst (λ (b : TableOf). HasTaken old new b.rows) at.0 taken))
-    (λ h. refl) (λ h. omega (arith, h, inside, max_cases 1 n))
+    (λ h. refl) (λ h. omega (arith, h, inside, max_cases 1 n)) goes
 
-pub after_none : (run : Run) (plan : PlanOf) (table : TableOf) (handed : ℕ) → StandsFor run plan table handed → None ≡ handed_block table handed
-    → StepsTo plan table handed run (goes_on run)
-after_none run plan table handed stands is =
-    let n = block_count (length table.rows) in
+pub after_none : (run next : Run) (plan : PlanOf) (table : TableOf) (handed : ℕ) (result : Result (Option RowsOf) ExecFault) → StandsFor run plan table handed
+    → None ≡ handed_block table handed → GoesOn run next result → StepsTo plan table handed next result
+after_none run next plan table handed result stands is goes =
     let beyond = is_no_block table handed is in
-    answers run plan table handed handed (record {
-      plan_is = stands.plan_is;
-      fits = stands.fits;
-      reads = stands.reads;
-      blocks_are = stands.blocks_are;
-      handed_are = stands.handed_are;
-      names_are = stands.names_are;
-      kinds_are = stands.kinds_are;
-      aligned = stands.aligned;
-      passed = stands.passed;
-    }) (λ h. absurd (omega (arith, h, beyond))) (λ h. last table handed stands.goes_on beyond)
+    answers run next plan table handed handed result (no_block_read run plan table handed stands)
+    (λ h. absurd (omega (arith, h, beyond))) (λ h. last table handed stands.goes_on beyond) goes
+
+-- ---- before the steps
+
+pub ready_behind_block : TrueRowsPass → NodesInTurn → (old new : Run) (block : TableOf) (plan : PlanOf) (table : TableOf) (handed : ℕ) → StandsFor old plan table handed
+    → Some block ≡ handed_block table handed → HasTaken old new block.rows → new.blocks ≤ new.handed + 1 → IsReady (record new { handed = new.handed + 1 })
+ready_behind_block law turn old new block plan table handed stands is taken beyond =
+    let at = is_block table handed block is in
+    is_ready turn (record new { handed = new.handed + 1 }) plan table (handed + 1)
+    (block_read law old new plan table handed stands (subst (λ (b : TableOf). HasTaken old new b.rows) at.0 taken)) beyond
+
+pub ready_behind_none : NodesInTurn → (run : Run) (plan : PlanOf) (table : TableOf) (handed : ℕ) → StandsFor run plan table handed → run.blocks ≤ run.handed
+    → IsReady run
+ready_behind_none turn run plan table handed stands beyond = is_ready turn run plan table handed (no_block_read run plan table handed stands) beyond

@@ -1,6 +1,5 @@
 -- Some rows of a block.
-use Rattle.std.specs.Prelude.{ℕ, Bool, true, false, List, [], ◌∷◌, map, slice_index_or}
-use Rattle.cell_types.specs.Value.{CellValue}
+use Rattle.std.specs.Prelude.{Bool, true, false, List, [], ◌∷◌}
 use Rattle.row_eval.specs.declared.truth.Truth.{Truth}
 use Rattle.row_eval.specs.declared.truth.Truth.TheVariants.{True}
 
@@ -15,7 +14,3 @@ marked [] xs = []
 marked (mark ∷ marks) [] = []
 marked (true ∷ marks) (x ∷ xs) = x ∷ marked marks xs
 marked (false ∷ marks) (x ∷ xs) = marked marks xs
-
--- the rows with these numbers, counted from 0
-abbrev pub numbered : List ℕ → List (List CellValue) → List (List CellValue)
-numbered numbers rows = map (λ number. slice_index_or rows number []) numbers

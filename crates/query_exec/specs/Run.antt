@@ -1,21 +1,23 @@
 -- What a run stands for, and what its calls make of that.
-use Rattle.std.specs.Prelude.{◌≡◌, ◌<◌, ◌+◌, ◌*◌, ⊤, ℕ, Option, Some, None, Result, Ok, Err, List, if◌then◌else◌, nat_lt, length, map, max, option_map, string_bytes, take}
+use Rattle.std.specs.Prelude.{◌≡◌, ◌<◌, ◌≤◌, ◌+◌, ◌*◌, ◌++◌, ⊤, ℕ, Option, Some, None, Result, Ok, Err, List, if◌then◌else◌, nat_lt, length, map, max, option_and_then, option_map, string_bytes, take}
 use Rattle.cell_types.specs.Value.{CellValue}
 use Rattle.block_summary.specs.declared.block.TheConstants.{BLOCK_ROWS}
-use Rattle.odata_types.specs.Schema.{inputs_of}
+use Rattle.odata_types.specs.TypedTree.{TruthExprOf, boxed_truth}
 use Rattle.table_store.specs.Block.{block_count, block_of}
 use Rattle.table_store.specs.Table.{TableOf}
-use Rattle.query_plan.specs.Plan.{plan_view, meaning, IsFit, PlanOf}
+use Rattle.row_columns.specs.Kinds.{kinds_of}
+use Rattle.query_plan.specs.Fitting.{AreTableRows, IsFitFor, NodesFit}
+use Rattle.query_plan.specs.Meaning.{ResultOf, table_names}
+use Rattle.query_plan.specs.Plan.{NodeOf, PlanOf, node_view, nodes_result}
 use Rattle.query_exec.specs.declared.fault.ExecFault.{ExecFault}
 use Rattle.query_exec.specs.declared.fault.ExecFault.TheVariants.{DivisionByZero, NoMemory, Failed}
 use Rattle.query_exec.specs.declared.run.Run.{Run}
-use Rattle.query_exec.specs.declared.run.Stage.{Stage}
 use Rattle.query_exec.specs.declared.run.Stage.TheVariants.{Reading, Ended, Refused}
 use Rattle.query_exec.specs.declared.run.Step.{Step}
 use Rattle.query_exec.specs.declared.run.Step.TheVariants.{More, Done}
 use Rattle.query_exec.specs.Answer.{plan_answer}
-use Rattle.query_exec.specs.Rows.{RowsOf, names_of}
-use Rattle.query_exec.specs.Kept.{kept_rows, kinds, kinds_of, AreAligned}
+use Rattle.query_exec.specs.Conditions.{condition_nodes, passing_all}
+use Rattle.query_exec.specs.Rows.{RowsOf}
 
 -- the number of the block that is needed behind those that were handed in, where there is one: every block of the table is needed
 abbrev pub next_block : TableOf → ℕ → Option ℕ
@@ -30,38 +32,40 @@ abbrev pub run_length : TableOf → ℕ
 run_length table = max 1 (block_count (length table.rows))
 
 -- the rows of the first so many blocks
-abbrev pub first_rows : TableOf → ℕ → List (List CellValue)
-first_rows table handed = take (handed * BLOCK_ROWS) table.rows
+abbrev pub handed_rows : TableOf → ℕ → List (List CellValue)
+handed_rows table handed = take (handed * BLOCK_ROWS) table.rows
 
--- the rows that passed, unless a step divided by zero
+-- the conditions that the plan begins with, and the steps behind them
+abbrev pub conditions_of : Run → List TruthExprOf
+conditions_of run = map boxed_truth run.conditions.items
+
+abbrev pub steps_of : Run → List NodeOf
+steps_of run = map node_view run.steps.items
+
+-- the rows that passed the conditions, unless one of them divided by zero
 abbrev pub rows_so_far : Run → Option (List (List CellValue))
-rows_so_far run = if run.faulted then None else Some (kept_rows run.kept)
+rows_so_far run = if run.faulted then None else Some run.kept.rows
 
--- The run stands for the plan on the table, of which it was handed so many blocks: it has what the plan makes of their rows.
+-- and these under their names
+abbrev pub kept_result : Run → ResultOf
+kept_result run = record { names = map string_bytes run.names.items; rows = run.kept.rows; count = None }
+
+-- The run stands for the plan on the table, of which it was handed so many blocks: it has what the conditions make of their rows.
 pub record StandsFor (run : Run) (plan : PlanOf) (table : TableOf) (handed : ℕ) : Type 0 where
-  pub plan_is : plan_view run.plan ≡ plan
-  pub fits : IsFit (inputs_of table.schema) plan
+  pub plan_is : condition_nodes (conditions_of run) ++ steps_of run ≡ plan.nodes
+  pub fits : IsFitFor table.schema plan
+  pub are_rows : AreTableRows table.schema table.rows
   pub reads : run.stage ≡ Reading
   pub blocks_are : run.blocks ≡ block_count (length table.rows)
   pub handed_are : run.handed ≡ handed
   pub goes_on : handed < run_length table
-  pub names_are : map string_bytes run.names.items ≡ names_of table
-  pub kinds_are : kinds run.kept ≡ kinds_of table.schema.columns
-  pub aligned : AreAligned run.kept
-  pub passed : rows_so_far run ≡ meaning plan (first_rows table handed)
-
--- the run has these rows under their names
-pub record Ends (run : Run) (rows : RowsOf) : Type 0 where
-  pub names_are : map string_bytes run.names.items ≡ rows.names
-  pub width : length (kinds run.kept) ≡ length rows.names
-  pub aligned : AreAligned run.kept
-  pub rows_are : kept_rows run.kept ≡ rows.rows
-  pub uncounted : rows.count ≡ None
+  pub names_are : map string_bytes run.names.items ≡ table_names table.schema
+  pub kinds_are : run.kept.kinds ≡ kinds_of table.schema.columns
+  pub passed : rows_so_far run ≡ passing_all (conditions_of run) (handed_rows table handed)
 
 -- the run is done, and gives this
-pub record Gives (run : Run) (rows : RowsOf) : Type 0 where
-  pub ended : run.stage ≡ Ended
-  pub has : Ends run rows
+abbrev pub Gives : Run → RowsOf → Type 0
+Gives run rows = run.stage ≡ Ended rows
 
 -- the run answered Done
 abbrev pub IsDone : Run → Type 0
@@ -92,20 +96,27 @@ AdvancesTo plan table handed run (Err Failed) = ⊥
 
 -- ---- inside
 
--- how far a run has come that answered this
-abbrev pub stage_of : Result Step ExecFault → Stage
-stage_of (Ok More) = Reading
-stage_of (Ok Done) = Ended
-stage_of (Err fault) = Refused
-
--- what a run answers behind the blocks that were handed in
-abbrev pub goes_on : Run → Result Step ExecFault
-goes_on run = if nat_lt run.handed run.blocks then Ok More else (if run.faulted then Err DivisionByZero else Ok Done)
-
--- as `AdvancesTo`, of a run whose stage is not set yet
-abbrev pub StepsTo : PlanOf → TableOf → ℕ → Run → Result Step ExecFault → Type 0
-StepsTo plan table handed run (Ok More) = (handed + 1 < run_length table) × StandsFor run plan table (handed + 1)
-StepsTo plan table handed run (Ok Done) = (rows : RowsOf) × (handed + 1 ≡ run_length table) × (plan_answer plan table ≡ Some rows) × Ends run rows
+-- as `AdvancesTo`, of a run whose stage is not set yet: there are rows at the call of its length, and none before it
+abbrev pub StepsTo : PlanOf → TableOf → ℕ → Run → Result (Option RowsOf) ExecFault → Type 0
+StepsTo plan table handed run (Ok None) = (handed + 1 < run_length table) × StandsFor run plan table (handed + 1)
+StepsTo plan table handed run (Ok (Some rows)) = (handed + 1 ≡ run_length table) × (plan_answer plan table ≡ Some rows)
 StepsTo plan table handed run (Err DivisionByZero) = (handed + 1 ≡ run_length table) × (plan_answer plan table ≡ None)
 StepsTo plan table handed run (Err NoMemory) = ⊤
 StepsTo plan table handed run (Err Failed) = ⊥
+
+-- what the steps behind the conditions make of the rows that passed these
+abbrev pub kept_answer : Run → Option RowsOf
+kept_answer run = option_and_then (λ rows. nodes_result (steps_of run) (record (kept_result run) { rows = rows })) (rows_so_far run)
+
+-- the rows that passed may go through the steps
+pub record IsReady (run : Run) : Type 0 where
+  pub width : length run.kept.kinds ≡ length run.names.items
+  pub fits : (rows : List (List CellValue)) → rows_so_far run ≡ Some rows → NodesFit (steps_of run) (record (kept_result run) { rows = rows })
+
+-- what a run makes of the blocks that were handed in: nothing yet where others are to come
+abbrev pub GoesOn : Run → Run → Result (Option RowsOf) ExecFault → Type 0
+GoesOn old new (Ok None) = (old.handed < old.blocks) × (new ≡ old)
+GoesOn old new (Ok (Some rows)) = (old.blocks ≤ old.handed) × (kept_answer old ≡ Some rows)
+GoesOn old new (Err DivisionByZero) = (old.blocks ≤ old.handed) × (kept_answer old ≡ None)
+GoesOn old new (Err NoMemory) = ⊤
+GoesOn old new (Err Failed) = ⊥

@@ -1,5 +1,6 @@
 //! Why a run has no answer.
 
+use row_eval::EvalFault;
 use std::alloc::AllocError;
 
 /// Why a run has no answer.
@@ -21,5 +22,19 @@ impl From<AllocError> for ExecFault {
 
     fn from(_: AllocError) -> ExecFault {
         ExecFault::NoMemory
+    }
+}
+
+impl From<EvalFault> for ExecFault {
+    ghost use Rattle.std.specs.Prelude.{◌≡◌};
+    ghost use Rattle.query_exec.specs.Fault.{exec_fault};
+
+    ghost from_gives = { λ fault e. e ≡ exec_fault fault };
+
+    fn from(fault: EvalFault) -> ExecFault {
+        match fault {
+            EvalFault::DivisionByZero => ExecFault::DivisionByZero,
+            EvalFault::NoMemory => ExecFault::NoMemory,
+        }
     }
 }

@@ -3,15 +3,16 @@
 #![tactic(auto)]
 
 mod block_texts;
-mod cells;
 mod fault;
-mod kept;
 mod lanes;
 mod named;
+mod names;
 mod passing;
 mod rows;
 mod run;
-mod texts;
+mod steps;
+mod taking;
+mod underway;
 
 pub use fault::ExecFault;
 pub use rows::Rows;

@@ -1,19 +1,20 @@
-//! The rows of a block that pass the steps of a plan, found a column at a time.
+//! The rows of a block that pass the conditions of a plan, found a column at a time.
 ghost use Rattle.std.specs.Prelude.{◌≡◌, ◌<◌, ◌&&◌, ℕ, List, Some, OnOk, IfOk, length, map, slice_index_or, false};
 ghost use Rattle.std.specs.List.{All};
 ghost use Rattle.cell_types.specs.Value.{CellValue};
 ghost use Rattle.block_eval.specs.Lanes.{truth_lane};
-ghost use Rattle.odata_types.specs.TypedTree.{truth_view};
+ghost use Rattle.odata_types.specs.TypedTree.{boxed_truth, truth_view};
 ghost use Rattle.query_plan.specs.Filter.{passing};
-ghost use Rattle.query_plan.specs.Plan.{node_meaning, node_view, nodes_meaning};
-ghost use Rattle.query_exec.specs.Picked.{is_true, marked, numbered};
+ghost use Rattle.row_columns.specs.Picked.{numbered};
+ghost use Rattle.query_exec.specs.Conditions.{passing_all};
+ghost use Rattle.query_exec.specs.Picked.{is_true, marked};
 
 use crate::block_texts::texts_of;
 use crate::lanes::Lanes;
 use crate::named::mark_truth;
 use block_eval::{Fallback, eval_block};
 use odata_types::TruthExpr;
-use query_plan::{Node, true_rows_pass};
+use query_plan::true_rows_pass;
 use row_eval::Truth;
 use std::alloc::{AllocError, Global};
 use table_store::Block;
@@ -52,23 +53,6 @@ fn narrow_by(
     Ok(())
 }
 
-/// Leaves those rows of a block wanted that pass a step.
-fn narrow(
-    alloc: Global,
-    node: &Node,
-    block: &Block<'_>,
-    lanes: &mut Lanes,
-    wanted: &mut [bool],
-) -> Result<(), Fallback>
-    requires { length wanted.old ≡ length block.now.rows }
-    ensures { OnOk result (node_meaning (node_view node.now) (marked wanted.old block.now.rows)
-        ≡ Some (marked wanted.new block.now.rows)) }
-{
-    match node {
-        Node::Filter(condition) => narrow_by(alloc, condition, block, lanes, wanted),
-    }
-}
-
 /// The numbers of the rows that are wanted.
 fn numbers_of(alloc: Global, wanted: &[bool]) -> Result<Vec<usize>, AllocError>
     ensures rows { IfOk result (λ numbers. (rows : List (List CellValue))
@@ -84,24 +68,24 @@ fn numbers_of(alloc: Global, wanted: &[bool]) -> Result<Vec<usize>, AllocError>
     Ok(numbers)
 }
 
-/// The numbers of the rows of a block that pass the steps, in turn. Where it falls back, the rows are to be taken one by one: so it is
-/// where a step divides by zero, and where there is no step, since a cursor finds each text from the one before it.
+/// The numbers of the rows of a block that pass conditions, in turn. Where it falls back, the rows are to be taken one by one: so it is
+/// where a condition divides by zero, and where there is none, since a cursor finds each text from the one before it.
 pub(crate) fn passing_rows(
     alloc: Global,
-    nodes: &[Node],
+    conditions: &[Box<TruthExpr>],
     block: &Block<'_>,
     lanes: &mut Lanes,
 ) -> Result<Vec<usize>, Fallback>
-    ensures rows { IfOk result (λ numbers. nodes_meaning (map node_view nodes.now) block.now.rows
+    ensures rows { IfOk result (λ numbers. passing_all (map boxed_truth conditions.now) block.now.rows
         ≡ Some (numbered numbers.items block.now.rows)) }
     ensures within { IfOk result (λ numbers. All (λ n. n < length block.now.rows) numbers.items) }
 {
-    if nodes.is_empty() {
+    if conditions.is_empty() {
         return Err(Fallback);
     }
     let mut wanted = Vec::from_elem(alloc, true, block.rows())?;
-    for node in nodes {
-        narrow(alloc, node, block, lanes, wanted.as_mut_slice())?;
+    for condition in conditions {
+        narrow_by(alloc, condition, block, lanes, wanted.as_mut_slice())?;
     }
     let numbers = numbers_of(alloc, wanted.as_slice())?;
     Ok(numbers)

@@ -1,17 +1,25 @@
 //! The rows of an answer.
-ghost use Rattle.std.specs.Prelude.{◌≡◌, ◌<◌, Some, length, map, option_and_then, slice_get, string_bytes};
-ghost use Rattle.std.specs.List.{AllByRecursion};
+ghost use Rattle.std.specs.Prelude.{◌≡◌, ◌<◌, [], ◌∷◌, IfOk, IfSome, None, Some, length, map, option_and_then, option_map, slice_get, string_bytes};
+ghost use Rattle.std.specs.List.{All, AllByRecursion};
 ghost use Rattle.cell_types.specs.Value.{value_view};
+ghost use Rattle.csvw_meta.specs.Schema.{schema_view};
+ghost use Rattle.row_eval.specs.Row.{row_view};
+ghost use Rattle.query_plan.specs.Meaning.{selected_names, selected_values, table_names};
 
-use crate::kept::Kept;
+use crate::names::names_of;
+use crate::steps::project;
+use crate::underway::Underway;
 use cell_types::Value;
+use csvw_meta::Schema;
+use row_columns::Columns;
+use std::alloc::{AllocError, Global};
 use std::marker::Model;
 
 /// Rows of values under their names. They own what they have.
 #[derive(Drop)]
 pub struct Rows {
     pub(crate) names: Vec<String>,
-    pub(crate) kept: Kept,
+    pub(crate) columns: Columns,
     pub(crate) count: Option<u64>,
 }
 
@@ -28,6 +36,32 @@ impl Model for Rows {
 }
 
 impl Rows {
+    /// The row of a key: its values in the columns that are selected, or in all of them.
+    pub fn of_row(
+        alloc: Global,
+        schema: &Schema,
+        values: &[Value<'_>],
+        select: Option<&[usize]>,
+    ) -> Result<Rows, AllocError>
+        requires wide { length values.now ≡ length (schema_view schema.now).columns }
+        requires within { IfSome select
+            (λ places. All (λ place. place < length values.now) places.now) }
+        ensures { IfOk result (λ rows. rows ≡ record {
+          names = selected_names (option_map (λ places. places.now) select.entry) (table_names (schema_view schema.now));
+          rows = selected_values (option_map (λ places. places.now) select.entry) (row_view values.now) ∷ [];
+          count = None;
+        }) }
+    {
+        let names = names_of(alloc, schema.columns.as_slice())?;
+        let mut columns = Columns::of_any(alloc, values.len())?;
+        columns.push(alloc, values)?;
+        let row = Underway::whole(alloc, names, columns, None)?;
+        match select {
+            Some(places) => project(alloc, &row, places)?.into_rows(alloc),
+            None => row.into_rows(alloc),
+        }
+    }
+
     /// The names of the columns.
     pub fn names(&self) -> &[String]
         ensures { map string_bytes result.now ≡ self.now.names }
@@ -40,6 +74,7 @@ impl Rows {
         ensures names { result ≡ length self.now.names }
         ensures rows { AllByRecursion (λ values. length values ≡ result) self.now.rows }
     {
+        self.columns.rows_are_wide();
         self.names.len()
     }
 
@@ -47,7 +82,7 @@ impl Rows {
     pub fn len(&self) -> usize
         ensures { result ≡ length self.now.rows }
     {
-        self.kept.len()
+        self.columns.len()
     }
 
     /// The value of a row and a column, both counted from 0. It takes no memory.
@@ -57,7 +92,7 @@ impl Rows {
         ensures { option_and_then (λ values. slice_get values col) (slice_get self.now.rows row)
             ≡ Some (value_view result) }
     {
-        self.kept.value(row, col)
+        self.columns.value(row, col)
     }
 
     /// How many rows there are in all, where that was asked for.

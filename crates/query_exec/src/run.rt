@@ -1,31 +1,32 @@
 //! A run of a plan on a table that it is handed block by block.
-ghost use Rattle.std.specs.Prelude.{◌≡◌, ◌↔◌, ◌∷◌, [], ℕ, None, Ok, IfOk, IfErr, OnErr, OnOk, IsErrOf, map, string_bytes};
-ghost use Rattle.std.specs.List.{All, AllByRecursion};
+ghost use Rattle.std.specs.Prelude.{◌≡◌, ◌↔◌, ◌≤◌, ◌++◌, ℕ, None, Ok, IfOk, IfErr, OnErr, IsErrOf, map};
 ghost use Rattle.csvw_meta.specs.Schema.{schema_view};
-ghost use Rattle.odata_types.specs.Schema.{inputs_of};
+ghost use Rattle.odata_types.specs.TypedTree.{boxed_truth};
+ghost use Rattle.table_store.specs.Fits.{HasTableRows};
 ghost use Rattle.table_store.specs.Summaries.{AreSummariesOf};
 ghost use Rattle.table_store.specs.Table.{TableOf};
-ghost use Rattle.row_eval.specs.Row.{row_view};
-ghost use Rattle.query_plan.specs.Plan.{node_meaning, node_view, nodes_meaning, plan_view, IsFit, PlanOf};
+ghost use Rattle.query_plan.specs.Fitting.{IsFitFor};
+ghost use Rattle.query_plan.specs.Plan.{node_view, plan_view, PlanOf};
+ghost use Rattle.query_exec.specs.Conditions.{condition_nodes};
 ghost use Rattle.query_exec.specs.Rows.{RowsOf};
 ghost use Rattle.query_exec.specs.declared.fault.ExecFault.TheVariants.{NoMemory, Failed};
 ghost use Rattle.query_exec.specs.declared.run.Step.TheVariants.{Done};
-ghost use Rattle.query_exec.specs.Run.{goes_on, handed_block, next_block, stage_of, AdvancesTo, Gives, HasFailed, IsAwaited, IsDone, MayBeHanded, StandsFor, StepsTo};
-ghost use Rattle.query_exec.specs.Kept.{kinds, kinds_of, AreAligned};
-ghost use Rattle.query_exec.specs.Taking.{fate_rows, FitsOn, HasTaken, IsSuited};
+ghost use Rattle.query_exec.specs.Run.{handed_block, next_block, AdvancesTo, Gives, GoesOn, HasFailed, IsAwaited, IsDone, IsReady, MayBeHanded, StandsFor, StepsTo};
 
 use crate::fault::ExecFault;
-use crate::kept::Kept;
 use crate::lanes::Lanes;
-use crate::passing::passing_rows;
+use crate::names::names_of;
 use crate::rows::Rows;
+use crate::steps::apply_all;
+use crate::underway::Underway;
 use block_summary::Summary;
-use cell_types::{Column, Value};
 use csvw_meta::Schema;
-use query_plan::{Node, Plan, true_rows_pass};
-use row_eval::{EvalFault, Truth, eval_truth, tables_are_inputs};
+use odata_types::TruthExpr;
+use query_plan::{Node, Plan, nodes_in_turn, true_rows_pass};
+use row_columns::Columns;
 use std::alloc::{AllocError, Global};
-use table_store::{Block, RowCursor};
+use std::mem;
+use table_store::Block;
 
 /// Whether a run goes on.
 #[derive(Clone, Copy, Debug, PartialEq, Eq)]
@@ -35,17 +36,20 @@ pub enum Step {
 }
 
 /// How far a run has come.
-#[derive(Clone, Copy)]
+#[derive(Drop)]
 enum Stage {
     Reading,
-    Ended,
+    Ended(Rows),
     Refused,
 }
 
 /// A run of a plan.
 #[derive(Drop)]
 pub struct Run {
-    plan: Plan,
+    /// The conditions that the plan begins with.
+    pub(crate) conditions: Vec<Box<TruthExpr>>,
+    /// The steps behind them, which go over the rows of all blocks together.
+    steps: Vec<Node>,
     /// How many blocks the table has.
     blocks: usize,
     /// How many of them were handed in.
@@ -53,147 +57,65 @@ pub struct Run {
     /// The names of the table's columns.
     names: Vec<String>,
     /// The columns of a block that a condition names.
-    lanes: Lanes,
-    /// The rows that passed.
-    kept: Kept,
-    /// Whether a step divided by zero on a row.
-    faulted: bool,
+    pub(crate) lanes: Lanes,
+    /// The rows that passed the conditions.
+    pub(crate) kept: Columns,
+    /// Whether a condition divided by zero on a row.
+    pub(crate) faulted: bool,
     stage: Stage,
 }
 
-/// The names of columns.
-fn names_of(alloc: Global, columns: &[Column]) -> Result<Vec<String>, AllocError>
-    ensures { IfOk result (λ names.
-        map string_bytes names.items ≡ map (λ column. string_bytes column.name) columns.now) }
+/// The conditions that steps begin with, and the steps behind them.
+fn split(alloc: Global, nodes: Vec<Node>) -> Result<(Vec<Box<TruthExpr>>, Vec<Node>), AllocError>
+    ensures { IfOk result (λ made. map node_view nodes.items
+        ≡ condition_nodes (map boxed_truth made.0.items) ++ map node_view made.1.items) }
 {
-    let mut names = Vec::with_capacity(alloc, columns.len())?;
-    for column in columns {
-        names.push(column.name.clone()?)?;
-    }
-    Ok(names)
-}
-
-/// What becomes of a row.
-#[derive(Clone, Copy)]
-enum Fate {
-    Kept,
-    Dropped,
-    Faulted,
-}
-
-/// What a step makes of a row.
-fn fate_at(alloc: Global, node: &Node, row: &[Value<'_>]) -> Result<Fate, AllocError>
-    requires { FitsOn (node_view node.now) (row_view row.now) }
-    ensures { IfOk result (λ fate. node_meaning (node_view node.now) (row_view row.now ∷ [])
-        ≡ fate_rows fate (row_view row.now)) }
-{
-    match node {
-        Node::Filter(condition) => match eval_truth(alloc, condition, row) {
-            Ok(Truth::True) => Ok(Fate::Kept),
-            Ok(Truth::False | Truth::Null) => Ok(Fate::Dropped),
-            Err(EvalFault::DivisionByZero) => Ok(Fate::Faulted),
-            Err(EvalFault::NoMemory) => Err(AllocError),
-        },
-    }
-}
-
-/// What the steps in turn make of a row.
-fn fate_of(alloc: Global, nodes: &[Node], row: &[Value<'_>]) -> Result<Fate, AllocError>
-    requires { AllByRecursion (λ node. FitsOn (node_view node) (row_view row.now)) nodes.now }
-    ensures { IfOk result (λ fate. nodes_meaning (map node_view nodes.now) (row_view row.now ∷ [])
-        ≡ fate_rows fate (row_view row.now)) }
-{
+    let mut conditions = Vec::new(alloc);
+    let mut steps = Vec::new(alloc);
     for node in nodes {
-        match fate_at(alloc, node, row)? {
-            Fate::Kept => {}
-            Fate::Dropped => return Ok(Fate::Dropped),
-            Fate::Faulted => return Ok(Fate::Faulted),
+        match node {
+            Node::Filter(condition) if steps.is_empty() => conditions.push(condition)?,
+            node => steps.push(node)?,
         }
     }
-    Ok(Fate::Kept)
-}
-
-/// How far a run has come that answered this.
-fn stage_after(answer: &Result<Step, ExecFault>) -> Stage
-    ensures { result ≡ stage_of answer.now }
-{
-    match answer {
-        Ok(Step::More) => Stage::Reading,
-        Ok(Step::Done) => Stage::Ended,
-        Err(_) => Stage::Refused,
-    }
+    Ok((conditions, steps))
 }
 
 impl Run {
-    /// Takes in a row.
-    fn take_row(&mut self, alloc: Global, values: &[Value<'_>]) -> Result<(), AllocError>
-        requires aligned { AreAligned self.old.kept }
-        requires suited { IsSuited self.old (row_view values.now) }
-        ensures { OnOk result (HasTaken self.old self.new (row_view values.now ∷ [])) }
-    {
-        match fate_of(alloc, &self.plan.nodes, values)? {
-            Fate::Kept => self.kept.push(values)?,
-            Fate::Dropped => {}
-            Fate::Faulted => self.faulted = true,
-        }
-        Ok(())
-    }
-
-    /// Takes in rows.
-    fn take_rows(&mut self, alloc: Global, rows: RowCursor<'_>) -> Result<(), AllocError>
-        requires aligned { AreAligned self.old.kept }
-        requires suited { All (IsSuited self.old) rows }
-        ensures { OnOk result (HasTaken self.old self.new rows.entry) }
-    {
-        true_rows_pass();
-        let mut rows = rows;
-        while let Some(values) = rows.next_row(alloc)? {
-            self.take_row(alloc, &values)?;
-        }
-        Ok(())
-    }
-
-    /// Takes in the rows of the next block.
-    fn take_block(&mut self, alloc: Global, block: Block<'_>) -> Result<(), AllocError>
-        requires aligned { AreAligned self.old.kept }
-        requires kinds { kinds self.old.kept ≡ kinds_of block.schema.columns }
-        requires fits { IsFit (inputs_of block.schema) (plan_view self.old.plan) }
-        ensures { OnOk result (HasTaken self.old self.new block.entry.rows) }
-    {
-        block.values_fit();
-        tables_are_inputs();
-        match passing_rows(alloc, &self.plan.nodes, &block, &mut self.lanes) {
-            Ok(numbers) => self.kept.take(alloc, &block, &numbers),
-            Err(_) => self.take_rows(alloc, block.cursor()),
-        }
-    }
-
-    /// Goes on behind a block that was taken in, or none.
-    fn go_on(&self) -> Result<Step, ExecFault>
-        ensures { result ≡ goes_on self.now }
+    /// What the steps make of the rows that passed the conditions, once every block was handed in. A division by zero, of a condition too, is
+    /// told here.
+    fn go_on(&mut self, alloc: Global) -> Result<Option<Rows>, ExecFault>
+        requires { self.old.blocks ≤ self.old.handed → IsReady self.old }
+        ensures { GoesOn self.old self.new result }
     {
         if self.handed < self.blocks {
-            Ok(Step::More)
-        } else if self.faulted {
-            Err(ExecFault::DivisionByZero)
-        } else {
-            Ok(Step::Done)
+            return Ok(None);
         }
+        if self.faulted {
+            return Err(ExecFault::DivisionByZero);
+        }
+        let names = mem::replace(&mut self.names, Vec::new(alloc));
+        let kept = mem::replace(&mut self.kept, Columns::none(alloc));
+        let underway = Underway::whole(alloc, names, kept, None)?;
+        let made = apply_all(alloc, &self.steps, underway)?;
+        Ok(Some(made.into_rows(alloc)?))
     }
 
     /// Takes in the block, if one is needed, and goes on.
-    fn step(&mut self, alloc: Global, block: Option<Block<'_>>) -> Result<Step, ExecFault>
+    fn step(&mut self, alloc: Global, block: Option<Block<'_>>) -> Result<Option<Rows>, ExecFault>
         requires { IsAwaited self.old block }
         ensures steps { (plan : PlanOf) (table : TableOf) (handed : ℕ) → StandsFor self.old plan table handed
             → block.entry ≡ handed_block table handed → StepsTo plan table handed self.new result }
         ensures not_failed { ¬ (IsErrOf result Failed) }
     {
         true_rows_pass();
+        nodes_in_turn();
         if let Some(block) = block {
+            block.values_fit();
             self.take_block(alloc, block)?;
             self.handed += 1;
         }
-        self.go_on()
+        self.go_on(alloc)
     }
 
     /// A run of the plan on a table of that schema with those summaries, one for each block.
@@ -203,16 +125,19 @@ impl Run {
         summaries: &[Summary],
         plan: Plan,
     ) -> Result<Run, ExecFault>
-        requires { IsFit (inputs_of (schema_view schema.now)) (plan_view plan) }
+        requires { IsFitFor (schema_view schema.now) (plan_view plan) }
         ensures stands { IfOk result (λ run. (table : TableOf) → table.schema ≡ schema_view schema.now
-            → AreSummariesOf table summaries.now → StandsFor run (plan_view plan) table 0) }
+            → HasTableRows table → AreSummariesOf table summaries.now
+            → StandsFor run (plan_view plan) table 0) }
         ensures refused { IfErr result (λ fault. fault ≡ NoMemory) }
     {
+        let (conditions, steps) = split(alloc, plan.nodes)?;
         let names = names_of(alloc, schema.columns.as_slice())?;
         let lanes = Lanes::new(alloc, schema.columns.len())?;
-        let kept = Kept::new(alloc, schema.columns.as_slice())?;
+        let kept = Columns::new(alloc, schema.columns.as_slice())?;
         Ok(Run {
-            plan,
+            conditions,
+            steps,
             blocks: summaries.len(),
             handed: 0,
             names,
@@ -230,9 +155,9 @@ impl Run {
         ensures done { IsDone self.now → result ≡ None }
         ensures failed { HasFailed self.now → result ≡ None }
     {
-        match self.stage {
+        match &self.stage {
             Stage::Reading if self.handed < self.blocks => Some(self.handed),
-            Stage::Reading | Stage::Ended | Stage::Refused => None,
+            Stage::Reading | Stage::Ended(_) | Stage::Refused => None,
         }
     }
 
@@ -248,13 +173,20 @@ impl Run {
         ensures failed { IsErrOf result Failed ↔ HasFailed self.old }
         ensures refused { OnErr result (HasFailed self.new) }
     {
-        match self.stage {
-            Stage::Refused => Err(ExecFault::Failed),
-            Stage::Ended => Ok(Step::Done),
-            Stage::Reading => {
-                let answer = self.step(alloc, block);
-                self.stage = stage_after(&answer);
-                answer
+        match &self.stage {
+            Stage::Refused => return Err(ExecFault::Failed),
+            Stage::Ended(_) => return Ok(Step::Done),
+            Stage::Reading => {}
+        }
+        match self.step(alloc, block) {
+            Ok(None) => Ok(Step::More),
+            Ok(Some(rows)) => {
+                self.stage = Stage::Ended(rows);
+                Ok(Step::Done)
+            }
+            Err(fault) => {
+                self.stage = Stage::Refused;
+                Err(fault)
             }
         }
     }
@@ -264,11 +196,10 @@ impl Run {
         requires { IsDone self }
         ensures { (rows : RowsOf) → Gives self rows → result ≡ rows }
     {
-        let Run { names, kept, .. } = self;
-        Rows {
-            names,
-            kept,
-            count: None,
+        let Run { stage, .. } = self;
+        match stage {
+            Stage::Ended(rows) => rows,
+            Stage::Reading | Stage::Refused => unreachable!(),
         }
     }
 }

@@ -78,7 +78,7 @@ none_if : {X : Type 0} (b : Bool) (x : X) → cond b None (Some x) ≡ None → 
 none_if true x e = refl
 none_if false x e = absurd (false≢true (ap is_none e))
 
-some_if : {X : Type 0} (b : Bool) (x y : X) → cond b None (Some x) ≡ Some y → x ≡ y
+pub some_if : {X : Type 0} (b : Bool) (x y : X) → cond b None (Some x) ≡ Some y → x ≡ y
 some_if true x y e = absurd (false≢true (sym (ap is_none e)))
 some_if false x y e = cc
 

@@ -1,6 +1,12 @@
 pub mod FilterLemmas
 pub mod PlanLemmas
+pub mod MeaningLemmas
 pub mod SortLemmas
 pub mod OrderLemmas
 pub mod GroupLemmas
 pub mod ResultLemmas
+pub mod ValueLemmas
+pub mod TypingLemmas
+pub mod AggregateLemmas
+pub mod StepLemmas
+pub mod QueryLemmas

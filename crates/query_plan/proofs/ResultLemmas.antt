@@ -1,53 +1,37 @@
 -- The columns of a result of `$apply` are an input.
-use Rattle.std.proofs.Common.{◌≡◌, inl, inr, ℕ, zero, suc, ◌*◌, ◌≤◌, ◌||◌, Option, Some, None, Result, Ok, Err, List, [], ◌∷◌, ◌++◌, map, subst, arith}
-use Rattle.std.specs.Prelude.{nat_le, slice_get}
+use Rattle.std.proofs.Common.{◌≡◌, inl, inr, ℕ, zero, suc, ◌*◌, ◌≤◌, ◌||◌, Option, Some, None, Ok, List, [], ◌∷◌, ◌++◌, map, subst, arith}
+use Rattle.std.specs.Prelude.{slice_get}
 use Rattle.std.specs.List.{cons_option}
-use Rattle.std.proofs.lemmas.Bool.{cases_Bool, leb-true}
+use Rattle.std.proofs.lemmas.Bool.{cases_Bool}
 use Rattle.odata_parse.specs.declared.tree.AggregationMethod.{AggregationMethod}
 use Rattle.odata_parse.specs.declared.tree.AggregationMethod.TheVariants as method
 use Rattle.odata_parse.specs.Tree.{AggregateItemOf, aggregated, counted, TransformationOf, filter_by, aggregate, group_by}
-use Rattle.odata_types.specs.declared.fault.TypeFault.{TypeFault}
 use Rattle.odata_types.specs.declared.types.ColumnType.{ColumnType}
 use Rattle.odata_types.specs.declared.types.ColumnType.TheVariants as column
 use Rattle.odata_types.specs.declared.types.TheConstants.{MOST_SIZE}
 use Rattle.odata_types.specs.Columns.{InputOf}
 use Rattle.odata_types.specs.Result.{◌>>=◌}
 use Rattle.odata_types.specs.TypedTree.{TruthExprOf}
-use Rattle.odata_types.specs.Typing.{filter_typing, place_of, within}
+use Rattle.odata_types.specs.Typing.{filter_typing, place_of}
 use Rattle.odata_query.specs.declared.aggregate.Aggregate.{Aggregate}
 use Rattle.odata_query.specs.declared.aggregate.TheConstants.{COUNT_SIZE, MOST_ROWS}
 use Rattle.odata_query.specs.Aggregate.{ItemOf, TypedTransformationOf, filter_rows, aggregate_rows, group_rows}
 use Rattle.odata_query.specs.Apply.{apply_typing, columns_at, computed_typing, free_typing, grouped_places, has_alias, item_column, item_typing, items_typing, method_at, method_typing, named_of, optional_items, sum_typing, transformation_typing}
 use Rattle.odata_query.specs.Selection.{has_name}
 use Rattle.row_eval.specs.Input.{IsBounded, IsInput}
-
--- what holds of a value that is told
-abbrev Told : {X : Type 0} → (X → Type 0) → Result X TypeFault → Type 0
-Told P (Ok x) = P x
-Told P (Err e) = Unit {0}
-
-told_then : {X Y : Type 0} (P : X → Type 0) (Q : Y → Type 0) (r : Result X TypeFault) (f : X → Result Y TypeFault) → Told P r → ((x : X) → P x → Told Q (f x)) → Told Q (r >>= f)
-told_then P Q (Ok x) f h k = k x h
-told_then P Q (Err e) f h k = tt
-
-told_any : {X : Type 0} (r : Result X TypeFault) → Told (λ _. Unit {0}) r
-told_any (Ok x) = tt
-told_any (Err e) = tt
+use Rattle.query_plan.proofs.TypingLemmas.{Told, told_any, told_then, told_within}
 
 -- ---- items
 
 abbrev IsBoundedPair : Aggregate × ColumnType → Type 0
 IsBoundedPair made = IsBounded made.1
 
-told_within : (size : ℕ) (made : Aggregate × ColumnType) → (size ≤ MOST_SIZE → IsBounded made.1) → Told IsBoundedPair (within size made)
-told_within size made h = elim (cases_Bool (nat_le size MOST_SIZE)) [ inl e ↦ rw e (h (leb-true size MOST_SIZE e)) | inr e ↦ rw e tt ]
-
 sum_bounded : (place : ℕ) (type : ColumnType) → Told IsBoundedPair (sum_typing place type)
-sum_bounded place (column.Integer b) = told_within (b * MOST_ROWS) _ (λ h. h)
+sum_bounded place (column.Integer b) = told_within IsBoundedPair (b * MOST_ROWS) _ (λ h. h)
 sum_bounded place column.Text = tt
 sum_bounded place column.Boolean = tt
 sum_bounded place column.Date = tt
-sum_bounded place (column.Decimal b) = told_within (b * MOST_ROWS) _ (λ h. h)
+sum_bounded place (column.Decimal b) = told_within IsBoundedPair (b * MOST_ROWS) _ (λ h. h)
 
 count_bounded : COUNT_SIZE ≤ MOST_SIZE
 count_bounded = omega arith
@@ -109,14 +93,14 @@ both_inputs : (cs ds : List InputOf) → IsInput cs → IsInput ds → IsInput (
 both_inputs [] ds h k = k
 both_inputs (c ∷ cs) ds h k = (h.0, both_inputs cs ds h.1 k)
 
-abbrev GivesInput : TypedTransformationOf × List InputOf → Type 0
+abbrev pub GivesInput : TypedTransformationOf × List InputOf → Type 0
 GivesInput made = IsInput made.1
 
 optional_bounded : (inputs : List InputOf) (items : Option (List AggregateItemOf)) → IsInput inputs → Told AreInput (optional_items inputs items)
 optional_bounded inputs None h = tt
 optional_bounded inputs (Some items) h = items_bounded inputs [] items h
 
-transformation_input : (inputs : List InputOf) (t : TransformationOf) → IsInput inputs → Told GivesInput (transformation_typing inputs t)
+pub transformation_input : (inputs : List InputOf) (t : TransformationOf) → IsInput inputs → Told GivesInput (transformation_typing inputs t)
 transformation_input inputs (filter_by e) h =
     told_then (λ (t : TruthExprOf). Unit {0}) GivesInput (filter_typing inputs e) (λ t. Ok (filter_rows t, inputs)) (told_any (filter_typing inputs e)) (λ t k. h)
 transformation_input inputs (aggregate items) h =
@@ -127,10 +111,10 @@ transformation_input inputs (group_by names items) h =
     (λ places k. told_then AreInput GivesInput (optional_items inputs items) (λ xs. Ok (group_rows places (map named_of xs), columns_at inputs places ++ map item_column xs))
     (optional_bounded inputs items h) (λ xs l. both_inputs (columns_at inputs places) (map item_column xs) (columns_bounded inputs places h) l))
 
-abbrev GivesInputs : List TypedTransformationOf × List InputOf → Type 0
+abbrev pub GivesInputs : List TypedTransformationOf × List InputOf → Type 0
 GivesInputs made = IsInput made.1
 
-apply_input : (ts : List TransformationOf) (inputs : List InputOf) → IsInput inputs → Told GivesInputs (apply_typing inputs ts)
+pub apply_input : (ts : List TransformationOf) (inputs : List InputOf) → IsInput inputs → Told GivesInputs (apply_typing inputs ts)
 apply_input [] inputs h = h
 apply_input (t ∷ ts) inputs h =
     told_then GivesInput GivesInputs (transformation_typing inputs t) (λ x. apply_typing x.1 ts >>= λ xs. Ok (x.0 ∷ xs.0, xs.1)) (transformation_input inputs t h)

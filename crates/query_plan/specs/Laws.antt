@@ -3,18 +3,22 @@ use Rattle.std.specs.Prelude.{Ok, ◌≡◌, ℕ, ◌↔◌, ◌++◌, List, [],
 use Rattle.std.specs.List.{Any, Contains, IsDistinct}
 use Rattle.std.specs.List.Sorted.{IsPermutation, IsSorted, IsStable}
 use Rattle.cell_types.specs.Value.{CellValue}
+use Rattle.csvw_meta.specs.Schema.{SchemaOf}
 use Rattle.odata_parse.specs.Tree.{TransformationOf}
 use Rattle.odata_types.specs.Columns.{InputOf}
 use Rattle.odata_types.specs.TypedTree.{TruthExprOf}
 use Rattle.row_eval.specs.declared.truth.Truth.TheVariants.{True}
 use Rattle.odata_query.specs.Aggregate.{TypedTransformationOf}
+use Rattle.odata_query.specs.Query.{TypedOf}
 use Rattle.odata_query.specs.Apply.{apply_typing}
 use Rattle.row_eval.specs.Input.{IsInput}
 use Rattle.row_eval.specs.Outcome.{both, outcome, truth_outcome}
-use Rattle.query_plan.specs.Apply.{group_values, rows_of_group, same_values, values_at}
+use Rattle.query_plan.specs.Apply.{applied, group_values, rows_of_group, same_values, values_at}
 use Rattle.query_plan.specs.Filter.{passing}
 use Rattle.query_plan.specs.Order.{Item, ordered, rows_cmp, sorted}
-use Rattle.query_plan.specs.Plan.{NodeOf, nodes_meaning}
+use Rattle.query_plan.specs.Fitting.{AreRowsOf, IsFitFor, IsTypedFor, NodesFit}
+use Rattle.query_plan.specs.Meaning.{ResultOf}
+use Rattle.query_plan.specs.Plan.{NodeOf, naive_plan, nodes_result}
 
 -- A filter has no rows to give just where it divides by zero on some row. Else a row is kept just where it is one of the rows and its outcome is
 -- true. What is kept of rows and of rows behind them is what is kept of the first, and then what is kept of the others: so the rows that are
@@ -26,10 +30,14 @@ pub record TrueRowsPass : Type 0 where
   pub one : (e : TruthExprOf) (row : List CellValue) → truth_outcome e row ≡ Some True → passing e (row ∷ []) ≡ Some (row ∷ [])
   pub parts : (e : TruthExprOf) (front back : List (List CellValue)) → passing e (front ++ back) ≡ both (λ xs ys. xs ++ ys) (passing e front) (passing e back)
 
--- Steps above others are given what those below give, and none below is none above.
+-- Steps above others are given what those below give, and none below is none above. Steps fit where those below do, and those above on what is given them.
 pub record NodesInTurn : Type 0 where
-  pub empty : (rows : List (List CellValue)) → nodes_meaning [] rows ≡ Some rows
-  pub turn : (below above : List NodeOf) (rows : List (List CellValue)) → nodes_meaning (below ++ above) rows ≡ option_and_then (nodes_meaning above) (nodes_meaning below rows)
+  pub empty : (r : ResultOf) → nodes_result [] r ≡ Some r
+  pub turn : (below above : List NodeOf) (r : ResultOf) → nodes_result (below ++ above) r ≡ option_and_then (nodes_result above) (nodes_result below r)
+  pub below_fit : (below above : List NodeOf) (r : ResultOf) → NodesFit (below ++ above) r → NodesFit below r
+  pub above_fit : (below above : List NodeOf) (r made : ResultOf) → NodesFit (below ++ above) r → nodes_result below r ≡ Some made → NodesFit above made
+  pub both_fit : (below above : List NodeOf) (r : ResultOf) → NodesFit below r
+      → ((made : ResultOf) → nodes_result below r ≡ Some made → NodesFit above made) → NodesFit (below ++ above) r
 
 -- An order faults just where an item divides by zero on some row. Else it is the rows, none less than the one before it by the items in turn, and rows that
 -- tie as they stood.
@@ -52,3 +60,12 @@ pub record RowsAreInGroups : Type 0 where
 abbrev pub ResultsAreInputs : Type 0
 ResultsAreInputs = (inputs outputs : List InputOf) (ts : List TransformationOf) (made : List TypedTransformationOf) → IsInput inputs
     → apply_typing inputs ts ≡ Ok (made, outputs) → IsInput outputs
+
+-- Of the rows of an input, no more than 2 to the 30, `$apply` gives no more than that, and each is a row of the columns that it has by its types.
+abbrev pub ResultsAreRows : Type 0
+ResultsAreRows = (inputs outputs : List InputOf) (ts : List TransformationOf) (made : List TypedTransformationOf) (rows given : List (List CellValue))
+    → apply_typing inputs ts ≡ Ok (made, outputs) → AreRowsOf inputs rows → applied made rows ≡ Some given → AreRowsOf outputs given
+
+-- A query that was typed for a table has a plan of which each step fits the rows that come to it.
+abbrev pub QueriesFit : Type 0
+QueriesFit = (schema : SchemaOf) (q : TypedOf) → IsTypedFor schema q → IsFitFor schema (naive_plan q)

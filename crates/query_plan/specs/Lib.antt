@@ -9,5 +9,6 @@ pub mod Order
 pub mod Apply
 pub mod Meaning
 pub mod Plan
+pub mod Fitting
 pub mod Worked
 pub mod Laws

@@ -6,7 +6,7 @@ mod law;
 mod plan;
 
 pub use law::{
-    nodes_in_turn, results_are_inputs, rows_are_in_groups, rows_are_in_order, true_rows_pass,
-    worked_queries,
+    nodes_in_turn, queries_fit, results_are_inputs, results_are_rows, rows_are_in_groups,
+    rows_are_in_order, true_rows_pass, worked_queries,
 };
-pub use plan::{Node, Plan, naive};
+pub use plan::{Node, Plan, Slice, naive};

@@ -1,5 +1,5 @@
--- The bodies of replies (OData 4.01 JSON Format, sections 5, 13 and 21.1), with no space between tokens.
-use Rattle.std.specs.Prelude.{List, ℕ, ◌++◌, map, codes}
+-- The bodies of replies (OData 4.01 JSON Format, sections 5, 6, 13 and 21.1), with no space between tokens.
+use Rattle.std.specs.Prelude.{List, [], ℕ, ◌++◌, map, codes, get_or}
 use Rattle.std.specs.List.{join_with_byte}
 use Rattle.table_store.specs.Table.{TableOf}
 use Rattle.query_exec.specs.Rows.{RowsOf}
@@ -12,6 +12,10 @@ abbrev pub rows_text : RowsOf → List ℕ
 rows_text rows =
     codes "{" ++ json_count rows.count ++ json_text (codes "value") ++ codes ":["
     ++ join_with_byte 44 (map (json_row rows.names) rows.rows) ++ codes "]}"
+
+-- one row: its object alone
+abbrev pub row_text : RowsOf → List ℕ
+row_text rows = json_row rows.names (get_or rows.rows 0 [])
 
 -- a table is an entity set of that name
 abbrev pub named_text : List ℕ → List ℕ

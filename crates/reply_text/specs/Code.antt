@@ -1,7 +1,7 @@
 -- The codes of errors: each has a status (RFC 9110, section 15), a name and a message.
 use Rattle.std.specs.Prelude.{ℕ, List, codes}
 use Rattle.reply_text.specs.declared.code.Code.{Code}
-use Rattle.reply_text.specs.declared.code.Code.TheVariants.{BadRequest, BadHost, BadLength, NotServed, MethodNotAllowed, BadTarget, BadEscape, BadUtf8, UnknownOption, OptionTwice, NotFound, UnknownSet, OptionNotAllowed, NotAcceptable, BadToken, TooMany, TooDeep, Syntax, UnknownName, Mismatch, TooLarge, DivisionByZero}
+use Rattle.reply_text.specs.declared.code.Code.TheVariants.{BadRequest, BadHost, BadLength, NotServed, MethodNotAllowed, BadTarget, BadEscape, BadUtf8, UnknownOption, OptionTwice, NotFound, UnknownSet, OptionNotAllowed, NotAcceptable, BadToken, TooMany, TooDeep, Syntax, UnknownName, Mismatch, TooLarge, AliasTaken, BadKey, NoSuchRow, DivisionByZero}
 
 abbrev pub status_of : Code → ℕ
 status_of BadRequest = 400
@@ -25,6 +25,9 @@ status_of Syntax = 400
 status_of UnknownName = 400
 status_of Mismatch = 400
 status_of TooLarge = 400
+status_of AliasTaken = 400
+status_of BadKey = 400
+status_of NoSuchRow = 404
 status_of DivisionByZero = 400
 
 abbrev pub code_name : Code → List ℕ
@@ -49,6 +52,9 @@ code_name Syntax = codes "Syntax"
 code_name UnknownName = codes "UnknownName"
 code_name Mismatch = codes "Mismatch"
 code_name TooLarge = codes "TooLarge"
+code_name AliasTaken = codes "AliasTaken"
+code_name BadKey = codes "BadKey"
+code_name NoSuchRow = codes "NoSuchRow"
 code_name DivisionByZero = codes "DivisionByZero"
 
 abbrev pub message_of : Code → List ℕ
@@ -73,4 +79,7 @@ message_of Syntax = codes "a syntax fault"
 message_of UnknownName = codes "no such column"
 message_of Mismatch = codes "the types do not fit"
 message_of TooLarge = codes "a number may grow too large"
+message_of AliasTaken = codes "the alias is taken"
+message_of BadKey = codes "the key does not fit the table"
+message_of NoSuchRow = codes "no row has this key"
 message_of DivisionByZero = codes "division by zero"

@@ -1,10 +1,13 @@
 //! The bodies of replies.
-ghost use Rattle.std.specs.Prelude.{◌≡◌, ◌++◌, OnOk, IfOk, map};
+ghost use Rattle.std.specs.Prelude.{◌≡◌, ◌++◌, OnOk, IfOk, length, map};
+ghost use Rattle.std.specs.Fmt.{decimal};
 ghost use Rattle.std.specs.List.{join_with_byte};
-ghost use Rattle.reply_text.specs.Body.{entry_text, error_text, named_text, rows_text, service_text};
+ghost use Rattle.reply_text.specs.Body.{entry_text, error_text, named_text, row_text, rows_text, service_text};
 
 use crate::code::Code;
-use crate::json::{push_comma, push_count, push_rows, push_text, push_text_member};
+use crate::json::{
+    push_comma, push_count, push_number, push_row, push_rows, push_text, push_text_member,
+};
 use query_exec::Rows;
 use std::alloc::{AllocError, Global};
 use table_store::{Catalog, Table};
@@ -20,6 +23,25 @@ pub fn json_body(alloc: Global, rows: &Rows) -> Result<Vec<u8>, AllocError>
     body.extend_from_slice(b":[")?;
     push_rows(&mut body, rows)?;
     body.extend_from_slice(b"]}")?;
+    Ok(body)
+}
+
+/// The one row as a JSON object (OData 4.01 JSON Format, section 6).
+pub fn row_body(alloc: Global, rows: &Rows) -> Result<Vec<u8>, AllocError>
+    requires { length rows.now.rows ≡ 1 }
+    ensures { IfOk result (λ body. body.items ≡ row_text rows.now) }
+{
+    let mut body = Vec::new(alloc);
+    push_row(&mut body, rows, 0)?;
+    Ok(body)
+}
+
+/// A number of rows as plain text, in decimal digits (OData 4.01 URL Conventions, section 4.8).
+pub fn number_body(alloc: Global, number: u64) -> Result<Vec<u8>, AllocError>
+    ensures { IfOk result (λ body. body.items ≡ decimal number) }
+{
+    let mut body = Vec::new(alloc);
+    push_number(&mut body, number)?;
     Ok(body)
 }
 

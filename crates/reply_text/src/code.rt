@@ -47,6 +47,12 @@ pub enum Code {
     Mismatch,
     /// A number may grow beyond what is computed.
     TooLarge,
+    /// The alias of an aggregate is that of another column.
+    AliasTaken,
+    /// The key is none of the table.
+    BadKey,
+    /// No row has the key.
+    NoSuchRow,
     /// A row divides by zero.
     DivisionByZero,
 }
@@ -62,8 +68,8 @@ impl Code {
             Code::UnknownOption | Code::OptionTwice | Code::OptionNotAllowed => 400,
             Code::BadToken | Code::TooMany | Code::TooDeep | Code::Syntax => 400,
             Code::UnknownName | Code::Mismatch | Code::TooLarge => 400,
-            Code::DivisionByZero => 400,
-            Code::NotFound | Code::UnknownSet => 404,
+            Code::AliasTaken | Code::BadKey | Code::DivisionByZero => 400,
+            Code::NotFound | Code::UnknownSet | Code::NoSuchRow => 404,
             Code::MethodNotAllowed => 405,
             Code::NotAcceptable => 406,
             Code::NotServed => 501,
@@ -96,6 +102,9 @@ impl Code {
             Code::UnknownName => "UnknownName",
             Code::Mismatch => "Mismatch",
             Code::TooLarge => "TooLarge",
+            Code::AliasTaken => "AliasTaken",
+            Code::BadKey => "BadKey",
+            Code::NoSuchRow => "NoSuchRow",
             Code::DivisionByZero => "DivisionByZero",
         }
     }
@@ -126,6 +135,9 @@ impl Code {
             Code::UnknownName => "no such column",
             Code::Mismatch => "the types do not fit",
             Code::TooLarge => "a number may grow too large",
+            Code::AliasTaken => "the alias is taken",
+            Code::BadKey => "the key does not fit the table",
+            Code::NoSuchRow => "no row has this key",
             Code::DivisionByZero => "division by zero",
         }
     }

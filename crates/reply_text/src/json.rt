@@ -152,7 +152,7 @@ fn push_members(out: &mut Vec<u8>, rows: &Rows, row: usize) -> Result<(), AllocE
 }
 
 /// Appends the row with a number.
-fn push_row(out: &mut Vec<u8>, rows: &Rows, row: usize) -> Result<(), AllocError>
+pub fn push_row(out: &mut Vec<u8>, rows: &Rows, row: usize) -> Result<(), AllocError>
     requires { row < length rows.now.rows }
     ensures { OnOk result (out.new.items ≡ out.old.items
         ++ json_row rows.now.names (get_or rows.now.rows row [])) }

@@ -10,7 +10,7 @@ mod json;
 mod laws;
 mod value;
 
-pub use body::{error_body, json_body, service_body};
+pub use body::{error_body, json_body, number_body, row_body, service_body};
 pub use code::Code;
 pub use csv::csv_body;
 pub use laws::{csv_reads_back, tables_fit_csv};

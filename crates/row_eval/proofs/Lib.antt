@@ -7,3 +7,4 @@ mod OperatorLemmas
 mod BoundLemmas
 mod RowLemmas
 mod QueryLemmas
+mod OptionLemmas

@@ -33,7 +33,7 @@ items_size (more_items v s rest) = let h = literal_size v in let i = items_size 
 list_size : {sign : TokenKind} {before after : List TokenOf} {vs : List LiteralOf} → Enclosed ReadsLiteral sign before vs after → length vs + length after ≤ length before
 list_size (enclosed o items c) = let h = items_size items in omega (arith, h)
 
-tree_size : {l : ℕ} {before after : List TokenOf} {e : ExprOf} → Reads l before e after → nodes e + length after ≤ length before
+pub tree_size : {l : ℕ} {before after : List TokenOf} {e : ExprOf} → Reads l before e after → nodes e + length after ≤ length before
 tree_size (read_group o r c) = let h = tree_size r in omega (arith, h)
 tree_size (read_literal v) = omega arith
 tree_size (read_name n) = omega arith
@@ -50,7 +50,7 @@ tree_size (read_tighter r) = tree_size r
 abbrev IsShortToken : TokenOf → Type 0
 IsShortToken t = IsOfKind t.kind t.text × IsShort t.text
 
-abbrev AreShort : List TokenOf → Type 0
+abbrev pub AreShort : List TokenOf → Type 0
 AreShort [] = Unit {0}
 AreShort (t ∷ ts) = IsShortToken t × AreShort ts
 
@@ -105,7 +105,7 @@ items_short (more_items v c rest) s = items_short rest (literal_rest v s).1
 list_short : {sign : TokenKind} {before after : List TokenOf} {vs : List LiteralOf} → Enclosed ReadsLiteral sign before vs after → AreShort before → AreShort after
 list_short (enclosed o items c) s = (items_short items s.1).1
 
-tree_short : {l : ℕ} {before after : List TokenOf} {e : ExprOf} → Reads l before e after → AreShort before → HasShortTexts e × AreShort after
+pub tree_short : {l : ℕ} {before after : List TokenOf} {e : ExprOf} → Reads l before e after → AreShort before → HasShortTexts e × AreShort after
 tree_short (read_group o r c) s = let h = tree_short r s.1 in (h.0, h.1.1)
 tree_short (read_literal {t} {after} {v} is) s = (literal_short t.kind t.text v s.0.0 s.0.1 is, s.1)
 tree_short (read_name n) s = (tt, s.1)
@@ -126,11 +126,11 @@ token_len source token = let d = length-drop token.start source in let t = take_
     take_len (suc n) [] = omega arith
     take_len (suc n) (x ∷ xs) = let h = take_len n xs in omega (arith, h)
 
-tokens_short : (source : List ℕ) (tokens : List Token) → IsShort source → All (IsTokenAt source) tokens → AreShort (token_views source tokens)
+pub tokens_short : (source : List ℕ) (tokens : List Token) → IsShort source → All (IsTokenAt source) tokens → AreShort (token_views source tokens)
 tokens_short source [] s h = tt
 tokens_short source (t ∷ ts) s h = (((All-head (IsTokenAt source) t ts h).form, omega (arith, s, token_len source t)), tokens_short source ts s (All-tail (IsTokenAt source) t ts h))
 
-views_len : (source : List ℕ) (tokens : List Token) → length (token_views source tokens) ≡ length tokens
+pub views_len : (source : List ℕ) (tokens : List Token) → length (token_views source tokens) ≡ length tokens
 views_len source [] = refl
 views_len source (t ∷ ts) = ap suc (views_len source ts)
 

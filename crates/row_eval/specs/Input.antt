@@ -4,7 +4,7 @@ use Rattle.cell_types.specs.Value.{CellValue, null, integer, text, boolean, date
 use Rattle.cell_types.specs.Column.{ColumnOf}
 use Rattle.cell_types.specs.Laws.{IsOfColumn}
 use Rattle.odata_parse.specs.Tree as tree
-use Rattle.odata_parse.specs.Tree.{ExprOf, LiteralOf}
+use Rattle.odata_parse.specs.Tree.{ExprOf, LiteralOf, OrderItemOf, order_item, TransformationOf, filter_by}
 use Rattle.odata_types.specs.declared.types.ColumnType.{ColumnType}
 use Rattle.odata_types.specs.declared.types.ColumnType.TheVariants as column
 use Rattle.odata_types.specs.declared.types.TheConstants.{MOST_SIZE}
@@ -83,3 +83,12 @@ HasShortTexts (tree.binary_call f a b) = HasShortTexts a × HasShortTexts b
 pub record IsQueried (e : ExprOf) : Type 0 where
   pub few : nodes e ≤ 1_024
   pub short : HasShortTexts e
+
+-- the expression of an item of `$orderby`
+abbrev pub IsQueriedItem : OrderItemOf → Type 0
+IsQueriedItem (order_item e descending) = IsQueried e
+
+-- the expression of a transformation of `$apply`, where it has one
+abbrev pub IsQueriedTransformation : TransformationOf → Type 0
+IsQueriedTransformation (filter_by e) = IsQueried e
+IsQueriedTransformation _ = Unit {0}

@@ -1,6 +1,6 @@
 //! The laws of outcomes: each function is a theorem, and does nothing.
 
-ghost use Rattle.row_eval.specs.Laws.{BoundsHold, FaultsAreForeseen, FiltersAreQueried, Sizes, TablesAreInputs};
+ghost use Rattle.row_eval.specs.Laws.{BoundsHold, ExpressionsAreQueried, FaultsAreForeseen, FiltersAreQueried, Sizes, TablesAreInputs};
 
 /// An expression that cannot divide by zero has a value on each row.
 pub fn faults_are_foreseen()
@@ -16,6 +16,11 @@ pub fn bounds_hold()
 /// A filter of the tokens of a source of at most 2 to the 30 bytes has at most 1,024 nodes and no longer text.
 pub fn filters_are_queried()
     ensures { FiltersAreQueried }
+{}
+
+/// Nor have the expressions of `$orderby` and of `$apply`.
+pub fn expressions_are_queried()
+    ensures { ExpressionsAreQueried }
 {}
 
 /// The columns of a table are an input, and its rows are rows of that input.

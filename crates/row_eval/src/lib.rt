@@ -20,7 +20,10 @@ pub use date::eval_date;
 pub use decimal::eval_decimal;
 pub use fault::EvalFault;
 pub use integer::eval_integer;
-pub use law::{bounds_hold, faults_are_foreseen, filters_are_queried, sizes, tables_are_inputs};
+pub use law::{
+    bounds_hold, expressions_are_queried, faults_are_foreseen, filters_are_queried, sizes,
+    tables_are_inputs,
+};
 pub use text::{eval_text, has_part, index_in, text_passes};
 pub use truth::{Truth, greatest, least, opposite, truth_of};
 pub use typed::eval;

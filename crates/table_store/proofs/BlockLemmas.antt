@@ -8,7 +8,7 @@ use Rattle.cell_types.specs.Column.{ColumnOf}
 use Rattle.cell_types.specs.Value.{CellValue, null}
 use Rattle.table_store.specs.Table.{TableOf}
 use Rattle.table_store.specs.Block.{packed_cells, part}
-use Rattle.table_store.specs.TypedColumn.{typed_cells, AreTyped}
+use Rattle.typed_columns.specs.TypedColumn.{typed_cells, AreTyped}
 use Rattle.table_store.proofs.PlaceLemmas.{slice_get-take, slice_get-drop}
 
 -- the first of a list, as many as are asked for or as there are
@@ -65,6 +65,14 @@ packed_part table typed first n col are within =
 pub typed_is : {X : Type 0} (type : Option X) (kept cells : List CellValue) → option_map (λ t. kept) type ≡ Some cells → kept ≡ cells
 typed_is None kept cells e = cc
 typed_is (Some type) kept cells e = cc
+
+packed_of : (column : Option ColumnOf) (kept cells : List CellValue) → option_and_then (λ (c : ColumnOf). typed_cells c kept) column ≡ Some cells → kept ≡ cells
+packed_of None kept cells e = cc
+packed_of (Some column) kept cells e = typed_is (packed_type_of column.datatype) kept cells e
+
+-- the cells of a block that are kept are those of the column
+pub packed_is : (block : TableOf) (col : ℕ) (cells : List CellValue) → packed_cells block col ≡ Some cells → column_of block.rows col ≡ cells
+packed_is block col cells e = packed_of (slice_get block.schema.columns col) (column_of block.rows col) cells e
 
 -- a column that is kept has a cell for each row
 pub typed_length : (table : TableOf) (typed : List (Option (List CellValue))) (col : ℕ) (cells : List CellValue) → AreTyped table.schema.columns table.rows typed

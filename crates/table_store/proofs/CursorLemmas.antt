@@ -8,7 +8,7 @@ use Rattle.csv_index.specs.Index.{row_fields}
 use Rattle.cell_types.specs.declared.column.Column.{Column}
 use Rattle.cell_types.specs.Column.{ColumnOf, column_view}
 use Rattle.cell_types.specs.Value.{CellValue}
-use Rattle.table_store.specs.Values.{rows_in, values_in}
+use Rattle.typed_columns.specs.Values.{rows_in, values_in}
 use Rattle.table_store.proofs.PlaceLemmas.{drop-from_slice_get, row_fields-at}
 use Rattle.table_store.proofs.InsideLemmas.{row-wide}
 

@@ -1,11 +1,11 @@
--- The values of a file that is short, in columns whose defaults are, fit the columns.
-use Rattle.std.proofs.Common.{◌≡◌, ℕ, ◌+◌, ◌^◌, ◌≤◌, ◌==◌, Bool, true, false, cond, List, [], ◌∷◌, ◌++◌, length, length-append, map, Option, None, Some, option_to_list, Ok, Err, refl, ap, sym, subst, arith}
+-- The values of a file that is short, in columns whose defaults are, fit the columns, and its rows are no more than its bytes.
+use Rattle.std.proofs.Common.{◌≡◌, ℕ, ◌+◌, ◌^◌, ◌<◌, ◌≤◌, ◌==◌, Bool, true, false, cond, List, [], ◌∷◌, ◌++◌, length, length-append, map, Option, None, Some, IfSome, option_to_list, Ok, Err, refl, ap, sym, subst, arith}
 use Rattle.std.specs.List.{All, AllByRecursion, flat_map}
-use Rattle.std.proofs.lemmas.List.{length-drop}
+use Rattle.std.proofs.lemmas.List.{length-drop, length-map}
 use Rattle.std.proofs.lemmas.List.Elements.{All-cons, All-head, All-nil, All-tail}
 use Rattle.csv_grammar.specs.Bytes.{comma, double_quote}
 use Rattle.csv_grammar.specs.Files.{IsTable, mark_len}
-use Rattle.csv_grammar.specs.Records.{Field, Line, content, doubled, print_break, print_field, print_last, print_line, print_record, print_text, quoted, unquoted}
+use Rattle.csv_grammar.specs.Records.{Field, IsLast, Line, LineBreak, content, crlf, doubled, lf, print_break, print_field, print_last, print_line, print_record, print_text, quoted, unquoted}
 use Rattle.csv_index.specs.Raw.{RawField, field_of, raw_content}
 use Rattle.csv_index.specs.Index.{RawTable}
 use Rattle.cell_types.specs.declared.cell.CellFault.TheVariants.{Missing}
@@ -15,9 +15,12 @@ use Rattle.cell_types.specs.Datatype as datatype
 use Rattle.cell_types.specs.Datatype.{DatatypeOf}
 use Rattle.cell_types.specs.Laws.{IsOfColumn, IsOfDatatype, ValuesFitColumns}
 use Rattle.cell_types.specs.Value.{CellValue, boolean, date, decimal, integer, null, text}
-use Rattle.table_store.specs.Fits.{IsShortValue, IsTableRow}
+use Rattle.csvw_meta.specs.Laws.{HasShortDefaults}
+use Rattle.csvw_meta.specs.Schema.{SchemaOf}
+use Rattle.table_store.specs.Fits.{HasTableRows, IsShortValue, IsTableRow}
 use Rattle.table_store.specs.Loading.{IsTableAt}
-use Rattle.table_store.specs.Values.{AllHaveValues, HaveValues, rows_in, value_or_null, values_in}
+use Rattle.table_store.specs.Summaries.{table_at}
+use Rattle.typed_columns.specs.Values.{AllHaveValues, HaveValues, rows_in, value_or_null, values_in}
 
 -- ---- no field says more than its file has
 
@@ -83,6 +86,37 @@ table-within bytes header rows is =
     let all = all_both (length bytes) (map (λ (line : Line). line.fields) tree.lines) (option_to_list tree.last) front behind in
     (subst (AllByRecursion (AreWithin (length bytes))) (sym is.are.are) all).1
 
+-- ---- no file has more rows than bytes
+
+break-some : (end : LineBreak) → 0 < length (print_break end)
+break-some crlf = omega arith
+break-some lf = omega arith
+
+-- each line has its line break
+lines-count : (lines : List Line) → length lines ≤ length (flat_map print_line lines)
+lines-count [] = omega arith
+lines-count (line ∷ lines) =
+    let size = length-append (print_line line) (flat_map print_line lines) in
+    let front = length-append (print_record line.fields) (print_break line.end) in
+    omega (arith, size, front, break-some line.end, lines-count lines)
+
+-- a last record with no line break has a byte
+last-count : (last : Option (List Field)) → IfSome last IsLast → length (option_to_list last) ≤ length (print_last last)
+last-count None is = omega arith
+last-count (Some fields) is = omega (arith, is.1)
+
+-- the header is one more record than the rows
+table-count : (bytes : List ℕ) (header : List Field) (rows : List (List Field)) → IsTable bytes header rows → length rows < length bytes
+table-count bytes header rows is =
+    let tree = is.are.tree in
+    let fields_of : Line → List Field = λ line. line.fields in
+    let lines = flat_map print_line tree.lines in
+    let size = length-append lines (print_last tree.last) in
+    let whole : length (print_text tree) ≤ length bytes = omega (arith, ap length is.are.printed, length-drop (mark_len bytes) bytes) in
+    let records = length-append (map fields_of tree.lines) (option_to_list tree.last) in
+    let count = length-map tree.lines fields_of in
+    omega (arith, ap length is.are.are, whole, size, records, count, lines-count tree.lines, last-count tree.last is.are.valid.last)
+
 -- ---- no value says more than its field or the default
 
 text_of_text : (d : DatatypeOf) (t : List ℕ) → IsOfDatatype d (text t) → d ≡ datatype.text
@@ -141,8 +175,15 @@ rows-fit law columns (fields ∷ rows) wide read short defaults =
     (rows-fit law columns rows wide.1 read.1 short.1 defaults)
 
 -- the rows of a table whose file is short
-pub table-fits : ValuesFitColumns → (columns : List ColumnOf) (bytes : List ℕ) (file : RawTable) → length bytes ≤ 2 ^ 30 → All (λ (column : ColumnOf). length column.default ≤ 2 ^ 30) columns
-    → IsTableAt columns bytes file → All (IsTableRow columns) (rows_in columns file.rows)
-table-fits law columns bytes file size defaults at =
-    rows-fit law columns file.rows at.fits.rows at.values
-    (all_more (length bytes) (2 ^ 30) (map (map field_of) file.rows) size (table-within bytes (map field_of file.header) (map (map field_of) file.rows) at.is.is)) defaults
+pub table-fits : ValuesFitColumns → (schema : SchemaOf) (bytes : List ℕ) (file : RawTable) → length bytes ≤ 2 ^ 30 → HasShortDefaults schema
+    → IsTableAt schema.columns bytes file → HasTableRows (table_at schema file)
+table-fits law schema bytes file size defaults at =
+    let rows = map (map field_of) file.rows in
+    let within = table-within bytes (map field_of file.header) rows at.is.is in record {
+      each = rows-fit law schema.columns file.rows at.fits.rows at.values (all_more (length bytes) (2 ^ 30) rows size within) defaults;
+      count =
+          let count = table-count bytes (map field_of file.header) rows at.is.is in
+          let raw = length-map file.rows (map field_of) in
+          let values = length-map file.rows (values_in schema.columns) in
+          omega (arith, size, count, raw, values);
+    }

@@ -9,7 +9,7 @@ use Rattle.csv_index.specs.Raw.{RawField, raw_content}
 use Rattle.csv_index.specs.Index.{cell_at}
 use Rattle.cell_types.specs.Column.{ColumnOf}
 use Rattle.cell_types.specs.Cell.{value_of}
-use Rattle.table_store.specs.Values.{rows_in, value_or_null, value_in, values_in, AllHaveValues}
+use Rattle.typed_columns.specs.Values.{rows_in, value_or_null, value_in, values_in, AllHaveValues}
 use Rattle.table_store.proofs.RowLemmas.{slice_get-values_in, read_at, row_read}
 
 -- what follows from what is said of the value of an `Ok`

@@ -1,5 +1,4 @@
 pub mod PlaceLemmas
-pub mod TypedColumnLemmas
 pub mod ReaderLemmas
 pub mod RowLemmas
 pub mod FitLemmas
@@ -9,8 +8,6 @@ pub mod CursorLemmas
 pub mod BlockLemmas
 pub mod LoadingLemmas
 pub mod FileLemmas
-pub mod KeyLemmas
-pub mod KeysLemmas
 pub mod CatalogLemmas
 pub mod OneMeaning
 pub mod SomeMeaning

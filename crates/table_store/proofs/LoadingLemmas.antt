@@ -1,22 +1,24 @@
 -- What the steps of reading a file show of it, by its fields as they stand.
-use Rattle.std.proofs.Common.{◌≡◌, ℕ, List, [], ◌∷◌, length, map, Option, Some, None, IfSome, option_map, Result, Ok, Err, refl, ap, sym, ◌∙◌, ◌⊎◌, inl, inr}
+use Rattle.std.proofs.Common.{◌≡◌, ℕ, List, [], ◌∷◌, ◌++◌, length, map, Option, Some, None, IfSome, option_map, Result, Ok, Err, refl, ap, sym, ◌∙◌, ◌⊎◌, inl, inr}
 use Rattle.std.specs.List.{AllByRecursion}
 use Rattle.std.specs.Result.{result_err}
-use Rattle.std.proofs.lemmas.List.{length-map}
+use Rattle.std.proofs.lemmas.List.{length-map, map-append}
 use Rattle.csv_grammar.specs.Files.{HasWidth}
 use Rattle.csv_index.specs.Raw.{RawField, field_of}
 use Rattle.csv_index.specs.Index.{RawTable, IsRawTable}
 use Rattle.cell_types.specs.declared.cell.CellFault.{CellFault}
 use Rattle.cell_types.specs.declared.cell.CellFault.TheVariants.{NoMemory}
 use Rattle.cell_types.specs.Column.{ColumnOf}
+use Rattle.cell_types.specs.Value.{CellValue}
 use Rattle.csvw_meta.specs.Schema.{SchemaOf}
-use Rattle.table_store.specs.declared.keys.KeyFault.{KeyFault}
-use Rattle.table_store.specs.declared.keys.KeyFault.TheVariants.{Null, Twice}
+use Rattle.row_keys.specs.declared.keys.KeyFault.{KeyFault}
+use Rattle.row_keys.specs.declared.keys.KeyFault.TheVariants.{Null, Twice}
 use Rattle.table_store.specs.Table.{rows_from, HasCells, HasOtherHeader, HasBadCell}
 use Rattle.table_store.specs.Fault.{TableCause, file_missing, file_too_large, bad_text, bad_header, bad_cell, key_null, key_twice, cell_cause}
-use Rattle.table_store.specs.Values.{rows_in, FitsColumns}
-use Rattle.table_store.specs.Keys.{HasKeyFault, key_cause}
-use Rattle.table_store.specs.Loading.{mismatch_of, keys_at, bad_cell_of, IsTableAt, HasRowsCause, HasFileCause}
+use Rattle.typed_columns.specs.Values.{rows_in, FitsColumns}
+use Rattle.row_keys.specs.Key.{row_key, row_keys}
+use Rattle.row_keys.specs.Keys.{HasKeyFault}
+use Rattle.table_store.specs.Loading.{mismatch_of, key_cause, keys_at, bad_cell_of, IsTableAt, HasRowsCause, HasFileCause}
 use Rattle.table_store.proofs.RowLemmas.{rows_from-none}
 use Rattle.table_store.proofs.HeaderLemmas.{mismatch_from-length}
 
@@ -113,3 +115,11 @@ rows_cause schema bytes file (key_twice row) is e has = record {
   whole = has.1;
   first = has.2;
 }
+
+-- the last row counts by its key alone
+pub row_keys-last : (places : List ℕ) (rows : List (List CellValue)) (values row : List CellValue) → row_key places values ≡ row_key places row
+    → row_keys places (rows ++ values ∷ []) ≡ row_keys places (rows ++ row ∷ [])
+row_keys-last [] rows values row same = refl
+row_keys-last (place ∷ places) rows values row same =
+    map-append (row_key (place ∷ places)) rows (values ∷ []) ∙ ap (λ key. map (row_key (place ∷ places)) rows ++ key ∷ []) same
+    ∙ sym (map-append (row_key (place ∷ places)) rows (row ∷ []))

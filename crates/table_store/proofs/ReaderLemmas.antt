@@ -13,10 +13,10 @@ use Rattle.cell_types.specs.Column.{ColumnOf, column_view, takes_all_texts}
 use Rattle.cell_types.specs.Datatype.{DatatypeOf, is_text, integer, text, boolean, date, decimal}
 use Rattle.cell_types.specs.Value.{CellValue, null}
 use Rattle.csv_index.specs.Raw.{RawField}
-use Rattle.table_store.specs.ColumnReader.{ReaderOf, cells_read, read_on, reader_at, AreReadOn, HasReader, HaveRead, HaveReaders}
+use Rattle.typed_columns.specs.ColumnReader.{ReaderOf, cells_read, read_on, reader_at, AreReadOn, HasReader, HaveRead, HaveReaders}
 use Rattle.table_store.specs.Cursor.{HoldRow}
-use Rattle.table_store.specs.TypedColumn.{AreTyped}
-use Rattle.table_store.specs.Values.{rows_in, values_in}
+use Rattle.typed_columns.specs.TypedColumn.{AreTyped}
+use Rattle.typed_columns.specs.Values.{rows_in, values_in}
 
 pub column_of-push : (rows : List (List CellValue)) (row : List CellValue) (col : ℕ)
     → column_of (rows ++ row ∷ []) col ≡ column_of rows col ++ get_or row col null ∷ []

@@ -13,8 +13,8 @@ use Rattle.cell_types.specs.Cell.{value_of}
 use Rattle.cell_types.specs.Laws.{StringsHaveValues}
 use Rattle.cell_types.specs.declared.column.Column.{Column}
 use Rattle.table_store.specs.Table.{values_from, value_then, rows_from, row_then}
-use Rattle.table_store.specs.Values.{value_or_null, values_in, HaveValues, AllHaveValues}
-use Rattle.table_store.specs.Key.{row_key}
+use Rattle.typed_columns.specs.Values.{value_or_null, values_in, HaveValues, AllHaveValues}
+use Rattle.row_keys.specs.Key.{row_key}
 use Rattle.table_store.proofs.PlaceLemmas.{drop-from_slice_get}
 
 -- the value of a column's field

@@ -1,8 +1,8 @@
 -- The ranges of the columns of a block, as its rows are read.
-use Rattle.std.proofs.Common.{◌≡◌, inl, inr, ℕ, ◌+◌, ◌-◌, ◌*◌, ◌<◌, ◌≤◌, true, false, List, [], ◌∷◌, ◌++◌, Option, None, Some, Result, Ok, Err, option_map, slice_get, get_or, length, length-append, take, drop, set, refl, ap, sym, subst, ◌∙◌, arith}
+use Rattle.std.proofs.Common.{◌≡◌, inl, inr, ℕ, ◌+◌, ◌-◌, ◌*◌, ◌<◌, ◌≤◌, zero, suc, true, false, List, [], ◌∷◌, ◌++◌, map, Option, None, Some, Result, Ok, Err, option_map, slice_get, get_or, length, length-append, take, drop, set, refl, ap, sym, subst, ◌∙◌, arith}
 use Rattle.std.specs.Prelude.{min}
-use Rattle.std.specs.List.{All}
-use Rattle.std.proofs.lemmas.Bool.{cases_order, cond-false, cond-true, cond_both}
+use Rattle.std.specs.List.{All, list_any}
+use Rattle.std.proofs.lemmas.Bool.{cases_order, cond-false, cond-true, cond_both, or_parts}
 use Rattle.std.proofs.lemmas.Option.{slice_get_within}
 use Rattle.std.proofs.lemmas.List.{get_or-drop, get_or-set_other, get_or-set_same, get_or-take, length-drop, length-map, length-take, take_all, take_more}
 use Rattle.std.proofs.lemmas.List.Elements.{All-from_get_or, All-get_or}
@@ -15,14 +15,15 @@ use Rattle.block_summary.specs.declared.block.TheConstants.{BLOCK_ROWS}
 use Rattle.cell_types.specs.declared.cell.CellFault.{CellFault}
 use Rattle.cell_types.specs.declared.cell.CellFault.TheVariants.{Missing}
 use Rattle.cell_types.specs.Cell.{null_reading}
-use Rattle.cell_types.specs.Column.{ColumnOf}
+use Rattle.cell_types.specs.declared.column.Column.{Column}
+use Rattle.cell_types.specs.Column.{ColumnOf, column_view}
 use Rattle.cell_types.specs.Datatype.{DatatypeOf, is_text, integer, text, boolean, date, decimal}
 use Rattle.cell_types.specs.Value.{CellValue, null}
 use Rattle.table_store.specs.Block.{block_of}
 use Rattle.table_store.specs.Summaries.{with_row, AreRangesFrom, AreTextRanges, AreWithRow, HasBlock, HasTextRange, IsRangeFrom, IsSummaryOf}
-use Rattle.table_store.specs.Values.{value_or_null}
+use Rattle.typed_columns.specs.Values.{value_or_null}
 use Rattle.table_store.specs.Table.{TableOf}
-use Rattle.table_store.specs.TypedColumn.{AreTyped}
+use Rattle.typed_columns.specs.TypedColumn.{AreTyped}
 use Rattle.table_store.proofs.BlockLemmas.{column_of-part, there, typed_is, typed_length}
 
 -- ---- the ranges of the columns so far
@@ -96,6 +97,29 @@ ranges_start law block ranges count none = record {
       subst (λ r. IsRangeOf r []) (sym (All-get_or (λ range. range ≡ no_range) ranges col no_range (omega (arith, count, slice_get_within block.schema.columns col column at)) none)) law.start;
   nulls = λ col within.
       let e = ap (λ (r : RangeOf). r.null_count) (All-get_or (λ range. range ≡ no_range) ranges col no_range within none) in omega (arith, e);
+}
+
+untexted : (columns : List Column) (col : ℕ) (column : ColumnOf) → list_any (λ column. is_text (column_view column).datatype) columns ≡ false
+    → slice_get (map column_view columns) col ≡ Some column → is_text column.datatype ≡ false
+untexted [] col column none at = cc
+untexted (c ∷ columns) zero column none at =
+    let same : column_view c ≡ column = cc in
+    let both = or_parts (is_text (column_view c).datatype) (list_any (λ column. is_text (column_view column).datatype) columns) none in
+    ap (λ (x : ColumnOf). is_text x.datatype) (sym same) ∙ both.0
+untexted (c ∷ columns) (suc col) column none at =
+    untexted columns col column (or_parts (is_text (column_view c).datatype) (list_any (λ column. is_text (column_view column).datatype) columns) none).1 at
+
+-- those of any rows, where no column is one of texts
+pub ranges_untexted : (columns : List Column) (read : ℕ) (block : TableOf) (ranges : List RangeOf) → block.schema.columns ≡ map column_view columns
+    → list_any (λ column. is_text (column_view column).datatype) columns ≡ false → length ranges ≡ length block.schema.columns → All (λ range. range ≡ no_range) ranges
+    → AreTextRanges read block ranges
+ranges_untexted columns read block ranges are none count empty = record {
+  width = count;
+  each = λ col column at is_one.
+      let both : true ≡ false = sym is_one ∙ untexted columns col column none (ap (λ cs. slice_get cs col) (sym are) ∙ at) in
+      absurd (cc);
+  nulls = λ col within.
+      let e = ap (λ (r : RangeOf). r.null_count) (All-get_or (λ range. range ≡ no_range) ranges col no_range within empty) in omega (arith, e);
 }
 
 nulls_more : (column : ColumnOf) (range : RangeOf) (cell : CellValue) (read : ℕ) → range.null_count ≤ read → (with_row column range cell).null_count ≤ read + 1

@@ -3,7 +3,7 @@ use Rattle.std.specs.Prelude.{◌≡◌, ◌+◌, ◌*◌, ◌-◌, ◌/◌, ◌
 use Rattle.block_summary.specs.Ranges.{column_of}
 use Rattle.cell_types.specs.Column.{ColumnOf}
 use Rattle.cell_types.specs.Value.{CellValue}
-use Rattle.table_store.specs.TypedColumn.{typed_cells}
+use Rattle.typed_columns.specs.TypedColumn.{typed_cells}
 use Rattle.block_summary.specs.declared.block.TheConstants.{BLOCK_ROWS}
 use Rattle.table_store.specs.declared.block.Block.TheInside.{Inside}
 use Rattle.table_store.specs.Table.{TableOf}

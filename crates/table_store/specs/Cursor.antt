@@ -4,8 +4,8 @@ use Rattle.csv_index.specs.Index.{row_fields}
 use Rattle.cell_types.specs.Column.{ColumnOf, column_view}
 use Rattle.cell_types.specs.Value.{CellValue, null}
 use Rattle.table_store.specs.declared.cursor.RowCursor.TheInside.{Inside}
-use Rattle.table_store.specs.TypedColumn.{AreTyped}
-use Rattle.table_store.specs.Values.{rows_in, AllHaveValues, FitsColumns}
+use Rattle.typed_columns.specs.TypedColumn.{AreTyped}
+use Rattle.typed_columns.specs.Values.{rows_in, AllHaveValues, FitsColumns}
 
 abbrev pub rows_left : Inside → List (List CellValue)
 rows_left cursor = rows_in (map column_view cursor.columns.now) (take (cursor.end - cursor.row) (drop cursor.row cursor.file.now.rows))

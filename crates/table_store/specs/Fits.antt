@@ -1,9 +1,10 @@
--- The rows of a table: each value is one that its column may have, and no text is long.
+-- The rows of a table: each value is one that its column may have, no text is long, and there are no more rows than a file has bytes.
 use Rattle.std.specs.Prelude.{ℕ, ◌^◌, ◌≤◌, List, [], ◌∷◌, length}
 use Rattle.std.specs.List.{All}
 use Rattle.cell_types.specs.Value.{CellValue, text}
 use Rattle.cell_types.specs.Column.{ColumnOf}
 use Rattle.cell_types.specs.Laws.{IsOfColumn}
+use Rattle.csvw_meta.specs.declared.limits.TheConstants.{MOST_FILE_BYTES}
 use Rattle.table_store.specs.Table.{TableOf}
 
 -- a text of at most 2 to the 30 bytes
@@ -21,6 +22,7 @@ IsTableRow [] [] = Unit {0}
 IsTableRow (c ∷ cs) (v ∷ vs) = IsOfColumn c v × IsShortValue v × IsTableRow cs vs
 IsTableRow _ _ = ⊥
 
--- so are all rows of a table
-abbrev pub HasTableRows : TableOf → Type 0
-HasTableRows table = All (IsTableRow table.schema.columns) table.rows
+-- so are all rows of a table, of which there are no more than the bytes that a file may have
+pub record HasTableRows (table : TableOf) : Type 0 where
+  pub each : All (IsTableRow table.schema.columns) table.rows
+  pub count : length table.rows ≤ MOST_FILE_BYTES

@@ -3,9 +3,9 @@ use Rattle.std.specs.Prelude.{◌≡◌}
 use Rattle.csvw_meta.specs.Schema.{schema_view}
 use Rattle.table_store.specs.declared.table.Table.TheInside.{Inside}
 use Rattle.table_store.specs.Table.{TableOf, keys_of}
-use Rattle.table_store.specs.Values.{rows_in, AllHaveValues, FitsColumns}
-use Rattle.table_store.specs.TypedColumn.{AreTyped}
-use Rattle.table_store.specs.Keys.{keys_view}
+use Rattle.typed_columns.specs.Values.{rows_in, AllHaveValues, FitsColumns}
+use Rattle.typed_columns.specs.TypedColumn.{AreTyped}
+use Rattle.row_keys.specs.Keys.{keys_view}
 use Rattle.table_store.specs.Fits.{HasTableRows}
 use Rattle.table_store.specs.Summaries.{AreSummariesOf}
 

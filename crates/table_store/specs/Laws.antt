@@ -1,7 +1,6 @@
 -- What holds of every folder.
-use Rattle.std.specs.Prelude.{◌≡◌, ◌≢◌, ◌↔◌, ◌⊎◌, ℕ, List, map, Some, Ok, slice_get, All}
-use Rattle.cell_types.specs.Value.{CellValue, null}
-use Rattle.table_store.specs.Key.{row_of}
+use Rattle.std.specs.Prelude.{◌≡◌, ◌⊎◌, map, Some, Ok, All}
+use Rattle.row_keys.specs.Laws.{AreKeys}
 use Rattle.table_store.specs.Table.{TableOf, keys_of}
 use Rattle.table_store.specs.Fault.{LoadCause}
 use Rattle.table_store.specs.Catalog.{FolderOf, CatalogOf, schemas_in, Means, IsRefused}
@@ -17,12 +16,6 @@ pub record OneMeaning : Type 0 where
 abbrev pub SchemasOfTables : Type 0
 SchemasOfTables = (folder : FolderOf) (catalog : CatalogOf) → Means folder catalog → schemas_in folder ≡ Some (Ok (map (λ (table : TableOf). table.schema) catalog.tables))
 
--- no part of a key is null, no two rows have one key, and the row that has a key is the one whose key it is
-pub record AreKeys (keys : List (List CellValue)) : Type 0 where
-  pub whole : All (All (λ value. value ≢ null)) keys
-  pub distinct : (a b : ℕ) (key : List CellValue) → slice_get keys a ≡ Some key → slice_get keys b ≡ Some key → a ≡ b
-  pub found : (row : ℕ) (key : List CellValue) → (row_of keys key ≡ Some row) ↔ (slice_get keys row ≡ Some key)
-
--- so are the keys of the rows of each table
+-- in the keys of the rows of each table no part is null, no two rows have one key, and the row that has a key is the one whose key it is
 abbrev pub KeysOfTables : Type 0
 KeysOfTables = (folder : FolderOf) (catalog : CatalogOf) → Means folder catalog → All (λ (table : TableOf). AreKeys (keys_of table)) catalog.tables

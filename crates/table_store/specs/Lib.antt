@@ -1,17 +1,12 @@
 pub mod File
-pub mod Key
 pub mod Table
 pub mod Block
-pub mod Values
-pub mod TypedColumn
-pub mod ColumnReader
 pub mod Fits
 pub mod Cursor
 pub mod Summaries
 pub mod Inside
 pub mod Fault
 pub mod Loading
-pub mod Keys
 pub mod Catalog
 pub mod Laws
 pub use Rattle.csv_grammar.specs.Files

@@ -18,10 +18,12 @@ use Rattle.table_store.specs.declared.loading.TableFault.TheVariants.{FileMissin
 use Rattle.table_store.specs.Table.{mismatch_from, values_from, rows_from, HasOtherHeader, HasBadCell, HasNullKey, HasKeyTwice}
 use Rattle.table_store.specs.Fault.{TableCause, file_missing, file_too_large, bad_text, bad_header, bad_cell, key_null, key_twice, cell_cause, LoadCause, no_metadata, bad_meta, bad_table}
 use Rattle.table_store.specs.File.{FileOf}
-use Rattle.table_store.specs.Key.{row_key, row_keys, null_row, repeated_row}
-use Rattle.table_store.specs.Keys.{key_cause, AreColumns}
+use Rattle.row_keys.specs.Key.{row_key, row_keys, null_row, repeated_row}
+use Rattle.row_keys.specs.Keys.{AreColumns}
+use Rattle.row_keys.specs.declared.keys.KeyFault.{KeyFault}
+use Rattle.row_keys.specs.declared.keys.KeyFault.TheVariants.{Null, Twice}
 use Rattle.table_store.specs.Catalog.{HasFile, HasTableCause, IsFirstBadTable}
-use Rattle.table_store.specs.Values.{rows_in, AllHaveValues, FitsColumns}
+use Rattle.typed_columns.specs.Values.{rows_in, AllHaveValues, FitsColumns}
 
 -- the first header cell that does not match, or lacks its column, or is lacked by one
 abbrev pub mismatch_of : List ColumnOf → List RawField → Option ℕ
@@ -42,6 +44,11 @@ pub record IsTableAt (columns : List ColumnOf) (bytes : List ℕ) (file : RawTab
 -- there is a file, not above the limit, that is such a table
 abbrev pub IsTableOf : ℕ → Option (List ℕ) → SchemaOf → RawTable → Type 0
 IsTableOf limit file schema table = (bytes : List ℕ) × HasFile limit file bytes × IsTableAt schema.columns bytes table
+
+-- the cause that a fault of the keys is
+abbrev pub key_cause : KeyFault → TableCause
+key_cause (Null row) = key_null row
+key_cause (Twice row) = key_twice row
 
 -- the cause that an error is; none, where memory ran out
 abbrev pub table_cause : TableFault → Option TableCause

@@ -9,8 +9,8 @@ use Rattle.csv_index.specs.Index.{RawTable}
 use Rattle.csvw_meta.specs.Schema.{SchemaOf}
 use Rattle.table_store.specs.Block.{block_count, block_of}
 use Rattle.table_store.specs.Table.{TableOf}
-use Rattle.table_store.specs.TypedColumn.{AreTyped}
-use Rattle.table_store.specs.Values.{rows_in, AllHaveValues, FitsColumns}
+use Rattle.typed_columns.specs.TypedColumn.{AreTyped}
+use Rattle.typed_columns.specs.Values.{rows_in, AllHaveValues, FitsColumns}
 
 -- the range of each column of a block
 pub record IsSummaryOf (block : TableOf) (ranges : List RangeOf) : Type 0 where

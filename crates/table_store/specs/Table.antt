@@ -9,7 +9,7 @@ use Rattle.cell_types.specs.Value.{CellValue}
 use Rattle.cell_types.specs.Column.{ColumnOf}
 use Rattle.cell_types.specs.Cell.{value_of}
 use Rattle.csvw_meta.specs.Schema.{SchemaOf}
-use Rattle.table_store.specs.Key.{row_keys, null_row, repeated_row}
+use Rattle.row_keys.specs.Key.{row_keys, null_row, repeated_row}
 
 -- a schema, and the rows of values in order
 pub record TableOf : Type 0 where

@@ -10,6 +10,7 @@ ghost use Rattle.csvw_meta.specs.Schema.{schema_view};
 ghost use Rattle.table_store.specs.Block.{packed_cells, HasNumbers};
 ghost use Rattle.table_store.specs.Fits.{HasTableRows};
 
+use crate::column_values::packed_values;
 use crate::cursor::RowCursor;
 use crate::table::Table;
 use block_summary::{BLOCK_ROWS, PackedColumn};
@@ -73,6 +74,18 @@ impl<'t> Block<'t> {
         self.table.packed(self.first / BLOCK_ROWS, col)
     }
 
+    /// The values of a column, one for each row. Each text is found from the one before it, with no search.
+    pub fn values(&self, alloc: Global, col: usize) -> Result<Vec<Value<'t>>, AllocError>
+        requires { col < length self.now.schema.columns }
+        ensures { IfOk result
+            (λ values. map value_view values.items ≡ column_of self.now.rows col) }
+    {
+        match self.packed(col) {
+            Some(column) => packed_values(alloc, column),
+            None => self.table.column_from(alloc, col, self.first, self.rows),
+        }
+    }
+
     /// Writes the number of each row in a column that is none of texts, and marks the nulls. A decimal is written in millionths, a day by its
     /// number ([`block_summary::day_number`]), false as 0 and true as 1; at a null stands any number.
     pub fn numbers(&self, col: usize, numbers: &mut [i64], nulls: &mut [bool])
@@ -97,7 +110,7 @@ impl<'t> Block<'t> {
         self.table.rows_from(self.first, self.rows)
     }
 
-    /// Each value is one that its column may have, and no text has more than 2 to the 30 bytes.
+    /// Each value is one that its column may have, no text has more than 2 to the 30 bytes, and there are no more rows than that.
     pub fn values_fit(&self)
         ensures { HasTableRows self.now }
     {

@@ -3,14 +3,13 @@ ghost use Rattle.std.specs.Prelude.{◌≡◌, ◌≤◌, [], ◌∷◌, IfOk, O
 ghost use Rattle.cell_types.specs.Column.{column_view};
 ghost use Rattle.cell_types.specs.Value.{value_view};
 ghost use Rattle.table_store.specs.Cursor.{HoldRow};
-ghost use Rattle.table_store.specs.Values.{values_in, HaveValues};
+ghost use Rattle.typed_columns.specs.Values.{values_in, HaveValues};
 
-use crate::field::field_value;
-use crate::typed_column::{TypedColumn, typed_column};
 use cell_types::{Column, Value};
 use csv_index::{Fields, IndexedText};
 use std::alloc::{AllocError, Global};
 use std::marker::Model;
+use typed_columns::{TypedColumn, column_at, field_value};
 
 /// The rows of a table or a block that are left, the next one first.
 #[derive(Drop)]
@@ -82,7 +81,7 @@ fn row_values<'t>(
 {
     let mut values = Vec::with_capacity(alloc, columns.len())?;
     for (col, column) in columns.iter().enumerate() {
-        if let Some(cells) = typed_column(typed, col) {
+        if let Some(cells) = column_at(typed, col) {
             fields.pass();
             values.push(cells.value(row))?;
             continue;

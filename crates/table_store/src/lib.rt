@@ -7,17 +7,14 @@ ghost use Rattle.table_store.specs.Laws.{KeysOfTables, OneMeaning, SchemasOfTabl
 
 mod block;
 mod catalog;
-mod column_reader;
+mod column_values;
 mod cursor;
 mod fault;
-mod field;
 mod file;
 mod header;
-mod keys;
 mod loading;
 mod summaries;
 mod table;
-mod typed_column;
 
 pub use block::Block;
 pub use catalog::Catalog;
@@ -44,5 +41,5 @@ pub fn schemas_of_tables()
 pub fn keys_of_tables()
     ensures { KeysOfTables }
 {
-    cell_types::values_are_ordered();
+    row_keys::keys_find_rows();
 }

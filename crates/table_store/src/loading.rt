@@ -8,21 +8,21 @@ ghost use Rattle.csvw_meta.specs.Schema.{schema_view};
 ghost use Rattle.table_store.specs.Fault.{bad_cell, cell_cause};
 ghost use Rattle.table_store.specs.File.{file_bytes};
 ghost use Rattle.table_store.specs.Catalog.{HasTableCause};
-ghost use Rattle.table_store.specs.ColumnReader.{read_on, AreReadOn, HasReader, HaveReaders};
-ghost use Rattle.table_store.specs.Keys.{AreKeysOf};
-ghost use Rattle.table_store.specs.TypedColumn.{AreTyped};
-ghost use Rattle.table_store.specs.Values.{rows_in, value_in, value_or_null, values_in, FitsColumns, HasValue};
+ghost use Rattle.typed_columns.specs.ColumnReader.{read_on, AreReadOn, HasReader, HaveReaders};
+ghost use Rattle.row_keys.specs.Keys.{AreKeysOf};
+ghost use Rattle.typed_columns.specs.TypedColumn.{AreTyped};
+ghost use Rattle.typed_columns.specs.Values.{rows_in, value_in, value_or_null, values_in, FitsColumns, HasValue};
 ghost use Rattle.table_store.specs.Loading.{keys_at, bad_cell_of, table_cause, HasFileCause, HasKeyColumns, HasRowsCause, IsBadCell, IsTableAt, IsTableOf, ReadsAs};
 
-use crate::column_reader::{ColumnReader, column_readers, columns_read, number_value};
-use crate::field::cell_value;
 use crate::header::first_mismatch;
-use crate::keys::{KeyFault, KeyReader, Keys};
-use crate::typed_column::TypedColumn;
 use cell_types::{CellFault, Column, Value};
 use csv_index::{Fields, IndexedText, Raw, TextFault};
 use csvw_meta::Schema;
+use row_keys::{KeyFault, KeyReader, Keys};
 use std::alloc::{AllocError, Global};
+use typed_columns::{
+    ColumnReader, TypedColumn, cell_value, column_readers, columns_read, number_value,
+};
 
 /// A cell that has no value. Rows and columns count from 0.
 #[derive(Clone, Copy, Debug)]

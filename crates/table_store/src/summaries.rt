@@ -1,5 +1,6 @@
 //! The summaries of the blocks of a table.
 ghost use Rattle.std.specs.Prelude.{◌≡◌, ◌≤◌, ◌<◌, ℕ, true, None, IfOk, OnOk, All, length, map, take, drop, slice_index_or};
+ghost use Rattle.std.specs.List.{list_any};
 ghost use Rattle.block_summary.specs.Ranges.{no_range, widened};
 ghost use Rattle.cell_types.specs.Column.{column_view};
 ghost use Rattle.cell_types.specs.Datatype.{is_text as is_text_of};
@@ -7,14 +8,14 @@ ghost use Rattle.csv_index.specs.Raw.{raw_view};
 ghost use Rattle.csvw_meta.specs.Schema.{schema_view};
 ghost use Rattle.table_store.specs.Block.{block_count, block_of};
 ghost use Rattle.table_store.specs.Summaries.{table_at, AreCellsOf, AreRangesFrom, AreSummariesOf, AreWithRow, HasBlock, IsRangeFrom, IsSummaryOf};
-ghost use Rattle.table_store.specs.Values.{value_in, value_or_null, values_in, HasValue, HaveValues};
+ghost use Rattle.typed_columns.specs.Values.{value_in, value_or_null, values_in, HasValue, HaveValues};
 
-use crate::typed_column::{TypedColumn, typed_column};
 use block_summary::{BLOCK_ROWS, Range, Summary, TextRange};
 use cell_types::{Column, Datatype, string_of};
 use csv_index::{Fields, IndexedText, Raw};
 use csvw_meta::Schema;
 use std::alloc::{AllocError, Global};
+use typed_columns::{TypedColumn, column_at};
 
 /// Whether a column is one of texts.
 #[inline(always)]
@@ -22,6 +23,13 @@ fn is_text(column: &Column) -> bool
     ensures { result ≡ is_text_of (column_view column.now).datatype }
 {
     matches!(column.datatype, Datatype::Text)
+}
+
+/// Whether some column is one of texts.
+fn has_texts(columns: &[Column]) -> bool
+    ensures { result ≡ list_any (λ column. is_text_of (column_view column).datatype) columns.now }
+{
+    columns.iter().any(|column| is_text(column))
 }
 
 /// Takes a field into the range of its column of texts.
@@ -100,7 +108,7 @@ fn column_range(
     requires { HasBlock number (slice_index_or typed.now col None) }
     ensures { IfOk result (IsRangeFrom number (slice_index_or typed.now col None) texts.entry) }
 {
-    match typed_column(typed, col) {
+    match column_at(typed, col) {
         Some(column) => Ok(Range::of_column(column.block(number))),
         None => texts.into_range(alloc),
     }
@@ -126,7 +134,7 @@ fn column_ranges(
     Ok(ranges)
 }
 
-/// The summary of the block of a number.
+/// The summary of the block of a number, whose texts are read.
 fn summary_of<'t>(
     alloc: Global,
     schema: &'t Schema,
@@ -153,6 +161,28 @@ fn summary_of<'t>(
     Ok(Summary::of_ranges(ranges))
 }
 
+/// The summary of the block of a number. The file is read only where some column is one of texts.
+fn summary_at<'t>(
+    alloc: Global,
+    schema: &'t Schema,
+    typed: &[Option<TypedColumn>],
+    file: &'t IndexedText,
+    number: usize,
+) -> Result<Summary, AllocError>
+    requires cells { AreCellsOf (schema_view schema.now) typed.now file.now }
+    requires number { number < block_count (length file.now.rows) }
+    ensures { IfOk result
+        (IsSummaryOf (block_of (table_at (schema_view schema.now) file.now) number)) }
+{
+    let columns = schema.columns.as_slice();
+    if has_texts(columns) {
+        return summary_of(alloc, schema, typed, file, number);
+    }
+    let texts = text_ranges(alloc, columns.len())?;
+    let ranges = column_ranges(alloc, typed, number, texts)?;
+    Ok(Summary::of_ranges(ranges))
+}
+
 /// The summaries of the blocks of a file's rows.
 pub fn summaries_of<'t>(
     alloc: Global,
@@ -167,7 +197,7 @@ pub fn summaries_of<'t>(
     let count = file.rows().div_ceil(BLOCK_ROWS);
     let mut summaries = Vec::with_capacity(alloc, count)?;
     for number in 0..count {
-        summaries.push(summary_of(alloc, schema, typed, file, number)?)?;
+        summaries.push(summary_at(alloc, schema, typed, file, number)?)?;
     }
     Ok(summaries)
 }

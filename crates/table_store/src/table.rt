@@ -2,6 +2,7 @@
 ghost use Rattle.std.specs.Prelude.{◌≡◌, ◌+◌, ◌^◌, ◌<◌, ◌≤◌, Some, None, IfOk, IfErr, IfSome, length, map, slice_get, option_and_then, option_map, take, drop, string_bytes};
 ghost use Rattle.std.specs.List.{AllByRecursion};
 ghost use Rattle.std.specs.Option.{option_copied};
+ghost use Rattle.block_summary.specs.Ranges.{column_of};
 ghost use Rattle.cell_types.specs.Value.{value_view};
 ghost use Rattle.csvw_meta.specs.Schema.{schema_view};
 ghost use Rattle.csvw_meta.specs.Laws.{HasShortDefaults};
@@ -9,25 +10,25 @@ ghost use Rattle.table_store.specs.Fits.{HasTableRows};
 ghost use Rattle.table_store.specs.Fault.{bad_table, load_cause};
 ghost use Rattle.table_store.specs.Catalog.{HasTable};
 ghost use Rattle.table_store.specs.File.{file_bytes};
-ghost use Rattle.table_store.specs.Key.{row_of};
+ghost use Rattle.row_keys.specs.Key.{row_of};
 ghost use Rattle.table_store.specs.Loading.{table_cause, HasKeyColumns, IsRefusedTable};
 ghost use Rattle.table_store.specs.Summaries.{AreSummariesOf};
 ghost use Rattle.table_store.specs.Table.{keys_of};
 
 use crate::block::Block;
+use crate::column_values::file_values;
 use crate::cursor::RowCursor;
 use crate::fault::LoadFault;
-use crate::field::field_value;
-use crate::keys::{KeyFault, Keys};
 use crate::loading::{BadCell, TableFault, read_table};
 use crate::summaries::summaries_of;
-use crate::typed_column::{TypedColumn, typed_column};
 use block_summary::{BLOCK_ROWS, PackedColumn, Summary};
 use cell_types::Value;
 use csv_index::IndexedText;
 use csvw_meta::Schema;
+use row_keys::{KeyFault, Keys};
 use std::alloc::{AllocError, Global};
 use std::marker::Model;
+use typed_columns::{TypedColumn, column_at, field_value};
 
 /// A table. Texts are read from the bytes of its file; the other values are kept by blocks.
 #[derive(Drop)]
@@ -92,7 +93,7 @@ impl Table {
             option_and_then (λ values. slice_get values col) (slice_get self.now.rows row)
             ≡ Some (value_view value)) }
     {
-        match typed_column(self.columns.as_slice(), col) {
+        match column_at(self.columns.as_slice(), col) {
             Some(column) => Ok(column.value(row)),
             None => field_value(alloc, &self.schema.columns[col], self.file.cell(row, col)),
         }
@@ -133,7 +134,7 @@ impl Table {
         requires col { col < length self.now.schema.columns }
         ensures { option_copied result ≡ packed_cells (block_of self.now number) col }
     {
-        match typed_column(self.columns.as_slice(), col) {
+        match column_at(self.columns.as_slice(), col) {
             Some(column) => Some(column.block(number)),
             None => None,
         }
@@ -162,7 +163,30 @@ impl Table {
         }
     }
 
-    /// Each value is one that its column may have, and no text has more than 2 to the 30 bytes.
+    /// The values that so many rows have in a column, from the one with that number on, as they stand in the file.
+    pub(crate) fn column_from(
+        &self,
+        alloc: Global,
+        col: usize,
+        first: usize,
+        rows: usize,
+    ) -> Result<Vec<Value<'_>>, AllocError>
+        requires col { col < length self.now.schema.columns }
+        requires within { first + rows ≤ length self.now.rows }
+        ensures { IfOk result (λ values. map value_view values.items
+            ≡ column_of (take rows (drop first self.now.rows)) col) }
+    {
+        file_values(
+            alloc,
+            self.schema.columns.as_slice(),
+            &self.file,
+            col,
+            first,
+            rows,
+        )
+    }
+
+    /// Each value is one that its column may have, no text has more than 2 to the 30 bytes, and there are no more rows than that.
     pub fn values_fit(&self)
         ensures { HasTableRows self.now }
     {

@@ -7,4 +7,4 @@ use Rattle.odata_http.proofs.answer.answer_heads.Given as goal
 -- the first heads were answered
 abbrev pub invariant-loop-head : goal.invariant-loop-head
 invariant-loop-head g l =
-    AnswersAll (IsReply l.catalog.tables) g.O.Outlet.takes (map head_view (take l.head-index l.heads)) l.fn.out l.out
+    AnswersAll (IsReply l.catalog) g.O.Outlet.takes (map head_view (take l.head-index l.heads)) l.fn.out l.out

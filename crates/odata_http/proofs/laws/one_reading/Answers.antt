@@ -4,4 +4,4 @@ use Rattle.odata_http.proofs.RepliesLemmas.{one_list}
 use Rattle.odata_http.proofs.laws.one_reading.Goals as goal
 
 pub returns : goal.returns
-returns c = λ tables. one_list (IsReply tables) c.one_cut.ensures (one_reply c.one_request.ensures tables)
+returns c = λ catalog. one_list (IsReply catalog) c.one_cut.ensures (one_reply c.one_request.ensures catalog)

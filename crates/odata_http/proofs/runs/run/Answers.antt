@@ -21,7 +21,7 @@ loop-turn-preserved g c =
     let turn = turn_read _ _ _ _ _ c.requires.reads c.ranges.limit.fits c.loop-turn-test.true c.loop-turn.invariant.reads c.in-Ok.ensures.reads in
     let read = running_reads c.loop-turn.invariant.running c.in-Ok.ensures.bytes.0 (read_more _ _ _ _ c.if-n-eq0.false c.in-Ok.ensures.ends) in
     let stream = c.loop-turn.splitter ++ take c.in-Ok.n c.read.new.buf in
-    let sent = piece_sent (IsReply c.args.catalog.now.tables) g.W.Sink.sink stream c.take_in.new.splitter c.loop-turn.out c.take_in.new.out (Ok false)
+    let sent = piece_sent (IsReply c.args.catalog.now) g.W.Sink.sink stream c.take_in.new.splitter c.loop-turn.out c.take_in.new.out (Ok false)
     (rw c.if-closed.false at c.in_ok-closed.ensures) in
     record {
       running = piece_open c.cuts_join.ensures read sent;
@@ -72,7 +72,7 @@ returns-in_err-closed g c =
     let read = running_reads c.loop-turn.invariant.running c.in-Ok.ensures.bytes.0 (read_more _ _ _ _ c.if-n-eq0.false c.in-Ok.ensures.ends) in
     let stream = c.loop-turn.splitter ++ take c.in-Ok.n c.read.new.buf in
     let fault = c.in_err-closed.field-0.0 in
-    let sent = piece_sent (IsReply c.args.catalog.now.tables) g.W.Sink.sink stream c.take_in.new.splitter c.loop-turn.out c.take_in.new.out (Err fault)
+    let sent = piece_sent (IsReply c.args.catalog.now) g.W.Sink.sink stream c.take_in.new.splitter c.loop-turn.out c.take_in.new.out (Err fault)
     c.in_err-closed.ensures in
     rw (p.1, p.2) (end_run (all_join _ c.cuts_join.ensures) _
     (piece_fault c.take_in.new.splitter _ fault c.cuts_join.ensures read sent c.loop-turn.invariant.failed_writes)
@@ -83,7 +83,7 @@ returns-then-closed g c =
     let turn = turn_read _ _ _ _ _ c.requires.reads c.ranges.limit.fits c.loop-turn-test.true c.loop-turn.invariant.reads c.in-Ok.ensures.reads in
     let read = running_reads c.loop-turn.invariant.running c.in-Ok.ensures.bytes.0 (read_more _ _ _ _ c.if-n-eq0.false c.in-Ok.ensures.ends) in
     let stream = c.loop-turn.splitter ++ take c.in-Ok.n c.read.new.buf in
-    let sent = piece_sent (IsReply c.args.catalog.now.tables) g.W.Sink.sink stream c.take_in.new.splitter c.loop-turn.out c.take_in.new.out (Ok true)
+    let sent = piece_sent (IsReply c.args.catalog.now) g.W.Sink.sink stream c.take_in.new.splitter c.loop-turn.out c.take_in.new.out (Ok true)
     (rw c.if-closed.true at c.in_ok-closed.ensures) in
     end_run (all_join _ c.cuts_join.ensures) (Ok tt) (piece_closed c.cuts_join.ensures read sent c.loop-turn.invariant.failed_writes)
     c.requires.failed_writes (c.in-Ok.ensures.failed ∙ c.loop-turn.invariant.failed_reads) turn.1

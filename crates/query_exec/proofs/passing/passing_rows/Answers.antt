@@ -1,14 +1,15 @@
 use Rattle.std.proofs.Common.{◌≡◌, ◌∙◌, ap, length, map, refl, replicate, sym, true}
 use Rattle.std.proofs.lemmas.List.{length-replicate}
-use Rattle.query_plan.specs.Plan.{node_view, nodes_meaning}
+use Rattle.odata_types.specs.TypedTree.{boxed_truth}
+use Rattle.query_exec.specs.Conditions.{passing_all}
 use Rattle.query_exec.specs.Picked.{marked}
 use Rattle.query_exec.proofs.PassingLemmas.{all_marked}
 use Rattle.query_exec.proofs.passing.passing_rows.Goals as goal
 
-pub loop-node-init : goal.loop-node-init
-loop-node-init c =
+pub loop-condition-init : goal.loop-condition-init
+loop-condition-init c =
     let rows = c.args.block.now.rows in
     let all : c.in_ok-wanted.wanted.items ≡ replicate (length rows) true = c.in_ok-wanted.ensures.items_if_clones_equal (λ y e. e) ∙ ap (λ n. replicate n true) c.rows.ensures in (
       ap length all ∙ length-replicate (length rows) true,
-      ap (nodes_meaning (map node_view c.args.nodes.now)) (sym (ap (λ marks. marked marks rows) all ∙ all_marked (length rows) rows refl)),
+      ap (passing_all (map boxed_truth c.args.conditions.now)) (sym (ap (λ marks. marked marks rows) all ∙ all_marked (length rows) rows refl)),
     )

@@ -11,7 +11,7 @@ use Rattle.csvw_meta.specs.Laws.{HasShortDefaults}
 use Rattle.csvw_meta.specs.Schema.{SchemaOf, schema_view}
 use Rattle.table_store.specs.File.{file_view, file_named}
 use Rattle.table_store.specs.Fault.{load_cause}
-use Rattle.table_store.specs.Keys.{AreColumns}
+use Rattle.row_keys.specs.Keys.{AreColumns}
 use Rattle.table_store.specs.Catalog.{HasTable, HaveTables}
 use Rattle.table_store.specs.Loading.{IsRefusedTable, IsFirstRefused}
 use Rattle.table_store.proofs.CatalogLemmas.{HaveFiles, HaveFiles-past, HaveTables-more, first_refused}

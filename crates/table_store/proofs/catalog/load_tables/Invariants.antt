@@ -5,7 +5,7 @@ use Rattle.std.specs.Vec.Iter.{into_iter_items, into_iter_len}
 use Rattle.csvw_meta.specs.Laws.{HasShortDefaults}
 use Rattle.csvw_meta.specs.Schema.{SchemaOf, schema_view}
 use Rattle.table_store.specs.File.{file_view}
-use Rattle.table_store.specs.Keys.{AreColumns}
+use Rattle.row_keys.specs.Keys.{AreColumns}
 use Rattle.table_store.specs.Catalog.{HaveTables}
 use Rattle.table_store.proofs.CatalogLemmas.{HaveFiles}
 use Rattle.table_store.proofs.catalog.load_tables.Given as goal

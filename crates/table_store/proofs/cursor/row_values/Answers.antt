@@ -5,7 +5,7 @@ use Rattle.std.specs.Option.{option_copied}
 use Rattle.cell_types.specs.Column.{column_view}
 use Rattle.cell_types.specs.Value.{null, value_view}
 use Rattle.csv_index.specs.Raw.{raw_view}
-use Rattle.table_store.specs.Values.{values_in}
+use Rattle.typed_columns.specs.Values.{values_in}
 use Rattle.table_store.proofs.PlaceLemmas.{drop-first, slice_get-from_read, slice_get-take}
 use Rattle.table_store.proofs.InsideLemmas.{length-values_in}
 use Rattle.table_store.proofs.CursorLemmas.{read_more}
@@ -67,7 +67,7 @@ loop-col-preserved-in-Some c =
     let fields = take (length columns) c.args.fields.now in
     let row = values_in (map column_view columns) fields in
     let wide = length-values_in (map column_view columns) fields (omega (arith, length-map columns column_view, length-take (length columns) c.args.fields.now, c.requires.enough)) in
-    let kept = sym c.typed_column.ensures ∙ ap option_copied c.in-Some.is in
+    let kept = sym c.column_at.ensures ∙ ap option_copied c.in-Some.is in
     let here = c.value.ensures ∙ c.requires.typed col c.in-Some.cells.now (omega (arith, length-map columns column_view, c.loop-col-test.true)) kept in
     let there = slice_get-get_or row col null (omega (arith, wide, length-map columns column_view, c.loop-col-test.true)) ∙ ap (λ v. Some v) (sym here) in
     record {

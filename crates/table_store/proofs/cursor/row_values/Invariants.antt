@@ -1,7 +1,7 @@
 use Rattle.std.proofs.Common.{◌≡◌, drop, length, map, take}
 use Rattle.cell_types.specs.Column.{column_view}
 use Rattle.cell_types.specs.Value.{value_view}
-use Rattle.table_store.specs.Values.{values_in}
+use Rattle.typed_columns.specs.Values.{values_in}
 use Rattle.table_store.proofs.cursor.row_values.Given as goal
 
 -- the fields of the columns so far are passed, and their values are read

@@ -7,8 +7,8 @@ use Rattle.cell_types.specs.Column.{column_view}
 use Rattle.cell_types.specs.Value.{null, value_view}
 use Rattle.csv_index.specs.Raw.{raw_view, raw_content}
 use Rattle.cell_types.specs.Cell.{value_of}
-use Rattle.table_store.specs.ColumnReader.{ReaderOf, read_on, HasReader}
-use Rattle.table_store.specs.Values.{value_or_null, values_in}
+use Rattle.typed_columns.specs.ColumnReader.{ReaderOf, read_on, HasReader}
+use Rattle.typed_columns.specs.Values.{value_or_null, values_in}
 use Rattle.table_store.proofs.ReaderLemmas.{passed_reader, read_all, read_passed, read_put}
 use Rattle.table_store.proofs.InsideLemmas.{length-values_in}
 use Rattle.table_store.proofs.PlaceLemmas.{drop-first, slice_get-from_read, slice_get-take}

@@ -2,8 +2,8 @@ use Rattle.std.proofs.Common.{◌≡◌, ◌<◌, ◌≤◌, ◌==◌, ℕ, None
 use Rattle.std.specs.List.{list_any}
 use Rattle.cell_types.specs.Column.{column_view}
 use Rattle.cell_types.specs.Value.{null, value_view}
-use Rattle.table_store.specs.ColumnReader.{read_on}
-use Rattle.table_store.specs.Values.{values_in}
+use Rattle.typed_columns.specs.ColumnReader.{read_on}
+use Rattle.typed_columns.specs.Values.{values_in}
 use Rattle.table_store.proofs.RowLemmas.{wrong_from}
 use Rattle.table_store.proofs.loading.read_row.Given as goal
 

@@ -7,16 +7,15 @@ use Rattle.cell_types.specs.declared.column.Column.{Column}
 use Rattle.cell_types.specs.Column.{column_view, takes_all_texts}
 use Rattle.cell_types.specs.Value.{CellValue, value_view}
 use Rattle.csvw_meta.specs.Schema.{schema_view}
-use Rattle.table_store.specs.Values.{rows_in, values_in}
-use Rattle.table_store.specs.Key.{row_key, row_keys}
-use Rattle.table_store.specs.ColumnReader.{reader_at, AreReadOn, HaveRead, HaveReaders}
-use Rattle.table_store.specs.Keys.{HasRead, Suits}
-use Rattle.table_store.specs.TypedColumn.{AreTyped}
+use Rattle.typed_columns.specs.Values.{rows_in, values_in}
+use Rattle.row_keys.specs.Key.{row_key, row_keys}
+use Rattle.typed_columns.specs.ColumnReader.{reader_at, AreReadOn, HaveRead, HaveReaders}
+use Rattle.row_keys.specs.Keys.{HasRead, TakesKey}
+use Rattle.typed_columns.specs.TypedColumn.{AreTyped}
 use Rattle.table_store.specs.Loading.{keys_at, values_of, ReadsAs, StandFor}
 use Rattle.table_store.proofs.InsideLemmas.{length-rows_in, length-values_in, rows_in-more}
 use Rattle.table_store.proofs.ReaderLemmas.{have_readers, none_typed, read_row_on, read_start, typed_read}
-use Rattle.table_store.proofs.LoadingLemmas.{bad_cell-cause, key_fault-cause}
-use Rattle.table_store.proofs.KeyLemmas.{row_keys-last}
+use Rattle.table_store.proofs.LoadingLemmas.{bad_cell-cause, key_fault-cause, row_keys-last}
 use Rattle.table_store.proofs.CursorLemmas.{RowAt, row_at}
 use Rattle.table_store.proofs.RowLemmas.{takes_all-rows, values_from-none, wrong_in_rows-here, wrong_in_rows-past, wrong_in_rows-end}
 use Rattle.table_store.proofs.loading.read_rows.Goals.{In-Ok-read_row}
@@ -99,7 +98,7 @@ pub read-requires-clause-suits : goal.read-requires-clause-suits
 read-requires-clause-suits c =
     let schema = schema_view c.args.schema.now in
     let values = (values_here (goal.at.read-requires-clause-suits c).In-Ok-read_row).1 in
-    subst (Suits c.loop-row.keys.keys)
+    subst (TakesKey c.loop-row.keys)
     (sym values.key ∙ ap (row_key schema.key) (ap (map value_view) (sym c.as_slice.ensures.value))
     ∙ ap (λ ps. row_key ps (map value_view c.as_slice.result.now)) (sym c.as_slice-places.ensures.value))
     (c.loop-row.invariant.suits (get_or c.args.file.now.rows c.loop-row.row []))

@@ -2,10 +2,10 @@ use Rattle.std.proofs.Common.{◌≡◌, List, drop, length, take}
 use Rattle.csv_index.specs.Raw.{RawField}
 use Rattle.csv_index.specs.Index.{row_fields}
 use Rattle.csvw_meta.specs.Schema.{schema_view}
-use Rattle.table_store.specs.Values.{rows_in, values_in}
-use Rattle.table_store.specs.Key.{row_key, row_keys}
-use Rattle.table_store.specs.ColumnReader.{HaveRead}
-use Rattle.table_store.specs.Keys.{HasRead, Suits}
+use Rattle.typed_columns.specs.Values.{rows_in, values_in}
+use Rattle.row_keys.specs.Key.{row_key, row_keys}
+use Rattle.typed_columns.specs.ColumnReader.{HaveRead}
+use Rattle.row_keys.specs.Keys.{HasRead, TakesKey}
 use Rattle.table_store.proofs.RowLemmas.{wrong_in_rows}
 use Rattle.table_store.proofs.loading.read_rows.Given as goal
 
@@ -20,5 +20,5 @@ invariant-loop-row l =
       count : length l.values.items ≡ length l.schema.columns.items;
       read : HaveRead (length rows) schema.columns (take l.row (rows_in schema.columns rows)) l.readers.items;
       keys : HasRead l.keys (row_keys schema.key (take l.row (rows_in schema.columns rows)));
-      suits : (fields : List RawField) → Suits l.keys.keys (row_key schema.key (values_in schema.columns fields));
+      suits : (fields : List RawField) → TakesKey l.keys (row_key schema.key (values_in schema.columns fields));
     }

@@ -3,7 +3,7 @@ use Rattle.block_summary.specs.Ranges.{no_range}
 use Rattle.cell_types.specs.Column.{ColumnOf, column_view}
 use Rattle.cell_types.specs.Value.{null}
 use Rattle.table_store.specs.Summaries.{with_row}
-use Rattle.table_store.specs.Values.{values_in}
+use Rattle.typed_columns.specs.Values.{values_in}
 use Rattle.table_store.proofs.summaries.add_row.Given as goal
 
 -- the fields of the columns so far are passed, and their ranges have a cell more

@@ -5,7 +5,7 @@ use Rattle.cell_types.specs.Column.{column_view}
 use Rattle.csvw_meta.specs.Schema.{schema_view}
 use Rattle.table_store.specs.Block.{block_of}
 use Rattle.table_store.specs.Summaries.{table_at, AreTextRanges, AreWithRow, IsSummaryOf}
-use Rattle.table_store.specs.Values.{values_in, HaveValues}
+use Rattle.typed_columns.specs.Values.{values_in, HaveValues}
 use Rattle.table_store.proofs.CursorLemmas.{row_at}
 use Rattle.table_store.proofs.InsideLemmas.{length-rows_in}
 use Rattle.table_store.proofs.ReaderLemmas.{row_in}

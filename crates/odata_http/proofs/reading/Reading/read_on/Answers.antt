@@ -1,54 +1,53 @@
 use Rattle.std.proofs.Common.{Some, None, refl, ap, sym, ◌∙◌, arith}
-use Rattle.query_plan.specs.Plan.{naive_plan}
 use Rattle.odata_http.proofs.ReadingLemmas.{advanced_done, advanced_fault, advanced_more, block_is, may_be_handed, reads_last, reads_more}
 use Rattle.odata_http.proofs.reading.Reading.read_on.Goals as goal
 
 pub advance-requires : goal.advance-requires
 advance-requires c =
-    may_be_handed c.args.catalog.now.tables c.tables.result.now c.args.self c.index-tables-self.result c.next_block-block.result c.requires c.tables.ensures c.index-tables-self.is
+    may_be_handed c.args.catalog.now c.tables.result.now c.args.self c.index-tables-self.result c.next_block-block.result c.requires c.tables.ensures c.index-tables-self.is
     c.next_block-block.ensures
 
 pub overflow_sub-result : goal.overflow_sub-result
 overflow_sub-result c =
     let is = c.requires.2 in
-    let block = block_is c.args.catalog.now.tables c.tables.result.now c.args.self c.index-tables-self.result c.next_block-block.result c.requires.0 c.requires.1 is c.tables.ensures
+    let block = block_is c.args.catalog.now c.tables.result.now c.args.self c.index-tables-self.result c.next_block-block.result c.requires.0 c.requires.1 is c.tables.ensures
     c.index-tables-self.is c.next_block-block.ensures in
-    let on = (advanced_more (naive_plan c.requires.0.query) is.table is.handed _ _ c.in-Ok-More.field-0-is
-    (c.in-Ok-More.ensures.advances (naive_plan c.requires.0.query) is.table is.handed is.stands block)).0 in
+    let on = (advanced_more is.plan is.table is.handed _ _ c.in-Ok-More.field-0-is
+    (c.in-Ok-More.ensures.advances is.plan is.table is.handed is.stands block)).0 in
     let all = is.left_are in
     let count = is.counted in
     omega (arith, on, all, count)
 
 pub returns-in-Ok-More-clause-reads : goal.returns-in-Ok-More-clause-reads
 returns-in-Ok-More-clause-reads c = λ asked left is.
-    let block = block_is c.args.catalog.now.tables c.tables.result.now c.args.self c.index-tables-self.result c.next_block-block.result asked left is c.tables.ensures
+    let block = block_is c.args.catalog.now c.tables.result.now c.args.self c.index-tables-self.result c.next_block-block.result asked left is c.tables.ensures
     c.index-tables-self.is c.next_block-block.ensures in
-    let on = advanced_more (naive_plan asked.query) is.table is.handed _ _ c.in-Ok-More.field-0-is
-    (c.in-Ok-More.ensures.advances (naive_plan asked.query) is.table is.handed is.stands block) in
-    reads_more c.args.catalog.now.tables asked left c.args.self _ is refl refl refl on.0 on.1
+    let on = advanced_more is.plan is.table is.handed _ _ c.in-Ok-More.field-0-is
+    (c.in-Ok-More.ensures.advances is.plan is.table is.handed is.stands block) in
+    reads_more c.args.catalog.now asked left c.args.self _ is refl refl refl refl on.0 on.1
 
 pub finish-requires : goal.finish-requires
 finish-requires c =
     let is = c.requires.2 in
-    let block = block_is c.args.catalog.now.tables c.tables.result.now c.args.self c.index-tables-self.result c.next_block-block.result c.requires.0 c.requires.1 is c.tables.ensures
+    let block = block_is c.args.catalog.now c.tables.result.now c.args.self c.index-tables-self.result c.next_block-block.result c.requires.0 c.requires.1 is c.tables.ensures
     c.index-tables-self.is c.next_block-block.ensures in
-    let on = advanced_done (naive_plan c.requires.0.query) is.table is.handed _ _ c.in-Ok-Done.field-0-is
-    (c.in-Ok-Done.ensures.advances (naive_plan c.requires.0.query) is.table is.handed is.stands block) in
+    let on = advanced_done is.plan is.table is.handed _ _ c.in-Ok-Done.field-0-is
+    (c.in-Ok-Done.ensures.advances is.plan is.table is.handed is.stands block) in
     (on.0, on.3)
 
 pub returns-in-Ok-Done-clause-reads : goal.returns-in-Ok-Done-clause-reads
 returns-in-Ok-Done-clause-reads c = λ asked left is.
-    let block = block_is c.args.catalog.now.tables c.tables.result.now c.args.self c.index-tables-self.result c.next_block-block.result asked left is c.tables.ensures
+    let block = block_is c.args.catalog.now c.tables.result.now c.args.self c.index-tables-self.result c.next_block-block.result asked left is c.tables.ensures
     c.index-tables-self.is c.next_block-block.ensures in
-    let on = advanced_done (naive_plan asked.query) is.table is.handed _ _ c.in-Ok-Done.field-0-is
-    (c.in-Ok-Done.ensures.advances (naive_plan asked.query) is.table is.handed is.stands block) in
+    let on = advanced_done is.plan is.table is.handed _ _ c.in-Ok-Done.field-0-is
+    (c.in-Ok-Done.ensures.advances is.plan is.table is.handed is.stands block) in
     let rows = c.finish.ensures on.0 on.3 in
-    reads_last c.args.catalog.now.tables asked left c.args.self _ (Some c.finish.result) is on.1 (on.2 ∙ ap Some (sym rows)) c.in_ok-rows_response-in-Ok-Done.ensures.response
+    reads_last c.args.catalog.now asked left c.args.self _ (Some c.finish.result) is on.1 (on.2 ∙ ap Some (sym rows)) c.in_ok-answer_response-in-Ok-Done.ensures.response
 
 pub returns-in-Err-DivisionByZero-clause-reads : goal.returns-in-Err-DivisionByZero-clause-reads
 returns-in-Err-DivisionByZero-clause-reads c = λ asked left is.
-    let block = block_is c.args.catalog.now.tables c.tables.result.now c.args.self c.index-tables-self.result c.next_block-block.result asked left is c.tables.ensures
+    let block = block_is c.args.catalog.now c.tables.result.now c.args.self c.index-tables-self.result c.next_block-block.result asked left is c.tables.ensures
     c.index-tables-self.is c.next_block-block.ensures in
-    let on = advanced_fault (naive_plan asked.query) is.table is.handed c.advance.new.self _ c.in-Err-DivisionByZero.field-0-is
-    (c.in-Err-DivisionByZero.ensures.advances (naive_plan asked.query) is.table is.handed is.stands block) in
-    reads_last c.args.catalog.now.tables asked left c.args.self _ None is on.0 on.1 c.in_ok-error_response-in-Err-DivisionByZero.ensures.response
+    let on = advanced_fault is.plan is.table is.handed c.advance.new.self _ c.in-Err-DivisionByZero.field-0-is
+    (c.in-Err-DivisionByZero.ensures.advances is.plan is.table is.handed is.stands block) in
+    reads_last c.args.catalog.now asked left c.args.self _ None is on.0 on.1 c.in_ok-error_response-in-Err-DivisionByZero.ensures.response

@@ -1,22 +1,21 @@
 use Rattle.std.proofs.Common.{ap, ◌∙◌, sym, refl, subst}
 use Rattle.csvw_meta.specs.Schema.{SchemaOf, schema_view}
 use Rattle.table_store.specs.Table.{TableOf}
-use Rattle.odata_query.specs.Query.{query_typed_view}
-use Rattle.odata_types.specs.Schema.{inputs_of}
-use Rattle.query_plan.specs.Plan.{IsFit, plan_view}
+use Rattle.query_plan.specs.Fitting.{IsFitFor}
+use Rattle.query_plan.specs.Plan.{plan_view}
 use Rattle.odata_request.specs.Request.{rows_view}
-use Rattle.odata_http.proofs.ReadingLemmas.{fit_query, starts, table_is}
+use Rattle.odata_http.proofs.ReadingLemmas.{starts, table_is}
 use Rattle.odata_http.proofs.reading.Reading.start.Goals as goal
 
 pub start-requires : goal.start-requires
 start-requires c =
-    let here = table_is c.args.catalog.now.tables c.tables.result.now c.args.asked.table c.index-tables-asked.result c.requires.table c.tables.ensures c.index-tables-asked.is c.requires.table_is in
+    let here = table_is c.args.catalog.now.tables c.tables.result.now c.args.asked.table c.index-tables-asked.result c.requires.inside.table c.tables.ensures c.index-tables-asked.is
+    c.requires.inside.table_is in
     let schema = c.schema.ensures ∙ ap (λ (t : TableOf). t.schema) here in
-    subst (λ (s : SchemaOf). IsFit (inputs_of s) (plan_view c.in_ok-plan.plan)) (sym schema)
-    (c.in_ok-plan.ensures.fits (inputs_of c.requires.table.schema) (fit_query (inputs_of c.requires.table.schema) (query_typed_view c.args.asked.query) c.requires.fits))
+    subst (λ (s : SchemaOf). IsFitFor s (plan_view c.in_ok-plan.plan)) (sym schema) (c.in_ok-plan.ensures.fits c.requires.inside.table.schema c.requires.inside.typed)
 
 pub returns-in-Ok : goal.returns-in-Ok
 returns-in-Ok c =
-    starts c.args.catalog.now.tables c.tables.result.now (rows_view c.args.asked) c.args.asked.table c.index-tables-asked.result c.requires.table (schema_view c.schema.result.now) _
-    (plan_view c.in_ok-plan.plan) c.summary-summaries.result.now c.requires.table_is refl c.tables.ensures c.index-tables-asked.is c.schema.ensures c.summary-summaries.ensures c.in_ok-plan.ensures.plan
-    refl refl c.max.ensures c.in-Ok.ensures.stands
+    starts c.args.catalog.now c.tables.result.now (rows_view c.args.asked) c.args.asked.table c.index-tables-asked.result c.requires.inside.table (schema_view c.schema.result.now) _
+    (plan_view c.in_ok-plan.plan) c.summary-summaries.result.now c.requires.inside.table_is refl c.tables.ensures c.index-tables-asked.is c.schema.ensures c.values_fit.ensures
+    c.summary-summaries.ensures c.requires.unkeyed c.in_ok-plan.ensures.means refl refl refl c.max.ensures c.in-Ok.ensures.stands

@@ -2,7 +2,7 @@ use Rattle.std.proofs.Common.{[], get_or, map, ap, sym, subst, ◌∙◌, arith}
 use Rattle.cell_types.specs.Column.{column_view}
 use Rattle.cell_types.specs.Value.{value_view}
 use Rattle.table_store.specs.Cursor.{HoldRow}
-use Rattle.table_store.specs.Values.{rows_in, values_in, HaveValues}
+use Rattle.typed_columns.specs.Values.{rows_in, values_in, HaveValues}
 use Rattle.table_store.proofs.CursorLemmas.{row_at, rows_left-at}
 use Rattle.table_store.proofs.ReaderLemmas.{hold_row, row_in}
 use Rattle.table_store.proofs.RowLemmas.{row_read}

@@ -14,7 +14,6 @@ returns-in-Err-clause-fault c =
 
 pub invariant_of-result : goal.invariant_of-result
 invariant_of-result c =
-    let columns = (schema_view c.args.schema).columns in
     let read = c.in-Ok.ensures.read in
     let size : length read.0 ≤ 2 ^ 30 = omega (arith, read.1.1, c.requires.limit) in record {
       fits = read.2.fits;
@@ -22,5 +21,5 @@ invariant_of-result c =
       values = read.2.values;
       typed = c.in-Ok.ensures.columns;
       keys = c.in-Ok.ensures.keys.are;
-      fit = table-fits c.values_fit_columns.ensures columns read.0 c.in-Ok.parts.0 size c.requires.defaults read.2;
+      fit = table-fits c.values_fit_columns.ensures (schema_view c.args.schema) read.0 c.in-Ok.parts.0 size c.requires.defaults read.2;
     }

@@ -2,7 +2,7 @@ use Rattle.std.proofs.Common.{◌+◌, ◌-◌, drop, map, take, ap, ◌∙◌}
 use Rattle.cell_types.specs.Column.{column_view}
 use Rattle.csvw_meta.specs.Schema.{schema_view}
 use Rattle.table_store.specs.Table.{TableOf}
-use Rattle.table_store.specs.Values.{rows_in}
+use Rattle.typed_columns.specs.Values.{rows_in}
 use Rattle.table_store.proofs.CursorLemmas.{rows_in-part}
 use Rattle.table_store.proofs.table.Table.rows_from.Goals as goal
 

@@ -4,7 +4,7 @@ use Rattle.std.proofs.lemmas.Option.{slice_get-get_or, slice_get-map}
 use Rattle.std.proofs.lemmas.List.Elements.{All-from_recursion}
 use Rattle.std.specs.Option.{option_copied}
 use Rattle.cell_types.specs.Value.{CellValue, null}
-use Rattle.table_store.specs.Values.{rows_in}
+use Rattle.typed_columns.specs.Values.{rows_in}
 use Rattle.table_store.proofs.ReaderLemmas.{hold_row}
 use Rattle.csv_index.specs.Raw.{raw_view}
 use Rattle.cell_types.specs.Column.{column_view}
@@ -57,7 +57,7 @@ returns-in-Some c =
     let in_schema : col < length columns = omega (arith, c.requires.col, ap (λ t. length t.schema.columns) c.self.view_is) in
     let in_rows : row < length rows = omega (arith, c.requires.row, ap (λ t. length t.rows) c.self.view_is) in
     let wide = All-from_recursion (λ values. length values ≡ length columns) rows (rows-wide columns raws c.self.invariant.fits.rows) row none in_rows in
-    let kept = ap (λ typed. get_or typed col None) (sym c.as_slice.ensures.value) ∙ sym c.typed_column.ensures ∙ ap option_copied c.in-Some.is in
+    let kept = ap (λ typed. get_or typed col None) (sym c.as_slice.ensures.value) ∙ sym c.column_at.ensures ∙ ap option_copied c.in-Some.is in
     let here = c.value.ensures ∙ hold_row columns rows table.columns.items row c.self.invariant.typed col c.in-Some.column.now in_schema kept in
     ap (λ t. option_and_then (λ values. slice_get values col) (slice_get t.rows row)) (sym c.self.view_is)
     ∙ ap (option_and_then (λ values. slice_get values col)) (slice_get-get_or rows row none in_rows)

@@ -1,0 +1,164 @@
+//! The values of options, and keys, by their grammars.
+ghost use Rattle.std.specs.Prelude.{[], false, option_map};
+ghost use Rattle.odata_parse.specs.Expression.{IsFilter};
+ghost use Rattle.odata_parse.specs.Options.{IsKey, IsOrder, IsSelection};
+ghost use Rattle.odata_parse.specs.Tree.{apply_view, expr_view, key_view, order_view, selection_view};
+ghost use Rattle.odata_request.specs.Fault.{Gives};
+ghost use Rattle.odata_request.specs.Options.{text_view};
+ghost use Rattle.odata_request.specs.Reading.{ReadsApply, ReadsFlag, ReadsNumber, ReadsOption, ReadsOr, ReadsTree};
+
+use crate::fault::RequestFault;
+use odata_lex::lex;
+use odata_parse::tree::{Expr, Key, OrderItem, SelectItem, Transformation};
+use odata_parse::{
+    parse_apply, parse_filter, parse_flag, parse_key, parse_number, parse_orderby, parse_select,
+};
+use std::alloc::Global;
+
+/// A key's text.
+fn read_key(alloc: Global, text: &str) -> Result<Key, RequestFault>
+    ensures { Gives key_view (ReadsTree IsKey text.now) result }
+{
+    odata_lex::tokens_or_fault();
+    let tokens = lex(alloc, text)?;
+    Ok(parse_key(alloc, text, tokens.as_slice())?)
+}
+
+/// The value of `$apply`, where `/` may part so many transformations at most.
+fn read_apply(alloc: Global, limit: u32, text: &str) -> Result<Vec<Transformation>, RequestFault>
+    ensures { Gives apply_view (ReadsApply limit text.now) result }
+{
+    odata_lex::tokens_or_fault();
+    let tokens = lex(alloc, text)?;
+    Ok(parse_apply(alloc, text, tokens.as_slice(), limit)?)
+}
+
+/// The value of `$filter`.
+fn read_filter(alloc: Global, text: &str) -> Result<Expr, RequestFault>
+    ensures { Gives expr_view (ReadsTree IsFilter text.now) result }
+{
+    odata_lex::tokens_or_fault();
+    let tokens = lex(alloc, text)?;
+    Ok(parse_filter(alloc, text, tokens.as_slice())?)
+}
+
+/// The value of `$orderby`.
+fn read_order(alloc: Global, text: &str) -> Result<Vec<OrderItem>, RequestFault>
+    ensures { Gives order_view (ReadsTree IsOrder text.now) result }
+{
+    odata_lex::tokens_or_fault();
+    let tokens = lex(alloc, text)?;
+    Ok(parse_orderby(alloc, text, tokens.as_slice())?)
+}
+
+/// The value of `$select`.
+fn read_selection(alloc: Global, text: &str) -> Result<Vec<SelectItem>, RequestFault>
+    ensures { Gives selection_view (ReadsTree IsSelection text.now) result }
+{
+    odata_lex::tokens_or_fault();
+    let tokens = lex(alloc, text)?;
+    Ok(parse_select(alloc, text, tokens.as_slice())?)
+}
+
+/// The value of `$skip` or `$top`.
+fn read_number(text: &str) -> Result<u64, RequestFault>
+    ensures { Gives (λ number. number) (ReadsNumber text.now) result }
+{
+    Ok(parse_number(text)?)
+}
+
+/// The key, where the path has one.
+pub(crate) fn optional_key(alloc: Global, text: Option<&str>) -> Result<Option<Key>, RequestFault>
+    ensures { Gives (λ key. option_map key_view key)
+        (ReadsOption (ReadsTree IsKey) (text_view text.entry)) result }
+{
+    match text {
+        Some(text) => Ok(Some(read_key(alloc, text)?)),
+        None => Ok(None),
+    }
+}
+
+/// The transformations of `$apply`; none where the query does not have it.
+pub(crate) fn apply_or_none(
+    alloc: Global,
+    limit: u32,
+    text: Option<&str>,
+) -> Result<Vec<Transformation>, RequestFault>
+    ensures { Gives apply_view (ReadsOr [] (ReadsApply limit) (text_view text.entry)) result }
+{
+    match text {
+        Some(text) => read_apply(alloc, limit, text),
+        None => Ok(Vec::new(alloc)),
+    }
+}
+
+/// The filter, where the query has one.
+pub(crate) fn optional_filter(
+    alloc: Global,
+    text: Option<&str>,
+) -> Result<Option<Expr>, RequestFault>
+    ensures { Gives (λ tree. option_map expr_view tree)
+        (ReadsOption (ReadsTree IsFilter) (text_view text.entry)) result }
+{
+    match text {
+        Some(text) => Ok(Some(read_filter(alloc, text)?)),
+        None => Ok(None),
+    }
+}
+
+/// Whether the query asks for the number of rows by `$count`.
+pub(crate) fn flag_or_false(text: Option<&str>) -> Result<bool, RequestFault>
+    ensures { Gives (λ flag. flag) (ReadsOr false ReadsFlag (text_view text.entry)) result }
+{
+    match text {
+        Some(text) => Ok(parse_flag(text)?),
+        None => Ok(false),
+    }
+}
+
+/// The items of `$orderby`; none where the query does not have it.
+pub(crate) fn order_or_none(
+    alloc: Global,
+    text: Option<&str>,
+) -> Result<Vec<OrderItem>, RequestFault>
+    ensures { Gives order_view (ReadsOr [] (ReadsTree IsOrder) (text_view text.entry)) result }
+{
+    match text {
+        Some(text) => read_order(alloc, text),
+        None => Ok(Vec::new(alloc)),
+    }
+}
+
+/// The value of `$skip`; 0 where the query does not have it.
+pub(crate) fn number_or_zero(text: Option<&str>) -> Result<u64, RequestFault>
+    ensures { Gives (λ number. number) (ReadsOr 0 ReadsNumber (text_view text.entry)) result }
+{
+    match text {
+        Some(text) => read_number(text),
+        None => Ok(0),
+    }
+}
+
+/// The value of `$top`, where the query has it.
+pub(crate) fn optional_number(text: Option<&str>) -> Result<Option<u64>, RequestFault>
+    ensures { Gives (λ number. number) (ReadsOption ReadsNumber (text_view text.entry)) result }
+{
+    match text {
+        Some(text) => Ok(Some(read_number(text)?)),
+        None => Ok(None),
+    }
+}
+
+/// The items of `$select`, where the query has it.
+pub(crate) fn optional_selection(
+    alloc: Global,
+    text: Option<&str>,
+) -> Result<Option<Vec<SelectItem>>, RequestFault>
+    ensures { Gives (λ items. option_map selection_view items)
+        (ReadsOption (ReadsTree IsSelection) (text_view text.entry)) result }
+{
+    match text {
+        Some(text) => Ok(Some(read_selection(alloc, text)?)),
+        None => Ok(None),
+    }
+}

@@ -1,0 +1,14 @@
+use Rattle.std.proofs.Common.{◌≡◌, ◌+◌, Ok, Some, refl, ap, ◌∙◌, subst}
+use Rattle.query_exec.specs.Answer.{plan_answer}
+use Rattle.query_exec.specs.Run.{run_length, StepsTo}
+use Rattle.query_exec.proofs.run.Run.advance.Goals as goal
+
+pub returns-in-Ok-None-clause-advances : goal.returns-in-Ok-None-clause-advances
+returns-in-Ok-None-clause-advances c = λ plan table handed stands is.
+    subst (StepsTo plan table handed c.step.new.self) (c.in-Ok-None.is ∙ ap (λ r. Ok r) c.in-Ok-None.field-0-is) (c.step.ensures.steps plan table handed stands is)
+
+pub returns-in-Ok-Some-clause-advances : goal.returns-in-Ok-Some-clause-advances
+returns-in-Ok-Some-clause-advances c = λ plan table handed stands is.
+    let steps : (handed + 1 ≡ run_length table) × (plan_answer plan table ≡ Some c.in-Ok-Some.rows) =
+    subst (StepsTo plan table handed c.step.new.self) (c.in-Ok-Some.is ∙ ap (λ r. Ok r) c.in-Ok-Some.field-0-is) (c.step.ensures.steps plan table handed stands is) in
+    (c.in-Ok-Some.rows, steps.0, steps.1, refl)

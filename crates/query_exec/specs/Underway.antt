@@ -1,0 +1,36 @@
+-- Results between two steps of a plan.
+use Rattle.std.specs.Prelude.{◌≡◌, ◌<◌, ℕ, List, Option, Some, None, Result, Ok, Err, get_or, length, map, string_bytes}
+use Rattle.std.specs.List.{All}
+use Rattle.row_columns.specs.Picked.{numbered}
+use Rattle.row_eval.specs.declared.fault.EvalFault.{EvalFault}
+use Rattle.row_eval.specs.declared.fault.EvalFault.TheVariants.{DivisionByZero, NoMemory}
+use Rattle.query_plan.specs.Meaning.{ResultOf}
+use Rattle.query_exec.specs.declared.underway.Underway.{Underway}
+
+abbrev pub underway_view : Underway → ResultOf
+underway_view u = record {
+  names = map string_bytes u.names.items;
+  rows = numbered u.numbers.items u.columns.rows;
+  count = u.count;
+}
+
+-- each number is that of a row, and there is a name for each column
+pub record IsUnderway (u : Underway) : Type 0 where
+  pub within : All (λ n. n < length u.columns.rows) u.numbers.items
+  pub width : length u.columns.kinds ≡ length u.names.items
+
+-- the numbers of so many rows, all of them and in their order
+pub record AreAll (numbers : List ℕ) (len : ℕ) : Type 0 where
+  pub count : length numbers ≡ len
+  pub each : (k : ℕ) → k < len → get_or numbers k 0 ≡ k
+
+-- that is the result that there is
+pub record Makes (made : Option ResultOf) (u : Underway) : Type 0 where
+  pub result : made ≡ Some (underway_view u)
+  pub underway : IsUnderway u
+
+-- a division by zero just where there is no result
+abbrev pub GivesUnderway : Option ResultOf → Result Underway EvalFault → Type 0
+GivesUnderway made (Ok u) = Makes made u
+GivesUnderway made (Err DivisionByZero) = made ≡ None
+GivesUnderway made (Err NoMemory) = Unit {0}

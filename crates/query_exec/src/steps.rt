@@ -1,0 +1,157 @@
+//! The steps of a plan on a result.
+ghost use Rattle.std.specs.Prelude.{◌≡◌, ◌<◌, IfOk, length, map};
+ghost use Rattle.std.specs.List.{All};
+ghost use Rattle.odata_query.specs.Aggregate.{named_view};
+ghost use Rattle.query_plan.specs.Fitting.{IsFitNode, NodesFit};
+ghost use Rattle.query_plan.specs.Plan.{aggregating, counted, grouping, node_result, node_view, nodes_result, projecting, slice_view};
+ghost use Rattle.query_exec.specs.Underway.{underway_view, GivesUnderway, IsUnderway, Makes};
+
+use crate::names::{picked_names, push_aliases};
+use crate::underway::Underway;
+use odata_query::NamedAggregate;
+use query_plan::{Node, Slice};
+use row_eval::EvalFault;
+use row_groups::{aggregated, grouped};
+use row_order::{passing_numbers, piece, sorted_numbers};
+use std::alloc::{AllocError, Global};
+
+/// The values of some columns.
+pub(crate) fn project(
+    alloc: Global,
+    underway: &Underway,
+    places: &[usize],
+) -> Result<Underway, AllocError>
+    requires underway { IsUnderway underway.now }
+    requires places { All (λ place. place < length underway.now.names.items) places.now }
+    ensures { IfOk result (Makes (node_result (projecting places.now) (underway_view underway.now))) }
+{
+    let columns = underway
+        .columns
+        .picked(alloc, places, underway.numbers.as_slice())?;
+    let names = picked_names(alloc, underway.names.as_slice(), places)?;
+    Underway::whole(alloc, names, columns, underway.count)
+}
+
+/// One row of aggregates.
+fn aggregate(
+    alloc: Global,
+    underway: &Underway,
+    aggregates: &[NamedAggregate],
+) -> Result<Underway, AllocError>
+    requires underway { IsUnderway underway.now }
+    requires fits { IsFitNode (aggregating (map named_view aggregates.now))
+        (underway_view underway.now) }
+    ensures { IfOk result (Makes (node_result (aggregating (map named_view aggregates.now))
+        (underway_view underway.now))) }
+{
+    let columns = aggregated(
+        alloc,
+        &underway.columns,
+        underway.numbers.as_slice(),
+        aggregates,
+    )?;
+    let mut names = Vec::new(alloc);
+    push_aliases(&mut names, aggregates)?;
+    Underway::whole(alloc, names, columns, underway.count)
+}
+
+/// A row for each group.
+fn group(
+    alloc: Global,
+    underway: &Underway,
+    places: &[usize],
+    aggregates: &[NamedAggregate],
+) -> Result<Underway, AllocError>
+    requires underway { IsUnderway underway.now }
+    requires fits { IsFitNode (grouping places.now (map named_view aggregates.now))
+        (underway_view underway.now) }
+    ensures { IfOk result (Makes (node_result (grouping places.now (map named_view aggregates.now))
+        (underway_view underway.now))) }
+{
+    let columns = grouped(
+        alloc,
+        &underway.columns,
+        underway.numbers.as_slice(),
+        places,
+        aggregates,
+    )?;
+    let mut names = picked_names(alloc, underway.names.as_slice(), places)?;
+    push_aliases(&mut names, aggregates)?;
+    Underway::whole(alloc, names, columns, underway.count)
+}
+
+/// The count, where a piece asks for it.
+fn count_of(slice: Slice, underway: &Underway) -> Option<u64>
+    requires { IsUnderway underway.now }
+    ensures { result ≡ counted (slice_view slice) (underway_view underway.now) }
+{
+    if slice.counts {
+        Some(underway.numbers.len() as u64)
+    } else {
+        underway.count
+    }
+}
+
+/// What a step makes of a result.
+fn apply(alloc: Global, node: &Node, underway: Underway) -> Result<Underway, EvalFault>
+    requires underway { IsUnderway underway }
+    requires fits { IsFitNode (node_view node.now) (underway_view underway) }
+    ensures { GivesUnderway (node_result (node_view node.now) (underway_view underway)) result }
+{
+    match node {
+        Node::Filter(condition) => {
+            let numbers = passing_numbers(alloc, &underway.columns, &underway.numbers, condition)?;
+            Ok(Underway {
+                numbers,
+                ..underway
+            })
+        }
+        Node::Aggregate(aggregates) => Ok(aggregate(alloc, &underway, aggregates)?),
+        Node::Group(places, aggregates) => Ok(group(alloc, &underway, places, aggregates)?),
+        Node::Sort(items) => {
+            let Underway {
+                names,
+                columns,
+                numbers,
+                count,
+            } = underway;
+            let numbers = sorted_numbers(alloc, &columns, numbers, items)?;
+            Ok(Underway {
+                names,
+                columns,
+                numbers,
+                count,
+            })
+        }
+        Node::Slice(slice) => {
+            let count = count_of(*slice, &underway);
+            let numbers = piece(underway.numbers, slice.skip, slice.top);
+            Ok(Underway {
+                names: underway.names,
+                columns: underway.columns,
+                numbers,
+                count,
+            })
+        }
+        Node::Project(places) => Ok(project(alloc, &underway, places)?),
+    }
+}
+
+/// What the steps in turn make of a result.
+#[tactic(auto, using(crate::proofs::StepLemmas::begins, crate::proofs::StepLemmas::step_fits, crate::proofs::StepLemmas::step_made, crate::proofs::StepLemmas::step_faults, crate::proofs::StepLemmas::all_through))]
+pub(crate) fn apply_all(
+    alloc: Global,
+    nodes: &[Node],
+    underway: Underway,
+) -> Result<Underway, EvalFault>
+    requires underway { IsUnderway underway }
+    requires fits { NodesFit (map node_view nodes.now) (underway_view underway) }
+    ensures { GivesUnderway (nodes_result (map node_view nodes.now) (underway_view underway))
+        result }
+{
+    let mut underway = underway;
+    for node in nodes {
+        underway = apply(alloc, node, underway)?;
+    }
+    Ok(underway)
+}

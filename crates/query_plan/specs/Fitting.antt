@@ -1,0 +1,77 @@
+-- What must hold of rows before a step may compute on them: each column is there, and each number that is computed fits 128 bits.
+use Rattle.std.specs.Prelude.{◌≡◌, ℕ, ℤ, ◌*◌, ◌^◌, ◌<◌, ◌≤◌, List, [], ◌∷◌, length, Some, Ok, IfSome, unsigned_abs}
+use Rattle.std.specs.List.{All, filter_map}
+use Rattle.cell_types.specs.Value.{CellValue}
+use Rattle.csvw_meta.specs.Schema.{SchemaOf}
+use Rattle.csvw_meta.specs.declared.limits.TheConstants.{MOST_FILE_BYTES}
+use Rattle.odata_parse.specs.Tree.{OrderItemOf, order_item, TransformationOf, filter_by}
+use Rattle.odata_types.specs.Columns.{InputOf}
+use Rattle.odata_query.specs.declared.aggregate.Aggregate.{Aggregate}
+use Rattle.odata_query.specs.declared.aggregate.Aggregate.TheVariants.{Count, SumOfIntegers, SumOfDecimals, Min, Max, CountDistinct}
+use Rattle.odata_query.specs.declared.aggregate.TheConstants.{MOST_ROWS}
+use Rattle.odata_query.specs.Query.{QueryOf, TypedOf, query_typing}
+use Rattle.row_eval.specs.Bounds.{NumbersFit, TruthFits}
+use Rattle.row_eval.specs.Input.{IsQueried, IsRowOf, IsTableRow}
+use Rattle.row_eval.specs.Row.{cell, decimal_in, integer_in}
+use Rattle.query_plan.specs.Meaning.{ResultOf}
+use Rattle.query_plan.specs.Plan.{NodeOf, PlanOf, aggregating, filtering, grouping, node_result, projecting, slicing, sorting, table_result}
+
+-- numbers of at most so many rows, of which the sums, also of some of them, fit 128 bits
+pub record AreSummable (numbers : List ℤ) (rows : ℕ) : Type 0 where
+  pub bound : ℕ
+  pub each : All (λ n. unsigned_abs n ≤ bound) numbers
+  pub small : bound * rows ≤ 2 ^ 126
+
+abbrev pub AggregateFits : ResultOf → Aggregate → Type 0
+AggregateFits r Count = Unit {0}
+AggregateFits r (SumOfIntegers place) = (place < length r.names) × AreSummable (filter_map (λ row. cell integer_in row place) r.rows) (length r.rows)
+AggregateFits r (SumOfDecimals place) = (place < length r.names) × AreSummable (filter_map (λ row. cell decimal_in row place) r.rows) (length r.rows)
+AggregateFits r (Min place) = place < length r.names
+AggregateFits r (Max place) = place < length r.names
+AggregateFits r (CountDistinct place) = place < length r.names
+
+-- a step on a result
+abbrev pub IsFitNode : NodeOf → ResultOf → Type 0
+IsFitNode (filtering e) r = All (TruthFits e) r.rows
+IsFitNode (aggregating aggregates) r = All (λ a. AggregateFits r a.aggregate) aggregates
+IsFitNode (grouping places aggregates) r = All (λ place. place < length r.names) places × All (λ a. AggregateFits r a.aggregate) aggregates
+IsFitNode (sorting items) r = All (λ row. All (λ item. NumbersFit item.0 row) items) r.rows
+IsFitNode (slicing s) r = Unit {0}
+IsFitNode (projecting places) r = All (λ place. place < length r.names) places
+
+-- each step on what those before it give
+abbrev pub NodesFit : List NodeOf → ResultOf → Type 0
+NodesFit [] r = Unit {0}
+NodesFit (n ∷ ns) r = IsFitNode n r × ((made : ResultOf) → node_result n r ≡ Some made → NodesFit ns made)
+
+-- the rows of some table: each fits the columns, and there are no more than a file has bytes
+pub record AreTableRows (schema : SchemaOf) (rows : List (List CellValue)) : Type 0 where
+  pub each : All (IsTableRow schema.columns) rows
+  pub count : length rows ≤ MOST_FILE_BYTES
+
+-- rows of an input, no more than 2 to the 30
+pub record AreRowsOf (inputs : List InputOf) (rows : List (List CellValue)) : Type 0 where
+  pub each : All (IsRowOf inputs) rows
+  pub count : length rows ≤ MOST_ROWS
+
+abbrev pub IsFitFor : SchemaOf → PlanOf → Type 0
+IsFitFor schema plan = (rows : List (List CellValue)) → AreTableRows schema rows → NodesFit plan.nodes (table_result schema rows)
+
+-- ---- queries that were typed
+
+abbrev pub IsQueriedTransformation : TransformationOf → Type 0
+IsQueriedTransformation (filter_by e) = IsQueried e
+IsQueriedTransformation _ = Unit {0}
+
+abbrev pub IsQueriedItem : OrderItemOf → Type 0
+IsQueriedItem (order_item e descending) = IsQueried e
+
+-- each expression of the query has few nodes and short texts
+pub record AreQueried (q : QueryOf) : Type 0 where
+  pub apply : All IsQueriedTransformation q.apply
+  pub filter : IfSome q.filter IsQueried
+  pub order : All IsQueriedItem q.order
+
+-- the query with types is that of a query on the table
+abbrev pub IsTypedFor : SchemaOf → TypedOf → Type 0
+IsTypedFor schema q = (query : QueryOf) × AreQueried query × (query_typing schema query ≡ Ok q)

@@ -1,0 +1,6 @@
+pub mod RowLemmas
+pub mod ValueLemmas
+pub mod SumLemmas
+pub mod FitLemmas
+pub mod GroupLemmas
+pub mod GroupedLemmas

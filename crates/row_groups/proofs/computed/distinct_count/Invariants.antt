@@ -1,0 +1,14 @@
+use Rattle.std.proofs.Common.{◌≤◌, drop, length, map}
+use Rattle.cell_types.specs.Value.{value_view}
+use Rattle.query_plan.specs.Apply.{values_in}
+use Rattle.row_columns.specs.Picked.{numbered}
+use Rattle.row_groups.proofs.ValueLemmas.{HasDistinct}
+use Rattle.row_groups.proofs.computed.distinct_count.Given as goal
+
+-- the values of the rows from one on
+abbrev pub invariant-loop-i : goal.invariant-loop-i
+invariant-loop-i l =
+    record { within : l.i ≤ length l.numbers; values : HasDistinct (map value_view l.values.keys) (values_in l.place (numbered (drop l.i l.numbers) l.columns.rows)) }
+
+abbrev pub decreases-loop-i : goal.decreases-loop-i
+decreases-loop-i l = l.i

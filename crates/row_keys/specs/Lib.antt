@@ -1,0 +1,3 @@
+pub mod Key
+pub mod Keys
+pub mod Laws

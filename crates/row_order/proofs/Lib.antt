@@ -1,0 +1,3 @@
+pub mod StableLemmas
+pub mod ItemLemmas
+pub mod NumberLemmas

@@ -1,0 +1,13 @@
+//! Rows by their numbers in columns: those that pass a filter, rows in the order of `$orderby`, and a piece of them (OData 4.01 URL
+//! Conventions, sections 5.1.2, 5.1.5 and 5.1.6). No row is moved: of numbers of rows come numbers of rows.
+#![tactic(auto)]
+
+mod keyed;
+mod keys;
+mod passing;
+mod pieces;
+mod sorting;
+
+pub use passing::passing_numbers;
+pub use pieces::piece;
+pub use sorting::sorted_numbers;

@@ -1,0 +1,42 @@
+//! The values of fields as they stand in a file.
+ghost use Rattle.std.specs.Prelude.{◌≡◌, ◌⊎◌, Ok, Err, IfOk, IfErr};
+ghost use Rattle.cell_types.specs.Value.{value_view};
+ghost use Rattle.cell_types.specs.Column.{column_view};
+ghost use Rattle.csv_index.specs.Raw.{raw_view};
+ghost use Rattle.typed_columns.specs.Values.{value_in, value_or_null, HasValue};
+
+use cell_types::{CellFault, Column, Value, read_text};
+use csv_index::Raw;
+use std::alloc::{AllocError, Global};
+
+/// The value of a field in a column.
+pub fn cell_value<'a>(alloc: Global, column: &Column, raw: Raw<'a>) -> Result<Value<'a>, CellFault>
+    ensures value { IfOk result (λ value.
+        value_in (column_view column.now, raw_view raw.entry) ≡ Ok (value_view value)) }
+    ensures fault { IfErr result (λ e. (e ≡ CellFault.NoMemory)
+        ⊎ (value_in (column_view column.now, raw_view raw.entry) ≡ Err e)) }
+{
+    match raw.text(alloc) {
+        Ok(text) => read_text(alloc, column, text),
+        Err(_) => Err(CellFault::NoMemory),
+    }
+}
+
+/// The value of a field in a column, which has one there.
+pub fn field_value<'a>(
+    alloc: Global,
+    column: &Column,
+    raw: Raw<'a>,
+) -> Result<Value<'a>, AllocError>
+    requires { HasValue (column_view column.now) (raw_view raw) }
+    ensures { IfOk result (λ value.
+        value_view value ≡ value_or_null (value_in (column_view column.now, raw_view raw.entry))) }
+{
+    match cell_value(alloc, column, raw) {
+        Ok(value) => Ok(value),
+        Err(fault) => match fault {
+            CellFault::NoMemory => Err(AllocError),
+            _ => unreachable!(),
+        },
+    }
+}
