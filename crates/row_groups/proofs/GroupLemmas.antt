@@ -17,8 +17,6 @@ use Rattle.row_columns.specs.Picked.{numbered}
 use Rattle.row_groups.specs.declared.groups.Groups.{Groups}
 use Rattle.row_groups.specs.Groups.{AreGroups, members_of}
 
--- ---- first seen
-
 append_none : {X : Type 0} (xs : List X) → xs ++ [] ≡ xs
 append_none [] = refl
 append_none (x ∷ xs) = ap (λ ys. x ∷ ys) (append_none xs)
