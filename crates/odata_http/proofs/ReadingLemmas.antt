@@ -13,6 +13,7 @@ use Rattle.table_store.specs.Fits.{HasTableRows}
 use Rattle.table_store.specs.Table.{TableOf}
 use Rattle.odata_parse.specs.declared.format.Format.{Format}
 use Rattle.query_plan.specs.Plan.{Means, PlanOf, answer_of}
+use Rattle.query_plan.specs.Rewrite.{MeansTheSame}
 use Rattle.query_exec.specs.declared.fault.ExecFault.{ExecFault}
 use Rattle.query_exec.specs.declared.fault.ExecFault.TheVariants.{DivisionByZero}
 use Rattle.query_exec.specs.declared.run.Run.{Run}
@@ -72,13 +73,14 @@ may_be_handed catalog seen reading found block may same at given =
 
 pub starts : (catalog : CatalogOf) (seen : List TableOf) (asked : RowsRequestOf) (number : ℕ) (found table : TableOf) (schema : SchemaOf) (reading : Reading) (plan : PlanOf)
     (summaries : List (List RangeOf)) → slice_get catalog.tables number ≡ Some table → number ≡ asked.table → seen ≡ catalog.tables → found ≡ get_or seen number found
-    → schema ≡ found.schema → HasTableRows found → AreSummariesOf found summaries → asked.query.key ≡ None → Means plan asked.query
+    → schema ≡ found.schema → HasTableRows found → AreSummariesOf found summaries → asked.query.key ≡ None → (first : PlanOf) → Means first asked.query → MeansTheSame table.schema first plan
     → reading.table ≡ number → reading.format ≡ asked.format → reading.counting ≡ asked.query.counting → reading.left ≡ max (length summaries) 1
     → ((t : TableOf) → t.schema ≡ schema → HasTableRows t → AreSummariesOf t summaries → StandsFor reading.run plan t 0) → StartsReading catalog asked reading
-starts catalog seen asked number found table schema reading plan summaries is number_is same at of fit those unkeyed means table_of format counting left stands =
+starts catalog seen asked number found table schema reading plan summaries is number_is same at of fit those unkeyed first means alike table_of format counting left stands =
     let here = table_is catalog.tables seen number found table same at is in
     let asked_is = subst (λ (n : ℕ). slice_get catalog.tables n ≡ Some table) number_is is in
     let known : AreSummariesOf table summaries = subst (λ (t : TableOf). AreSummariesOf t summaries) here those in
+    let stood = stands table (ap (λ (t : TableOf). t.schema) (sym here) ∙ sym of) (subst HasTableRows here fit) known in
     let all : reading.left ≡ run_length table = left ∙ max_turned (length summaries) ∙ ap (max 1) known.count in (
       run_length table,
       record { table = table; table_is = asked_is; calls_are = refl },
@@ -90,9 +92,9 @@ starts catalog seen asked number found table schema reading plan summaries is nu
         format_is = format;
         counting_is = counting;
         plan = plan;
-        means = means;
+        means = ap (option_map (answer_of asked.query.counting)) (alike table.rows stood.are_rows) ∙ means table.schema table.rows;
         handed = 0;
-        stands = stands table (ap (λ (t : TableOf). t.schema) (sym here) ∙ sym of) (subst HasTableRows here fit) known;
+        stands = stood;
         left_are = omega arith;
         counted = all;
       },
@@ -148,7 +150,7 @@ pub reads_last : (catalog : CatalogOf) (asked : RowsRequestOf) (left : ℕ) (old
     → (left ≡ 1) × RespondsWithRows catalog asked response
 reads_last catalog asked left old response answer is last answers made =
     let all = is.left_are in
-    let meaning = ap (λ (c : Bool). option_map (answer_of c) answer) is.counting_is ∙ ap (option_map (answer_of asked.query.counting)) (sym answers) ∙ is.means is.table.schema is.table.rows in (
+    let meaning = ap (λ (c : Bool). option_map (answer_of c) answer) is.counting_is ∙ ap (option_map (answer_of asked.query.counting)) (sym answers) ∙ is.means in (
       omega (arith, all, last),
       record {
         table = is.table;

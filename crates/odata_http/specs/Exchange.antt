@@ -1,14 +1,16 @@
 -- What an exchange stands for, and what its calls make of that.
-use Rattle.std.specs.Prelude.{◌≡◌, ◌<◌, ◌+◌, ◌-◌, ⊤, ℕ, List, [], Option, Some, None, Result, Ok, Err, slice_get}
+use Rattle.std.specs.Prelude.{◌≡◌, ◌<◌, ◌+◌, ◌-◌, ⊤, ℕ, List, [], Option, Some, None, Result, Ok, Err, option_map, slice_get}
 use Rattle.std.specs.declared.alloc.AllocError.{AllocError}
 use Rattle.cell_types.specs.Value.{CellValue}
-use Rattle.odata_query.specs.Query.{optional_numbers, values_view}
+use Rattle.odata_query.specs.Query.{TypedOf, optional_numbers, values_view}
 use Rattle.table_store.specs.Catalog.{CatalogOf}
 use Rattle.table_store.specs.Table.{TableOf}
 use Rattle.query_plan.specs.Fitting.{IsTypedFor}
-use Rattle.query_plan.specs.Plan.{Means, PlanOf}
+use Rattle.query_plan.specs.Meaning.{query_meaning}
+use Rattle.query_plan.specs.Plan.{PlanOf, answer_of}
 use Rattle.query_exec.specs.declared.run.Step.{Step}
 use Rattle.query_exec.specs.declared.run.Step.TheVariants.{More, Done}
+use Rattle.query_exec.specs.Answer.{plan_answer}
 use Rattle.query_exec.specs.Run.{StandsFor, run_length}
 use Rattle.http_heads.specs.Head.{HeadOf}
 use Rattle.http_heads.specs.Checks.{head_fault, closes}
@@ -43,6 +45,10 @@ pub record HeadTakes (catalog : CatalogOf) (head : HeadOf) (calls : ℕ) : Type 
   pub asks : AsksFor catalog (head_fault head) head.target request
   pub takes : RequestTakes catalog request calls
 
+-- on a table the plan answers what the query means
+abbrev pub MeansOn : TableOf → PlanOf → TypedOf → Type 0
+MeansOn table plan query = option_map (answer_of query.counting) (plan_answer plan table) ≡ query_meaning table.schema query table.rows
+
 -- a run on its table of a plan that means a query without a key, so many calls before its end
 pub record IsReading (catalog : CatalogOf) (asked : RowsRequestOf) (left : ℕ) (reading : Reading) : Type 0 where
   pub unkeyed : asked.query.key ≡ None
@@ -52,7 +58,7 @@ pub record IsReading (catalog : CatalogOf) (asked : RowsRequestOf) (left : ℕ) 
   pub format_is : reading.format ≡ asked.format
   pub counting_is : reading.counting ≡ asked.query.counting
   pub plan : PlanOf
-  pub means : Means plan asked.query
+  pub means : MeansOn table plan asked.query
   pub handed : ℕ
   pub stands : StandsFor reading.run plan table handed
   pub left_are : left + handed ≡ run_length table

@@ -11,7 +11,7 @@ use crate::response::{Response, answer_response, error_response};
 use odata_parse::Format;
 use odata_request::RowsRequest;
 use query_exec::{ExecFault, Run, Step};
-use query_plan::naive;
+use query_plan::{naive, rewrite};
 use reply_text::Code;
 use std::alloc::{AllocError, Global};
 use table_store::{Block, Catalog, Table};
@@ -66,7 +66,8 @@ impl Reading {
         table.values_fit();
         let summaries = table.summary();
         let counting = asked.query.counting;
-        let plan = naive(alloc, asked.query)?;
+        let first = naive(alloc, asked.query)?;
+        let plan = rewrite(alloc, first)?;
         match Run::start(alloc, table.schema(), summaries, plan) {
             Ok(run) => Ok(Reading {
                 table: asked.table,

@@ -1,9 +1,9 @@
 -- The numbers of a column stand for its cells.
-use Rattle.std.proofs.Common.{◌≡◌, inl, inr, ℕ, zero, suc, ◌+◌, ◌*◌, ◌/◌, ◌%◌, ◌<◌, ◌≤◌, Bool, true, false, Option, Some, None, List, [], ◌∷◌, ◌++◌, length, map, take, get_or, refl, sym, ap, ◌∙◌, subst, arith}
-use Rattle.std.specs.Prelude.{ℤ, pos, ◌+ℤ◌, ◌*ℤ◌, MatchOption, Vec, option_and_then, set, slice_get, unsigned_abs}
+use Rattle.std.proofs.Common.{◌≡◌, inl, inr, ℕ, zero, suc, ◌+◌, ◌*◌, ◌/◌, ◌%◌, ◌<◌, ◌≤◌, Bool, true, false, Option, Some, None, List, [], ◌∷◌, ◌++◌, length, map, get_or, refl, sym, ap, ◌∙◌, subst, arith}
+use Rattle.std.specs.Prelude.{ℤ, pos, ◌+ℤ◌, ◌*ℤ◌, MatchOption, Vec, set, slice_get, unsigned_abs}
 use Rattle.std.specs.Int.{int_div_euclid, int_rem_euclid}
 use Rattle.std.proofs.lemmas.Bool.{cases_eq}
-use Rattle.std.proofs.lemmas.List.{get_or_push, get_or_append_left, get_or-map, get_or-set_other, get_or-set_same, length-map, length_push, length-set, map_more}
+use Rattle.std.proofs.lemmas.List.{get_or_push, get_or_append_left, get_or-map, get_or-set_other, get_or-set_same, length-map, length_push, length-set}
 use Rattle.std.proofs.lemmas.Option.{slice_get-get_or}
 use Rattle.block_eval.specs.declared.columns.Column.{Column}
 use Rattle.block_eval.specs.Columns.{unless_null, IsCell}
@@ -27,19 +27,6 @@ use Rattle.table_store.specs.Table.{TableOf}
 use Rattle.query_exec.specs.declared.lanes.Lane.{Lane}
 use Rattle.query_exec.specs.Lanes.{texts_view, AreColumnsOf, AreLanesOf, AreTextsOf, AreValuesOf, IsColumnOf, IsLaneOf, StandAt}
 use Rattle.query_exec.proofs.FitLemmas.{table_row}
-
--- ---- the value of a row and a column
-
-value_in : (values : List CellValue) (col : ℕ) (value : CellValue) → slice_get values col ≡ Some value → get_or values col null ≡ value
-value_in [] col value e = absurd (cc)
-value_in (v ∷ values) zero value e = cc
-value_in (v ∷ values) (suc col) value e = value_in values col value e
-
-value_there : (rows : List (List CellValue)) (row col : ℕ) (value : CellValue)
-    → option_and_then (λ values. slice_get values col) (slice_get rows row) ≡ Some value → get_or (get_or rows row []) col null ≡ value
-value_there [] row col value e = absurd (cc)
-value_there (values ∷ rows) zero col value e = value_in values col value e
-value_there (values ∷ rows) (suc row) col value e = value_there rows row col value e
 
 -- ---- the cell that a number stands for
 
@@ -202,15 +189,6 @@ values_stand block col values fit h are row within =
     let wide = row_wide block.schema.columns cells (fit.each row [] within) in
     slice_get-get_or cells col null (omega (arith, h, wide))
     ∙ ap (λ v. Some v) (sym (ap (λ vs. get_or vs row null) are ∙ get_or-map cell block.rows row [] null within))
-
--- one value more
-pub one_value : (rows : List (List CellValue)) (col i : ℕ) (values : List CellValue) (value : CellValue) → i < length rows
-    → option_and_then (λ vs. slice_get vs col) (slice_get rows i) ≡ Some value → values ≡ column_of (take i rows) col → values ++ value ∷ [] ≡ column_of (take (i + 1) rows) col
-one_value rows col i values value h is so_far =
-    let cell : List CellValue → CellValue = λ vs. get_or vs col null in
-    ap (λ vs. vs ++ value ∷ []) so_far
-    ∙ ap (λ v. map cell (take i rows) ++ v ∷ []) (sym (value_there rows i col value is))
-    ∙ sym (map_more cell rows i [] h)
 
 pub record AreTextsSoFar {A : Type 0} (rows : List (List CellValue)) (texts : List (Option (Vec Value A))) (i : ℕ) : Type 0 where
   pub long : length texts ≡ i

@@ -4,5 +4,6 @@ pub mod TakingLemmas
 pub mod LaneLemmas
 pub mod PassingLemmas
 pub mod FitLemmas
+pub mod BestLemmas
 pub mod RunLemmas
 pub mod StepLemmas

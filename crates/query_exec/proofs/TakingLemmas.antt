@@ -1,19 +1,20 @@
 -- What conditions make of rows that are taken in one after another.
-use Rattle.std.proofs.Common.{◌≡◌, ℕ, ◌+◌, ◌<◌, Some, List, [], ◌∷◌, length, map, drop, get_or, refl, sym, ap, ◌∙◌, subst}
+use Rattle.std.proofs.Common.{◌≡◌, ℕ, ◌+◌, ◌<◌, ◌≤◌, None, Some, List, [], ◌∷◌, ◌++◌, length, map, take, drop, get_or, refl, sym, ap, ◌∙◌, append-nil, length-drop, arith}
 use Rattle.std.specs.Prelude.{Box, option_and_then}
 use Rattle.std.specs.List.{All}
-use Rattle.std.proofs.lemmas.List.{drop_more}
-use Rattle.std.proofs.lemmas.List.Elements.{All-head, All-tail}
+use Rattle.std.proofs.lemmas.List.{drop_more, map_push, take-append-drop, take_all, take_more}
+use Rattle.std.proofs.lemmas.List.Elements.{All-push}
 use Rattle.cell_types.specs.Value.{CellValue}
 use Rattle.odata_types.specs.declared.tree.TruthExpr.{TruthExpr}
-use Rattle.odata_types.specs.TypedTree.{boxed_truth}
+use Rattle.odata_types.specs.TypedTree.{boxed_truth, TruthExprOf}
 use Rattle.query_plan.specs.Filter.{passing}
 use Rattle.query_plan.specs.Laws.{TrueRowsPass}
-use Rattle.query_exec.specs.declared.run.Run.{Run}
+use Rattle.row_columns.specs.Picked.{numbered}
 use Rattle.query_exec.specs.Conditions.{passing_all, ConditionsFit}
-use Rattle.query_exec.specs.Run.{conditions_of, rows_so_far}
-use Rattle.query_exec.specs.Taking.{HasTaken, IsSuited}
-use Rattle.query_exec.proofs.ConditionLemmas.{joined, joined_assoc, joined_nothing, none_pass, pass_in_parts}
+use Rattle.query_exec.specs.Taking.{ArePassing}
+use Rattle.query_exec.specs.Underway.{AreAll}
+use Rattle.query_exec.proofs.ConditionLemmas.{joined, none_pass, pass_in_parts}
+use Rattle.query_exec.proofs.StepLemmas.{all_numbered, all_within}
 
 -- ---- conditions in turn
 
@@ -39,73 +40,76 @@ row_dropped conditions i condition row h at dropped so_far =
 
 -- ---- rows one after another
 
--- a run is taking in rows, of which these are left
-pub record IsTaking (old now : Run) (rows left : List (List CellValue)) : Type 0 where
-  pub conditions_are : now.conditions ≡ old.conditions
-  pub steps_are : now.steps ≡ old.steps
-  pub blocks_are : now.blocks ≡ old.blocks
-  pub handed_are : now.handed ≡ old.handed
-  pub names_are : now.names ≡ old.names
-  pub stage_is : now.stage ≡ old.stage
-  pub kinds_are : now.kept.kinds ≡ old.kept.kinds
-  pub suited : All (IsSuited now) left
-  pub passed : joined (rows_so_far now) (passing_all (conditions_of old) left) ≡ joined (rows_so_far old) (passing_all (conditions_of old) rows)
+-- the first rows were gone through, and these are the numbers of those of them that pass
+pub record AreFound (es : List TruthExprOf) (rows : List (List CellValue)) (i : ℕ) (left : List (List CellValue)) (numbers : List ℕ) : Type 0 where
+  pub left_are : left ≡ drop i rows
+  pub passed : passing_all es (take i rows) ≡ Some (numbered numbers rows)
+  pub within : All (λ n. n < length rows) numbers
 
-pub begins : (run : Run) (rows : List (List CellValue)) → All (IsSuited run) rows → IsTaking run run rows rows
-begins run rows suited = record {
-  conditions_are = refl;
-  steps_are = refl;
-  blocks_are = refl;
-  handed_are = refl;
-  names_are = refl;
-  stage_is = refl;
-  kinds_are = refl;
-  suited = suited;
-  passed = refl;
+pub none_found : (es : List TruthExprOf) (rows : List (List CellValue)) → AreFound es rows 0 rows []
+none_found es rows = record { left_are = refl; passed = none_pass es; within = λ k d h. absurd (omega (arith, h)) }
+
+module _ (law : TrueRowsPass) (es : List TruthExprOf) (rows : List (List CellValue)) (i : ℕ) (left behind : List (List CellValue)) (row : List CellValue) (numbers : List ℕ)
+    (inside : i < length rows) (is : left ≡ row ∷ behind) (so_far : AreFound es rows i left numbers) where
+  here : row ∷ behind ≡ get_or rows i [] ∷ drop (i + 1) rows
+  here = sym is ∙ so_far.left_are ∙ drop_more rows i [] inside
+
+  pub row_is : row ≡ get_or rows i []
+  row_is = let h = here in cc
+
+  behind_are : behind ≡ drop (i + 1) rows
+  behind_are = let h = here in cc
+
+  one_more : passing_all es (take (i + 1) rows) ≡ joined (Some (numbered numbers rows)) (passing_all es (row ∷ []))
+  one_more =
+      ap (passing_all es) (take_more rows i [] inside) ∙ pass_in_parts law es (take i rows) (get_or rows i [] ∷ [])
+      ∙ ap (λ front. joined front (passing_all es (get_or rows i [] ∷ []))) so_far.passed
+      ∙ ap (λ r. joined (Some (numbered numbers rows)) (passing_all es (r ∷ []))) (sym row_is)
+
+  pub row_kept : passing_all es (row ∷ []) ≡ Some (row ∷ []) → AreFound es rows (i + 1) behind (numbers ++ i ∷ [])
+  row_kept kept = record {
+    left_are = behind_are;
+    passed =
+        one_more ∙ ap (joined (Some (numbered numbers rows))) kept
+        ∙ ap (λ r. Some (numbered numbers rows ++ r ∷ [])) row_is
+        ∙ ap (λ rs. Some rs) (sym (map_push (λ n. get_or rows n []) numbers i));
+    within = All-push (λ n. n < length rows) numbers i so_far.within inside;
+  }
+
+  pub row_left : passing_all es (row ∷ []) ≡ Some [] → AreFound es rows (i + 1) behind numbers
+  row_left dropped = record {
+    left_are = behind_are;
+    passed = one_more ∙ ap (joined (Some (numbered numbers rows))) dropped ∙ ap (λ rs. Some rs) (append-nil (numbered numbers rows));
+    within = so_far.within;
+  }
+
+  pub row_faults : passing_all es (row ∷ []) ≡ None → ArePassing es rows None
+  row_faults faults = record {
+    passed =
+        ap (passing_all es) (sym (take-append-drop (i + 1) rows)) ∙ pass_in_parts law es (take (i + 1) rows) (drop (i + 1) rows)
+        ∙ ap (λ front. joined front (passing_all es (drop (i + 1) rows))) (one_more ∙ ap (joined (Some (numbered numbers rows))) faults);
+    within = tt;
+  }
+
+pub all_found : (es : List TruthExprOf) (rows : List (List CellValue)) (i : ℕ) (left : List (List CellValue)) (numbers : List ℕ) → length rows ≤ i
+    → AreFound es rows i left numbers → ArePassing es rows (Some numbers)
+all_found es rows i left numbers over so_far = record {
+  passed = ap (passing_all es) (sym (take_all i rows over)) ∙ so_far.passed;
+  within = so_far.within;
 }
 
-suits_on : (old now : Run) (rows : List (List CellValue)) → now.conditions ≡ old.conditions → now.kept.kinds ≡ old.kept.kinds → All (IsSuited old) rows → All (IsSuited now) rows
-suits_on old now rows same kinds_same all k d h =
-    let is = all k d h in
-    record { kinds_are = rw kinds_same is.kinds_are; fits = rw same is.fits }
+-- a row is left as long as not all were gone through
+pub one_left : (es : List TruthExprOf) (rows : List (List CellValue)) (i : ℕ) (left : List (List CellValue)) (numbers : List ℕ) → i < length rows
+    → AreFound es rows i left numbers → left ≡ [] → ⊥
+one_left es rows i left numbers inside so_far none =
+    let long : length (drop i rows) ≡ 0 = ap length (sym so_far.left_are ∙ none) in
+    omega (arith, inside, long, length-drop i rows)
 
-pub goes_on_taking : TrueRowsPass → (old now next : Run) (rows left behind : List (List CellValue)) (row : List CellValue) → left ≡ row ∷ behind
-    → HasTaken now next (row ∷ []) → IsTaking old now rows left → IsTaking old next rows behind
-goes_on_taking law old now next rows left behind row is taken so_far =
-    let suited = subst (All (IsSuited now)) is so_far.suited in
-    let es = conditions_of old in
-    record {
-      conditions_are = taken.conditions_are ∙ so_far.conditions_are;
-      steps_are = taken.steps_are ∙ so_far.steps_are;
-      blocks_are = taken.blocks_are ∙ so_far.blocks_are;
-      handed_are = taken.handed_are ∙ so_far.handed_are;
-      names_are = taken.names_are ∙ so_far.names_are;
-      stage_is = taken.stage_is ∙ so_far.stage_is;
-      kinds_are = taken.kinds_are ∙ so_far.kinds_are;
-      suited = suits_on now next behind taken.conditions_are taken.kinds_are (All-tail (IsSuited now) row behind suited);
-      passed =
-          ap (λ front. joined front (passing_all es behind)) (taken.passed ∙ ap (λ cs. joined (rows_so_far now) (passing_all (map boxed_truth cs.items) (row ∷ []))) so_far.conditions_are)
-          ∙ joined_assoc (rows_so_far now) (passing_all es (row ∷ [])) (passing_all es behind)
-          ∙ ap (joined (rows_so_far now)) (sym (pass_in_parts law es (row ∷ []) behind) ∙ ap (passing_all es) (sym is))
-          ∙ so_far.passed;
-    }
-
-pub next_suited : (old now : Run) (rows left behind : List (List CellValue)) (row : List CellValue) → left ≡ row ∷ behind → IsTaking old now rows left → IsSuited now row
-next_suited old now rows left behind row is so_far = All-head (IsSuited now) row behind (subst (All (IsSuited now)) is so_far.suited)
-
-pub has_taken : (old now : Run) (rows left : List (List CellValue)) → left ≡ [] → IsTaking old now rows left → HasTaken old now rows
-has_taken old now rows left is so_far =
-    let es = conditions_of old in
-    record {
-      conditions_are = so_far.conditions_are;
-      steps_are = so_far.steps_are;
-      blocks_are = so_far.blocks_are;
-      handed_are = so_far.handed_are;
-      names_are = so_far.names_are;
-      stage_is = so_far.stage_is;
-      kinds_are = so_far.kinds_are;
-      passed =
-          sym (joined_nothing (rows_so_far now))
-          ∙ ap (joined (rows_so_far now)) (sym (none_pass es) ∙ ap (passing_all es) (sym is))
-          ∙ so_far.passed;
-    }
+-- without a condition all rows pass
+pub all_pass : {A : Type 0} (conditions : List (Box TruthExpr A)) (rows : List (List CellValue)) (numbers : List ℕ) → length conditions ≡ 0
+    → AreAll numbers (length rows) → ArePassing (map boxed_truth conditions) rows (Some numbers)
+all_pass [] rows numbers none all = record {
+  passed = ap (λ rs. Some rs) (sym (all_numbered numbers rows all));
+  within = all_within numbers (length rows) all;
+}
+all_pass (c ∷ conditions) rows numbers none all = absurd (omega (arith, none))

@@ -9,6 +9,7 @@ pub mod Inside
 pub mod Answer
 pub mod Conditions
 pub mod Picked
+pub mod Useful
 pub mod Lanes
 pub mod Underway
 pub mod Run

@@ -1,14 +1,16 @@
 -- What a run stands for, and what its calls make of that.
-use Rattle.std.specs.Prelude.{◌≡◌, ◌<◌, ◌≤◌, ◌+◌, ◌*◌, ◌++◌, ⊤, ℕ, Option, Some, None, Result, Ok, Err, List, if◌then◌else◌, nat_lt, length, map, max, option_and_then, option_map, string_bytes, take}
+use Rattle.std.specs.Prelude.{◌≡◌, ◌<◌, ◌≤◌, ◌+◌, ◌*◌, ◌++◌, ⊤, ℕ, IfSome, Option, Some, None, Result, Ok, Err, List, if◌then◌else◌, nat_lt, length, map, max, option_and_then, option_map, string_bytes, take}
+use Rattle.std.specs.List.{All}
 use Rattle.cell_types.specs.Value.{CellValue}
 use Rattle.block_summary.specs.declared.block.TheConstants.{BLOCK_ROWS}
+use Rattle.odata_query.specs.Query.{optional_numbers}
 use Rattle.odata_types.specs.TypedTree.{TruthExprOf, boxed_truth}
 use Rattle.table_store.specs.Block.{block_count, block_of}
 use Rattle.table_store.specs.Table.{TableOf}
 use Rattle.row_columns.specs.Kinds.{kinds_of}
 use Rattle.query_plan.specs.Fitting.{AreTableRows, IsFitFor, NodesFit}
-use Rattle.query_plan.specs.Meaning.{ResultOf, table_names}
-use Rattle.query_plan.specs.Plan.{NodeOf, PlanOf, node_view, nodes_result}
+use Rattle.query_plan.specs.Meaning.{ResultOf, selected_names, table_names}
+use Rattle.query_plan.specs.Plan.{NodeOf, PlanOf, node_view, nodes_result, select_nodes}
 use Rattle.query_exec.specs.declared.fault.ExecFault.{ExecFault}
 use Rattle.query_exec.specs.declared.fault.ExecFault.TheVariants.{DivisionByZero, NoMemory, Failed}
 use Rattle.query_exec.specs.declared.run.Run.{Run}
@@ -17,7 +19,9 @@ use Rattle.query_exec.specs.declared.run.Step.{Step}
 use Rattle.query_exec.specs.declared.run.Step.TheVariants.{More, Done}
 use Rattle.query_exec.specs.Answer.{plan_answer}
 use Rattle.query_exec.specs.Conditions.{condition_nodes, passing_all}
+use Rattle.query_exec.specs.Picked.{selected_kinds, selected_rows}
 use Rattle.query_exec.specs.Rows.{RowsOf}
+use Rattle.query_exec.specs.Useful.{useful}
 
 -- the number of the block that is needed behind those that were handed in, where there is one: every block of the table is needed
 abbrev pub next_block : TableOf → ℕ → Option ℕ
@@ -35,14 +39,17 @@ run_length table = max 1 (block_count (length table.rows))
 abbrev pub handed_rows : TableOf → ℕ → List (List CellValue)
 handed_rows table handed = take (handed * BLOCK_ROWS) table.rows
 
--- the conditions that the plan begins with, and the steps behind them
+-- the conditions that the plan begins with, the columns that are picked then, if so, and the steps behind them
 abbrev pub conditions_of : Run → List TruthExprOf
 conditions_of run = map boxed_truth run.conditions.items
+
+abbrev pub places_of : Run → Option (List ℕ)
+places_of run = optional_numbers run.places
 
 abbrev pub steps_of : Run → List NodeOf
 steps_of run = map node_view run.steps.items
 
--- the rows that passed the conditions, unless one of them divided by zero
+-- what is kept of the rows that passed the conditions, unless one of these divided by zero
 abbrev pub rows_so_far : Run → Option (List (List CellValue))
 rows_so_far run = if run.faulted then None else Some run.kept.rows
 
@@ -50,18 +57,21 @@ rows_so_far run = if run.faulted then None else Some run.kept.rows
 abbrev pub kept_result : Run → ResultOf
 kept_result run = record { names = map string_bytes run.names.items; rows = run.kept.rows; count = None }
 
--- The run stands for the plan on the table, of which it was handed so many blocks: it has what the conditions make of their rows.
+-- The run stands for the plan on the table, of which it was handed so many blocks: what it has is of the same use as what the conditions make of their rows,
+-- in the columns that are picked.
 pub record StandsFor (run : Run) (plan : PlanOf) (table : TableOf) (handed : ℕ) : Type 0 where
-  pub plan_is : condition_nodes (conditions_of run) ++ steps_of run ≡ plan.nodes
+  pub plan_is : condition_nodes (conditions_of run) ++ select_nodes (places_of run) ++ steps_of run ≡ plan.nodes
   pub fits : IsFitFor table.schema plan
   pub are_rows : AreTableRows table.schema table.rows
   pub reads : run.stage ≡ Reading
   pub blocks_are : run.blocks ≡ block_count (length table.rows)
   pub handed_are : run.handed ≡ handed
   pub goes_on : handed < run_length table
-  pub names_are : map string_bytes run.names.items ≡ table_names table.schema
-  pub kinds_are : run.kept.kinds ≡ kinds_of table.schema.columns
-  pub passed : rows_so_far run ≡ passing_all (conditions_of run) (handed_rows table handed)
+  pub within : IfSome (places_of run) (All (λ place. place < length table.schema.columns))
+  pub names_are : map string_bytes run.names.items ≡ selected_names (places_of run) (table_names table.schema)
+  pub kinds_are : run.kept.kinds ≡ selected_kinds (places_of run) (kinds_of table.schema.columns)
+  pub passed : option_map (useful (steps_of run)) (rows_so_far run)
+      ≡ option_map (useful (steps_of run)) (option_map (selected_rows (places_of run)) (passing_all (conditions_of run) (handed_rows table handed)))
 
 -- the run is done, and gives this
 abbrev pub Gives : Run → RowsOf → Type 0

@@ -1,13 +1,19 @@
 -- How a run takes in rows.
-use Rattle.std.specs.Prelude.{◌≡◌, ◌++◌, ◌∷◌, [], Option, Some, None, List}
+use Rattle.std.specs.Prelude.{◌≡◌, ◌<◌, ◌++◌, ◌∷◌, [], ℕ, IfSome, Option, Some, None, List, length, option_map}
+use Rattle.std.specs.List.{All}
 use Rattle.cell_types.specs.Value.{CellValue}
-use Rattle.row_columns.specs.Kinds.{AreOfKinds}
+use Rattle.odata_types.specs.TypedTree.{TruthExprOf}
+use Rattle.row_columns.specs.Kinds.{kinds_of}
+use Rattle.row_columns.specs.Picked.{numbered}
 use Rattle.row_eval.specs.Outcome.{both}
+use Rattle.table_store.specs.Table.{TableOf}
 use Rattle.query_exec.specs.declared.taking.Fate.{Fate}
 use Rattle.query_exec.specs.declared.taking.Fate.TheVariants.{Kept, Dropped, Faulted}
 use Rattle.query_exec.specs.declared.run.Run.{Run}
-use Rattle.query_exec.specs.Conditions.{passing_all, ConditionsFit}
-use Rattle.query_exec.specs.Run.{conditions_of, rows_so_far}
+use Rattle.query_exec.specs.Conditions.{passing_all}
+use Rattle.query_exec.specs.Picked.{selected_kinds, selected_rows}
+use Rattle.query_exec.specs.Run.{conditions_of, places_of, rows_so_far, steps_of}
+use Rattle.query_exec.specs.Useful.{useful}
 
 -- what is left of a row
 abbrev pub fate_rows : Fate → List CellValue → Option (List (List CellValue))
@@ -15,18 +21,46 @@ fate_rows Kept row = Some (row ∷ [])
 fate_rows Dropped row = Some []
 fate_rows Faulted row = None
 
--- a run may take in the row
-pub record IsSuited (run : Run) (row : List CellValue) : Type 0 where
-  pub kinds_are : AreOfKinds run.kept.kinds row
-  pub fits : ConditionsFit (conditions_of run) row
+-- the numbers of the rows that pass conditions, and none where one of these divides by zero
+pub record ArePassing (es : List TruthExprOf) (rows : List (List CellValue)) (found : Option (List ℕ)) : Type 0 where
+  pub passed : passing_all es rows ≡ option_map (λ numbers. numbered numbers rows) found
+  pub within : IfSome found (All (λ n. n < length rows))
 
--- a run took in rows: behind what passed it has what passed of them
+-- a run may take in the rows of a block: the columns that are picked are there, and their values are kept
+pub record MayTake (run : Run) (block : TableOf) : Type 0 where
+  pub within : IfSome (places_of run) (All (λ place. place < length block.schema.columns))
+  pub kinds_are : run.kept.kinds ≡ selected_kinds (places_of run) (kinds_of block.schema.columns)
+
+-- nothing but what is kept is another
+pub record IsSameRun (old new : Run) : Type 0 where
+  pub conditions : new.conditions ≡ old.conditions
+  pub places : new.places ≡ old.places
+  pub steps : new.steps ≡ old.steps
+  pub blocks : new.blocks ≡ old.blocks
+  pub handed : new.handed ≡ old.handed
+  pub names : new.names ≡ old.names
+  pub stage : new.stage ≡ old.stage
+  pub kinds : new.kept.kinds ≡ old.kept.kinds
+
+-- behind the rows that a run kept it has these
+pub record HasKept (old new : Run) (rows : List (List CellValue)) : Type 0 where
+  pub same : IsSameRun old new
+  pub faulted_is : new.faulted ≡ old.faulted
+  pub rows_are : new.kept.rows ≡ old.kept.rows ++ rows
+
+-- a run took in rows: behind what it had it has what passed of them, in the columns that are picked
 pub record HasTaken (old new : Run) (rows : List (List CellValue)) : Type 0 where
-  pub conditions_are : new.conditions ≡ old.conditions
-  pub steps_are : new.steps ≡ old.steps
-  pub blocks_are : new.blocks ≡ old.blocks
-  pub handed_are : new.handed ≡ old.handed
-  pub names_are : new.names ≡ old.names
-  pub stage_is : new.stage ≡ old.stage
-  pub kinds_are : new.kept.kinds ≡ old.kept.kinds
-  pub passed : rows_so_far new ≡ both (λ xs ys. xs ++ ys) (rows_so_far old) (passing_all (conditions_of old) rows)
+  pub same : IsSameRun old new
+  pub passed : rows_so_far new ≡ both (λ xs ys. xs ++ ys) (rows_so_far old) (option_map (selected_rows (places_of old)) (passing_all (conditions_of old) rows))
+
+-- of the rows that a run kept it let go of some that the first step has no use for
+pub record HasCut (old new : Run) : Type 0 where
+  pub same : IsSameRun old new
+  pub faulted_is : new.faulted ≡ old.faulted
+  pub useful_are : useful (steps_of old) new.kept.rows ≡ useful (steps_of old) old.kept.rows
+
+-- as `HasTaken`, but for rows that the first step has no use for
+pub record HasTakenIn (old new : Run) (rows : List (List CellValue)) : Type 0 where
+  pub same : IsSameRun old new
+  pub passed : option_map (useful (steps_of old)) (rows_so_far new)
+      ≡ option_map (useful (steps_of old)) (both (λ xs ys. xs ++ ys) (rows_so_far old) (option_map (selected_rows (places_of old)) (passing_all (conditions_of old) rows)))

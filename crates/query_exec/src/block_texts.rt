@@ -1,24 +1,11 @@
 //! The texts of a block that are read for a condition.
 ghost use Rattle.std.specs.Prelude.{◌≡◌, ◌<◌, List, IfOk, IsTrue, length, map, option_map};
-ghost use Rattle.block_summary.specs.Ranges.{column_of};
 ghost use Rattle.cell_types.specs.Value.{CellValue, value_view};
 ghost use Rattle.query_exec.specs.Lanes.{texts_view, AreTextsOf, AreValuesOf};
 
 use cell_types::{Datatype, Value};
 use std::alloc::{AllocError, Global};
 use table_store::Block;
-
-/// The values of a column in the rows of a block.
-fn values_of<'t>(alloc: Global, block: &Block<'t>, col: usize) -> Result<Vec<Value<'t>>, AllocError>
-    requires { col < length block.now.schema.columns }
-    ensures { IfOk result (λ values. map value_view values.items ≡ column_of block.now.rows col) }
-{
-    let mut values = Vec::with_capacity(alloc, block.rows())?;
-    for row in 0..block.rows() {
-        values.push(block.value(alloc, row, col)?)?;
-    }
-    Ok(values)
-}
 
 /// The values of a column, if it is named and has texts.
 fn read_texts<'t>(
@@ -35,7 +22,7 @@ fn read_texts<'t>(
         return Ok(None);
     }
     match block.schema().columns[col].datatype {
-        Datatype::Text => Ok(Some(values_of(alloc, block, col)?)),
+        Datatype::Text => Ok(Some(block.values(alloc, col)?)),
         Datatype::Integer | Datatype::Boolean(_) | Datatype::Date(_) | Datatype::Decimal => Ok(
             None,
         ),

@@ -2,11 +2,13 @@
 //! table: it is handed the blocks that it names, one at a time, and then gives the plan's meaning on the rows of that table.
 #![tactic(auto)]
 
+mod best;
 mod block_texts;
 mod fault;
 mod lanes;
 mod named;
 mod names;
+mod parts;
 mod passing;
 mod rows;
 mod run;

@@ -69,7 +69,7 @@ fn numbers_of(alloc: Global, wanted: &[bool]) -> Result<Vec<usize>, AllocError>
 }
 
 /// The numbers of the rows of a block that pass conditions, in turn. Where it falls back, the rows are to be taken one by one: so it is
-/// where a condition divides by zero, and where there is none, since a cursor finds each text from the one before it.
+/// where a condition divides by zero.
 pub(crate) fn passing_rows(
     alloc: Global,
     conditions: &[Box<TruthExpr>],
@@ -80,9 +80,6 @@ pub(crate) fn passing_rows(
         ≡ Some (numbered numbers.items block.now.rows)) }
     ensures within { IfOk result (λ numbers. All (λ n. n < length block.now.rows) numbers.items) }
 {
-    if conditions.is_empty() {
-        return Err(Fallback);
-    }
     let mut wanted = Vec::from_elem(alloc, true, block.rows())?;
     for condition in conditions {
         narrow_by(alloc, condition, block, lanes, wanted.as_mut_slice())?;

@@ -1,13 +1,11 @@
 //! A run of a plan on a table that it is handed block by block.
-ghost use Rattle.std.specs.Prelude.{◌≡◌, ◌↔◌, ◌≤◌, ◌++◌, ℕ, None, Ok, IfOk, IfErr, OnErr, IsErrOf, map};
+ghost use Rattle.std.specs.Prelude.{◌≡◌, ◌↔◌, ◌≤◌, ℕ, None, Ok, IfOk, IfErr, OnErr, IsErrOf};
 ghost use Rattle.csvw_meta.specs.Schema.{schema_view};
-ghost use Rattle.odata_types.specs.TypedTree.{boxed_truth};
 ghost use Rattle.table_store.specs.Fits.{HasTableRows};
 ghost use Rattle.table_store.specs.Summaries.{AreSummariesOf};
 ghost use Rattle.table_store.specs.Table.{TableOf};
 ghost use Rattle.query_plan.specs.Fitting.{IsFitFor};
-ghost use Rattle.query_plan.specs.Plan.{node_view, plan_view, PlanOf};
-ghost use Rattle.query_exec.specs.Conditions.{condition_nodes};
+ghost use Rattle.query_plan.specs.Plan.{plan_view, PlanOf};
 ghost use Rattle.query_exec.specs.Rows.{RowsOf};
 ghost use Rattle.query_exec.specs.declared.fault.ExecFault.TheVariants.{NoMemory, Failed};
 ghost use Rattle.query_exec.specs.declared.run.Step.TheVariants.{Done};
@@ -15,7 +13,7 @@ ghost use Rattle.query_exec.specs.Run.{handed_block, next_block, AdvancesTo, Giv
 
 use crate::fault::ExecFault;
 use crate::lanes::Lanes;
-use crate::names::names_of;
+use crate::parts::{Parts, kept_columns, kept_names, split};
 use crate::rows::Rows;
 use crate::steps::apply_all;
 use crate::underway::Underway;
@@ -24,6 +22,7 @@ use csvw_meta::Schema;
 use odata_types::TruthExpr;
 use query_plan::{Node, Plan, nodes_in_turn, true_rows_pass};
 use row_columns::Columns;
+use row_order::best_in_pieces;
 use std::alloc::{AllocError, Global};
 use std::mem;
 use table_store::Block;
@@ -48,13 +47,15 @@ enum Stage {
 pub struct Run {
     /// The conditions that the plan begins with.
     pub(crate) conditions: Vec<Box<TruthExpr>>,
+    /// The columns whose values are kept, where only these go on behind the conditions.
+    pub(crate) places: Option<Vec<usize>>,
     /// The steps behind them, which go over the rows of all blocks together.
-    steps: Vec<Node>,
+    pub(crate) steps: Vec<Node>,
     /// How many blocks the table has.
     blocks: usize,
     /// How many of them were handed in.
     handed: usize,
-    /// The names of the table's columns.
+    /// The names of the columns whose values are kept.
     names: Vec<String>,
     /// The columns of a block that a condition names.
     pub(crate) lanes: Lanes,
@@ -63,22 +64,6 @@ pub struct Run {
     /// Whether a condition divided by zero on a row.
     pub(crate) faulted: bool,
     stage: Stage,
-}
-
-/// The conditions that steps begin with, and the steps behind them.
-fn split(alloc: Global, nodes: Vec<Node>) -> Result<(Vec<Box<TruthExpr>>, Vec<Node>), AllocError>
-    ensures { IfOk result (λ made. map node_view nodes.items
-        ≡ condition_nodes (map boxed_truth made.0.items) ++ map node_view made.1.items) }
-{
-    let mut conditions = Vec::new(alloc);
-    let mut steps = Vec::new(alloc);
-    for node in nodes {
-        match node {
-            Node::Filter(condition) if steps.is_empty() => conditions.push(condition)?,
-            node => steps.push(node)?,
-        }
-    }
-    Ok((conditions, steps))
 }
 
 impl Run {
@@ -110,9 +95,10 @@ impl Run {
     {
         true_rows_pass();
         nodes_in_turn();
+        best_in_pieces();
         if let Some(block) = block {
             block.values_fit();
-            self.take_block(alloc, block)?;
+            self.take_in(alloc, &block)?;
             self.handed += 1;
         }
         self.go_on(alloc)
@@ -131,12 +117,18 @@ impl Run {
             → StandsFor run (plan_view plan) table 0) }
         ensures refused { IfErr result (λ fault. fault ≡ NoMemory) }
     {
-        let (conditions, steps) = split(alloc, plan.nodes)?;
-        let names = names_of(alloc, schema.columns.as_slice())?;
+        nodes_in_turn();
+        let Parts {
+            conditions,
+            places,
+            steps,
+        } = split(alloc, plan.nodes)?;
+        let names = kept_names(alloc, schema.columns.as_slice(), &places)?;
         let lanes = Lanes::new(alloc, schema.columns.len())?;
-        let kept = Columns::new(alloc, schema.columns.as_slice())?;
+        let kept = kept_columns(alloc, schema.columns.as_slice(), &places)?;
         Ok(Run {
             conditions,
+            places,
             steps,
             blocks: summaries.len(),
             handed: 0,

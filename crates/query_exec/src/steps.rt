@@ -2,17 +2,18 @@
 ghost use Rattle.std.specs.Prelude.{◌≡◌, ◌<◌, IfOk, length, map};
 ghost use Rattle.std.specs.List.{All};
 ghost use Rattle.odata_query.specs.Aggregate.{named_view};
+ghost use Rattle.odata_query.specs.Query.{order_view};
 ghost use Rattle.query_plan.specs.Fitting.{IsFitNode, NodesFit};
-ghost use Rattle.query_plan.specs.Plan.{aggregating, counted, grouping, node_result, node_view, nodes_result, projecting, slice_view};
+ghost use Rattle.query_plan.specs.Plan.{aggregating, choosing, counted, grouping, node_result, node_view, nodes_result, projecting, slice_view, sorting};
 ghost use Rattle.query_exec.specs.Underway.{underway_view, GivesUnderway, IsUnderway, Makes};
 
 use crate::names::{picked_names, push_aliases};
 use crate::underway::Underway;
-use odata_query::NamedAggregate;
+use odata_query::{NamedAggregate, OrderBy};
 use query_plan::{Node, Slice};
 use row_eval::EvalFault;
 use row_groups::{aggregated, grouped};
-use row_order::{passing_numbers, piece, sorted_numbers};
+use row_order::{best_numbers, passing_numbers, piece, sorted_numbers};
 use std::alloc::{AllocError, Global};
 
 /// The values of some columns.
@@ -92,6 +93,55 @@ fn count_of(slice: Slice, underway: &Underway) -> Option<u64>
     }
 }
 
+/// The rows in the order of items.
+fn sort(alloc: Global, underway: Underway, items: &[OrderBy]) -> Result<Underway, EvalFault>
+    requires underway { IsUnderway underway }
+    requires fits { IsFitNode (sorting (map order_view items.now)) (underway_view underway) }
+    ensures { GivesUnderway (node_result (sorting (map order_view items.now))
+        (underway_view underway)) result }
+{
+    let Underway {
+        names,
+        columns,
+        numbers,
+        count,
+    } = underway;
+    let numbers = sorted_numbers(alloc, &columns, numbers, items)?;
+    Ok(Underway {
+        names,
+        columns,
+        numbers,
+        count,
+    })
+}
+
+/// The first so many rows in the order of items.
+fn choose(
+    alloc: Global,
+    underway: Underway,
+    items: &[OrderBy],
+    most: u64,
+) -> Result<Underway, EvalFault>
+    requires underway { IsUnderway underway }
+    requires fits { IsFitNode (choosing (map order_view items.now) most) (underway_view underway) }
+    ensures { GivesUnderway (node_result (choosing (map order_view items.now) most)
+        (underway_view underway)) result }
+{
+    let Underway {
+        names,
+        columns,
+        numbers,
+        count,
+    } = underway;
+    let numbers = best_numbers(alloc, &columns, numbers, items, most)?;
+    Ok(Underway {
+        names,
+        columns,
+        numbers,
+        count,
+    })
+}
+
 /// What a step makes of a result.
 fn apply(alloc: Global, node: &Node, underway: Underway) -> Result<Underway, EvalFault>
     requires underway { IsUnderway underway }
@@ -108,21 +158,8 @@ fn apply(alloc: Global, node: &Node, underway: Underway) -> Result<Underway, Eva
         }
         Node::Aggregate(aggregates) => Ok(aggregate(alloc, &underway, aggregates)?),
         Node::Group(places, aggregates) => Ok(group(alloc, &underway, places, aggregates)?),
-        Node::Sort(items) => {
-            let Underway {
-                names,
-                columns,
-                numbers,
-                count,
-            } = underway;
-            let numbers = sorted_numbers(alloc, &columns, numbers, items)?;
-            Ok(Underway {
-                names,
-                columns,
-                numbers,
-                count,
-            })
-        }
+        Node::Sort(items) => sort(alloc, underway, items),
+        Node::Best(items, most) => choose(alloc, underway, items, *most),
         Node::Slice(slice) => {
             let count = count_of(*slice, &underway);
             let numbers = piece(underway.numbers, slice.skip, slice.top);

@@ -1,22 +1,27 @@
 //! How a run takes in the rows of a block.
-ghost use Rattle.std.specs.Prelude.{◌≡◌, ◌∷◌, [], IfOk, OnOk, map};
+ghost use Rattle.std.specs.Prelude.{◌≡◌, ◌<◌, ◌∷◌, [], IfOk, OnOk, length, map};
 ghost use Rattle.std.specs.List.{All};
+ghost use Rattle.odata_query.specs.Query.{optional_numbers};
 ghost use Rattle.odata_types.specs.TypedTree.{boxed_truth, truth_view};
 ghost use Rattle.row_eval.specs.Bounds.{TruthFits};
 ghost use Rattle.row_eval.specs.Row.{row_view};
-ghost use Rattle.row_columns.specs.Kinds.{kinds_of};
+ghost use Rattle.row_columns.specs.Picked.{numbered};
 ghost use Rattle.query_plan.specs.Filter.{passing};
 ghost use Rattle.query_exec.specs.Conditions.{passing_all, ConditionsFit};
-ghost use Rattle.query_exec.specs.Taking.{fate_rows, HasTaken, IsSuited};
+ghost use Rattle.query_exec.specs.Picked.{selected_rows};
+ghost use Rattle.query_exec.specs.Run.{conditions_of, places_of};
+ghost use Rattle.query_exec.specs.Taking.{fate_rows, ArePassing, HasKept, HasTaken, MayTake};
 
+use crate::lanes::Lanes;
 use crate::passing::passing_rows;
 use crate::run::Run;
+use crate::underway::all_numbers;
 use cell_types::Value;
 use odata_types::TruthExpr;
 use query_plan::true_rows_pass;
 use row_eval::{EvalFault, Truth, eval_truth};
 use std::alloc::{AllocError, Global};
-use table_store::{Block, RowCursor};
+use table_store::Block;
 
 /// What becomes of a row.
 #[derive(Clone, Copy)]
@@ -61,42 +66,85 @@ fn fate_of(
     Ok(Fate::Kept)
 }
 
-impl Run {
-    /// Takes in a row.
-    fn take_row(&mut self, alloc: Global, values: &[Value<'_>]) -> Result<(), AllocError>
-        requires { IsSuited self.old (row_view values.now) }
-        ensures { OnOk result (HasTaken self.old self.new (row_view values.now ∷ [])) }
-    {
-        match fate_of(alloc, &self.conditions, values)? {
-            Fate::Kept => self.kept.push(alloc, values)?,
+/// The numbers of the rows of a block that pass conditions, found one row after another; none where a condition divides by zero on a row.
+fn passing_in_turn(
+    alloc: Global,
+    conditions: &[Box<TruthExpr>],
+    block: &Block<'_>,
+) -> Result<Option<Vec<usize>>, AllocError>
+    requires { All (ConditionsFit (map boxed_truth conditions.now)) block.now.rows }
+    ensures { IfOk result (λ found. ArePassing (map boxed_truth conditions.now) block.now.rows
+        (optional_numbers found)) }
+{
+    true_rows_pass();
+    let mut rows = block.cursor();
+    let mut numbers = Vec::new(alloc);
+    for number in 0..block.rows() {
+        let Some(values) = rows.next_row(alloc)? else {
+            unreachable!();
+        };
+        match fate_of(alloc, conditions, &values)? {
+            Fate::Kept => numbers.push(number)?,
             Fate::Dropped => {}
-            Fate::Faulted => self.faulted = true,
+            Fate::Faulted => return Ok(None),
         }
-        Ok(())
+    }
+    Ok(Some(numbers))
+}
+
+/// The numbers of the rows of a block that pass conditions; none where a condition divides by zero on a row. They are found a column at a
+/// time where that goes, and else one row after another.
+fn wanted_rows(
+    alloc: Global,
+    conditions: &[Box<TruthExpr>],
+    block: &Block<'_>,
+    lanes: &mut Lanes,
+) -> Result<Option<Vec<usize>>, AllocError>
+    requires { All (ConditionsFit (map boxed_truth conditions.now)) block.now.rows }
+    ensures { IfOk result (λ found. ArePassing (map boxed_truth conditions.now) block.now.rows
+        (optional_numbers found)) }
+{
+    if conditions.is_empty() {
+        return Ok(Some(all_numbers(alloc, block.rows())?));
+    }
+    match passing_rows(alloc, conditions, block, lanes) {
+        Ok(numbers) => Ok(Some(numbers)),
+        Err(_) => passing_in_turn(alloc, conditions, block),
+    }
+}
+
+impl Run {
+    /// Keeps the rows of a block with these numbers.
+    fn keep(
+        &mut self,
+        alloc: Global,
+        block: &Block<'_>,
+        numbers: &[usize],
+    ) -> Result<(), AllocError>
+        requires block { MayTake self.old block.now }
+        requires within { All (λ n. n < length block.now.rows) numbers.now }
+        ensures { OnOk result (HasKept self.old self.new
+            (selected_rows (places_of self.old) (numbered numbers.now block.now.rows))) }
+    {
+        match &self.places {
+            Some(places) => self.kept.take_places(alloc, block, places, numbers),
+            None => self.kept.take(alloc, block, numbers),
+        }
     }
 
-    /// Takes in rows.
-    fn take_rows(&mut self, alloc: Global, rows: RowCursor<'_>) -> Result<(), AllocError>
-        requires { All (IsSuited self.old) rows }
-        ensures { OnOk result (HasTaken self.old self.new rows.entry) }
+    /// Takes in the rows of a block. Once a condition divided by zero, no more rows are kept.
+    pub(crate) fn take_block(&mut self, alloc: Global, block: &Block<'_>) -> Result<(), AllocError>
+        requires block { MayTake self.old block.now }
+        requires fits { All (ConditionsFit (conditions_of self.old)) block.now.rows }
+        ensures { OnOk result (HasTaken self.old self.new block.now.rows) }
     {
-        true_rows_pass();
-        let mut rows = rows;
-        while let Some(values) = rows.next_row(alloc)? {
-            self.take_row(alloc, &values)?;
+        if self.faulted {
+            return Ok(());
+        }
+        match wanted_rows(alloc, &self.conditions, block, &mut self.lanes)? {
+            Some(numbers) => self.keep(alloc, block, &numbers)?,
+            None => self.faulted = true,
         }
         Ok(())
-    }
-
-    /// Takes in the rows of the next block.
-    pub(crate) fn take_block(&mut self, alloc: Global, block: Block<'_>) -> Result<(), AllocError>
-        requires kinds { self.old.kept.kinds ≡ kinds_of block.schema.columns }
-        requires suited { All (IsSuited self.old) block.rows }
-        ensures { OnOk result (HasTaken self.old self.new block.entry.rows) }
-    {
-        match passing_rows(alloc, &self.conditions, &block, &mut self.lanes) {
-            Ok(numbers) => self.kept.take(alloc, &block, &numbers),
-            Err(_) => self.take_rows(alloc, block.cursor()),
-        }
     }
 }

@@ -19,7 +19,7 @@ pub(crate) struct Underway {
 }
 
 /// The numbers of so many rows.
-fn all_numbers(alloc: Global, len: usize) -> Result<Vec<usize>, AllocError>
+pub(crate) fn all_numbers(alloc: Global, len: usize) -> Result<Vec<usize>, AllocError>
     ensures { IfOk result (λ numbers. AreAll numbers.items len) }
 {
     let mut numbers = Vec::with_capacity(alloc, len)?;

@@ -8,5 +8,10 @@ pub mod ResultLemmas
 pub mod ValueLemmas
 pub mod TypingLemmas
 pub mod AggregateLemmas
+pub mod BestLemmas
+pub mod RenumberLemmas
+pub mod NarrowLemmas
+pub mod NarrowFitLemmas
+pub mod PlainLemmas
 pub mod StepLemmas
 pub mod QueryLemmas

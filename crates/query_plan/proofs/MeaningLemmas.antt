@@ -4,14 +4,14 @@ use Rattle.std.specs.Prelude.{drop, option_and_then, option_map}
 use Rattle.std.specs.List.{list_any}
 use Rattle.std.specs.Ordering.{is_lt}
 use Rattle.std.specs.declared.cmp.Ordering.{Ordering}
-use Rattle.std.proofs.lemmas.List.{map-id}
+use Rattle.std.proofs.lemmas.List.{length-map, map-id}
 use Rattle.std.proofs.lemmas.Bool.{cases_Bool}
 use Rattle.cell_types.specs.Value.{CellValue}
 use Rattle.csvw_meta.specs.Schema.{SchemaOf}
 use Rattle.odata_types.specs.TypedTree.{TruthExprOf}
 use Rattle.odata_query.specs.Aggregate.{TypedTransformationOf, filter_rows, aggregate_rows, group_rows}
 use Rattle.odata_query.specs.Query.{TypedOf}
-use Rattle.query_plan.specs.Apply.{applied, applied_names, transformed, transformed_names}
+use Rattle.query_plan.specs.Apply.{applied, applied_names, transformed, transformed_names, values_at}
 use Rattle.query_plan.specs.Filter.{passing}
 use Rattle.query_plan.specs.Meaning.{ResultOf, asked_count, first_rows, keyed_meaning, kept_rows, number, piece, result, rows_meaning, selected_names, selected_values, table_names}
 use Rattle.query_plan.specs.Order.{Item, order_faults, ordered, placed, rows_cmp, sorted}
@@ -159,7 +159,7 @@ last_nodes b q = cond b count_nodes (order_nodes q.order ++ slice_nodes (asked_s
 counted_after : (names : List (List ℕ)) (o : Option (List (List CellValue)))
     → option_map (answer_of true) (option_and_then (nodes_result count_nodes) (option_map (under names None) o)) ≡ option_map (λ kept. number (length kept)) o
 counted_after names None = refl
-counted_after names (Some kept) = refl
+counted_after names (Some kept) = ap (λ (n : ℕ). Some (number n)) (length-map kept (values_at []))
 
 result_after : (q : TypedOf) (names : List (List ℕ)) (o : Option (List (List CellValue)))
     → option_map (answer_of false) (option_and_then (nodes_result (last_nodes false q)) (option_map (under names None) o))

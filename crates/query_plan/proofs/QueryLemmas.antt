@@ -24,13 +24,14 @@ use Rattle.row_eval.specs.Bounds.{NumbersFit, TruthFits}
 use Rattle.row_eval.specs.Input.{IsInput, IsQueried, IsRowOf, IsTableRow}
 use Rattle.row_eval.specs.Laws.{BoundsHold, TablesAreInputs}
 use Rattle.query_plan.specs.Apply.{applied, applied_names}
-use Rattle.query_plan.specs.Fitting.{AreQueried, AreRowsOf, AreTableRows, IsQueriedItem, IsQueriedTransformation, NodesFit}
+use Rattle.query_plan.specs.Fitting.{AreFitItems, AreQueried, AreRowsOf, AreTableRows, IsQueriedItem, IsQueriedTransformation, NodesFit}
 use Rattle.query_plan.specs.Meaning.{ResultOf, first_rows}
-use Rattle.query_plan.specs.Order.{Item, order_faults, rows_cmp, sorted}
+use Rattle.query_plan.specs.Order.{Item, order_faults, plain_column, rows_cmp, sorted}
 use Rattle.query_plan.specs.Plan.{NodeOf, SliceOf, apply_nodes, asked_slice, filter_nodes, filtering, naive_plan, node_result, nodes_result, order_nodes, piece_nodes, select_nodes, slice_nodes, slicing, sorting, table_result}
 use Rattle.query_plan.proofs.AggregateLemmas.{Stands}
 use Rattle.query_plan.proofs.FilterLemmas.{some_if}
 use Rattle.query_plan.proofs.MeaningLemmas.{apply_result, last_nodes, sorted_length, under}
+use Rattle.query_plan.proofs.PlainLemmas.{IsThere, expression_there}
 use Rattle.query_plan.proofs.PlanLemmas.{both_fit, turn}
 use Rattle.query_plan.proofs.ResultLemmas.{result_input}
 use Rattle.query_plan.proofs.SortLemmas.{sorted_shuffles}
@@ -145,13 +146,15 @@ module _ (bounds : BoundsHold) (inputs : List InputOf) (input : IsInput inputs) 
         );
       })
 
-  abbrev ItemFits : Item → Type 0
-  ItemFits item = (row : List CellValue) → IsRowOf inputs row → NumbersFit item.0 row
+  record ItemFits (item : Item) : Type 0 where
+    numbers : (row : List CellValue) → IsRowOf inputs row → NumbersFit item.0 row
+    column : IsThere inputs item.0
 
   item_fits : (item : OrderItemOf) → IsQueriedItem item → Told ItemFits (item_typing inputs item)
   item_fits (order_item e descending) queried =
-      told_then (λ (t : TypedExprOf). typing inputs e ≡ Ok t) ItemFits (typing inputs e) (λ t. Ok (t, descending)) (told_self (typing inputs e))
-      (λ t is row row_is. bounds.expressions inputs row e t input row_is queried is)
+      told_then (λ (t : TypedExprOf). (typing inputs e ≡ Ok t) × IsThere inputs t) ItemFits (typing inputs e) (λ t. Ok (t, descending))
+      (told_both (λ t. typing inputs e ≡ Ok t) (IsThere inputs) (typing inputs e) (told_self (typing inputs e)) (expression_there inputs e))
+      (λ t is. record { numbers = λ row row_is. bounds.expressions inputs row e t input row_is queried is.0; column = is.1 })
 
   abbrev ItemsFit : List Item → Type 0
   ItemsFit items = AllByRecursion ItemFits items
@@ -164,19 +167,27 @@ module _ (bounds : BoundsHold) (inputs : List InputOf) (input : IsInput inputs) 
 
   row_fits : (items : List Item) → ItemsFit items → (row : List CellValue) → IsRowOf inputs row → AllByRecursion (λ item. NumbersFit item.0 row) items
   row_fits [] fits row is = tt
-  row_fits (item ∷ items) fits row is = (fits.0 row is, row_fits items fits.1 row is)
+  row_fits (item ∷ items) fits row is = (fits.0.numbers row is, row_fits items fits.1 row is)
+
+  columns_fit : (items : List Item) → ItemsFit items → AllByRecursion (λ item. IsThere inputs item.0) items
+  columns_fit [] fits = tt
+  columns_fit (item ∷ items) fits = (fits.0.column, columns_fit items fits.1)
+
+  fit_items : (items : List Item) → ItemsFit items → (r : ResultOf) → Stands inputs r → AreFitItems items r
+  fit_items items fits r stands = record {
+    numbers = All-from_recursion (λ row. All (λ i. NumbersFit i.0 row) items) r.rows (rows_all inputs (λ row. All (λ i. NumbersFit i.0 row) items)
+        (λ row is. All-from_recursion (λ i. NumbersFit i.0 row) items (row_fits items fits row is)) r.rows stands.each);
+    columns = subst (λ (most : ℕ). All (λ item. IfSome (plain_column item.0) (λ place. place < most)) items) (sym stands.named)
+        (All-from_recursion (λ item. IsThere inputs item.0) items (columns_fit items fits));
+  }
 
   order_fits : (items : List Item) → ItemsFit items → (r : ResultOf) → Stands inputs r → NodesFit (order_nodes items) r
   order_fits [] fits r stands = tt
-  order_fits (item ∷ items) fits r stands = (
-    All-from_recursion (λ row. All (λ i. NumbersFit i.0 row) (item ∷ items)) r.rows (rows_all inputs (λ row. All (λ i. NumbersFit i.0 row) (item ∷ items))
-        (λ row is. All-from_recursion (λ i. NumbersFit i.0 row) (item ∷ items) (row_fits (item ∷ items) fits row is)) r.rows stands.each),
-    λ made e. tt,
-  )
+  order_fits (item ∷ items) fits r stands = (fit_items (item ∷ items) fits r stands, λ made e. tt)
 
   -- the steps behind those of `$apply` and `$filter`
   last_fit : (q : TypedOf) → ItemsFit q.order → IfSome q.select (AreBelow (length inputs)) → (b : Bool) (r : ResultOf) → Stands inputs r → NodesFit (last_nodes b q) r
-  last_fit q items select true r stands = (tt, λ made e. tt)
+  last_fit q items select true r stands = (All-from_recursion (λ place. place < length r.names) [] tt, λ made e. (tt, λ last k. tt))
   last_fit q items select false r stands =
       both_fit (order_nodes q.order ++ slice_nodes (asked_slice q)) (select_nodes q.select) r
       (both_fit (order_nodes q.order) (slice_nodes (asked_slice q)) r (order_fits q.order items r stands) (λ made e. piece_fits (asked_slice q) q.skip q.top q.count made))

@@ -14,7 +14,8 @@ use Rattle.row_eval.specs.Bounds.{NumbersFit, TruthFits}
 use Rattle.row_eval.specs.Input.{IsQueried, IsRowOf, IsTableRow}
 use Rattle.row_eval.specs.Row.{cell, decimal_in, integer_in}
 use Rattle.query_plan.specs.Meaning.{ResultOf}
-use Rattle.query_plan.specs.Plan.{NodeOf, PlanOf, aggregating, filtering, grouping, node_result, projecting, slicing, sorting, table_result}
+use Rattle.query_plan.specs.Order.{Item, plain_column}
+use Rattle.query_plan.specs.Plan.{NodeOf, PlanOf, aggregating, choosing, filtering, grouping, node_result, projecting, slicing, sorting, table_result}
 
 -- numbers of at most so many rows, of which the sums, also of some of them, fit 128 bits
 pub record AreSummable (numbers : List ℤ) (rows : ℕ) : Type 0 where
@@ -30,12 +31,18 @@ AggregateFits r (Min place) = place < length r.names
 AggregateFits r (Max place) = place < length r.names
 AggregateFits r (CountDistinct place) = place < length r.names
 
+-- items on a result: each number that is computed fits, and where an item is a column alone, this is there
+pub record AreFitItems (items : List Item) (r : ResultOf) : Type 0 where
+  pub numbers : All (λ row. All (λ item. NumbersFit item.0 row) items) r.rows
+  pub columns : All (λ item. IfSome (plain_column item.0) (λ place. place < length r.names)) items
+
 -- a step on a result
 abbrev pub IsFitNode : NodeOf → ResultOf → Type 0
 IsFitNode (filtering e) r = All (TruthFits e) r.rows
 IsFitNode (aggregating aggregates) r = All (λ a. AggregateFits r a.aggregate) aggregates
 IsFitNode (grouping places aggregates) r = All (λ place. place < length r.names) places × All (λ a. AggregateFits r a.aggregate) aggregates
-IsFitNode (sorting items) r = All (λ row. All (λ item. NumbersFit item.0 row) items) r.rows
+IsFitNode (sorting items) r = AreFitItems items r
+IsFitNode (choosing items most) r = AreFitItems items r
 IsFitNode (slicing s) r = Unit {0}
 IsFitNode (projecting places) r = All (λ place. place < length r.names) places
 

@@ -10,5 +10,7 @@ pub mod Apply
 pub mod Meaning
 pub mod Plan
 pub mod Fitting
+pub mod Narrow
+pub mod Rewrite
 pub mod Worked
 pub mod Laws

@@ -1,5 +1,5 @@
 -- Plans, and what they mean: each step is a function from a whole result to a result, or to none, which is a division by zero.
-use Rattle.std.specs.Prelude.{◌≡◌, ℕ, Bool, true, false, List, [], ◌∷◌, ◌++◌, Option, Some, None, drop, length, map, option_and_then, option_map, if◌then◌else◌, Vec}
+use Rattle.std.specs.Prelude.{◌≡◌, ℕ, Bool, true, false, List, [], ◌∷◌, ◌++◌, Option, Some, None, drop, length, map, option_and_then, option_map, take, if◌then◌else◌, Vec}
 use Rattle.std.specs.Option.{unwrap_or}
 use Rattle.cell_types.specs.Value.{CellValue}
 use Rattle.csvw_meta.specs.Schema.{SchemaOf}
@@ -27,6 +27,7 @@ pub data NodeOf : Type 0 where
   aggregating : List NamedAggregateOf → NodeOf
   grouping : List ℕ → List NamedAggregateOf → NodeOf
   sorting : List Item → NodeOf
+  choosing : List Item → ℕ → NodeOf
   slicing : SliceOf → NodeOf
   projecting : List ℕ → NodeOf
 
@@ -38,6 +39,7 @@ node_view (node.Filter e) = filtering (boxed_truth e)
 node_view (node.Aggregate aggregates) = aggregating (aggregates_view aggregates)
 node_view (node.Group places aggregates) = grouping places.items (aggregates_view aggregates)
 node_view (node.Sort items) = sorting (map order_view items.items)
+node_view (node.Best items most) = choosing (map order_view items.items) most
 node_view (node.Slice s) = slicing (slice_view s)
 node_view (node.Project places) = projecting places.items
 
@@ -50,14 +52,15 @@ plan_view plan = record { nodes = map node_view plan.nodes.items }
 
 -- ---- what a step makes of a result
 
--- the rows: those on which a condition is true; one row of aggregates; a row for each group, of its values and then its aggregates; the rows in order; a
--- piece of them; the values of some columns
+-- the rows: those on which a condition is true; one row of aggregates; a row for each group, of its values and then its aggregates; the rows in order; the
+-- first so many of these, though the items are evaluated on every row; a piece of the rows; the values of some columns
 abbrev pub node_rows : NodeOf → List (List CellValue) → Option (List (List CellValue))
 node_rows (filtering e) rows = passing e rows
 node_rows (aggregating aggregates) rows = Some (computed_values aggregates rows ∷ [])
 node_rows (grouping places aggregates) rows =
     Some (map (λ values. values ++ computed_values aggregates (rows_of_group places rows values)) (group_values places rows))
 node_rows (sorting items) rows = ordered items rows
+node_rows (choosing items most) rows = option_map (take most) (ordered items rows)
 node_rows (slicing s) rows = Some (first_rows s.top (drop s.skip rows))
 node_rows (projecting places) rows = Some (map (values_at places) rows)
 
@@ -122,9 +125,9 @@ abbrev pub select_nodes : Option (List ℕ) → List NodeOf
 select_nodes None = []
 select_nodes (Some places) = projecting places ∷ []
 
--- for `/$count` the rows are counted, and none is kept
+-- for `/$count` the rows are counted, and neither their columns nor they are kept
 abbrev pub count_nodes : List NodeOf
-count_nodes = slicing (record { skip = 0; top = Some 0; counts = true }) ∷ []
+count_nodes = projecting [] ∷ slicing (record { skip = 0; top = Some 0; counts = true }) ∷ []
 
 abbrev pub naive_plan : TypedOf → PlanOf
 naive_plan q = record {

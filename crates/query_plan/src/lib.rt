@@ -3,10 +3,15 @@
 #![tactic(auto)]
 
 mod law;
+mod narrow;
 mod plan;
+mod renumber;
+mod rewrites;
 
 pub use law::{
     nodes_in_turn, queries_fit, results_are_inputs, results_are_rows, rows_are_in_groups,
     rows_are_in_order, true_rows_pass, worked_queries,
 };
+pub use narrow::plain_column;
 pub use plan::{Node, Plan, Slice, naive};
+pub use rewrites::rewrite;

@@ -32,6 +32,8 @@ pub enum Node {
     Group(Vec<usize>, Vec<NamedAggregate>),
     /// The rows in the order of items.
     Sort(Vec<OrderBy>),
+    /// The first so many rows in the order of items, whose values are computed on every row.
+    Best(Vec<OrderBy>, u64),
     Slice(Slice),
     /// The values of some columns.
     Project(Vec<usize>),
@@ -127,12 +129,13 @@ fn steps_of(alloc: Global, query: Typed) -> Result<Vec<Node>, AllocError>
     push_apply(&mut nodes, apply)?;
     push_filter(&mut nodes, filter)?;
     if counting {
-        // the rows are counted, and none is kept
+        // the rows are counted, and neither their columns nor they are kept
         let all = Slice {
             skip: 0,
             top: Some(0),
             counts: true,
         };
+        push_selection(&mut nodes, Some(Vec::new(alloc)))?;
         push_slice(&mut nodes, all)?;
     } else {
         let asked = Slice {

@@ -65,7 +65,7 @@ of_column c (boolean b) h = of_kind c.datatype (boolean b) h
 of_column c (date y m d) h = of_kind c.datatype (date y m d) h
 of_column c (decimal n) h = of_kind c.datatype (decimal n) h
 
-of_kinds : (columns : List ColumnOf) (row : List CellValue) → IsTableRow columns row → AreOfKinds (kinds_of columns) row
+pub of_kinds : (columns : List ColumnOf) (row : List CellValue) → IsTableRow columns row → AreOfKinds (kinds_of columns) row
 of_kinds [] [] h = tt
 of_kinds [] (v ∷ row) h = absurd h
 of_kinds (c ∷ columns) [] h = absurd h

@@ -4,3 +4,6 @@ pub mod RowLemmas
 pub mod PickedLemmas
 pub mod FitLemmas
 pub mod PickLemmas
+pub mod PlaceLemmas
+pub mod TakenLemmas
+pub mod ColumnLemmas

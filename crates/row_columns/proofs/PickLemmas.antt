@@ -44,7 +44,7 @@ picked_column from now numbers is = record {
 
 -- ---- columns
 
-column_push : (len : ℕ) (columns : List Cells) (column : Cells) → AllByRecursion (IsColumn len) columns → IsColumn len column
+pub column_push : (len : ℕ) (columns : List Cells) (column : Cells) → AllByRecursion (IsColumn len) columns → IsColumn len column
     → AllByRecursion (IsColumn len) (columns ++ column ∷ [])
 column_push len [] column all is = (is, tt)
 column_push len (c ∷ columns) column all is = (all.0, column_push len columns column all.1 is)

@@ -38,15 +38,15 @@ kind_there P rows row col value all h e =
     subst P (at ∙ value_there rows row col value e) (all row _ (omega (arith, h, long)))
 
 -- one value more
-pub one_taken : (old now next : Cells) (numbers : List ℕ) (rows : List (List CellValue)) (col i : ℕ) (value : CellValue) → i < length numbers
-    → option_and_then (λ values. slice_get values col) (slice_get rows (get_or numbers i 0)) ≡ Some value → IsPushed now value next
+pub one_came : (old now next : Cells) (numbers : List ℕ) (rows : List (List CellValue)) (col i : ℕ) (value : CellValue) → i < length numbers
+    → get_or (get_or rows (get_or numbers i 0) []) col null ≡ value → IsPushed now value next
     → IsExtended old (column_of (numbered (take i numbers) rows) col) now → IsExtended old (column_of (numbered (take (i + 1) numbers) rows) col) next
-one_taken old now next numbers rows col i value h is pushed so_far =
+one_came old now next numbers rows col i value h is pushed so_far =
     let pick : ℕ → List CellValue = λ n. get_or rows n [] in
     let cell : List CellValue → CellValue = λ values. get_or values col null in
     let longer : column_of (numbered (take (i + 1) numbers) rows) col ≡ column_of (numbered (take i numbers) rows) col ++ value ∷ [] =
     ap (map cell) (map_more pick numbers i 0 h) ∙ map_push cell (map pick (take i numbers)) (pick (get_or numbers i 0))
-    ∙ ap (λ v. map cell (map pick (take i numbers)) ++ v ∷ []) (value_there rows (get_or numbers i 0) col value is) in
+    ∙ ap (λ v. map cell (map pick (take i numbers)) ++ v ∷ []) is in
     record {
       values_are =
           pushed.values ∙ ap (λ vs. vs ++ value ∷ []) so_far.values_are
@@ -55,6 +55,31 @@ one_taken old now next numbers rows col i value h is pushed so_far =
       kind = pushed.kind ∙ so_far.kind;
       whole = pushed.whole;
     }
+
+pub one_taken : (old now next : Cells) (numbers : List ℕ) (rows : List (List CellValue)) (col i : ℕ) (value : CellValue) → i < length numbers
+    → option_and_then (λ values. slice_get values col) (slice_get rows (get_or numbers i 0)) ≡ Some value → IsPushed now value next
+    → IsExtended old (column_of (numbered (take i numbers) rows) col) now → IsExtended old (column_of (numbered (take (i + 1) numbers) rows) col) next
+one_taken old now next numbers rows col i value h is pushed so_far =
+    one_came old now next numbers rows col i value h (value_there rows (get_or numbers i 0) col value is) pushed so_far
+
+-- ---- the values of a column that is read
+
+pub value_read : {V : Type 0} (rows : List (List CellValue)) (values : List V) (view : V → CellValue) (n col : ℕ) (value : V) → n < length rows
+    → value ≡ get_or values n value → map view values ≡ column_of rows col → get_or (get_or rows n []) col null ≡ view value
+value_read rows values view n col value h at are =
+    let cell : List CellValue → CellValue = λ row. get_or row col null in
+    let inside : n < length (column_of rows col) = omega (arith, h, length-map rows cell) in
+    sym (get_or-map cell rows n [])
+    ∙ get_or_default (column_of rows col) n (cell []) (view value) inside
+    ∙ ap (λ vs. get_or vs n (view value)) (sym are)
+    ∙ get_or-map view values n value
+    ∙ ap view (sym at)
+
+pub kind_read : {V : Type 0} (P : CellValue → Type 0) (rows : List (List CellValue)) (values : List V) (view : V → CellValue) (n col : ℕ) (value : V)
+    → All P (column_of rows col) → n < length rows → value ≡ get_or values n value → map view values ≡ column_of rows col → P (view value)
+kind_read P rows values view n col value all h at are =
+    let cell : List CellValue → CellValue = λ row. get_or row col null in
+    subst P (get_or-map cell rows n [] ∙ value_read rows values view n col value h at are) (all n (cell []) (omega (arith, h, length-map rows cell)))
 
 -- ---- all columns
 

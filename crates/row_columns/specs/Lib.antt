@@ -4,5 +4,6 @@ pub mod Kinds
 pub mod Picked
 pub mod Columns
 pub mod Cells
+pub mod Numbers
 pub mod Kept
 pub mod Inside

@@ -1,13 +1,14 @@
 //! The values of a column, of its own kind.
-ghost use Rattle.std.specs.Prelude.{◌≡◌, ◌++◌, ◌∷◌, [], ◌<◌, IfOk, OnOk, Some, length, slice_get};
+ghost use Rattle.std.specs.Prelude.{◌≡◌, ◌++◌, ◌∷◌, [], ◌<◌, ◌↔◌, IfOk, IfSome, IsSome, OnOk, Some, length, map, slice_get};
 ghost use Rattle.cell_types.specs.Datatype.{datatype_view};
-ghost use Rattle.cell_types.specs.Value.{value_view, null};
+ghost use Rattle.cell_types.specs.Value.{value_view, decimal, integer, null};
 ghost use Rattle.std.specs.List.{All};
 ghost use Rattle.block_summary.specs.Ranges.{column_of};
-ghost use Rattle.row_columns.specs.Cells.{cells_view, kind_of, values_numbered, IsExtended, IsPushed, IsWhole};
-ghost use Rattle.row_columns.specs.Kinds.{kind_of_datatype, IsOfKind};
+ghost use Rattle.row_columns.specs.Cells.{cells_view, kind_of, values_numbered, value_or_null, IsExtended, IsPushed, IsWhole};
+ghost use Rattle.row_columns.specs.Kinds.{decimals, integers, kind_of_datatype, IsOfKind};
 ghost use Rattle.row_columns.specs.Picked.{numbered};
 
+use crate::numbers::push_numbers;
 use crate::texts::Texts;
 use crate::values::{
     date_value, decimal_value, integer_value, lent, owned, text_value, truth_value,
@@ -16,6 +17,9 @@ use cell_types::{Datatype, Value};
 use jiff::civil::Date;
 use std::alloc::{AllocError, Global};
 use table_store::Block;
+
+/// A part of a block that is one of so many is few rows: their cells are found one by one.
+const FEW: usize = 4;
 
 /// Values and nulls of one kind. None is null.
 #[derive(Drop)]
@@ -98,8 +102,33 @@ impl Cells {
         Ok(())
     }
 
-    /// Appends the values that the rows of a block with these numbers have in a column.
+    /// Appends the values that the rows of a block with these numbers have in a column. Where they are many of its rows, all of its cells are read.
     pub(crate) fn take(
+        &mut self,
+        alloc: Global,
+        block: &Block<'_>,
+        col: usize,
+        numbers: &[usize],
+    ) -> Result<(), AllocError>
+        requires whole { IsWhole self.old }
+        requires col { col < length block.now.schema.columns }
+        requires within { All (λ number. number < length block.now.rows) numbers.now }
+        requires kind { All (IsOfKind (kind_of self.old)) (column_of block.now.rows col) }
+        ensures { OnOk result
+            (IsExtended self.old (column_of (numbered numbers.now block.now.rows) col) self.new) }
+    {
+        if numbers.len() < block.rows() / FEW {
+            return self.take_each(alloc, block, col, numbers);
+        }
+        match (&mut *self, block.packed(col)) {
+            (Cells::Integers(values), Some(column)) => push_numbers(alloc, values, column, numbers),
+            (Cells::Decimals(values), Some(column)) => push_numbers(alloc, values, column, numbers),
+            _ => self.take_read(alloc, block, col, numbers),
+        }
+    }
+
+    /// The same, one by one.
+    fn take_each(
         &mut self,
         alloc: Global,
         block: &Block<'_>,
@@ -120,6 +149,28 @@ impl Cells {
         Ok(())
     }
 
+    /// The same, of all values of the column, which are read by one walk.
+    fn take_read(
+        &mut self,
+        alloc: Global,
+        block: &Block<'_>,
+        col: usize,
+        numbers: &[usize],
+    ) -> Result<(), AllocError>
+        requires whole { IsWhole self.old }
+        requires col { col < length block.now.schema.columns }
+        requires within { All (λ number. number < length block.now.rows) numbers.now }
+        requires kind { All (IsOfKind (kind_of self.old)) (column_of block.now.rows col) }
+        ensures { OnOk result
+            (IsExtended self.old (column_of (numbered numbers.now block.now.rows) col) self.new) }
+    {
+        let values = block.values(alloc, col)?;
+        for number in numbers {
+            self.push(alloc, &values[*number])?;
+        }
+        Ok(())
+    }
+
     /// The value with a number, counted from 0.
     pub(crate) fn get(&self, number: usize) -> Value<'_>
         requires whole { IsWhole self.now }
@@ -134,6 +185,30 @@ impl Cells {
             Cells::Dates(values) => date_value(values[number]),
             Cells::Decimals(values) => decimal_value(values[number]),
             Cells::Any(values) => lent(&values[number]),
+        }
+    }
+
+    /// The integers, None for null; nothing where the values are of another kind.
+    pub(crate) fn integers(&self) -> Option<&[Option<i64>]>
+        ensures values { IfSome result
+            (λ numbers. map (value_or_null integer) numbers.now ≡ cells_view self.now) }
+        ensures kind { IsSome result ↔ (kind_of self.now ≡ integers) }
+    {
+        match self {
+            Cells::Integers(values) => Some(values.as_slice()),
+            _ => None,
+        }
+    }
+
+    /// The decimals in millionths, None for null; nothing where the values are of another kind.
+    pub(crate) fn decimals(&self) -> Option<&[Option<i64>]>
+        ensures values { IfSome result
+            (λ numbers. map (value_or_null decimal) numbers.now ≡ cells_view self.now) }
+        ensures kind { IsSome result ↔ (kind_of self.now ≡ decimals) }
+    {
+        match self {
+            Cells::Decimals(values) => Some(values.as_slice()),
+            _ => None,
         }
     }
 

@@ -1,10 +1,12 @@
 //! Columns of values.
-ghost use Rattle.std.specs.Prelude.{◌≡◌, ◌++◌, ◌∷◌, [], ◌<◌, IfOk, OnErr, OnOk, Some, length, map, option_and_then, slice_get};
+ghost use Rattle.std.specs.Prelude.{◌≡◌, ◌++◌, ◌∷◌, [], ◌<◌, ◌↔◌, IfOk, IfSome, IsSome, OnErr, OnOk, Some, length, map, option_and_then, slice_get, slice_index_or};
 ghost use Rattle.std.specs.List.{All};
+ghost use Rattle.block_summary.specs.Ranges.{column_of};
 ghost use Rattle.cell_types.specs.Column.{column_view};
-ghost use Rattle.cell_types.specs.Value.{value_view};
+ghost use Rattle.cell_types.specs.Value.{value_view, decimal, integer};
+ghost use Rattle.row_columns.specs.Cells.{value_or_null};
 ghost use Rattle.row_columns.specs.Columns.{beside, columns_of_any, no_columns};
-ghost use Rattle.row_columns.specs.Kinds.{kinds_of, AreOfKinds};
+ghost use Rattle.row_columns.specs.Kinds.{any, decimals, integers, kinds_of, AreOfKinds};
 ghost use Rattle.row_columns.specs.Picked.{kinds_at, numbered, values_at};
 
 use crate::kept::Kept;
@@ -47,6 +49,21 @@ impl Columns {
             made ≡ record { kinds = kinds_of (map column_view columns.now); rows = [] }) }
     {
         let kept = Kept::new(alloc, columns)?;
+        Ok(Columns { kept })
+    }
+
+    /// No rows yet, for those of a table's columns that have these places, counted from 0.
+    pub fn of_places(
+        alloc: Global,
+        columns: &[Column],
+        places: &[usize],
+    ) -> Result<Columns, AllocError>
+        requires { All (λ place. place < length columns.now) places.now }
+        ensures kinds { IfOk result (λ made.
+            made.kinds ≡ kinds_at places.now (kinds_of (map column_view columns.now))) }
+        ensures rows { IfOk result (λ made. made.rows ≡ []) }
+    {
+        let kept = Kept::of_places(alloc, columns, places)?;
         Ok(Columns { kept })
     }
 
@@ -94,6 +111,30 @@ impl Columns {
         taken
     }
 
+    /// Appends the values that the rows of a block with these numbers have in the columns with these places, a column at a time. Where memory ran out,
+    /// no column is left.
+    pub fn take_places(
+        &mut self,
+        alloc: Global,
+        block: &Block<'_>,
+        places: &[usize],
+        numbers: &[usize],
+    ) -> Result<(), AllocError>
+        requires kinds { self.old.kinds ≡ kinds_at places.now (kinds_of block.now.schema.columns) }
+        requires places { All (λ place. place < length block.now.schema.columns) places.now }
+        requires within { All (λ number. number < length block.now.rows) numbers.now }
+        ensures kinds { OnOk result (self.new.kinds ≡ self.old.kinds) }
+        ensures rows { OnOk result (self.new.rows
+            ≡ self.old.rows ++ map (values_at places.now) (numbered numbers.now block.now.rows)) }
+        ensures refused { OnErr result (self.new ≡ no_columns) }
+    {
+        let taken = self.kept.take_places(alloc, block, places, numbers);
+        if taken.is_err() {
+            self.kept.clear();
+        }
+        taken
+    }
+
     /// How many rows there are.
     pub fn len(&self) -> usize
         ensures { result ≡ length self.now.rows }
@@ -123,6 +164,26 @@ impl Columns {
             ≡ Some (value_view result) }
     {
         self.kept.value(row, col)
+    }
+
+    /// The integers of a column, one for each row and None for null; nothing where it is no column of integers.
+    pub fn integers(&self, col: usize) -> Option<&[Option<i64>]>
+        requires { col < length self.now.kinds }
+        ensures values { IfSome result
+            (λ numbers. map (value_or_null integer) numbers.now ≡ column_of self.now.rows col) }
+        ensures kind { IsSome result ↔ (slice_index_or self.now.kinds col any ≡ integers) }
+    {
+        self.kept.column(col).integers()
+    }
+
+    /// The decimals of a column in millionths, one for each row and None for null; nothing where it is no column of decimals.
+    pub fn decimals(&self, col: usize) -> Option<&[Option<i64>]>
+        requires { col < length self.now.kinds }
+        ensures values { IfSome result
+            (λ numbers. map (value_or_null decimal) numbers.now ≡ column_of self.now.rows col) }
+        ensures kind { IsSome result ↔ (slice_index_or self.now.kinds col any ≡ decimals) }
+    {
+        self.kept.column(col).decimals()
     }
 
     /// The values of a row, counted from 0.

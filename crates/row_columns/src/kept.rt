@@ -1,8 +1,10 @@
 //! Rows in columns, while they are filled.
-ghost use Rattle.std.specs.Prelude.{◌≡◌, ◌++◌, ◌∷◌, [], ◌<◌, IfOk, OnOk, Some, length, map, option_and_then, replicate, slice_get};
+ghost use Rattle.std.specs.Prelude.{◌≡◌, ◌++◌, ◌∷◌, [], ◌<◌, IfOk, OnOk, Some, length, map, option_and_then, replicate, slice_get, slice_index_or};
 ghost use Rattle.cell_types.specs.Column.{column_view};
 ghost use Rattle.cell_types.specs.Value.{value_view};
 ghost use Rattle.std.specs.List.{All};
+ghost use Rattle.block_summary.specs.Ranges.{column_of};
+ghost use Rattle.row_columns.specs.Cells.{cells_view, kind_of};
 ghost use Rattle.row_columns.specs.Columns.{beside};
 ghost use Rattle.row_columns.specs.Kept.{kept_rows, kinds, AreAligned};
 ghost use Rattle.row_columns.specs.Kinds.{any, kinds_of, AreOfKinds};
@@ -43,6 +45,28 @@ impl Kept {
         let mut made = Vec::with_capacity(alloc, columns.len())?;
         for column in columns {
             made.push(Cells::new(alloc, &column.datatype))?;
+        }
+        Ok(Kept {
+            columns: made,
+            len: 0,
+        })
+    }
+
+    /// No rows yet, for those of the columns that have these places.
+    pub(crate) fn of_places(
+        alloc: Global,
+        columns: &[Column],
+        places: &[usize],
+    ) -> Result<Kept, AllocError>
+        requires { All (λ place. place < length columns.now) places.now }
+        ensures none { IfOk result (λ kept. kept_rows kept ≡ []) }
+        ensures kinds { IfOk result (λ kept.
+            kinds kept ≡ kinds_at places.now (kinds_of (map column_view columns.now))) }
+        ensures aligned { IfOk result AreAligned }
+    {
+        let mut made = Vec::with_capacity(alloc, places.len())?;
+        for place in places {
+            made.push(Cells::new(alloc, &columns[*place].datatype))?;
         }
         Ok(Kept {
             columns: made,
@@ -113,6 +137,35 @@ impl Kept {
         Ok(())
     }
 
+    /// Appends what the rows of a block with these numbers have in the columns with these places, a column at a time.
+    pub(crate) fn take_places(
+        &mut self,
+        alloc: Global,
+        block: &Block<'_>,
+        places: &[usize],
+        numbers: &[usize],
+    ) -> Result<(), AllocError>
+        requires aligned { AreAligned self.old }
+        requires kinds { kinds self.old ≡ kinds_at places.now (kinds_of block.now.schema.columns) }
+        requires places { All (λ place. place < length block.now.schema.columns) places.now }
+        requires within { All (λ number. number < length block.now.rows) numbers.now }
+        ensures rows { OnOk result (kept_rows self.new
+            ≡ kept_rows self.old ++ map (values_at places.now) (numbered numbers.now block.now.rows)) }
+        ensures kinds { OnOk result (kinds self.new ≡ kinds self.old) }
+        ensures aligned { OnOk result (AreAligned self.new) }
+    {
+        block.values_fit();
+        // Columns of so many rows would not fit in memory.
+        let Some(len) = self.len.checked_add(numbers.len()) else {
+            return Err(AllocError);
+        };
+        for (i, place) in places.iter().enumerate() {
+            self.columns[i].take(alloc, block, *place, numbers)?;
+        }
+        self.len = len;
+        Ok(())
+    }
+
     /// Drops every column and every row.
     pub(crate) fn clear(&mut self)
         ensures rows { kept_rows self.new ≡ [] }
@@ -161,6 +214,16 @@ impl Kept {
             values.push(cells.get(row))?;
         }
         Ok(values)
+    }
+
+    /// The values of a column, counted from 0.
+    pub(crate) fn column(&self, col: usize) -> &Cells
+        requires aligned { AreAligned self.now }
+        requires col { col < length (kinds self.now) }
+        ensures values { cells_view result.now ≡ column_of (kept_rows self.now) col }
+        ensures kind { kind_of result.now ≡ slice_index_or (kinds self.now) col any }
+    {
+        &self.columns[col]
     }
 
     /// Each row has a value for each column.

@@ -5,6 +5,7 @@
 mod cells;
 mod columns;
 mod kept;
+mod numbers;
 mod texts;
 mod values;
 

@@ -1,16 +1,14 @@
 -- The groups of rows, where one row more comes behind them.
-use Rattle.std.proofs.Common.{◌≡◌, ◌↔◌, ℕ, zero, suc, ◌<◌, Bool, true, false, not, cond, ◌||◌, IsTrue, Some, List, [], ◌∷◌, ◌++◌, length, map, filter, get_or, position, Vec, Global, inl, inr, refl, sym, ap, subst, ◌∙◌, arith}
-use Rattle.std.specs.Prelude.{slice_index_or, slice_set}
+use Rattle.std.proofs.Common.{◌≡◌, ◌↔◌, ℕ, zero, suc, ◌<◌, Bool, true, false, not, cond, ◌&&◌, ◌||◌, IsTrue, Some, List, [], ◌∷◌, ◌++◌, length, map, filter, get_or, position, Vec, Global, inl, inr, refl, sym, ap, subst, ◌∙◌, arith}
+use Rattle.std.specs.Prelude.{slice_get, slice_index_or, slice_set}
 use Rattle.std.specs.Cmp.Lexicographic.{pointwise, pointwise_decides}
 use Rattle.std.specs.List.{AllByRecursion, IsDistinct, list_any, position_or_len}
 use Rattle.std.proofs.lemmas.Bool.{cases_Bool, false≢true}
 use Rattle.std.proofs.lemmas.List.{get_or-map, length-map, map-append}
 use Rattle.std.proofs.lemmas.List.Folds.{list_any_at}
-use Rattle.std.proofs.lemmas.List.Quantifiers.{position-Some}
 use Rattle.std.proofs.lemmas.List.Elements.{filter-append}
 use Rattle.indexmap.specs.IndexSet.{insert_key}
-use Rattle.cell_types.specs.Value.{CellValue, value_eq, value_view}
-use Rattle.cell_types.specs.declared.value.Value.{Value}
+use Rattle.cell_types.specs.Value.{CellValue, value_eq}
 use Rattle.odata_query.specs.FirstSeen.{first_seen}
 use Rattle.query_plan.specs.Apply.{group_values, rows_of_group, same_values, values_at}
 use Rattle.row_columns.specs.Picked.{numbered}
@@ -83,8 +81,8 @@ module _ {X : Type 0} (eq : X → X → Bool) (is : (a b : X) → eq a b ≡ tru
       rw (head, rest) refl
 
 -- those are the groups of the rows with these numbers, and these their values
-pub record IsGrouped (rows : List (List CellValue)) (places numbers : List ℕ) (keys : List (Vec Value Global)) (groups : Groups) : Type 0 where
-  pub keys_are : map (λ key. map value_view key.items) keys ≡ group_values places (numbered numbers rows)
+pub record IsGrouped (rows : List (List CellValue)) (places numbers : List ℕ) (keys : List (List CellValue)) (groups : Groups) : Type 0 where
+  pub keys_are : keys ≡ group_values places (numbered numbers rows)
   pub are : AreGroups rows places numbers groups
 
 module _ {X : Type 0} (P : X → Type 0) where
@@ -221,47 +219,28 @@ member_more members g n old new within is more =
 
 -- ---- groups and their keys
 
-module _ {V : Type 0} (view : V → CellValue) (eq : V → V → Bool) (eq_is : (v w : V) → eq v w ≡ value_eq (view v) (view w)) where
-  pointwise_view : (a b : List V) → pointwise eq a b ≡ same_values (map view a) (map view b)
-  pointwise_view [] [] = refl
-  pointwise_view [] (w ∷ b) = refl
-  pointwise_view (v ∷ a) [] = refl
-  pointwise_view (v ∷ a) (w ∷ b) = rw (eq_is v w, pointwise_view a b) refl
-
-  module _ {K : Type 0} (items : K → List V) (key : List V) where
-    pub any_key : (ks : List K) → list_any (λ k. pointwise eq key (items k)) ks ≡ list_any (same_values (map view key)) (map (λ k. map view (items k)) ks)
-    any_key [] = refl
-    any_key (k ∷ ks) = rw (pointwise_view key (items k), any_key ks) refl
-
-    place_key : (ks : List K) → position_or_len (λ k. pointwise eq key (items k)) ks ≡ position_or_len (same_values (map view key)) (map (λ k. map view (items k)) ks)
-    place_key [] = refl
-    place_key (k ∷ ks) = rw (pointwise_view key (items k), place_key ks) refl
-
-    pub position_key : (ks : List K) → position (λ k. pointwise eq key (items k)) ks ≡ position (same_values (map view key)) (map (λ k. map view (items k)) ks)
-    position_key ks = rw (place_key ks, length-map ks (λ k. map view (items k))) refl
-
 module _ (equal : (a b : CellValue) → IsTrue (value_eq a b) ↔ (a ≡ b)) (rows : List (List CellValue)) (places numbers : List ℕ) (n : ℕ) (within : n < length rows) (old new : Groups) where
   -- a row joins the group of its values
-  pub joined : (keys : List (Vec Value Global)) (g : ℕ) → IsGrouped rows places numbers keys old → IsDistinct same_values (group_values places (numbered numbers rows))
-      → position (same_values (values_at places (slice_index_or rows n []))) (map (λ key. map value_view key.items) keys) ≡ Some g
+  pub joined : (keys : List (List CellValue)) (g : ℕ) → IsGrouped rows places numbers keys old → IsDistinct same_values (group_values places (numbered numbers rows))
+      → g < length keys → same_values (values_at places (slice_index_or rows n [])) (get_or keys g []) ≡ true
       → new.first_rows.items ≡ old.first_rows.items → members_of new ≡ slice_set (members_of old) g (slice_index_or (members_of old) g [] ++ n ∷ [])
       → IsGrouped rows places (numbers ++ n ∷ []) keys new
-  joined keys g is distinct found first members =
+  joined keys g is distinct inside same first members =
       let row = slice_index_or rows n [] in
       let some = numbered numbers rows in
       let values = group_values places some in
       let y = values_at places row in
-      let place : position (same_values y) values ≡ Some g = ap (position (same_values y)) (sym is.keys_are) ∙ found in
-      let at = position-Some (same_values y) values g [] place in
-      let here : y ≡ get_or values g [] = same_is equal rows places y (get_or values g []) at.1 in
-      let there : list_any (same_values y) values ≡ true = list_any_at (same_values y) values g [] at.0 at.1 in
+      let within_values : g < length values = subst (λ ks. g < length ks) is.keys_are inside in
+      let same_there : same_values y (get_or values g []) ≡ true = subst (λ ks. same_values y (get_or ks g []) ≡ true) is.keys_are same in
+      let here : y ≡ get_or values g [] = same_is equal rows places y (get_or values g []) same_there in
+      let there : list_any (same_values y) values ≡ true = list_any_at (same_values y) values g [] within_values same_there in
       let more = grown equal rows places some row n refl numbers in
       let kept : group_values places (numbered (numbers ++ n ∷ []) rows) ≡ values = ap (group_values places) more ∙ old_values equal rows places some row n refl there in
       record {
         keys_are = is.keys_are ∙ sym kept;
         are = record {
           values = ap (λ ns. map (values_at places) (numbered ns rows)) first ∙ is.are.values ∙ sym kept;
-          members = ap (map (λ m. numbered m rows)) members ∙ found_members equal rows places some row n refl values (members_of old) g is.are.members distinct at.0 (sym here)
+          members = ap (map (λ m. numbered m rows)) members ∙ found_members equal rows places some row n refl values (members_of old) g is.are.members distinct within_values (sym here)
               ∙ ap (λ rs. map (rows_of_group places rs) values) (sym more) ∙ ap (map (rows_of_group places (numbered (numbers ++ n ∷ []) rows))) (sym kept);
           first_within = subst (AllByRecursion (λ k. k < length rows)) (sym first) is.are.first_within;
           members_within = subst (AllByRecursion (AllByRecursion (λ k. k < length rows))) (sym members)
@@ -271,8 +250,8 @@ module _ (equal : (a b : CellValue) → IsTrue (value_eq a b) ↔ (a ≡ b)) (ro
       }
 
   -- or it is the first of a new one
-  pub begun : (keys new_keys : List (Vec Value Global)) (key : Vec Value Global) → IsGrouped rows places numbers keys old → map value_view key.items ≡ values_at places (slice_index_or rows n [])
-      → list_any (same_values (values_at places (slice_index_or rows n []))) (map (λ key. map value_view key.items) keys) ≡ false
+  pub begun : (keys new_keys : List (List CellValue)) (key : List CellValue) → IsGrouped rows places numbers keys old → key ≡ values_at places (slice_index_or rows n [])
+      → list_any (same_values (values_at places (slice_index_or rows n []))) keys ≡ false
       → new_keys ≡ keys ++ key ∷ [] → new.first_rows.items ≡ old.first_rows.items ++ n ∷ [] → members_of new ≡ members_of old ++ (n ∷ []) ∷ []
       → IsGrouped rows places (numbers ++ n ∷ []) new_keys new
   begun keys new_keys key is key_is found put first members =
@@ -284,7 +263,7 @@ module _ (equal : (a b : CellValue) → IsTrue (value_eq a b) ↔ (a ≡ b)) (ro
       let more = grown equal rows places some row n refl numbers in
       let now : group_values places (numbered (numbers ++ n ∷ []) rows) ≡ values ++ y ∷ [] = ap (group_values places) more ∙ new_values equal rows places some row n refl none in
       record {
-        keys_are = ap (map (λ key. map value_view key.items)) put ∙ map-append (λ key. map value_view key.items) keys (key ∷ []) ∙ ap (λ vs. vs ++ map value_view key.items ∷ []) is.keys_are
+        keys_are = put ∙ ap (λ vs. vs ++ key ∷ []) is.keys_are
             ∙ ap (λ v. values ++ v ∷ []) key_is ∙ sym now;
         are = record {
           values = ap (λ ns. map (values_at places) (numbered ns rows)) first

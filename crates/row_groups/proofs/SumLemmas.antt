@@ -5,6 +5,7 @@ use Rattle.std.specs.Int.{w128}
 use Rattle.std.specs.List.{AllByRecursion, cons_option, filter_map}
 use Rattle.std.specs.Option.{unwrap_or}
 use Rattle.std.proofs.Math.Nat.{mul-le-mul_left, mul-suc}
+use Rattle.std.proofs.Math.Seq.{drop-cons}
 use Rattle.std.proofs.lemmas.Int.{ints, fits_signed_from_abs}
 use Rattle.std.proofs.lemmas.List.{length-drop, length-map}
 use Rattle.std.proofs.lemmas.List.Elements.{recursion_from_All}
@@ -14,11 +15,7 @@ use Rattle.row_columns.specs.Picked.{numbered}
 use Rattle.row_groups.proofs.RowLemmas.{cells_before, numbered_drop}
 use Rattle.query_plan.specs.Apply.{integer_sum, sum_value}
 use Rattle.query_plan.specs.Fitting.{AreSummable}
-
--- the sum of some numbers, where there is one
-abbrev pub sum_of : List ℤ → Option ℤ
-sum_of [] = None
-sum_of (n ∷ ns) = Some (integer_sum (n ∷ ns))
+use Rattle.row_groups.specs.Sums.{sum_of}
 
 pub sum_or_zero : (ns : List ℤ) → unwrap_or (sum_of ns) (pos 0) ≡ integer_sum ns
 sum_or_zero [] = refl
@@ -108,3 +105,28 @@ module _ (read : CellValue → Option ℤ) (rows : List (List CellValue)) (numbe
       let here : FitsSigned w128 (integer_sum before) = subst (λ rs. FitsSigned w128 (integer_sum (filter_map (λ row. cell read row place) rs))) (sym (numbered_drop rows numbers (i - 1))) all in
       let total : number +ℤ unwrap_or sum (pos 0) ≡ integer_sum before = ap (λ o. unwrap_or o (pos 0)) (added sum number is e) ∙ sum_or_zero before in
       subst (FitsSigned w128) (sym total) here
+
+-- ---- the sum of some last numbers of a list, where one more comes before them
+
+module _ {X : Type 0} (f : X → Option ℤ) (xs : List X) (i : ℕ) (d : X) (some : 0 < i) (within : i ≤ length xs) where
+  one_before : filter_map f (drop (i - 1) xs) ≡ cons_option (f (get_or xs (i - 1) d)) (filter_map f (drop i xs))
+  one_before =
+      let next : suc (i - 1) ≡ i = omega arith in
+      ap (filter_map f) (drop-cons xs (i - 1) d (omega arith)) ∙ ap (λ k. cons_option (f (get_or xs (i - 1) d)) (filter_map f (drop k xs))) next
+
+  pub none_added : (sum : Option ℤ) → f (get_or xs (i - 1) d) ≡ None → sum ≡ sum_of (filter_map f (drop i xs)) → sum ≡ sum_of (filter_map f (drop (i - 1) xs))
+  none_added sum none e = e ∙ sym (ap sum_of (one_before ∙ ap (λ o. cons_option o (filter_map f (drop i xs))) none))
+
+  pub one_added : (sum : Option ℤ) (number : ℤ) → f (get_or xs (i - 1) d) ≡ Some number → sum ≡ sum_of (filter_map f (drop i xs))
+      → Some (number +ℤ unwrap_or sum (pos 0)) ≡ sum_of (filter_map f (drop (i - 1) xs))
+  one_added sum number is e =
+      let behind = filter_map f (drop i xs) in
+      ap (λ s. Some (number +ℤ unwrap_or s (pos 0))) e ∙ ap (λ s. Some (number +ℤ s)) (sum_or_zero behind)
+      ∙ sym (ap sum_of (one_before ∙ ap (λ o. cons_option o behind) is))
+
+  pub one_fits : (sum : Option ℤ) (number : ℤ) → f (get_or xs (i - 1) d) ≡ Some number → sum ≡ sum_of (filter_map f (drop i xs))
+      → AreSummable (filter_map f xs) (length xs) → FitsSigned w128 (number +ℤ unwrap_or sum (pos 0))
+  one_fits sum number is e fit =
+      let before = filter_map f (drop (i - 1) xs) in
+      let total : number +ℤ unwrap_or sum (pos 0) ≡ integer_sum before = ap (λ o. unwrap_or o (pos 0)) (one_added sum number is e) ∙ sum_or_zero before in
+      subst (FitsSigned w128) (sym total) (sum_fits f xs (i - 1) (length xs) (omega arith) fit)

@@ -8,3 +8,4 @@ pub use Rattle.row_columns.specs.Picked
 pub mod Computed
 pub mod Fits
 pub mod Groups
+pub mod Sums

@@ -6,9 +6,9 @@ ghost use Rattle.odata_query.specs.declared.aggregate.Aggregate.TheVariants.{Cou
 ghost use Rattle.query_plan.specs.Apply.{computed_value, is_value};
 ghost use Rattle.query_plan.specs.Fitting.{AreSummable};
 ghost use Rattle.row_columns.specs.Picked.{numbered};
-ghost use Rattle.row_eval.specs.Row.{cell, decimal_in, integer_in};
 ghost use Rattle.row_groups.specs.Computed.{decimals_in, greater_value, integers_in, lesser_value};
 
+use crate::sums::{Summed, sum_of};
 use cell_types::Value;
 use indexmap::IndexSet;
 use row_columns::Columns;
@@ -23,15 +23,7 @@ pub(crate) fn sum_of_integers(columns: &Columns, numbers: &[usize], place: usize
     ensures { value_view result
         ≡ computed_value (numbered numbers.now columns.now.rows) (SumOfIntegers place) }
 {
-    let mut sum: Option<i128> = None;
-    let mut i = numbers.len();
-    while i > 0 {
-        i -= 1;
-        if let Some(number) = integer_at(columns, numbers[i], place) {
-            sum = Some(number + sum.unwrap_or(0));
-        }
-    }
-    match sum {
+    match sum_of(columns, numbers, place, Summed::Integers) {
         Some(sum) => Value::Int(sum),
         None => Value::Null,
     }
@@ -46,15 +38,7 @@ pub(crate) fn sum_of_decimals(columns: &Columns, numbers: &[usize], place: usize
     ensures { value_view result
         ≡ computed_value (numbered numbers.now columns.now.rows) (SumOfDecimals place) }
 {
-    let mut sum: Option<i128> = None;
-    let mut i = numbers.len();
-    while i > 0 {
-        i -= 1;
-        if let Some(number) = decimal_at(columns, numbers[i], place) {
-            sum = Some(number + sum.unwrap_or(0));
-        }
-    }
-    match sum {
+    match sum_of(columns, numbers, place, Summed::Decimals) {
         Some(sum) => Value::Decimal(sum),
         None => Value::Null,
     }
@@ -116,30 +100,6 @@ pub(crate) fn distinct_count(
         }
     }
     Ok(Value::Int(values.len() as i128))
-}
-
-/// The integer that a row has in a column.
-fn integer_at(columns: &Columns, row: usize, place: usize) -> Option<i128>
-    requires row { row < length columns.now.rows }
-    requires place { place < length columns.now.kinds }
-    ensures { result ≡ cell integer_in (slice_index_or columns.now.rows row []) place }
-{
-    match columns.value(row, place) {
-        Value::Int(number) => Some(number),
-        _ => None,
-    }
-}
-
-/// The decimal that a row has in a column.
-fn decimal_at(columns: &Columns, row: usize, place: usize) -> Option<i128>
-    requires row { row < length columns.now.rows }
-    requires place { place < length columns.now.kinds }
-    ensures { result ≡ cell decimal_in (slice_index_or columns.now.rows row []) place }
-{
-    match columns.value(row, place) {
-        Value::Decimal(number) => Some(number),
-        _ => None,
-    }
 }
 
 /// The lesser of two values, the first of equal ones; null counts as none.

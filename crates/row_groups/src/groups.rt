@@ -42,6 +42,51 @@ impl Groups {
         requires places { All (λ place. place < length columns.now.kinds) places.now }
         ensures { IfOk result (AreGroups columns.now.rows places.now numbers.now) }
     {
+        if places.len() == 1 {
+            Groups::of_value(alloc, columns, numbers, places[0])
+        } else {
+            Groups::of_values(alloc, columns, numbers, places)
+        }
+    }
+
+    /// The same, by their values in one column.
+    fn of_value(
+        alloc: Global,
+        columns: &Columns,
+        numbers: &[usize],
+        place: usize,
+    ) -> Result<Groups, AllocError>
+        requires within { All (λ number. number < length columns.now.rows) numbers.now }
+        requires place { place < length columns.now.kinds }
+        ensures { IfOk result (AreGroups columns.now.rows (place ∷ []) numbers.now) }
+    {
+        cell_types::values_are_ordered();
+        cell_types::values_compare_as_their_views();
+        query_plan::rows_are_in_groups();
+        let mut keys: IndexSet<Value<'_>> = IndexSet::new(alloc);
+        let mut groups = Groups::none(alloc);
+        for number in numbers {
+            let (group, is_new) = keys.insert_full(columns.value(*number, place))?;
+            if is_new {
+                groups.begin(alloc, *number)?;
+            } else {
+                groups.join(group, *number)?;
+            }
+        }
+        Ok(groups)
+    }
+
+    /// The same, by their values in any columns.
+    fn of_values(
+        alloc: Global,
+        columns: &Columns,
+        numbers: &[usize],
+        places: &[usize],
+    ) -> Result<Groups, AllocError>
+        requires within { All (λ number. number < length columns.now.rows) numbers.now }
+        requires places { All (λ place. place < length columns.now.kinds) places.now }
+        ensures { IfOk result (AreGroups columns.now.rows places.now numbers.now) }
+    {
         cell_types::values_are_ordered();
         cell_types::values_compare_as_their_views();
         query_plan::rows_are_in_groups();

@@ -6,6 +6,7 @@ mod aggregate;
 mod computed;
 mod group;
 mod groups;
+mod sums;
 
 pub use aggregate::aggregated;
 pub use group::grouped;

@@ -102,7 +102,7 @@ position-map p f xs = rw (position_or_len-map p f xs, length-map xs f) refl
 list_any-some : {X : Type 0} (p : X → Bool) (xs : List X) (i : ℕ) (d : X) → i < length xs → p (get_or xs i d) ≡ true → list_any p xs ≡ true
 list_any-some p xs i d h e = list_any_at p xs i d h e
 
-cond_false : {X : Type 0} (b : Bool) (x y : X) → b ≡ false → cond b x y ≡ y
+pub cond_false : {X : Type 0} (b : Bool) (x y : X) → b ≡ false → cond b x y ≡ y
 cond_false true x y e = cc
 cond_false false x y e = refl
 
@@ -117,7 +117,7 @@ list_any-map p f (x ∷ xs) = ap (λ rest. p (f x) || rest) (list_any-map p f xs
 -- ---- a key among others
 module _ {K : Type 0} (view : K → List CellValue) (eq : K → K → Bool) (eq_is : (x y : K) → eq x y ≡ key_eq (view x) (view y)) where
   -- a key is among others just where its values are
-  list_any-view : (k : K) (ks : List K) → list_any (eq k) ks ≡ list_any (key_eq (view k)) (map view ks)
+  pub list_any-view : (k : K) (ks : List K) → list_any (eq k) ks ≡ list_any (key_eq (view k)) (map view ks)
   list_any-view k ks = ap (λ t. list_any t ks) (λ j x. eq_is k x j) ∙ sym (list_any-map (key_eq (view k)) view ks)
 
   pub position-view : (k : K) (ks : List K) → position (eq k) ks ≡ row_of (map view ks) (view k)

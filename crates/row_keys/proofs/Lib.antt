@@ -1,3 +1,4 @@
 pub mod KeyLemmas
 pub mod KeysLemmas
 pub mod AreKeysLemmas
+pub mod NumberLemmas

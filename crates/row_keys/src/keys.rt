@@ -1,20 +1,21 @@
 //! The keys of a table's rows.
-ghost use Rattle.std.specs.Prelude.{◌≡◌, ◌↔◌, ◌<◌, false, true, not, [], ◌∷◌, ◌++◌, List, Some, IfOk, IfErr, IsTrue, length, map, slice_get, option_map, All};
-ghost use Rattle.std.specs.List.{list_any};
+ghost use Rattle.std.specs.Prelude.{◌≡◌, ◌≢◌, ◌↔◌, ◌<◌, ℤ, false, [], ◌∷◌, ◌++◌, List, None, Some, IfOk, IfErr, IfSome, OnOk, IsTrue, length, map, slice_get, option_map, All};
 ghost use Rattle.cell_types.specs.Column.{ColumnOf};
 ghost use Rattle.cell_types.specs.Datatype.{integer};
 ghost use Rattle.cell_types.specs.Value.{CellValue, null, value_eq, value_view};
 ghost use Rattle.csv_index.specs.Raw.{RawField};
 ghost use Rattle.csvw_meta.specs.Schema.{schema_view};
-ghost use Rattle.row_keys.specs.Key.{row_key, row_keys, key_eq, has_null as has_null_in, row_of};
+ghost use Rattle.row_keys.specs.Key.{row_key, row_keys, has_null as has_null_in, repeated_row, row_of};
+ghost use Rattle.row_keys.specs.Numbers.{integer_key};
 ghost use Rattle.typed_columns.specs.Values.{values_in};
-ghost use Rattle.row_keys.specs.Keys.{keys_view, AreColumns, AreKeysOf, HasKeyFault, HasRead, HasRoomFor, Suits, TakesKey};
+ghost use Rattle.row_keys.specs.Keys.{keys_view, AreColumns, AreKeysOf, HasKeyFault, HasRead, HasRoomFor, HaveRead, Suits, TakesKey};
 
+use crate::numbers::{NumberKeys, NumberReader};
+use crate::values::ValueReader;
 use cell_types::{Datatype, Value};
 use csvw_meta::Schema;
 use indexmap::IndexSet;
 use std::alloc::{AllocError, Global};
-use std::borrow::CowStr;
 
 /// The keys of the rows of a table. The place of a key among them is its row.
 #[derive(Drop)]
@@ -22,6 +23,8 @@ pub enum Keys {
     /// The table has no key.
     Absent,
     /// Each key is one integer.
+    Numbers(NumberKeys),
+    /// Each key is one integer, and there are more rows than an order of them can name.
     Integers(IndexSet<i128>),
     /// Each key is a list of values.
     Values(IndexSet<Vec<Value<'static>>>),
@@ -36,15 +39,24 @@ pub enum KeyFault {
     Twice(usize),
 }
 
-/// The keys of the rows so far, which are read one row after another.
+/// The keys of the rows so far, which are read one after another.
 #[derive(Drop)]
 pub struct KeyReader {
-    /// Those before the first row that is wrong.
-    keys: Keys,
+    /// Those before the first row that has a null in its own.
+    keys: ReadKeys,
     /// The first row whose key has a null.
     null: Option<usize>,
-    /// The first row whose key is that of an earlier row, where no null came before it.
-    repeated: Option<usize>,
+}
+
+/// Keys that are read one after another, of which none has a null.
+#[derive(Drop)]
+pub enum ReadKeys {
+    /// The table has no key.
+    Absent,
+    /// Each key is one integer.
+    Numbers(NumberReader),
+    /// Each key is a list of values.
+    Values(ValueReader),
 }
 
 impl KeyReader {
@@ -59,20 +71,16 @@ impl KeyReader {
     {
         cell_types::values_fit_columns();
         let keys = match schema.key.as_slice() {
-            [] => Keys::Absent,
+            [] => ReadKeys::Absent,
             [place] if has_integers(schema, *place) => {
-                Keys::Integers(IndexSet::with_capacity(alloc, rows)?)
+                ReadKeys::Numbers(NumberReader::new(alloc, rows)?)
             }
-            _ => Keys::Values(IndexSet::with_capacity(alloc, rows)?),
+            _ => ReadKeys::Values(ValueReader::new(alloc, rows)?),
         };
-        Ok(KeyReader {
-            keys,
-            null: None,
-            repeated: None,
-        })
+        Ok(KeyReader { keys, null: None })
     }
 
-    /// Reads the key of the next row, by the values of that row and the places of the key's columns. Behind a row that is wrong no key is kept.
+    /// Reads the key of the next row, by the values of that row and the places of the key's columns. Behind a row with a null no key is kept.
     pub fn read(
         &mut self,
         alloc: Global,
@@ -94,24 +102,69 @@ impl KeyReader {
             self.null = Some(row);
             return Ok(());
         }
-        if self.repeated.is_none() && !self.keys.insert(alloc, places, values)? {
-            self.repeated = Some(row);
-        }
-        Ok(())
+        self.keys.read(alloc, places, row, values)
     }
 
     /// The keys of the rows that were read, or why they have none: a null in any of them comes before a key that stands twice.
-    pub fn finish(self) -> Result<Keys, KeyFault>
-        ensures keys { IfOk result (λ keys. (of : List (List CellValue)) → HasRead self of
-            → AreKeysOf keys of) }
-        ensures fault { IfErr result (λ e. (of : List (List CellValue)) → HasRead self of
-            → HasKeyFault of e) }
+    pub fn finish(self, alloc: Global) -> Result<Result<Keys, KeyFault>, AllocError>
+        ensures keys { IfOk result (λ found. IfOk found
+            (λ keys. (of : List (List CellValue)) → HasRead self of → AreKeysOf keys of)) }
+        ensures fault { IfOk result (λ found. IfErr found
+            (λ e. (of : List (List CellValue)) → HasRead self of → HasKeyFault of e)) }
     {
-        match self.null {
-            Some(row) => Err(KeyFault::Null(row)),
-            None => match self.repeated {
-                Some(row) => Err(KeyFault::Twice(row)),
-                None => Ok(self.keys),
+        if let Some(row) = self.null {
+            return Ok(Err(KeyFault::Null(row)));
+        }
+        match self.keys.finish(alloc)? {
+            Ok(keys) => Ok(Ok(keys)),
+            Err(row) => Ok(Err(KeyFault::Twice(row))),
+        }
+    }
+}
+
+impl ReadKeys {
+    /// Reads the key of the next row, which has no null.
+    fn read(
+        &mut self,
+        alloc: Global,
+        places: &[usize],
+        row: usize,
+        values: &[Value<'_>],
+    ) -> Result<(), AllocError>
+        requires some { 0 < length places.now }
+        requires places { All (λ place. place < length values.now) places.now }
+        requires suits { Suits self.old (row_key places.now (map value_view values.now)) }
+        requires whole { has_null_in (row_key places.now (map value_view values.now)) ≡ false }
+        ensures read { OnOk result ((keys : List (List CellValue)) → row ≡ length keys
+            → HaveRead self.old keys
+            → HaveRead self.new (keys ++ row_key places.now (map value_view values.now) ∷ [])) }
+        ensures suits { (key : List CellValue) → Suits self.old key → Suits self.new key }
+    {
+        match self {
+            ReadKeys::Absent => unreachable!(),
+            ReadKeys::Numbers(numbers) => match &values[places[0]] {
+                Value::Int(number) => numbers.push(*number as i64),
+                _ => unreachable!(),
+            },
+            ReadKeys::Values(reader) => reader.read(alloc, places, row, values),
+        }
+    }
+
+    /// The keys that were read, or the first row whose key is that of an earlier row.
+    fn finish(self, alloc: Global) -> Result<Result<Keys, usize>, AllocError>
+        ensures keys { IfOk result (λ found. IfOk found
+            (λ keys. (of : List (List CellValue)) → HaveRead self of → keys_view keys ≡ of)) }
+        ensures distinct { IfOk result (λ found. IfOk found
+            (λ keys. (of : List (List CellValue)) → HaveRead self of → repeated_row of ≡ None)) }
+        ensures repeated { IfOk result (λ found. IfErr found
+            (λ row. (of : List (List CellValue)) → HaveRead self of → repeated_row of ≡ Some row)) }
+    {
+        match self {
+            ReadKeys::Absent => Ok(Ok(Keys::Absent)),
+            ReadKeys::Numbers(numbers) => numbers.finish(alloc),
+            ReadKeys::Values(reader) => match reader.repeated {
+                Some(row) => Ok(Err(row)),
+                None => Ok(Ok(Keys::Values(reader.keys))),
             },
         }
     }
@@ -124,12 +177,13 @@ impl Keys {
     {
         match self {
             Keys::Absent => None,
-            Keys::Integers(keys) => match key {
-                [value] => match value {
-                    Value::Int(number) => keys.get_index_of(number),
-                    _ => None,
-                },
-                _ => None,
+            Keys::Numbers(keys) => match integer_in(key) {
+                Some(number) => keys.find(number),
+                None => None,
+            },
+            Keys::Integers(keys) => match integer_in(key) {
+                Some(number) => keys.get_index_of(number),
+                None => None,
             },
             Keys::Values(keys) => {
                 cell_types::values_compare_as_their_views();
@@ -137,37 +191,19 @@ impl Keys {
             }
         }
     }
+}
 
-    /// Puts the key of a row, which has no null, behind the others. Whether it is none of them.
-    fn insert(
-        &mut self,
-        alloc: Global,
-        places: &[usize],
-        values: &[Value<'_>],
-    ) -> Result<bool, AllocError>
-        requires some { 0 < length places.now }
-        requires places { All (λ place. place < length values.now) places.now }
-        requires suits { Suits self.old (row_key places.now (map value_view values.now)) }
-        requires whole { has_null_in (row_key places.now (map value_view values.now)) ≡ false }
-        ensures new { IfOk result (λ is. is ≡ not (list_any
-            (key_eq (row_key places.now (map value_view values.now))) (keys_view self.old))) }
-        ensures keys { IfOk result (λ is. is ≡ true
-            → keys_view self.new
-            ≡ keys_view self.old ++ row_key places.now (map value_view values.now) ∷ []) }
-        ensures suits { (key : List CellValue) → Suits self.old key → Suits self.new key }
-    {
-        match self {
-            Keys::Absent => unreachable!(),
-            Keys::Integers(keys) => match &values[places[0]] {
-                Value::Int(number) => Ok(keys.insert(*number)?),
-                _ => unreachable!(),
-            },
-            Keys::Values(keys) => {
-                cell_types::values_compare_as_their_views();
-                let key = key_of(alloc, places, values)?;
-                Ok(keys.insert(key)?)
-            }
-        }
+/// The number of a key that is one integer.
+fn integer_in<'k>(key: &'k [Value<'_>]) -> Option<&'k i128>
+    ensures some { IfSome result (λ number. map value_view key.now ≡ integer_key number.now) }
+    ensures none { result ≡ None → (number : ℤ) → map value_view key.now ≢ integer_key number }
+{
+    if key.len() != 1 {
+        return None;
+    }
+    match &key[0] {
+        Value::Int(number) => Some(number),
+        _ => None,
     }
 }
 
@@ -199,38 +235,4 @@ fn has_null(places: &[usize], values: &[Value<'_>]) -> bool
         }
     }
     false
-}
-
-/// The key of a row.
-fn key_of(
-    alloc: Global,
-    places: &[usize],
-    values: &[Value<'_>],
-) -> Result<Vec<Value<'static>>, AllocError>
-    requires { All (λ place. place < length values.now) places.now }
-    ensures { IfOk result
-        (λ key. map value_view key.items ≡ row_key places.now (map value_view values.now)) }
-{
-    let mut key = Vec::with_capacity(alloc, places.len())?;
-    for place in places {
-        key.push(owned_value(alloc, &values[*place])?)?;
-    }
-    Ok(key)
-}
-
-/// A value that owns its text.
-fn owned_value(alloc: Global, value: &Value<'_>) -> Result<Value<'static>, AllocError>
-    ensures { IfOk result (λ owned. value_view owned ≡ value_view value.now) }
-{
-    match value {
-        Value::Null => Ok(Value::Null),
-        Value::Int(number) => Ok(Value::Int(*number)),
-        Value::Text(text) => {
-            let copy = String::from_str(alloc, text.as_str())?;
-            Ok(Value::Text(CowStr::Owned(copy)))
-        }
-        Value::Bool(truth) => Ok(Value::Bool(*truth)),
-        Value::Date(day) => Ok(Value::Date(*day)),
-        Value::Decimal(millionths) => Ok(Value::Decimal(*millionths)),
-    }
 }

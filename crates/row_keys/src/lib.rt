@@ -6,8 +6,12 @@
 ghost use Rattle.row_keys.specs.Laws.{KeysFindRows};
 
 mod keys;
+mod numbers;
+mod values;
 
-pub use keys::{KeyFault, KeyReader, Keys};
+pub use keys::{KeyFault, KeyReader, Keys, ReadKeys};
+pub use numbers::{NumberKeys, NumberReader};
+pub use values::ValueReader;
 
 /// Where no key has a null and no two are one, the row with the key of a row is that row.
 pub fn keys_find_rows()

@@ -5,3 +5,5 @@ pub use Rattle.query_plan.specs.Filter
 pub use Rattle.query_plan.specs.Order
 pub mod Numbers
 pub mod Keys
+pub mod Best
+pub mod Plain

@@ -2,12 +2,17 @@
 //! Conventions, sections 5.1.2, 5.1.5 and 5.1.6). No row is moved: of numbers of rows come numbers of rows.
 #![tactic(auto)]
 
+mod best;
 mod keyed;
 mod keys;
+mod law;
 mod passing;
 mod pieces;
+mod plain;
 mod sorting;
 
+pub use best::best_numbers;
+pub use law::best_in_pieces;
 pub use passing::passing_numbers;
 pub use pieces::piece;
 pub use sorting::sorted_numbers;

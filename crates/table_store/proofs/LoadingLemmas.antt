@@ -13,12 +13,15 @@ use Rattle.cell_types.specs.Value.{CellValue}
 use Rattle.csvw_meta.specs.Schema.{SchemaOf}
 use Rattle.row_keys.specs.declared.keys.KeyFault.{KeyFault}
 use Rattle.row_keys.specs.declared.keys.KeyFault.TheVariants.{Null, Twice}
+use Rattle.row_keys.specs.declared.keys.KeyReader.{KeyReader}
+use Rattle.table_store.specs.declared.loading.TableFault.{TableFault}
+use Rattle.table_store.specs.declared.loading.TableFault.TheVariants as refused
 use Rattle.table_store.specs.Table.{rows_from, HasCells, HasOtherHeader, HasBadCell}
 use Rattle.table_store.specs.Fault.{TableCause, file_missing, file_too_large, bad_text, bad_header, bad_cell, key_null, key_twice, cell_cause}
 use Rattle.typed_columns.specs.Values.{rows_in, FitsColumns}
 use Rattle.row_keys.specs.Key.{row_key, row_keys}
-use Rattle.row_keys.specs.Keys.{HasKeyFault}
-use Rattle.table_store.specs.Loading.{mismatch_of, key_cause, keys_at, bad_cell_of, IsTableAt, HasRowsCause, HasFileCause}
+use Rattle.row_keys.specs.Keys.{HasKeyFault, HasRead}
+use Rattle.table_store.specs.Loading.{mismatch_of, key_cause, keys_at, bad_cell_of, table_cause, IsTableAt, HasRowsCause, HasFileCause, LacksKeys}
 use Rattle.table_store.proofs.RowLemmas.{rows_from-none}
 use Rattle.table_store.proofs.HeaderLemmas.{mismatch_from-length}
 
@@ -83,6 +86,26 @@ pub key_fault-cause : (schema : SchemaOf) (rows : List (List RawField)) (fault :
     → HasKeyFault (keys_at schema rows) fault → HasRowsCause schema rows (key_cause fault)
 key_fault-cause schema rows (Null row) none has = (none, has)
 key_fault-cause schema rows (Twice row) none has = (none, has.0, has.1)
+
+-- why the keys that were read are none, or want of memory
+pub lacks_keys-cause : (schema : SchemaOf) (rows : List (List RawField)) (reader : KeyReader) (fault : TableFault) → bad_cell_of schema rows ≡ None
+    → HasRead reader (keys_at schema rows) → LacksKeys reader fault → IfSome (table_cause fault) (HasRowsCause schema rows)
+lacks_keys-cause schema rows reader (refused.Key fault) none read lacks = key_fault-cause schema rows fault none (lacks (keys_at schema rows) read)
+lacks_keys-cause schema rows reader refused.NoMemory none read lacks = tt
+lacks_keys-cause schema rows reader refused.FileMissing none read lacks = absurd lacks
+lacks_keys-cause schema rows reader refused.FileTooLarge none read lacks = absurd lacks
+lacks_keys-cause schema rows reader (refused.Text fault) none read lacks = absurd lacks
+lacks_keys-cause schema rows reader (refused.Header col) none read lacks = absurd lacks
+lacks_keys-cause schema rows reader (refused.Cell bad) none read lacks = absurd lacks
+
+pub lacks_keys-memory : (reader : KeyReader) (fault : TableFault) → LacksKeys reader fault → table_cause fault ≡ None → fault ≡ refused.NoMemory
+lacks_keys-memory reader (refused.Key fault) lacks e = cc
+lacks_keys-memory reader refused.NoMemory lacks e = refl
+lacks_keys-memory reader refused.FileMissing lacks e = absurd lacks
+lacks_keys-memory reader refused.FileTooLarge lacks e = absurd lacks
+lacks_keys-memory reader (refused.Text fault) lacks e = absurd lacks
+lacks_keys-memory reader (refused.Header col) lacks e = absurd lacks
+lacks_keys-memory reader (refused.Cell bad) lacks e = absurd lacks
 
 -- where each cell has a value, these are the cells
 pub table_cells : (schema : SchemaOf) (bytes : List ℕ) (file : RawTable) → IsTableAt schema.columns bytes file

@@ -19,9 +19,10 @@ use Rattle.table_store.specs.Table.{mismatch_from, values_from, rows_from, HasOt
 use Rattle.table_store.specs.Fault.{TableCause, file_missing, file_too_large, bad_text, bad_header, bad_cell, key_null, key_twice, cell_cause, LoadCause, no_metadata, bad_meta, bad_table}
 use Rattle.table_store.specs.File.{FileOf}
 use Rattle.row_keys.specs.Key.{row_key, row_keys, null_row, repeated_row}
-use Rattle.row_keys.specs.Keys.{AreColumns}
+use Rattle.row_keys.specs.Keys.{AreColumns, HasKeyFault, HasRead}
 use Rattle.row_keys.specs.declared.keys.KeyFault.{KeyFault}
 use Rattle.row_keys.specs.declared.keys.KeyFault.TheVariants.{Null, Twice}
+use Rattle.row_keys.specs.declared.keys.KeyReader.{KeyReader}
 use Rattle.table_store.specs.Catalog.{HasFile, HasTableCause, IsFirstBadTable}
 use Rattle.typed_columns.specs.Values.{rows_in, AllHaveValues, FitsColumns}
 
@@ -49,6 +50,12 @@ IsTableOf limit file schema table = (bytes : List ℕ) × HasFile limit file byt
 abbrev pub key_cause : KeyFault → TableCause
 key_cause (Null row) = key_null row
 key_cause (Twice row) = key_twice row
+
+-- this is why the keys that were read are none, or memory ran out
+abbrev pub LacksKeys : KeyReader → TableFault → Type 0
+LacksKeys reader (Key fault) = (of : List (List CellValue)) → HasRead reader of → HasKeyFault of fault
+LacksKeys reader NoMemory = Unit {0}
+LacksKeys reader fault = ⊥
 
 -- the cause that an error is; none, where memory ran out
 abbrev pub table_cause : TableFault → Option TableCause

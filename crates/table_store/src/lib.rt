@@ -13,6 +13,7 @@ mod fault;
 mod file;
 mod header;
 mod loading;
+mod reading;
 mod summaries;
 mod table;
 

@@ -1,20 +1,17 @@
-//! The steps of loading a table from its file: the header against the columns, and then each cell.
-ghost use Rattle.std.specs.Prelude.{◌≡◌, ◌≤◌, ◌⊎◌, ◌==◌, true, None, Some, Ok, Err, IfOk, IfErr, IfSome, OnOk, length, take, drop, map, option_map};
+//! Reading the rows of a table, cell by cell.
+ghost use Rattle.std.specs.Prelude.{◌≡◌, ◌≤◌, ◌⊎◌, ◌==◌, List, true, None, Some, Ok, Err, IfOk, IfErr, IfSome, OnOk, length, take, drop, map, option_map};
 ghost use Rattle.std.specs.List.{list_all, list_any};
-ghost use Rattle.cell_types.specs.Value.{value_view};
+ghost use Rattle.cell_types.specs.Value.{CellValue, value_view};
 ghost use Rattle.cell_types.specs.Column.{column_view, takes_all_texts};
 ghost use Rattle.csv_index.specs.Raw.{raw_view};
 ghost use Rattle.csvw_meta.specs.Schema.{schema_view};
 ghost use Rattle.table_store.specs.Fault.{bad_cell, cell_cause};
-ghost use Rattle.table_store.specs.File.{file_bytes};
-ghost use Rattle.table_store.specs.Catalog.{HasTableCause};
-ghost use Rattle.typed_columns.specs.ColumnReader.{read_on, AreReadOn, HasReader, HaveReaders};
-ghost use Rattle.row_keys.specs.Keys.{AreKeysOf};
+ghost use Rattle.typed_columns.specs.ColumnReader.{cells_read, read_on, AreReadOn, HasReader, HaveReaders};
+ghost use Rattle.row_keys.specs.Keys.{AreKeysOf, HasRead};
 ghost use Rattle.typed_columns.specs.TypedColumn.{AreTyped};
 ghost use Rattle.typed_columns.specs.Values.{rows_in, value_in, value_or_null, values_in, FitsColumns, HasValue};
-ghost use Rattle.table_store.specs.Loading.{keys_at, bad_cell_of, table_cause, HasFileCause, HasKeyColumns, HasRowsCause, IsBadCell, IsTableAt, IsTableOf, ReadsAs};
+ghost use Rattle.table_store.specs.Loading.{keys_at, bad_cell_of, table_cause, HasKeyColumns, HasRowsCause, IsBadCell, LacksKeys, ReadsAs};
 
-use crate::header::first_mismatch;
 use cell_types::{CellFault, Column, Value};
 use csv_index::{Fields, IndexedText, Raw, TextFault};
 use csvw_meta::Schema;
@@ -158,9 +155,31 @@ fn take_all_texts(columns: &[Column]) -> bool
     columns.iter().all(|column| column.takes_all_texts())
 }
 
-/// The columns that are none of texts and the keys of the rows, each of whose cells has a value; or the first cell, row by row, that has none,
-/// and else why the rows have no keys. Each cell is read at most once, and none where no row can be wrong.
-fn read_rows(
+/// The columns and the keys that were read; or why the rows have no keys.
+fn finish_rows(
+    alloc: Global,
+    readers: Vec<Option<ColumnReader>>,
+    keys: KeyReader,
+) -> Result<(Vec<Option<TypedColumn>>, Keys), TableFault>
+    ensures columns { IfOk result (λ found. found.0.items ≡ map cells_read readers.items) }
+    ensures keys { IfOk result (λ found. (of : List (List CellValue))
+        → HasRead keys of → AreKeysOf found.1 of) }
+    ensures fault { IfErr result (LacksKeys keys) }
+{
+    let keys = match keys.finish(alloc) {
+        Ok(Ok(keys)) => keys,
+        Ok(Err(fault)) => return Err(TableFault::Key(fault)),
+        Err(_) => return Err(TableFault::NoMemory),
+    };
+    match columns_read(alloc, readers) {
+        Ok(columns) => Ok((columns, keys)),
+        Err(_) => Err(TableFault::NoMemory),
+    }
+}
+
+/// Reads each row: the columns that are none of texts and the keys of the rows, each of whose cells has a value; or the first cell, row by row,
+/// that has none, and else why the rows have no keys.
+fn read_each_row(
     alloc: Global,
     schema: &Schema,
     file: &IndexedText,
@@ -176,12 +195,8 @@ fn read_rows(
         IfSome (table_cause e) (HasRowsCause (schema_view schema.now) file.now.rows)) }
     ensures memory { IfErr result (λ e. table_cause e ≡ None → e ≡ TableFault.NoMemory) }
 {
-    cell_types::strings_have_values();
     let columns = schema.columns.as_slice();
     let places = schema.key.as_slice();
-    if places.is_empty() && take_all_texts(columns) {
-        return Ok((Vec::new(alloc), Keys::Absent));
-    }
     let Ok(mut readers) = column_readers(alloc, columns, file.rows()) else {
         return Err(TableFault::NoMemory);
     };
@@ -209,14 +224,32 @@ fn read_rows(
             return Err(TableFault::NoMemory);
         };
     }
-    let keys = match keys.finish() {
-        Ok(keys) => keys,
-        Err(fault) => return Err(TableFault::Key(fault)),
-    };
-    match columns_read(alloc, readers) {
-        Ok(columns) => Ok((columns, keys)),
-        Err(_) => Err(TableFault::NoMemory),
+    finish_rows(alloc, readers, keys)
+}
+
+/// The columns that are none of texts and the keys of the rows, each of whose cells has a value; or the first cell, row by row, that has none,
+/// and else why the rows have no keys. Each cell is read at most once, and none where no row can be wrong.
+pub fn read_rows(
+    alloc: Global,
+    schema: &Schema,
+    file: &IndexedText,
+) -> Result<(Vec<Option<TypedColumn>>, Keys), TableFault>
+    requires fits { FitsColumns (schema_view schema.now).columns file.now }
+    requires key { HasKeyColumns (schema_view schema.now) }
+    ensures values { IfOk result (λ _. bad_cell_of (schema_view schema.now) file.now.rows ≡ None) }
+    ensures columns { IfOk result (λ found. AreTyped (schema_view schema.now).columns
+        (rows_in (schema_view schema.now).columns file.now.rows) found.0.items) }
+    ensures keys { IfOk result
+        (λ found. AreKeysOf found.1 (keys_at (schema_view schema.now) file.now.rows)) }
+    ensures fault { IfErr result (λ e.
+        IfSome (table_cause e) (HasRowsCause (schema_view schema.now) file.now.rows)) }
+    ensures memory { IfErr result (λ e. table_cause e ≡ None → e ≡ TableFault.NoMemory) }
+{
+    cell_types::strings_have_values();
+    if schema.key.is_empty() && take_all_texts(schema.columns.as_slice()) {
+        return Ok((Vec::new(alloc), Keys::Absent));
     }
+    read_each_row(alloc, schema, file)
 }
 
 /// The fault of a table with that cell.
@@ -229,63 +262,4 @@ fn fault_of(bad: BadCell) -> TableFault
         CellFault::NoMemory => TableFault::NoMemory,
         _ => TableFault::Cell(bad),
     }
-}
-
-/// A file that is the table of a schema, its columns that are none of texts, and the keys of its rows; or the first thing that is wrong with it.
-fn read_file(
-    alloc: Global,
-    schema: &Schema,
-    bytes: Vec<u8>,
-) -> Result<(IndexedText, Vec<Option<TypedColumn>>, Keys), TableFault>
-    requires { HasKeyColumns (schema_view schema.now) }
-    ensures read { IfOk result (λ found.
-        IsTableAt (schema_view schema.now).columns bytes.items found.0) }
-    ensures columns { IfOk result (λ found. AreTyped (schema_view schema.now).columns
-        (rows_in (schema_view schema.now).columns found.0.rows) found.1.items) }
-    ensures keys { IfOk result (λ found.
-        AreKeysOf found.2 (keys_at (schema_view schema.now) found.0.rows)) }
-    ensures fault { IfErr result (λ e.
-        IfSome (table_cause e) (HasFileCause (schema_view schema.now) bytes.items)) }
-    ensures memory { IfErr result (λ e. table_cause e ≡ None → e ≡ TableFault.NoMemory) }
-{
-    let file = match IndexedText::build(alloc, bytes) {
-        Ok(file) => file,
-        Err(TextFault::NoMemory) => return Err(TableFault::NoMemory),
-        Err(fault) => return Err(TableFault::Text(fault)),
-    };
-    match first_mismatch(alloc, schema.columns.as_slice(), &file) {
-        Ok(None) => {}
-        Ok(Some(col)) => return Err(TableFault::Header(col)),
-        Err(_) => return Err(TableFault::NoMemory),
-    }
-    let (columns, keys) = read_rows(alloc, schema, &file)?;
-    Ok((file, columns, keys))
-}
-
-/// The file, at most as long as the limit, that is the table of a schema, its columns that are none of texts, and the keys of its rows; or why
-/// there is none.
-pub fn read_table(
-    alloc: Global,
-    limit: u32,
-    schema: &Schema,
-    file: Option<Vec<u8>>,
-) -> Result<(IndexedText, Vec<Option<TypedColumn>>, Keys), TableFault>
-    requires { HasKeyColumns (schema_view schema.now) }
-    ensures read { IfOk result (λ found.
-        IsTableOf limit (file_bytes file) (schema_view schema.now) found.0) }
-    ensures columns { IfOk result (λ found. AreTyped (schema_view schema.now).columns
-        (rows_in (schema_view schema.now).columns found.0.rows) found.1.items) }
-    ensures keys { IfOk result (λ found.
-        AreKeysOf found.2 (keys_at (schema_view schema.now) found.0.rows)) }
-    ensures fault { IfErr result (λ e.
-        IfSome (table_cause e) (HasTableCause limit (file_bytes file) (schema_view schema.now))) }
-    ensures memory { IfErr result (λ e. table_cause e ≡ None → e ≡ TableFault.NoMemory) }
-{
-    let Some(bytes) = file else {
-        return Err(TableFault::FileMissing);
-    };
-    if bytes.len() > limit as usize {
-        return Err(TableFault::FileTooLarge);
-    }
-    read_file(alloc, schema, bytes)
 }

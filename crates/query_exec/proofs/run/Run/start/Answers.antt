@@ -1,22 +1,51 @@
-use Rattle.std.proofs.Common.{refl, sym, ap, length, map, subst, arith, ◌∙◌}
-use Rattle.std.specs.Prelude.{Some}
+use Rattle.std.proofs.Common.{◌∙◌, ◌<◌, ap, arith, length, map, refl, string_bytes, subst, sym}
+use Rattle.std.specs.Prelude.{IfSome, Some, option_map}
+use Rattle.std.specs.List.{All}
 use Rattle.std.proofs.Math.Nat.{le-max_left}
+use Rattle.std.proofs.lemmas.List.{length-map}
 use Rattle.cell_types.specs.Column.{column_view}
-use Rattle.csvw_meta.specs.Schema.{SchemaOf}
+use Rattle.cell_types.specs.declared.column.Column.{Column}
+use Rattle.csvw_meta.specs.Schema.{SchemaOf, schema_view}
+use Rattle.odata_query.specs.Query.{optional_numbers}
 use Rattle.odata_types.specs.TypedTree.{boxed_truth}
 use Rattle.table_store.specs.Block.{block_count}
-use Rattle.row_columns.specs.Columns.{ColumnsOf}
 use Rattle.row_columns.specs.Kinds.{kinds_of}
 use Rattle.query_plan.specs.Fitting.{IsFitFor}
-use Rattle.query_plan.specs.Plan.{plan_view}
-use Rattle.query_exec.proofs.ConditionLemmas.{none_pass}
-use Rattle.query_exec.proofs.FitLemmas.{are_rows}
+use Rattle.query_plan.specs.Meaning.{selected_names}
+use Rattle.query_plan.specs.Plan.{node_view, plan_view}
+use Rattle.query_exec.specs.Picked.{selected_kinds, selected_rows}
+use Rattle.query_exec.specs.Useful.{useful}
+use Rattle.query_exec.proofs.ConditionLemmas.{none_pass, selected_none}
+use Rattle.query_exec.proofs.FitLemmas.{are_rows, places_within}
 use Rattle.query_exec.proofs.RunLemmas.{names-column_view}
 use Rattle.query_exec.proofs.run.Run.start.Goals as goal
 
+pub kept_names-requires : goal.kept_names-requires
+kept_names-requires c =
+    let parts = c.in_ok-conditions.field-0 in
+    let columns = c.args.schema.now.columns.items in
+    let picked = optional_numbers parts.places in
+    let within = places_within c.nodes_in_turn.ensures (map boxed_truth parts.conditions.items) picked (map node_view parts.steps.items) (schema_view c.args.schema.now)
+    (plan_view c.args.plan) (sym c.in_ok-conditions.ensures) c.requires in
+    subst (λ n. IfSome picked (All (λ place. place < n))) (length-map columns column_view ∙ ap length (sym c.as_slice.ensures.value)) within
+
+pub kept_columns-requires : goal.kept_columns-requires
+kept_columns-requires c =
+    let parts = c.in_ok-conditions.field-0 in
+    let columns = c.args.schema.now.columns.items in
+    let picked = optional_numbers parts.places in
+    let within = places_within c.nodes_in_turn.ensures (map boxed_truth parts.conditions.items) picked (map node_view parts.steps.items) (schema_view c.args.schema.now)
+    (plan_view c.args.plan) (sym c.in_ok-conditions.ensures) c.requires in
+    subst (λ n. IfSome picked (All (λ place. place < n))) (length-map columns column_view ∙ ap length (sym c.as_slice-2.ensures.value)) within
+
 pub returns-clause-stands : goal.returns-clause-stands
 returns-clause-stands c = λ table schema rows summaries.
+    let parts = c.in_ok-conditions.field-0 in
     let columns = c.args.schema.now.columns.items in
+    let es = map boxed_truth parts.conditions.items in
+    let picked = optional_numbers parts.places in
+    let within = places_within c.nodes_in_turn.ensures es picked (map node_view parts.steps.items) (schema_view c.args.schema.now) (plan_view c.args.plan)
+    (sym c.in_ok-conditions.ensures) c.requires in
     record {
       plan_is = sym c.in_ok-conditions.ensures;
       fits = subst (λ (s : SchemaOf). IsFitFor s (plan_view c.args.plan)) (sym schema) c.requires;
@@ -25,14 +54,16 @@ returns-clause-stands c = λ table schema rows summaries.
       blocks_are = summaries.count;
       handed_are = refl;
       goes_on = omega (arith, le-max_left 1 (block_count (length table.rows)));
+      within = subst (λ (s : SchemaOf). IfSome picked (All (λ place. place < length s.columns))) (sym schema) within;
       names_are =
-          c.in_ok-names.ensures ∙ ap (map (λ column. _)) c.as_slice.ensures.value
-          ∙ sym (names-column_view columns) ∙ ap (λ (s : SchemaOf). map (λ column. column.name) s.columns) (sym schema);
+          c.in_ok-names.ensures ∙ ap (λ cs. selected_names picked (map (λ (column : Column). string_bytes column.name) cs)) c.as_slice.ensures.value
+          ∙ ap (selected_names picked) (sym (names-column_view columns))
+          ∙ ap (λ (s : SchemaOf). selected_names picked (map (λ column. column.name) s.columns)) (sym schema);
       kinds_are =
-          ap (λ (made : ColumnsOf). made.kinds) c.in_ok-kept.ensures
-          ∙ ap (λ cs. kinds_of (map column_view cs)) c.as_slice-2.ensures.value
-          ∙ ap (λ (s : SchemaOf). kinds_of s.columns) (sym schema);
+          c.in_ok-kept.ensures.kinds
+          ∙ ap (λ cs. selected_kinds picked (kinds_of (map column_view cs))) c.as_slice-2.ensures.value
+          ∙ ap (λ (s : SchemaOf). selected_kinds picked (kinds_of s.columns)) (sym schema);
       passed =
-          ap (λ (made : ColumnsOf). Some made.rows) c.in_ok-kept.ensures
-          ∙ sym (none_pass (map boxed_truth c.in_ok-conditions.conditions.items));
+          ap (option_map (useful (map node_view parts.steps.items)))
+          (ap (λ made. Some made) (c.in_ok-kept.ensures.rows ∙ sym (selected_none picked)) ∙ ap (option_map (selected_rows picked)) (sym (none_pass es)));
     }

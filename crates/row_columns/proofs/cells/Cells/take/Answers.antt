@@ -1,19 +1,26 @@
-use Rattle.std.proofs.Common.{get_or, sym, subst}
-use Rattle.cell_types.specs.Value.{value_view}
-use Rattle.row_columns.specs.Cells.{kind_of}
-use Rattle.row_columns.specs.Kinds.{IsOfKind}
-use Rattle.row_columns.proofs.PickedLemmas.{kind_there, one_taken}
+use Rattle.std.proofs.Common.{◌≡◌, ◌∙◌, Some, sym, ap}
+use Rattle.std.specs.List.{All}
+use Rattle.std.specs.Option.{option_copied}
+use Rattle.block_summary.specs.Ranges.{column_of}
+use Rattle.row_columns.specs.Kinds.{decimals, integers, IsOfKind}
+use Rattle.row_columns.proofs.TakenLemmas.{decimals_taken, integers_taken}
 use Rattle.row_columns.proofs.cells.Cells.take.Goals as goal
 
-pub push-requires-clause-kind : goal.push-requires-clause-kind
-push-requires-clause-kind c =
-    let numbers = c.args.numbers.now in
-    let i = c.loop-number.number-index in
-    let value = value_view c.in_ok-value.value in
-    subst (λ k. IsOfKind k value) (sym c.loop-number.invariant.kind)
-    (kind_there (IsOfKind (kind_of c.args.self.now)) c.args.block.now.rows (get_or numbers i 0) c.args.col value c.requires.kind (c.requires.within i 0 c.loop-number-test.true) c.in_ok-value.ensures)
+pub returns-in-Integers-Some : goal.returns-in-Integers-Some
+returns-in-Integers-Some c =
+    let block = c.args.block.now in
+    let arm = c.in-Integers-Some in
+    let kinds : All (IsOfKind integers) (column_of block.rows c.args.col) = rw arm.is-0 at c.requires.kind in
+    rw arm.is-0
+    (integers_taken c.push_numbers.result arm.values c.push_numbers.new.values block c.args.col arm.column.now c.args.numbers.now
+    (sym c.packed.ensures ∙ ap option_copied arm.is-1) c.requires.within c.push_numbers.ensures kinds)
 
-pub loop-number-preserved : goal.loop-number-preserved
-loop-number-preserved c =
-    one_taken c.args.self.now c.loop-number.self c.push.new.self c.args.numbers.now c.args.block.now.rows c.args.col c.loop-number.number-index (value_view c.in_ok-value.value)
-    c.loop-number-test.true c.in_ok-value.ensures c.in_ok-push.ensures c.loop-number.invariant
+pub returns-in-Decimals-Some : goal.returns-in-Decimals-Some
+returns-in-Decimals-Some c =
+    let block = c.args.block.now in
+    let arm = c.in-Decimals-Some in
+    let call = c.push_numbers-in-Decimals-Some in
+    let kinds : All (IsOfKind decimals) (column_of block.rows c.args.col) = rw arm.is-0 at c.requires.kind in
+    rw arm.is-0
+    (decimals_taken call.result arm.values call.new.values block c.args.col arm.column.now c.args.numbers.now
+    (sym c.packed.ensures ∙ ap option_copied arm.is-1) c.requires.within call.ensures kinds)

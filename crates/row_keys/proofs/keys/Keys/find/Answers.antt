@@ -1,40 +1,32 @@
-use Rattle.std.proofs.Common.{◌≡◌, ◌≢◌, ℤ, [], ◌∷◌, length, map, sym, ap, ◌∙◌, arith}
-use Rattle.std.proofs.lemmas.List.{length-map}
-use Rattle.cell_types.specs.Value.{integer, value_view}
+use Rattle.std.proofs.Common.{map, sym, ap, ◌∙◌}
+use Rattle.cell_types.specs.Value.{value_view}
 use Rattle.row_keys.specs.Key.{row_of}
 use Rattle.row_keys.specs.Keys.{keys_view}
-use Rattle.row_keys.proofs.KeyLemmas.{position-view, values-row, int_eq-view, row_of-integers, one_item, not_one_item, no_int}
+use Rattle.row_keys.specs.Numbers.{integer_key}
+use Rattle.row_keys.proofs.KeyLemmas.{position-view, values-row, int_eq-view, row_of-integers}
 use Rattle.row_keys.proofs.keys.Keys.find.Goals as goal
 
-pub returns-in-Int : goal.returns-in-Int
-returns-in-Int c =
-    let key = c.args.key.now in
-    let one : length key ≡ 1 = omega (arith, c.in-len1.len_at_least, c.in-len1.len_below) in
-    let item : key ≡ c.value-item.result ∷ [] = one_item key c.value-item.result one ∙ ap (λ v. v ∷ []) (sym c.value-item.is) in
-    let is : map value_view key ≡ integer c.in-Int.number ∷ [] = ap (map value_view) item ∙ ap (λ v. value_view v ∷ []) c.in-Int.is in
-    c.get_index_of.ensures.index ∙ position-view (λ z. integer z ∷ []) _ int_eq-view c.in-Int.number c.in-Integers.keys.keys
-    ∙ ap (row_of (map (λ z. integer z ∷ []) c.in-Integers.keys.keys)) (sym is)
-    ∙ ap (λ ks. row_of (keys_view ks) (map value_view key)) (sym c.in-Integers.is)
+pub returns-in-Some : goal.returns-in-Some
+returns-in-Some c =
+    let key = map value_view c.args.key.now in
+    c.find.ensures ∙ position-view integer_key _ int_eq-view c.in-Some.number.now c.in-Numbers.keys
+    ∙ ap (row_of (map integer_key c.in-Numbers.keys)) (sym c.in-Some.ensures.some) ∙ ap (λ ks. row_of (keys_view ks) key) (sym c.in-Numbers.is)
 
-pub returns-in_default-value : goal.returns-in_default-value
-returns-in_default-value c =
-    let key = c.args.key.now in
-    let one : length key ≡ 1 = omega (arith, c.in-len1.len_at_least, c.in-len1.len_below) in
-    let item : key ≡ c.value-item.result ∷ [] = one_item key c.value-item.result one ∙ ap (λ v. v ∷ []) (sym c.value-item.is) in
-    let other : (a : ℤ) → map value_view key ≢ integer a ∷ [] = λ a e. no_int c.value-item.result c.in_default-value.not-Int a (sym (ap (map value_view) item) ∙ e) in
-    sym (row_of-integers c.in-Integers.keys.keys (map value_view key) other) ∙ ap (λ ks. row_of (keys_view ks) (map value_view key)) (sym c.in-Integers.is)
+pub returns-in-None : goal.returns-in-None
+returns-in-None c =
+    let key = map value_view c.args.key.now in
+    sym (row_of-integers c.in-Numbers.keys key (c.integer_in.ensures.none c.in-None.is)) ∙ ap (λ ks. row_of (keys_view ks) key) (sym c.in-Numbers.is)
 
-pub returns-in_default : goal.returns-in_default
-returns-in_default c =
-    let key = c.args.key.now in
-    let other : length (map value_view key) ≢ 1 = λ e. absurd (omega (arith, c.in_default.len_below, length-map key value_view)) in
-    sym (row_of-integers c.in-Integers.keys.keys (map value_view key) (not_one_item (map value_view key) other)) ∙ ap (λ ks. row_of (keys_view ks) (map value_view key)) (sym c.in-Integers.is)
+pub returns-in-Some-integer_in : goal.returns-in-Some-integer_in
+returns-in-Some-integer_in c =
+    let key = map value_view c.args.key.now in
+    c.get_index_of.ensures.index ∙ position-view integer_key _ int_eq-view c.in-Some-integer_in.number.now c.in-Integers.keys.keys
+    ∙ ap (row_of (map integer_key c.in-Integers.keys.keys)) (sym c.in-Some-integer_in.ensures.some) ∙ ap (λ ks. row_of (keys_view ks) key) (sym c.in-Integers.is)
 
-pub returns-in_default-2 : goal.returns-in_default-2
-returns-in_default-2 c =
-    let key = c.args.key.now in
-    let other : length (map value_view key) ≢ 1 = λ e. absurd (omega (arith, c.in_default.len_at_least, length-map key value_view)) in
-    sym (row_of-integers c.in-Integers.keys.keys (map value_view key) (not_one_item (map value_view key) other)) ∙ ap (λ ks. row_of (keys_view ks) (map value_view key)) (sym c.in-Integers.is)
+pub returns-in-None-integer_in : goal.returns-in-None-integer_in
+returns-in-None-integer_in c =
+    let key = map value_view c.args.key.now in
+    sym (row_of-integers c.in-Integers.keys.keys key (c.integer_in-in-Integers.ensures.none c.in-None-integer_in.is)) ∙ ap (λ ks. row_of (keys_view ks) key) (sym c.in-Integers.is)
 
 pub returns-in-Values : goal.returns-in-Values
 returns-in-Values c =

@@ -1,0 +1,79 @@
+//! The first rows of an order, kept in place of all.
+ghost use Rattle.std.specs.Prelude.{◌≡◌, IfOk, OnOk, map, take, true};
+ghost use Rattle.std.specs.List.{All};
+ghost use Rattle.odata_query.specs.Query.{order_view};
+ghost use Rattle.query_plan.specs.Order.{rows_cmp, sorted};
+ghost use Rattle.query_exec.specs.Conditions.{ConditionsFit};
+ghost use Rattle.query_exec.specs.Run.{conditions_of};
+ghost use Rattle.query_exec.specs.Taking.{HasCut, HasTakenIn, MayTake};
+ghost use Rattle.query_exec.specs.Useful.{are_plain};
+
+use crate::run::Run;
+use crate::underway::all_numbers;
+use odata_query::OrderBy;
+use query_plan::{Node, plain_column};
+use row_columns::Columns;
+use row_eval::EvalFault;
+use row_order::{best_in_pieces, best_numbers};
+use std::alloc::{AllocError, Global};
+use table_store::Block;
+
+/// Whether each item is a column alone.
+fn are_plain(items: &[OrderBy]) -> bool
+    ensures { result ≡ are_plain (map order_view items.now) }
+{
+    for item in items {
+        if plain_column(&item.expression).is_none() {
+            return false;
+        }
+    }
+    true
+}
+
+/// The first so many rows in the order of items, each of which is a column alone.
+fn best_rows(
+    alloc: Global,
+    rows: &Columns,
+    items: &[OrderBy],
+    most: u64,
+) -> Result<Columns, AllocError>
+    requires { are_plain (map order_view items.now) ≡ true }
+    ensures kinds { IfOk result (λ best. best.kinds ≡ rows.now.kinds) }
+    ensures rows { IfOk result (λ best. best.rows
+        ≡ take most (sorted (rows_cmp (map order_view items.now)) rows.now.rows)) }
+{
+    let numbers = all_numbers(alloc, rows.len())?;
+    match best_numbers(alloc, rows, numbers, items, most) {
+        Ok(best) => rows.in_order(alloc, &best),
+        Err(EvalFault::DivisionByZero) => unreachable!(),
+        Err(EvalFault::NoMemory) => Err(AllocError),
+    }
+}
+
+impl Run {
+    /// Lets go of the rows that the first step has no use for, once they are many.
+    fn cut(&mut self, alloc: Global) -> Result<(), AllocError>
+        ensures { OnOk result (HasCut self.old self.new) }
+    {
+        best_in_pieces();
+        let Some(Node::Best(items, most)) = self.steps.first() else {
+            return Ok(());
+        };
+        if (self.kept.len() as u64) / 2 <= *most || !are_plain(items) {
+            return Ok(());
+        }
+        self.kept = best_rows(alloc, &self.kept, items, *most)?;
+        Ok(())
+    }
+
+    /// Takes in the rows of the next block.
+    pub(crate) fn take_in(&mut self, alloc: Global, block: &Block<'_>) -> Result<(), AllocError>
+        requires block { MayTake self.old block.now }
+        requires fits { All (ConditionsFit (conditions_of self.old)) block.now.rows }
+        ensures { OnOk result (HasTakenIn self.old self.new block.now.rows) }
+    {
+        self.take_block(alloc, block)?;
+        self.cut(alloc)?;
+        Ok(())
+    }
+}

@@ -1,0 +1,92 @@
+//! Plans of the same meaning, with less to do.
+ghost use Rattle.std.specs.Prelude.{◌≡◌, ◌≤◌, IfOk, length, map};
+ghost use Rattle.csvw_meta.specs.Schema.{SchemaOf};
+ghost use Rattle.query_plan.specs.Fitting.{IsFitFor};
+ghost use Rattle.query_plan.specs.Narrow.{leading_filters, narrowed_nodes};
+ghost use Rattle.query_plan.specs.Plan.{node_view, plan_view};
+ghost use Rattle.query_plan.specs.Rewrite.{best_nodes, chosen, rows_needed, IsRewritten, MeansTheSame};
+
+use crate::plan::{Node, Plan};
+use crate::renumber::narrowed;
+use std::alloc::{AllocError, Global};
+
+/// Of how many first rows a step has a use: None, where it is of all.
+fn rows_needed(node: &Node) -> Option<u64>
+    ensures { result ≡ rows_needed (node_view node.now) }
+{
+    let Node::Slice(slice) = node else {
+        return None;
+    };
+    match slice.top {
+        Some(top) if !slice.counts => slice.skip.checked_add(top),
+        _ => None,
+    }
+}
+
+/// A step before one that has a use for so many first rows.
+fn chosen(node: Node, most: Option<u64>) -> Node
+    ensures { node_view result ≡ chosen (node_view node) most }
+{
+    match (node, most) {
+        (Node::Sort(items), Some(most)) => Node::Best(items, most),
+        (node, _) => node,
+    }
+}
+
+/// The steps, where the best rows take the place of a whole sort.
+fn with_best_rows(alloc: Global, nodes: Vec<Node>) -> Result<Vec<Node>, AllocError>
+    ensures { IfOk result (λ made.
+        map node_view made.items ≡ best_nodes (map node_view nodes.items)) }
+{
+    let mut made = Vec::with_capacity(alloc, nodes.len())?;
+    let mut held = None;
+    for node in nodes {
+        if let Some(before) = held {
+            made.push(chosen(before, rows_needed(&node)))?;
+        }
+        held = Some(node);
+    }
+    if let Some(last) = held {
+        made.push(last)?;
+    }
+    Ok(made)
+}
+
+/// How many filters come first.
+fn leading_filters(nodes: &[Node]) -> usize
+    ensures value { result ≡ leading_filters (map node_view nodes.now) }
+    ensures bound { result ≤ length nodes.now }
+{
+    for (i, node) in nodes.iter().enumerate() {
+        if !matches!(node, Node::Filter(_)) {
+            return i;
+        }
+    }
+    nodes.len()
+}
+
+/// The steps, where the columns that they name are selected behind the filters that come first.
+fn narrowed_nodes(alloc: Global, nodes: Vec<Node>) -> Result<Vec<Node>, AllocError>
+    ensures { IfOk result (λ made.
+        map node_view made.items ≡ narrowed_nodes (map node_view nodes.items)) }
+{
+    let mut made = nodes;
+    let behind = made.split_off(leading_filters(&made))?;
+    let mut behind = narrowed(alloc, behind)?;
+    made.append(&mut behind)?;
+    Ok(made)
+}
+
+/// A plan that gives the same result on the rows of any table that the plan fits: of a whole sort only the rows that are asked for, and of the
+/// columns those that are named.
+pub fn rewrite(alloc: Global, plan: Plan) -> Result<Plan, AllocError>
+    ensures rewritten { IfOk result (λ made. IsRewritten (plan_view plan) (plan_view made)) }
+    ensures means { IfOk result (λ made. (schema : SchemaOf)
+        → IsFitFor schema (plan_view plan) → MeansTheSame schema (plan_view plan) (plan_view made)) }
+    ensures fits { IfOk result (λ made. (schema : SchemaOf)
+        → IsFitFor schema (plan_view plan) → IsFitFor schema (plan_view made)) }
+{
+    let nodes = with_best_rows(alloc, plan.nodes)?;
+    let nodes = narrowed_nodes(alloc, nodes)?;
+    Ok(Plan { nodes })
+}

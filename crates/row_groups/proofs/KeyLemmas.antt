@@ -1,0 +1,50 @@
+-- Keys of groups and the values that they stand for.
+use Rattle.std.proofs.Common.{◌≡◌, ℕ, zero, suc, ◌<◌, Bool, true, false, ◌&&◌, Some, List, [], ◌∷◌, length, map, get_or, position, refl, sym, ap, ◌∙◌, arith}
+use Rattle.std.specs.Prelude.{slice_get}
+use Rattle.std.specs.Cmp.Lexicographic.{pointwise}
+use Rattle.std.specs.List.{list_any, position_or_len}
+use Rattle.std.proofs.lemmas.List.{length-map}
+use Rattle.cell_types.specs.Value.{CellValue, value_eq}
+use Rattle.query_plan.specs.Apply.{same_values}
+
+-- ---- keys of any values
+
+module _ {V : Type 0} (view : V → CellValue) (eq : V → V → Bool) (eq_is : (v w : V) → eq v w ≡ value_eq (view v) (view w)) where
+  pointwise_view : (a b : List V) → pointwise eq a b ≡ same_values (map view a) (map view b)
+  pointwise_view [] [] = refl
+  pointwise_view [] (w ∷ b) = refl
+  pointwise_view (v ∷ a) [] = refl
+  pointwise_view (v ∷ a) (w ∷ b) = rw (eq_is v w, pointwise_view a b) refl
+
+  module _ {K : Type 0} (items : K → List V) (key : List V) where
+    pub any_key : (ks : List K) → list_any (λ k. pointwise eq key (items k)) ks ≡ list_any (same_values (map view key)) (map (λ k. map view (items k)) ks)
+    any_key [] = refl
+    any_key (k ∷ ks) = rw (pointwise_view key (items k), any_key ks) refl
+
+    place_key : (ks : List K) → position_or_len (λ k. pointwise eq key (items k)) ks ≡ position_or_len (same_values (map view key)) (map (λ k. map view (items k)) ks)
+    place_key [] = refl
+    place_key (k ∷ ks) = rw (pointwise_view key (items k), place_key ks) refl
+
+    pub position_key : (ks : List K) → position (λ k. pointwise eq key (items k)) ks ≡ position (same_values (map view key)) (map (λ k. map view (items k)) ks)
+    position_key ks = rw (place_key ks, length-map ks (λ k. map view (items k))) refl
+
+-- ---- keys of one value
+
+and_true : (b : Bool) → (b && true) ≡ b
+and_true true = refl
+and_true false = refl
+
+module _ {V : Type 0} (view : V → CellValue) (eq : V → V → Bool) (eq_is : (v w : V) → eq v w ≡ value_eq (view v) (view w)) (key : V) where
+  pub same_one : (k : V) → same_values (view key ∷ []) (view k ∷ []) ≡ eq key k
+  same_one k = and_true (value_eq (view key) (view k)) ∙ sym (eq_is key k)
+
+  pub any_one : (ks : List V) → list_any (same_values (view key ∷ [])) (map (λ k. view k ∷ []) ks) ≡ list_any (eq key) ks
+  any_one [] = refl
+  any_one (k ∷ ks) = rw (same_one k, any_one ks) refl
+
+  -- a key that is found stands in its place
+  pub one_found : (ks : List V) (g : ℕ) (k : V) → slice_get ks g ≡ Some k → eq key k ≡ true
+      → (g < length (map (λ k. view k ∷ []) ks)) × (same_values (view key ∷ []) (get_or (map (λ k. view k ∷ []) ks) g []) ≡ true)
+  one_found [] g k e same = absurd (cc)
+  one_found (j ∷ ks) zero k e same = let is : j ≡ k = cc in (omega arith, same_one j ∙ ap (eq key) is ∙ same)
+  one_found (j ∷ ks) (suc g) k e same = let more = one_found ks g k e same in let inside = more.0 in (omega arith, more.1)
