@@ -146,13 +146,13 @@ module _ (order : List ℕ) (numbers : List ℤ) (is : IsOrderOf order numbers) 
   found_nowhere number middle below above =
       position-nowhere (int_eq number) numbers (pos 0)
       (λ k within. unlike number (number_of numbers k) (λ same.
-        let at = is.each k within in
-        let here : number_of numbers (row_at order at.0) ≡ number = ap (number_of numbers) at.2 ∙ sym same in
-        elim (cases_order at.0 middle) [
-          | inl together ↦ let more = above at.0 (omega arith) at.1 in absurd (omega (arith, ints, more, here))
-          | inr (inl less) ↦ let fewer = below at.0 less in absurd (omega (arith, ints, fewer, here))
-          | inr (inr behind) ↦ let more = above at.0 (omega arith) at.1 in absurd (omega (arith, ints, more, here))
-        ]))
+      let at = is.each k within in
+      let here : number_of numbers (row_at order at.0) ≡ number = ap (number_of numbers) at.2 ∙ sym same in
+      elim (cases_order at.0 middle) [
+        | inl together ↦ let more = above at.0 (omega arith) at.1 in absurd (omega (arith, ints, more, here))
+        | inr (inl less) ↦ let fewer = below at.0 less in absurd (omega (arith, ints, fewer, here))
+        | inr (inr behind) ↦ let more = above at.0 (omega arith) at.1 in absurd (omega (arith, ints, more, here))
+      ]))
 
 -- ---- keys of which none is that of an earlier row
 find-nowhere : (p : ℕ → Bool) (a n : ℕ) → ((i : ℕ) → a ≤ i → i < a + n → p i ≡ false) → find p (range_with_len a n) ≡ None
@@ -174,12 +174,12 @@ none_repeated order numbers is =
     find-nowhere (is_repeated keys) 0 (length keys)
     (λ row _ within. list_any-nowhere (key_eq (get_or keys row [])) (take row keys) []
     (λ k less.
-      let before : k < row = omega (arith, length-take row keys) in
-      let row_is : get_or keys row [] ≡ integer_key (number_of numbers row) = get_or-map integer_key numbers row (pos 0) [] (omega arith) in
-      let k_is : get_or (take row keys) k [] ≡ integer_key (number_of numbers k) = get_or-take row keys k [] before ∙ get_or-map integer_key numbers k (pos 0) [] (omega arith) in
-      ap (λ x. key_eq x (get_or (take row keys) k [])) row_is ∙ ap (key_eq (integer_key (number_of numbers row))) k_is
-      ∙ sym (int_eq-view (number_of numbers row) (number_of numbers k))
-      ∙ unlike (number_of numbers row) (number_of numbers k) (differ order numbers is row k (omega arith) (omega arith) (λ same. omega arith))))
+    let before : k < row = omega (arith, length-take row keys) in
+    let row_is : get_or keys row [] ≡ integer_key (number_of numbers row) = get_or-map integer_key numbers row (pos 0) [] (omega arith) in
+    let k_is : get_or (take row keys) k [] ≡ integer_key (number_of numbers k) = get_or-take row keys k [] before ∙ get_or-map integer_key numbers k (pos 0) [] (omega arith) in
+    ap (λ x. key_eq x (get_or (take row keys) k [])) row_is ∙ ap (key_eq (integer_key (number_of numbers row))) k_is
+    ∙ sym (int_eq-view (number_of numbers row) (number_of numbers k))
+    ∙ unlike (number_of numbers row) (number_of numbers k) (differ order numbers is row k (omega arith) (omega arith) (λ same. omega arith))))
 
 -- the first that is, among more keys
 pub repeated_row-kept : (keys more : List (List CellValue)) (row : ℕ) → repeated_row keys ≡ Some row → repeated_row (keys ++ more) ≡ Some row

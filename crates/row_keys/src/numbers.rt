@@ -194,10 +194,7 @@ fn order_of(alloc: Global, numbers: &[i64]) -> Result<Option<Vec<u32>>, AllocErr
 }
 
 /// Numbers as a set; or the first row whose number is that of an earlier row.
-fn set_of(
-    alloc: Global,
-    numbers: &[i64],
-) -> Result<Result<IndexSet<i128>, usize>, AllocError>
+fn set_of(alloc: Global, numbers: &[i64]) -> Result<Result<IndexSet<i128>, usize>, AllocError>
     ensures set { IfOk result (λ found. IfOk found (λ set. set.keys ≡ numbers.now)) }
     ensures distinct { IfOk result
         (λ found. IfOk found (λ set. repeated_row (map integer_key numbers.now) ≡ None)) }

@@ -12,12 +12,12 @@ start-requires c =
     let here = table_is c.args.catalog.now.tables c.tables.result.now c.args.asked.table c.index-tables-asked.result c.requires.inside.table c.tables.ensures c.index-tables-asked.is
     c.requires.inside.table_is in
     let schema = c.schema.ensures ∙ ap (λ (t : TableOf). t.schema) here in
-    subst (λ (s : SchemaOf). IsFitFor s (plan_view c.in_ok-plan.plan)) (sym schema) 
+    subst (λ (s : SchemaOf). IsFitFor s (plan_view c.in_ok-plan.plan)) (sym schema)
     (c.in_ok-plan.ensures.fits c.requires.inside.table.schema (c.in_ok-first.ensures.fits c.requires.inside.table.schema c.requires.inside.typed))
 
 pub returns-in-Ok : goal.returns-in-Ok
 returns-in-Ok c =
     starts c.args.catalog.now c.tables.result.now (rows_view c.args.asked) c.args.asked.table c.index-tables-asked.result c.requires.inside.table (schema_view c.schema.result.now) _
     (plan_view c.in_ok-plan.plan) c.summary-summaries.result.now c.requires.inside.table_is refl c.tables.ensures c.index-tables-asked.is c.schema.ensures c.values_fit.ensures
-    c.summary-summaries.ensures c.requires.unkeyed (plan_view c.in_ok-first.first) c.in_ok-first.ensures.means 
+    c.summary-summaries.ensures c.requires.unkeyed (plan_view c.in_ok-first.first) c.in_ok-first.ensures.means
     (c.in_ok-plan.ensures.means c.requires.inside.table.schema (c.in_ok-first.ensures.fits c.requires.inside.table.schema c.requires.inside.typed)) refl refl refl c.max.ensures c.in-Ok.ensures.stands

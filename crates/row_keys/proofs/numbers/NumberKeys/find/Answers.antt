@@ -62,5 +62,5 @@ returns c =
     let numbers = c.self.inside.numbers.items in
     let order = c.self.inside.order.items in
     sym (found_nowhere order numbers c.self.invariant c.args.number.now c.loop-low.low c.loop-low.invariant.below
-      (λ place from within. c.loop-low.invariant.above place (omega arith) within))
+    (λ place from within. c.loop-low.invariant.above place (omega arith) within))
     ∙ ap (position (int_eq c.args.number.now)) c.self.view_is
