@@ -1,0 +1,21 @@
+-- The lines that are printed of what commands are answered.
+use Rattle.std.specs.Prelude.{ℕ, List, [], ◌∷◌, ◌++◌, codes, length}
+use Rattle.std.specs.Fmt.{decimal}
+use Rattle.std.specs.List.{flat_map}
+use Rattle.event_scripts.specs.Escapes.{escaped, line_feed}
+
+-- a text as a line
+abbrev pub line_of : List ℕ → List ℕ
+line_of text = text ++ line_feed ∷ []
+
+-- the place that a connection was opened at
+abbrev pub place_text : ℕ → List ℕ
+place_text place = codes "conn " ++ decimal place
+
+-- the number of the bytes that were taken, and these
+abbrev pub bytes_text : List ℕ → List ℕ
+bytes_text bytes = codes "bytes " ++ decimal (length bytes) ++ codes " " ++ flat_map escaped bytes
+
+-- why a call was refused
+abbrev pub refusal_text : List ℕ → List ℕ
+refusal_text name = codes "refused " ++ name

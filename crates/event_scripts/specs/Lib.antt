@@ -1,0 +1,5 @@
+pub mod Lines
+pub mod Escapes
+pub mod Command
+pub mod Answers
+pub mod Laws

@@ -1,0 +1,14 @@
+mod StreamLemmas
+mod ConnLemmas
+mod RunLemmas
+mod GivenLemmas
+mod LengthLemmas
+mod AlikeLemmas
+mod HubLemmas
+mod CatalogLemmas
+mod LawLemmas
+mod StepLemmas
+mod PlaceLemmas
+mod FlightLemmas
+mod WorkLemmas
+mod SmallLemmas

@@ -1,0 +1,17 @@
+use Rattle.std.proofs.Common.{arith}
+use Rattle.odata_hub.proofs.PlaceLemmas.{beyond, freed_by, not_freed, not_freed_by}
+use Rattle.odata_hub.proofs.places.free_at.Goals as goal
+
+pub returns-then-place-places-clause-step : goal.returns-then-place-places-clause-step
+returns-then-place-places-clause-step c = λ catalog.
+    not_freed catalog c.args.places.now c.args.place (beyond c.args.places.now c.args.place (omega (arith, c.if-place-places.true)))
+
+pub returns-then-is_none-clause-step : goal.returns-then-is_none-clause-step
+returns-then-is_none-clause-step c = λ catalog.
+    not_freed_by catalog c.args.places.now c.args.place c.index-places-place.result c.is_none.result (omega (arith, c.if-place-places.false))
+    c.is_none.ensures c.if-is_none.true
+
+pub returns-clause-step : goal.returns-clause-step
+returns-clause-step c = λ catalog.
+    freed_by catalog c.args.places.now c.args.place c.index-places-place.result c.is_none.result (omega (arith, c.if-place-places.false))
+    c.is_none.ensures c.if-is_none.false

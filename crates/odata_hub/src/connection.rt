@@ -1,0 +1,200 @@
+//! One connection.
+use crate::answers::{HubFault, Turned};
+use crate::flight::{Flight, Gone, Waiting, cut_into};
+use crate::output::Output;
+use http_heads::{Splitter, Unreadable};
+use odata_http::reply_to_rest;
+use std::alloc::{AllocError, Global};
+use std::collections::VecDeque;
+use std::rc::Rc;
+use table_store::Catalog;
+
+/// The rest of a stream, the heads that wait, the exchange in flight, and the output that waits.
+#[derive(Drop)]
+pub(crate) struct Connection {
+    splitter: Splitter,
+    waiting: VecDeque<Waiting>,
+    flight: Option<Flight>,
+    output: Output,
+    closed: bool,
+    ended: bool,
+    failed: bool,
+}
+
+impl Connection {
+    ghost use Rattle.std.specs.Prelude.{◌≡◌, ◌≤◌, [], IfOk, None, Some, Option, OnErr, drop, length, take};
+    ghost use Rattle.odata_hub.specs.Connections.{ConnOf, Done, End, FlightOf, Gave, IsFailed, Piece, Take, Turn, Went, answer_of, fresh, is_over};
+    ghost use Rattle.odata_hub.specs.Held.{IsFlight, IsInFlight};
+    ghost use Rattle.odata_hub.specs.Stands.{ConnStandsFor, IsConnStep, conn_of};
+    ghost use Rattle.odata_hub.specs.Work.{FoundWork, IsWorked};
+
+    /// A connection that holds nothing.
+    pub(crate) fn new(alloc: Global) -> Connection
+        ensures { ConnStandsFor result fresh }
+    {
+        Connection {
+            splitter: Splitter::new(alloc),
+            waiting: VecDeque::new(alloc),
+            flight: None,
+            output: Output::new(alloc),
+            closed: false,
+            ended: false,
+            failed: false,
+        }
+    }
+
+    /// Memory ran out: only the output is kept.
+    fn fail(&mut self, alloc: Global)
+        ensures flight { self.new.flight ≡ None }
+        ensures failed { IsFailed (conn_of self.old None) (conn_of self.new None) }
+    {
+        self.splitter = Splitter::new(alloc);
+        self.waiting = VecDeque::new(alloc);
+        self.flight = None;
+        self.failed = true;
+    }
+
+    /// The next piece of the stream, under these tables.
+    pub(crate) fn piece(
+        &mut self,
+        alloc: Global,
+        catalog: &Rc<Catalog>,
+        piece: &[u8],
+    ) -> Result<(), HubFault>
+        ensures { IsConnStep self.old (Piece catalog.now.value piece.now)
+            (answer_of (λ _. Done) result) self.new }
+    {
+        if self.failed {
+            return Err(HubFault::Failed);
+        }
+        if self.ended {
+            return Err(HubFault::Ended);
+        }
+        if self.closed {
+            return Ok(());
+        }
+        match cut_into(alloc, &mut self.splitter, &mut self.waiting, catalog, piece) {
+            Ok(closed) => {
+                self.closed = closed;
+                Ok(())
+            }
+            Err(_) => {
+                self.fail(alloc);
+                Err(HubFault::NoMemory)
+            }
+        }
+    }
+
+    /// The end of the stream.
+    pub(crate) fn end(&mut self) -> Result<(), HubFault>
+        ensures { IsConnStep self.old End (answer_of (λ _. Done) result) self.new }
+    {
+        if self.failed {
+            return Err(HubFault::Failed);
+        }
+        if self.ended {
+            return Err(HubFault::Ended);
+        }
+        self.ended = true;
+        Ok(())
+    }
+
+    /// Makes one call of the exchange that was in flight.
+    fn go_on(&mut self, alloc: Global, flight: Flight) -> Result<Turned, AllocError>
+        ensures ok { IfOk result (λ went. (f : FlightOf) → IsFlight flight f
+            → IsWorked self.old (Some f) went self.new) }
+        ensures err { OnErr result (self.new.output ≡ self.old.output) }
+    {
+        match flight.go_on(alloc)? {
+            Gone::On(flight) => self.flight = Some(flight),
+            Gone::Replied(reply) => {
+                self.output.put(reply.as_slice())?;
+                self.flight = None;
+            }
+        }
+        Ok(Turned::Worked)
+    }
+
+    /// Adds the reply to a rest, once the stream ended.
+    fn answer_rest(&mut self, alloc: Global) -> Result<Turned, AllocError>
+        ensures ok { self.old.flight ≡ None → self.old.waiting.items ≡ []
+            → IfOk result (λ went. IsWorked self.old None went self.new) }
+        ensures err { OnErr result (self.new.output ≡ self.old.output) }
+        ensures wants { self.old.waiting.items ≡ [] → OnErr result (FoundWork self.old None) }
+    {
+        if !self.ended {
+            return Ok(Turned::Idle);
+        }
+        match self.splitter.end() {
+            None => Ok(Turned::Idle),
+            Some(Unreadable) => {
+                let reply = reply_to_rest(alloc)?;
+                self.output.put(reply.as_slice())?;
+                Ok(Turned::Worked)
+            }
+        }
+    }
+
+    /// Begins the exchange of the first head that waits, or adds the reply to a rest, where none is in flight.
+    fn begin_next(&mut self, alloc: Global) -> Result<Turned, AllocError>
+        ensures ok { self.old.flight ≡ None
+            → IfOk result (λ went. IsWorked self.old None went self.new) }
+        ensures err { OnErr result (self.new.output ≡ self.old.output) }
+        ensures wants { OnErr result (FoundWork self.old None) }
+    {
+        match self.waiting.pop_front() {
+            Some(next) => {
+                self.flight = Some(next.begin(alloc)?);
+                Ok(Turned::Worked)
+            }
+            None => self.answer_rest(alloc),
+        }
+    }
+
+    /// Makes one step. An `Err` leaves the output, and comes only where there was something to do.
+    fn work(&mut self, alloc: Global) -> Result<Turned, AllocError>
+        ensures ok { IfOk result (λ went. (f : Option FlightOf) → IsInFlight self.old.flight f
+            → IsWorked self.old f went self.new) }
+        ensures err { OnErr result (self.new.output ≡ self.old.output) }
+        ensures wants { OnErr result ((f : Option FlightOf) → IsInFlight self.old.flight f
+            → FoundWork self.old f) }
+    {
+        match self.flight.take() {
+            Some(flight) => self.go_on(alloc, flight),
+            None => self.begin_next(alloc),
+        }
+    }
+
+    /// One turn.
+    pub(crate) fn turn(&mut self, alloc: Global) -> Result<Turned, HubFault>
+        ensures { IsConnStep self.old Turn (answer_of Went result) self.new }
+    {
+        if self.failed {
+            return Err(HubFault::Failed);
+        }
+        match self.work(alloc) {
+            Ok(turned) => Ok(turned),
+            Err(_) => {
+                self.fail(alloc);
+                Err(HubFault::NoMemory)
+            }
+        }
+    }
+
+    /// Moves the first bytes of the output out, as many as wait or fit.
+    pub(crate) fn take(&mut self, out: &mut [u8]) -> usize
+        ensures step { IsConnStep self.old (Take (length out.old))
+            (Gave (take result out.new)) self.new }
+        ensures within { result ≤ length out.old }
+        ensures others { drop result out.new ≡ drop result out.old }
+    {
+        self.output.take(out)
+    }
+
+    /// Whether a closing head was cut off, and all replies were taken.
+    pub(crate) fn closed(&self) -> bool
+        ensures { (c : ConnOf) → ConnStandsFor self.now c → result ≡ is_over c }
+    {
+        self.closed && self.flight.is_none() && self.waiting.is_empty() && self.output.is_empty()
+    }
+}

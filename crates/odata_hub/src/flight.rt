@@ -1,0 +1,133 @@
+//! Heads that wait, and the exchange in flight.
+ghost use Rattle.std.specs.Prelude.{◌≡◌, ◌++◌, ◌≤◌, IfOk, length, map};
+ghost use Rattle.http_heads.specs.Head.{head_view};
+ghost use Rattle.odata_hub.specs.Connections.{FlightOf};
+ghost use Rattle.odata_hub.specs.Held.{IsFlight};
+ghost use Rattle.odata_hub.specs.Pieces.{AreSmall, IsCutInto};
+ghost use Rattle.odata_hub.specs.Streams.{asked};
+ghost use Rattle.odata_hub.specs.Work.{BeginsFlight, GoesOnTo};
+
+use http_heads::{Head, Splitter, head_limits};
+use odata_http::{Exchange, Step};
+use std::alloc::{AllocError, Global};
+use std::collections::VecDeque;
+use std::marker::Model;
+use std::rc::Rc;
+use table_store::Catalog;
+
+/// A head that waits, and the tables that were current as its last byte came.
+#[derive(Drop)]
+pub(crate) struct Waiting {
+    head: Head,
+    catalog: Rc<Catalog>,
+}
+
+impl Model for Waiting {
+    ghost use Rattle.std.specs.Prelude.{◌≤◌, length};
+    ghost use Rattle.http_heads.specs.Head.{head_view};
+    ghost use Rattle.odata_hub.specs.Streams.{Asked};
+
+    ghost Value = { Asked };
+
+    ghost view = { λ waiting. record { catalog = waiting.catalog.value; head = head_view waiting.head } };
+
+    ghost invariant = { λ waiting. length waiting.head.target.items ≤ 8192 };
+}
+
+/// The exchange in flight, and the tables that were current as the last byte of its head came.
+#[derive(Drop)]
+pub(crate) struct Flight {
+    exchange: Exchange,
+    catalog: Rc<Catalog>,
+}
+
+impl Model for Flight {
+    ghost use Rattle.std.specs.Coded.{codes};
+    ghost use Rattle.odata_types.specs.contracts.tree.DecimalExpr as decimals;
+    ghost use Rattle.odata_types.specs.contracts.tree.IntegerExpr as integers;
+    ghost use Rattle.odata_types.specs.contracts.tree.TextExpr as texts;
+    ghost use Rattle.odata_types.specs.contracts.tree.TruthExpr as truths;
+    ghost use Rattle.odata_http.specs.Exchange.{MayGoOn};
+    ghost use Rattle.odata_hub.specs.Held.{FlightHeld};
+
+    ghost Value = { FlightHeld };
+
+    ghost coded = { Prim.hlevel (codes, texts.the_row.coded, integers.the_row.coded, decimals.the_row.coded, truths.the_row.coded) };
+
+    ghost view = { λ flight. record { catalog = flight.catalog.value; exchange = flight.exchange } };
+
+    ghost invariant = { λ flight. MayGoOn flight.catalog.value flight.exchange };
+}
+
+/// How far one call of an exchange came.
+#[derive(Drop)]
+pub(crate) enum Gone {
+    /// Calls are left.
+    On(Flight),
+    /// This is the reply.
+    Replied(Vec<u8>),
+}
+
+impl Waiting {
+    /// Begins the exchange of the head. No block is read.
+    pub(crate) fn begin(self, alloc: Global) -> Result<Flight, AllocError>
+        ensures { IfOk result (BeginsFlight self) }
+    {
+        let Waiting { head, catalog } = self;
+        let exchange = Exchange::begin(alloc, &catalog, head)?;
+        Ok(Flight { exchange, catalog })
+    }
+}
+
+impl Flight {
+    /// Makes one call: a run is handed one block at most.
+    pub(crate) fn go_on(self, alloc: Global) -> Result<Gone, AllocError>
+        ensures { IfOk result (λ gone. (f : FlightOf) → IsFlight self f → GoesOnTo f gone) }
+    {
+        let Flight {
+            mut exchange,
+            catalog,
+        } = self;
+        match exchange.advance(alloc, &catalog)? {
+            Step::More => Ok(Gone::On(Flight { exchange, catalog })),
+            Step::Done => Ok(Gone::Replied(exchange.reply())),
+        }
+    }
+}
+
+/// The heads wait behind the others, each with these tables.
+fn wait_all(
+    waiting: &mut VecDeque<Waiting>,
+    catalog: &Rc<Catalog>,
+    heads: Vec<Head>,
+) -> Result<(), AllocError>
+    requires { AreSmall (map head_view heads.items) }
+    ensures { IfOk result (λ _. waiting.new.items
+        ≡ waiting.old.items ++ asked catalog.now.value (map head_view heads.items)) }
+{
+    for head in heads {
+        let tables = catalog.clone()?;
+        waiting.push_back(Waiting {
+            head,
+            catalog: tables,
+        })?;
+    }
+    Ok(())
+}
+
+/// The heads that are cut off the rest and the piece wait, each with these tables. Whether the last of them closes.
+pub(crate) fn cut_into(
+    alloc: Global,
+    splitter: &mut Splitter,
+    waiting: &mut VecDeque<Waiting>,
+    catalog: &Rc<Catalog>,
+    piece: &[u8],
+) -> Result<bool, AllocError>
+    ensures { IfOk result (IsCutInto catalog.now.value (splitter.old ++ piece.now)
+        waiting.old.items waiting.new.items splitter.new) }
+{
+    head_limits();
+    let cut = splitter.cut(alloc, piece)?;
+    wait_all(waiting, catalog, cut.heads)?;
+    Ok(cut.closed)
+}

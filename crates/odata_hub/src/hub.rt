@@ -1,0 +1,112 @@
+//! The table of places and the current tables.
+ghost use Rattle.std.specs.Prelude.{◌<◌, ◌^◌, length};
+
+use crate::answers::{HubFault, Turned};
+use crate::connection::Connection;
+use crate::places::{closed_at, end_at, first_free, free_at, piece_at, take_at, turn_at};
+use std::alloc::{AllocError, Global};
+use std::rc::Rc;
+use table_store::Catalog;
+
+/// The number of a place.
+#[derive(Clone, Copy, Debug, PartialEq, Eq)]
+pub struct Conn(pub u32);
+
+/// Connections that are answered in turns. Each call is one step of the hub that this one stands for.
+#[derive(Drop)]
+pub struct Hub {
+    alloc: Global,
+    catalog: Rc<Catalog>,
+    places: Vec<Option<Connection>>,
+    ghost few: { length places.items < 2 ^ 32 },
+}
+
+impl Hub {
+    ghost use Rattle.std.specs.Prelude.{◌≡◌, ◌≤◌, IfOk, None, OnErr, drop, length, replicate, take};
+    ghost use Rattle.odata_hub.specs.Connections.{Done, End, Gave, Opened, Piece, Take, Turn, Went, answer_of};
+    ghost use Rattle.odata_hub.specs.Schedules.{Drop, HubOf, On, Open, Reload, conn_at};
+    ghost use Rattle.odata_hub.specs.Stands.{IsHubStep, StandsFor, TellsOver, current_tables};
+
+    /// A hub of so many places, all of them free, with these tables.
+    pub fn new(alloc: Global, catalog: Rc<Catalog>, places: u32) -> Result<Hub, AllocError>
+        ensures { IfOk result (λ hub. StandsFor hub
+            (record { catalog = catalog.value; places = replicate places None })) }
+    {
+        let mut free = Vec::with_capacity(alloc, places as usize)?;
+        for _place in 0..places {
+            free.push(None)?;
+        }
+        Ok(Hub {
+            alloc,
+            catalog,
+            places: free,
+        })
+    }
+
+    /// A connection at the least free place.
+    pub fn open(&mut self) -> Result<Conn, HubFault>
+        ensures { IsHubStep self.old Open (answer_of (λ conn. Opened conn.0) result) self.new }
+    {
+        match first_free(self.places.as_slice()) {
+            Some(place) => {
+                self.places[place] = Some(Connection::new(self.alloc));
+                Ok(Conn(place as u32))
+            }
+            None => Err(HubFault::Full),
+        }
+    }
+
+    /// The next piece of a connection's stream.
+    pub fn piece(&mut self, conn: Conn, piece: &[u8]) -> Result<(), HubFault>
+        ensures { IsHubStep self.old (On conn.0 (Piece (current_tables self.old) piece.now))
+            (answer_of (λ _. Done) result) self.new }
+    {
+        piece_at(self.alloc, &mut self.places, conn.0, &self.catalog, piece)
+    }
+
+    /// The end of a connection's stream.
+    pub fn end(&mut self, conn: Conn) -> Result<(), HubFault>
+        ensures { IsHubStep self.old (On conn.0 End) (answer_of (λ _. Done) result) self.new }
+    {
+        end_at(&mut self.places, conn.0)
+    }
+
+    /// One turn of a connection: a run is handed one block at most.
+    pub fn turn(&mut self, conn: Conn) -> Result<Turned, HubFault>
+        ensures { IsHubStep self.old (On conn.0 Turn) (answer_of Went result) self.new }
+    {
+        turn_at(self.alloc, &mut self.places, conn.0)
+    }
+
+    /// Moves the first bytes of a connection's output into the front of a buffer, as many as wait or fit.
+    pub fn take(&mut self, conn: Conn, out: &mut [u8]) -> Result<usize, HubFault>
+        ensures step { IsHubStep self.old (On conn.0 (Take (length out.old)))
+            (answer_of (λ n. Gave (take n out.new)) result) self.new }
+        ensures within { IfOk result (λ n. n ≤ length out.old) }
+        ensures others { IfOk result (λ n. drop n out.new ≡ drop n out.old) }
+        ensures err { OnErr result (out.new ≡ out.old) }
+    {
+        take_at(&mut self.places, conn.0, out)
+    }
+
+    /// Gives a connection's place back.
+    pub fn drop_conn(&mut self, conn: Conn) -> Result<(), HubFault>
+        ensures { IsHubStep self.old (Drop conn.0) (answer_of (λ _. Done) result) self.new }
+    {
+        free_at(&mut self.places, conn.0)
+    }
+
+    /// Other tables, for the heads whose last byte is still to come.
+    pub fn reload(&mut self, catalog: Rc<Catalog>)
+        ensures { IsHubStep self.old (Reload catalog.value) Done self.new }
+    {
+        self.catalog = catalog;
+    }
+
+    /// Whether a closing head was cut off a connection's stream, and all its replies were taken.
+    pub fn closed(&self, conn: Conn) -> Result<bool, HubFault>
+        ensures { (h : HubOf) → StandsFor self.now h → TellsOver (conn_at h conn.0) result }
+    {
+        closed_at(&self.places, conn.0)
+    }
+}

@@ -1,0 +1,62 @@
+//! What holds of a connection in every schedule. The functions here are theorems, and do nothing.
+ghost use Rattle.odata_hub.specs.Laws.{AnswersAlike, BringsNext, BringsReply, GivesReplies, IdlesWhenAnswered, Joins, KeepsCatalogs, OneReading};
+
+/// A stream has one list of heads, each with the tables of the piece that brought its last byte.
+pub fn one_reading()
+    ensures { OneReading }
+{
+    http_heads::one_cut();
+}
+
+/// A piece adds the heads that are cut off the rest and the piece, each with the piece's tables; behind a closing head it adds nothing.
+pub fn joins()
+    ensures { Joins }
+{
+    http_heads::cuts_join();
+}
+
+/// What a connection is given is a front of the replies of its stream, each head answered from its own tables.
+pub fn gives_replies()
+    ensures { GivesReplies }
+{
+    http_heads::one_cut();
+    http_heads::cuts_join();
+    odata_http::one_reply();
+}
+
+/// A turn is idle only where all is answered.
+pub fn idles_when_answered()
+    ensures { IdlesWhenAnswered }
+{
+    http_heads::one_cut();
+    http_heads::cuts_join();
+}
+
+/// The exchange in flight has its reply in the output after as many turns as it has calls left.
+pub fn brings_reply()
+    ensures { BringsReply }
+{}
+
+/// The first waiting head has its reply in the output after one turn more than its reply takes calls.
+pub fn brings_next()
+    ensures { BringsNext }
+{
+    odata_request::one_request();
+}
+
+/// A connection's answers depend on its own events alone.
+pub fn answers_alike()
+    ensures { AnswersAlike }
+{
+    http_heads::one_cut();
+    odata_http::one_reply();
+    odata_request::one_request();
+}
+
+/// A head that came before a reload is answered from the older tables, a later one from the newer.
+pub fn keeps_catalogs()
+    ensures { KeepsCatalogs }
+{
+    http_heads::one_cut();
+    http_heads::cuts_join();
+}

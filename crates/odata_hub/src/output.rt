@@ -1,0 +1,75 @@
+//! The output of a connection: bytes that wait to be taken.
+ghost use Rattle.std.specs.Prelude.{◌≡◌, ◌++◌, ◌==◌, [], drop, length, min, take, if◌then◌else◌, is_ok};
+
+use std::alloc::{AllocError, Global};
+use std::marker::Model;
+
+/// Bytes that wait, behind `at` that were taken. It is seen as those that wait. The memory of what was taken is given back once that is half of
+/// all, so that each byte is moved once or twice.
+#[derive(Drop)]
+pub(crate) struct Output {
+    bytes: Vec<u8>,
+    at: usize,
+}
+
+impl Model for Output {
+    ghost use Rattle.std.specs.Prelude.{◌≤◌, ℕ, List, drop, length};
+
+    ghost Value = { List ℕ };
+
+    ghost view = { λ output. drop output.at output.bytes.items };
+
+    ghost invariant = { λ output. output.at ≤ length output.bytes.items };
+}
+
+impl Output {
+    /// Nothing waits.
+    pub(crate) fn new(alloc: Global) -> Output
+        ensures { result ≡ [] }
+    {
+        Output {
+            bytes: Vec::new(alloc),
+            at: 0,
+        }
+    }
+
+    /// Whether nothing waits.
+    pub(crate) fn is_empty(&self) -> bool
+        ensures { result ≡ (length self.now == 0) }
+    {
+        self.at == self.bytes.len()
+    }
+
+    /// Adds a whole reply, or nothing of it.
+    pub(crate) fn put(&mut self, reply: &[u8]) -> Result<(), AllocError>
+        ensures { self.new ≡ (if is_ok result then self.old ++ reply.now else self.old) }
+    {
+        self.bytes.extend_from_slice(reply)
+    }
+
+    /// Gives back the memory of what was taken, if that is half of all.
+    fn give_back(&mut self)
+        ensures { self.new ≡ self.old }
+    {
+        if self.at >= self.bytes.len() - self.at {
+            self.bytes.drain(..self.at);
+            self.bytes.shrink_to_fit();
+            self.at = 0;
+        }
+    }
+
+    /// Moves the first bytes into the front of a buffer, as many as wait or fit.
+    pub(crate) fn take(&mut self, buf: &mut [u8]) -> usize
+        ensures count { result ≡ min (length buf.old) (length self.old) }
+        ensures given { take result buf.new ≡ take (length buf.old) self.old }
+        ensures others { drop result buf.new ≡ drop result buf.old }
+        ensures left { self.new ≡ drop (length buf.old) self.old }
+    {
+        let waiting = &self.bytes[self.at..];
+        let count = waiting.len().min(buf.len());
+        buf[..count].copy_from_slice(&waiting[..count]);
+        self.at += count;
+        self.give_back();
+        count
+    }
+}

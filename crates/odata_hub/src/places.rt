@@ -1,0 +1,133 @@
+//! Calls on the connection at a place.
+ghost use Rattle.std.specs.Prelude.{◌≡◌, ◌≤◌, IfOk, OnErr, drop, is_none, length, take};
+ghost use Rattle.std.specs.List.{position};
+ghost use Rattle.table_store.specs.Catalog.{CatalogOf};
+ghost use Rattle.odata_hub.specs.Connections.{Done, End, Gave, Piece, Take, Turn, Went, answer_of};
+ghost use Rattle.odata_hub.specs.Schedules.{Drop, HubOf, On, conn_at};
+ghost use Rattle.odata_hub.specs.Stands.{AreHub, IsPlacesStep, TellsOver};
+
+use crate::answers::{HubFault, Turned};
+use crate::connection::Connection;
+use std::alloc::Global;
+use std::rc::Rc;
+use table_store::Catalog;
+
+/// The least free place.
+pub(crate) fn first_free(places: &[Option<Connection>]) -> Option<usize>
+    ensures { result ≡ position is_none places.now }
+{
+    places.iter().position(|place| place.is_none())
+}
+
+/// The next piece of the stream of the connection at a place.
+pub(crate) fn piece_at(
+    alloc: Global,
+    places: &mut [Option<Connection>],
+    place: u32,
+    catalog: &Rc<Catalog>,
+    piece: &[u8],
+) -> Result<(), HubFault>
+    ensures step { IsPlacesStep catalog.now.value places.old
+        (On place (Piece catalog.now.value piece.now)) (answer_of (λ _. Done) result) places.new }
+    ensures len { length places.new ≡ length places.old }
+{
+    let place = place as usize;
+    if place >= places.len() {
+        return Err(HubFault::NoSuchConnection);
+    }
+    match &mut places[place] {
+        Some(connection) => connection.piece(alloc, catalog, piece),
+        None => Err(HubFault::NoSuchConnection),
+    }
+}
+
+/// The end of the stream of the connection at a place.
+pub(crate) fn end_at(places: &mut [Option<Connection>], place: u32) -> Result<(), HubFault>
+    ensures step { (catalog : CatalogOf) → IsPlacesStep catalog places.old (On place End)
+        (answer_of (λ _. Done) result) places.new }
+    ensures len { length places.new ≡ length places.old }
+{
+    let place = place as usize;
+    if place >= places.len() {
+        return Err(HubFault::NoSuchConnection);
+    }
+    match &mut places[place] {
+        Some(connection) => connection.end(),
+        None => Err(HubFault::NoSuchConnection),
+    }
+}
+
+/// One turn of the connection at a place.
+pub(crate) fn turn_at(
+    alloc: Global,
+    places: &mut [Option<Connection>],
+    place: u32,
+) -> Result<Turned, HubFault>
+    ensures step { (catalog : CatalogOf) → IsPlacesStep catalog places.old (On place Turn)
+        (answer_of Went result) places.new }
+    ensures len { length places.new ≡ length places.old }
+{
+    let place = place as usize;
+    if place >= places.len() {
+        return Err(HubFault::NoSuchConnection);
+    }
+    match &mut places[place] {
+        Some(connection) => connection.turn(alloc),
+        None => Err(HubFault::NoSuchConnection),
+    }
+}
+
+/// Moves the first bytes of the output of the connection at a place out.
+pub(crate) fn take_at(
+    places: &mut [Option<Connection>],
+    place: u32,
+    out: &mut [u8],
+) -> Result<usize, HubFault>
+    ensures step { (catalog : CatalogOf) → IsPlacesStep catalog places.old
+        (On place (Take (length out.old))) (answer_of (λ n. Gave (take n out.new)) result) places.new }
+    ensures len { length places.new ≡ length places.old }
+    ensures within { IfOk result (λ n. n ≤ length out.old) }
+    ensures others { IfOk result (λ n. drop n out.new ≡ drop n out.old) }
+    ensures err { OnErr result (out.new ≡ out.old) }
+{
+    let place = place as usize;
+    if place >= places.len() {
+        return Err(HubFault::NoSuchConnection);
+    }
+    match &mut places[place] {
+        Some(connection) => Ok(connection.take(out)),
+        None => Err(HubFault::NoSuchConnection),
+    }
+}
+
+/// Frees a place that is taken.
+pub(crate) fn free_at(places: &mut [Option<Connection>], place: u32) -> Result<(), HubFault>
+    ensures step { (catalog : CatalogOf) → IsPlacesStep catalog places.old (Drop place)
+        (answer_of (λ _. Done) result) places.new }
+    ensures len { length places.new ≡ length places.old }
+{
+    let place = place as usize;
+    if place >= places.len() {
+        return Err(HubFault::NoSuchConnection);
+    }
+    if places[place].is_none() {
+        return Err(HubFault::NoSuchConnection);
+    }
+    places[place] = None;
+    Ok(())
+}
+
+/// Whether the connection at a place is over.
+pub(crate) fn closed_at(places: &[Option<Connection>], place: u32) -> Result<bool, HubFault>
+    ensures { (catalog : CatalogOf) (h : HubOf) → AreHub catalog places.now h
+        → TellsOver (conn_at h place) result }
+{
+    let place = place as usize;
+    if place >= places.len() {
+        return Err(HubFault::NoSuchConnection);
+    }
+    match &places[place] {
+        Some(connection) => Ok(connection.closed()),
+        None => Err(HubFault::NoSuchConnection),
+    }
+}
