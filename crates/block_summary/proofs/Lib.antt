@@ -9,3 +9,4 @@ mod ReadingLemmas
 mod SkipLemmas
 mod TypeLemmas
 mod WidenLemmas
+pub mod OneRangeLemmas

@@ -4,7 +4,7 @@ use Rattle.std.specs.Ordering.{int_cmp}
 use Rattle.cell_types.specs.Value.{CellValue, null, value_cmp}
 use Rattle.block_summary.specs.declared.number.PackedType.{PackedType}
 use Rattle.block_summary.specs.declared.test.Comparison.{Comparison}
-use Rattle.block_summary.specs.Ranges.{RangeOf, no_range, widened, AreRangesOf, IsRangeOf}
+use Rattle.block_summary.specs.Ranges.{RangeOf, no_range, range_of, widened, AreRangesOf, IsRangeOf}
 use Rattle.block_summary.specs.Tests.{admits, passes}
 use Rattle.block_summary.specs.Types.{typed_cell, IsNumberOf}
 
@@ -28,3 +28,8 @@ SkipsNoRow = (op : Comparison) (ranges : List RangeOf) (rows : List (List CellVa
 pub record RangesWiden : Type 0 where
   pub start : IsRangeOf no_range []
   pub more : (range : RangeOf) (cells : List CellValue) (v : CellValue) → IsRangeOf range cells → IsRangeOf (widened range v) (cells ++ v ∷ [])
+
+-- cells have a range, and no other
+pub record OneRange : Type 0 where
+  pub made : (cells : List CellValue) → IsRangeOf (range_of cells) cells
+  pub one : (range : RangeOf) (cells : List CellValue) → IsRangeOf range cells → range ≡ range_of cells

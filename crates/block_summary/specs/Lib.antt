@@ -2,6 +2,7 @@ pub mod Cells
 pub mod Offsets
 pub mod Types
 pub mod Ranges
+pub mod Blocks
 pub mod Reading
 pub mod Rows
 pub mod TextRange

@@ -1,8 +1,8 @@
 -- The least and the greatest cell of a column of a block, and how many of its cells are null.
-use Rattle.std.specs.Prelude.{◌≡◌, ◌<◌, length, ℕ, ◌+◌, Bool, true, false, if◌then◌else◌, List, map, Option, Some, None, IsTrue, MatchOption, slice_index_or}
+use Rattle.std.specs.Prelude.{◌≡◌, ◌<◌, length, ℕ, ◌+◌, Bool, true, false, if◌then◌else◌, List, fold, map, Option, Some, None, IsTrue, MatchOption, slice_index_or}
 use Rattle.std.specs.List.{count_by}
 use Rattle.std.specs.Ordering.{is_gt, is_le, is_lt}
-use Rattle.cell_types.specs.Value.{CellValue, null, value_cmp}
+use Rattle.cell_types.specs.Value.{CellValue, null, text, value_cmp}
 
 pub record RangeOf : Type 0 where
   pub least : Option CellValue
@@ -12,6 +12,11 @@ pub record RangeOf : Type 0 where
 abbrev pub is_null : CellValue → Bool
 is_null null = true
 is_null _ = false
+
+-- the cell is a text, so that a copy of it takes memory
+abbrev pub IsText : CellValue → Type 0
+IsText (text t) = Unit {0}
+IsText _ = ⊥
 
 abbrev pub AreAllNull : List CellValue → Type 0
 AreAllNull cells = (i : ℕ) → slice_index_or cells i null ≡ null
@@ -75,3 +80,7 @@ abbrev pub widened : RangeOf → CellValue → RangeOf
 widened range v =
     if is_null v then record range { null_count = range.null_count + 1 }
     else record range { least = Some (lesser range.least v); greatest = Some (greater range.greatest v) }
+
+-- the range of cells: that of none, with one cell more for each
+abbrev pub range_of : List CellValue → RangeOf
+range_of cells = fold widened no_range cells

@@ -4,14 +4,18 @@ ghost use Rattle.std.specs.Prelude.{◌≡◌, ◌⊎◌, ◌<◌, [], Some, Ok,
 ghost use Rattle.std.specs.Option.{ForSome};
 ghost use Rattle.cell_types.specs.Cell.{NeedsMemory, value_of};
 ghost use Rattle.cell_types.specs.Column.{column_view};
-ghost use Rattle.cell_types.specs.Datatype.{datatype_view};
+ghost use Rattle.cell_types.specs.Datatype as datatype;
+ghost use Rattle.cell_types.specs.Datatype.{boolean_view, datatype_view};
 ghost use Rattle.cell_types.specs.Value.{value_view};
 ghost use Rattle.block_summary.specs.Reading.{packed_type_of as packed_type_of_datatype, with_cell, FitsType};
-ghost use Rattle.block_summary.specs.Types.{cell_of, IsNumberOf};
+ghost use Rattle.block_summary.specs.Types.{cell_of, typed_cell, IsNumberOf};
 
 use crate::number::{PackedType, day_number};
 use crate::packed::PackedColumn;
-use cell_types::{CellFault, Column, Datatype, Value, read_cell, read_short_integer};
+use cell_types::{
+    BooleanForm, CellFault, Column, Datatype, DateForm, Value, read_cell, read_plain_boolean,
+    read_plain_date, read_plain_decimal, read_short_integer,
+};
 use std::alloc::{AllocError, Global};
 use std::marker::Model;
 
@@ -130,17 +134,49 @@ fn number_of_value(packed_type: PackedType, value: &Value<'_>) -> Option<i64>
     }
 }
 
-/// The number of a short integer in a column of integers, which is read in one pass; none of another text.
+/// The number of the day of a text in a column of dates of a form, where it says one as it stands.
 #[inline(always)]
-fn short_number(column: &Column, packed_type: PackedType, text: &str) -> Option<i64>
+fn plain_day(column: &Column, form: DateForm, text: &str) -> Option<i64>
+    requires { datatype_view column.now.datatype ≡ datatype.date form }
+    ensures value { IfSome result (λ number.
+        value_of (column_view column.now) text.now ≡ Ok (typed_cell PackedType.Date number)) }
+    ensures number { ForSome result (IsNumberOf PackedType.Date) }
+{
+    match read_plain_date(column, form, text) {
+        Some(date) => Some(day_number(date)),
+        None => None,
+    }
+}
+
+/// The number of the truth value of a text in a column of booleans of a form, where it says one as it stands.
+#[inline(always)]
+fn plain_truth(column: &Column, form: &BooleanForm, text: &str) -> Option<i64>
+    requires { datatype_view column.now.datatype ≡ boolean_view form.now }
+    ensures value { IfSome result (λ number.
+        value_of (column_view column.now) text.now ≡ Ok (typed_cell PackedType.Boolean number)) }
+    ensures number { ForSome result (IsNumberOf PackedType.Boolean) }
+{
+    match read_plain_boolean(column, form, text) {
+        Some(truth) => Some(i64::from(truth)),
+        None => None,
+    }
+}
+
+/// The number of a text that says its value as it stands, in a column that is none of texts; none of another text. Of integers these are those of few
+/// digits.
+#[inline(always)]
+fn plain_number(column: &Column, packed_type: PackedType, text: &str) -> Option<i64>
     requires { packed_type_of_datatype (datatype_view column.now.datatype) ≡ Some packed_type }
     ensures value { IfSome result (λ number.
         value_of (column_view column.now) text.now ≡ Ok (cell_of packed_type (Some number))) }
     ensures number { ForSome result (IsNumberOf packed_type) }
 {
-    match packed_type {
-        PackedType::Integer => read_short_integer(column, text),
-        _ => None,
+    match &column.datatype {
+        Datatype::Integer => read_short_integer(column, text),
+        Datatype::Decimal => read_plain_decimal(column, text),
+        Datatype::Boolean(form) => plain_truth(column, form, text),
+        Datatype::Date(form) => plain_day(column, *form, text),
+        Datatype::Text => None,
     }
 }
 
@@ -162,7 +198,7 @@ pub fn read_number(
 {
     cell_types::values_fit_columns();
     cell_types::dates_read_back();
-    if let Some(number) = short_number(column, packed_type, text) {
+    if let Some(number) = plain_number(column, packed_type, text) {
         return Ok(Some(number));
     }
     match read_cell(alloc, column, text) {

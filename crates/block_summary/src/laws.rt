@@ -1,7 +1,7 @@
 //! The laws of blocks: each function is a theorem, and does nothing.
 
 ghost use Rattle.std.specs.Prelude.{◌≡◌};
-ghost use Rattle.block_summary.specs.Laws.{NumbersAreOrdered, RangesWiden, SkipsNoRow, SkipsNothing};
+ghost use Rattle.block_summary.specs.Laws.{NumbersAreOrdered, OneRange, RangesWiden, SkipsNoRow, SkipsNothing};
 
 /// The numbers of cells are in the order of the cells.
 pub fn numbers_are_ordered()
@@ -12,6 +12,14 @@ pub fn numbers_are_ordered()
 pub fn ranges_widen()
     ensures { RangesWiden }
 {
+    cell_types::values_are_ordered();
+}
+
+/// Cells have a range, and no other.
+pub fn one_range()
+    ensures { OneRange }
+{
+    ranges_widen();
     cell_types::values_are_ordered();
 }
 

@@ -18,7 +18,7 @@ mod text_range;
 pub use block::{BLOCK_ROWS, rows_of_a_block};
 pub use bounds::Bounds;
 pub use buffer::{CellBuffer, packed_type_of, read_number};
-pub use laws::{numbers_are_ordered, ranges_widen, skips_no_row, skips_nothing};
+pub use laws::{numbers_are_ordered, one_range, ranges_widen, skips_no_row, skips_nothing};
 pub use number::{PackedType, day_number, typed_value};
 pub use packed::PackedColumn;
 pub use range::Range;

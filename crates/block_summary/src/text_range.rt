@@ -2,7 +2,9 @@
 //! stand there, until the block is read.
 
 ghost use Rattle.std.specs.Prelude.{◌≡◌, ◌<◌, Some, IfOk, OnOk, option_map};
+ghost use Rattle.std.specs.Cmp.Lexicographic.{slice_cmp};
 ghost use Rattle.std.specs.Cow.{cow_str_bytes};
+ghost use Rattle.std.specs.Ordering.{nat_cmp};
 ghost use Rattle.cell_types.specs.Value.{null, text as text_cell, value_view};
 ghost use Rattle.block_summary.specs.Ranges.{greater, lesser, no_range, widened};
 ghost use Rattle.block_summary.specs.Tests.{order_to};
@@ -34,13 +36,24 @@ impl<'a> Model for TextRange<'a> {
     ghost view = { λ r. record { least = option_map cell_of_text r.least; greatest = option_map cell_of_text r.greatest; null_count = r.null_count } };
 }
 
+/// The order of two texts. Most differ in their first byte, which is looked at before the others.
+#[inline(always)]
+fn text_order(text: &str, other: &str) -> Ordering
+    ensures { result ≡ slice_cmp nat_cmp text.now other.now }
+{
+    match (text.as_bytes(), other.as_bytes()) {
+        ([first, ..], [second, ..]) if first != second => first.cmp(second),
+        _ => text.cmp(other),
+    }
+}
+
 /// How the least or the greatest, where there is one, lies to a text.
 #[tactic(auto, unfolding(cell_types::specs::Value::value_cmp))]
 fn order_of(bound: &Option<CowStr<'_>>, text: &str) -> Option<Ordering>
     ensures { result ≡ order_to (option_map cell_of_text bound.now) (text_cell text.now) }
 {
     match bound {
-        Some(bound) => Some(bound.as_str().cmp(text)),
+        Some(bound) => Some(text_order(bound.as_str(), text)),
         None => None,
     }
 }

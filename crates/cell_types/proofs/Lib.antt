@@ -6,6 +6,7 @@ pub mod ShortIntegers
 pub mod DateLemmas
 pub mod DecimalLemmas
 pub mod DecimalTexts
+pub mod PlainLemmas
 pub mod CodePoints
 pub mod CellLemmas
 pub mod ValueLemmas

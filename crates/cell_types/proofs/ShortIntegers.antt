@@ -65,7 +65,7 @@ white-small b e = grind (arith, nat_tests)
 not_white : (b : ℕ) → 33 ≤ b → is_white b ≡ false
 not_white b h = false_from_ne_true (is_white b) (λ e. absurd (omega (arith, white-small b e, h)))
 
-abbrev AreSolid : List ℕ → Type 0
+abbrev pub AreSolid : List ℕ → Type 0
 AreSolid bytes = (k : ℕ) → k < length bytes → 33 ≤ get_or bytes k 0
 
 solid-spaced : (bytes : List ℕ) → AreSolid bytes → is_spaced false bytes ≡ true
@@ -74,7 +74,7 @@ solid-spaced (b ∷ bs) solid =
     let first : 33 ≤ b = solid 0 (omega arith) in
     rw (not_white b first) (solid-spaced bs (λ k h. solid (suc k) (omega (arith, h))))
 
-solid-normal : (bytes : List ℕ) → 0 < length bytes → AreSolid bytes → normal_text bytes ≡ bytes
+pub solid-normal : (bytes : List ℕ) → 0 < length bytes → AreSolid bytes → normal_text bytes ≡ bytes
 solid-normal [] some solid = absurd (omega arith)
 solid-normal (b ∷ bs) some solid =
     let first : 33 ≤ b = solid 0 (omega arith) in

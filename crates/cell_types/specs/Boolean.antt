@@ -1,5 +1,5 @@
 -- Booleans (Metadata Vocabulary for Tabular Data, sections 5.11.2 and 6.4.3).
-use Rattle.std.specs.Prelude.{ℕ, List, true, false, if◌then◌else◌, Result, Ok, Err}
+use Rattle.std.specs.Prelude.{ℕ, Bool, List, Option, Some, None, true, false, if◌then◌else◌, Result, Ok, Err}
 use Rattle.std.specs.List.{list_any}
 use Rattle.std.specs.Str.{bytes_eq}
 use Rattle.cell_types.specs.declared.cell.CellFault.{CellFault}
@@ -11,3 +11,8 @@ abbrev pub boolean_of : List (List ℕ) → List (List ℕ) → List ℕ → Res
 boolean_of of_true of_false bytes =
     if list_any (λ other. bytes_eq other bytes) of_true then Ok (boolean true)
     else (if list_any (λ other. bytes_eq other bytes) of_false then Ok (boolean false) else Err NotBoolean)
+
+-- the value that a truth value is, and the fault that none is
+abbrev pub truth_reading : Option Bool → Result CellValue CellFault
+truth_reading (Some truth) = Ok (boolean truth)
+truth_reading None = Err NotBoolean

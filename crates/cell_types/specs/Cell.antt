@@ -49,6 +49,11 @@ content_value column bytes = let content = text_or_default column bytes in
 abbrev pub value_of : ColumnOf → List ℕ → Result CellValue CellFault
 value_of column bytes = content_value column (content_of column.datatype bytes)
 
+-- a text says the value as it stands: it has no white space to normalize, no default takes its place, and it does not stand for null
+abbrev pub SaysPlainly : ColumnOf → List ℕ → CellValue → Type 0
+SaysPlainly column bytes value =
+    (0 < length bytes) × (normal_text bytes ≡ bytes) × (is_null_text column bytes ≡ false) × (typed_value column.datatype bytes ≡ Ok value)
+
 -- a text is copied: an empty `string` where a default that is neither empty nor null takes its place, and a text of another
 -- datatype that is not normal
 abbrev pub IsCopied : DatatypeOf → ColumnOf → List ℕ → Type 0

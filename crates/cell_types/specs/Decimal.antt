@@ -56,6 +56,11 @@ unfoldable pub decimal_of : List ℕ → Result CellValue CellFault
 decimal_of bytes =
     if is_decimal bytes then (if is_in_millionths bytes then value_of_millionths (millionths bytes) else Err TooFine) else Err NotDecimal
 
+-- the value that a number of millionths is, or a fault
+abbrev pub decimal_reading : Result ℤ CellFault → Result CellValue CellFault
+decimal_reading (Ok number) = Ok (decimal number)
+decimal_reading (Err fault) = Err fault
+
 -- digits as far as the last that is not 0
 abbrev pub without_last_zeros : List ℕ → List ℕ
 without_last_zeros [] = []

@@ -1,30 +1,41 @@
 //! Booleans (Metadata Vocabulary for Tabular Data, section 6.4.3): one of the texts of true, or one of those of false.
 ghost use Rattle.std.specs.Prelude.{◌≡◌};
 ghost use Rattle.cell_types.specs.Datatype.{boolean_view};
+ghost use Rattle.cell_types.specs.Boolean.{truth_reading};
 ghost use Rattle.cell_types.specs.Cell.{reading_view, typed_value};
 
 use crate::cell::CellFault;
 use crate::datatype::BooleanForm;
 use crate::value::Value;
 
-/// The truth value of a text.
-pub fn read_boolean<'a>(form: &BooleanForm, text: &str) -> Result<Value<'a>, CellFault>
-    ensures { reading_view result ≡ typed_value (boolean_view form.now) text.now }
+/// The truth value of a text; none of a text that is none of those of true and false.
+pub fn truth_of(form: &BooleanForm, text: &str) -> Option<bool>
+    ensures { truth_reading result ≡ typed_value (boolean_view form.now) text.now }
 {
     match form {
         BooleanForm::Standard => match text {
-            "true" | "1" => Ok(Value::Bool(true)),
-            "false" | "0" => Ok(Value::Bool(false)),
-            _ => Err(CellFault::NotBoolean),
+            "true" | "1" => Some(true),
+            "false" | "0" => Some(false),
+            _ => None,
         },
         BooleanForm::Texts(of_true, of_false) => {
             if of_true.as_str() == text {
-                Ok(Value::Bool(true))
+                Some(true)
             } else if of_false.as_str() == text {
-                Ok(Value::Bool(false))
+                Some(false)
             } else {
-                Err(CellFault::NotBoolean)
+                None
             }
         }
+    }
+}
+
+/// The value of a text in a form.
+pub fn read_boolean<'a>(form: &BooleanForm, text: &str) -> Result<Value<'a>, CellFault>
+    ensures { reading_view result ≡ typed_value (boolean_view form.now) text.now }
+{
+    match truth_of(form, text) {
+        Some(truth) => Ok(Value::Bool(truth)),
+        None => Err(CellFault::NotBoolean),
     }
 }

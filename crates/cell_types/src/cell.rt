@@ -69,7 +69,7 @@ fn is_among(texts: &[String], text: &str) -> bool
 }
 
 /// Whether a text stands for null in a column.
-fn is_null_text(column: &Column, text: &str) -> bool
+pub fn is_null_text(column: &Column, text: &str) -> bool
     ensures { result ≡ is_null_text_of (column_view column.now) text.now }
 {
     is_among(column.nulls.as_slice(), text)

@@ -65,7 +65,7 @@ fn numbers(form: DateForm, text: &[u8]) -> Option<(u16, u8, u8)>
 }
 
 /// The day that a text writes in a form.
-fn date_in(form: DateForm, text: &str) -> Option<Date>
+pub fn date_in(form: DateForm, text: &str) -> Option<Date>
     ensures { MatchOption result (HasNoDate form text.now)
         (λ date. HasDate form text.now date.year date.month date.day) }
 {

@@ -4,7 +4,7 @@ ghost use Rattle.std.specs.Prelude.{◌≡◌, ◌++◌, ◌^◌, ◌<◌, ◌�
 ghost use Rattle.std.specs.List.{after_first, before_first, list_all, position_or_len};
 ghost use Rattle.std.specs.Str.Parse.{AllDigits, digits_value, digits_value_after};
 ghost use Rattle.cell_types.specs.Cell.{reading_view};
-ghost use Rattle.cell_types.specs.Decimal.{are_digits as are_parts_of_decimal, decimal_of, is_point, is_zero, signed, six_places, value_of_millionths};
+ghost use Rattle.cell_types.specs.Decimal.{are_digits as are_parts_of_decimal, decimal_of, decimal_reading, is_point, is_zero, signed, six_places, value_of_millionths};
 
 use crate::cell::CellFault;
 use crate::integer::{are_digits, is_negative, without_sign};
@@ -77,20 +77,20 @@ fn are_zeros(digits: &[u8]) -> bool
 }
 
 /// A number of millionths, where it is one of 64 signed bits.
-fn value_in_range<'a>(is_negative: bool, number: u64) -> Result<Value<'a>, CellFault>
-    ensures { reading_view result ≡ value_of_millionths (signed is_negative number) }
+fn number_in_range(is_negative: bool, number: u64) -> Result<i64, CellFault>
+    ensures { decimal_reading result ≡ value_of_millionths (signed is_negative number) }
 {
     let number = i128::from(number);
     let millionths = if is_negative { -number } else { number };
     match i64::try_from(millionths) {
-        Ok(_) => Ok(Value::Decimal(millionths)),
+        Ok(millionths) => Ok(millionths),
         Err(_) => Err(CellFault::OutOfRange),
     }
 }
 
 /// The number of a text's millionths.
-pub fn read_decimal<'a>(text: &str) -> Result<Value<'a>, CellFault>
-    ensures { reading_view result ≡ decimal_of text.now }
+pub fn millionths_of(text: &str) -> Result<i64, CellFault>
+    ensures { decimal_reading result ≡ decimal_of text.now }
 {
     let bytes = text.as_bytes();
     let (whole, fraction) = parts(without_sign(bytes));
@@ -102,7 +102,17 @@ pub fn read_decimal<'a>(text: &str) -> Result<Value<'a>, CellFault>
         return Err(CellFault::TooFine);
     }
     match number_of_millionths(whole, places) {
-        Some(number) => value_in_range(is_negative(bytes), number),
+        Some(number) => number_in_range(is_negative(bytes), number),
         None => Err(CellFault::OutOfRange),
+    }
+}
+
+/// The value of a text.
+pub fn read_decimal<'a>(text: &str) -> Result<Value<'a>, CellFault>
+    ensures { reading_view result ≡ decimal_of text.now }
+{
+    match millionths_of(text) {
+        Ok(number) => Ok(Value::Decimal(i128::from(number))),
+        Err(fault) => Err(fault),
     }
 }

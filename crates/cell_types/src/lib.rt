@@ -10,6 +10,7 @@ mod date;
 mod decimal;
 mod integer;
 mod laws;
+mod plain;
 mod value;
 mod white_space;
 
@@ -21,4 +22,5 @@ pub use laws::{
     strings_have_values, texts_are_in_order, values_are_ordered, values_compare_as_their_views,
     values_fit_columns,
 };
+pub use plain::{read_plain_boolean, read_plain_date, read_plain_decimal};
 pub use value::Value;

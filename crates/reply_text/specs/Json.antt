@@ -1,5 +1,5 @@
 -- The texts of JSON (RFC 8259) that answers are written in, with no space between tokens (OData JSON Format 4.01, sections 4.5 and 21).
-use Rattle.std.specs.Prelude.{ℕ, ◌+◌, ◌/◌, ◌%◌, ◌==◌, Bool, ◌||◌, List, [], ◌∷◌, ◌++◌, map, nat_lt, if◌then◌else◌, codes, Option, None, Some}
+use Rattle.std.specs.Prelude.{◌≡◌, ℕ, ◌+◌, ◌/◌, ◌%◌, ◌<◌, ◌==◌, Bool, ◌||◌, List, [], ◌∷◌, ◌++◌, Vec, get_or, length, map, nat_lt, if◌then◌else◌, codes, Option, None, Some}
 use Rattle.std.specs.List.{flat_map, zip, join_with_byte}
 use Rattle.std.specs.Fmt.{decimal, signed_decimal}
 use Rattle.reply_text.specs.Value.{bool_text, day_text}
@@ -58,6 +58,15 @@ json_member member = json_text member.0 ++ codes ":" ++ json_value member.1
 -- what stands before an item of a list, by its place
 abbrev pub comma : ℕ → List ℕ
 comma place = if place == 0 then [] else codes ","
+
+-- what stands before the value of a member with that place
+abbrev pub member_head : ℕ → List ℕ → List ℕ
+member_head place name = comma place ++ json_text name ++ codes ":"
+
+-- what stands before the value of each member of a row
+pub record AreHeads {A : Type 0} (names : List (List ℕ)) (heads : List (Vec ℕ A)) : Type 0 where
+  pub count : length heads ≡ length names
+  pub heads_are : (col : ℕ) → col < length names → get_or (map (λ head. head.items) heads) col [] ≡ member_head col (get_or names col [])
 
 -- a row: an object of its members, in order
 abbrev pub json_row : List (List ℕ) → List CellValue → List ℕ

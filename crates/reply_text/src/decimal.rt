@@ -3,13 +3,14 @@ ghost use Rattle.std.specs.Prelude.{◌≡◌, ◌++◌, ◌<◌, OnOk};
 ghost use Rattle.cell_types.specs.Date.{two_digits as digits_of_two};
 ghost use Rattle.cell_types.specs.Decimal.{decimal_text, fraction_text, millionths_text, six_digits as digits_of_six, without_last_zeros as without_last_zeros_of};
 
+use itoa::Buffer;
 use std::alloc::AllocError;
 
 /// How many millionths are one.
-const ONE: u128 = 1_000_000;
+const ONE: u64 = 1_000_000;
 
 /// A number in two digits.
-fn two_digits(number: u8) -> [u8; 2]
+pub fn two_digits(number: u8) -> [u8; 2]
     requires { number < 100 }
     ensures { result ≡ digits_of_two number }
 {
@@ -51,14 +52,24 @@ fn push_fraction(out: &mut Vec<u8>, number: u32) -> Result<(), AllocError>
     out.extend_from_slice(without_last_zeros(&six_digits(number)))
 }
 
+/// Appends a number of millionths of 64 bits, whose divisions are quick.
+fn push_short(out: &mut Vec<u8>, number: u64) -> Result<(), AllocError>
+    ensures { OnOk result (out.new.items ≡ out.old.items ++ millionths_text number) }
+{
+    out.extend_from_slice(Buffer::new().format(number / ONE).as_bytes())?;
+    push_fraction(out, (number % ONE) as u32)
+}
+
 /// Appends a number of millionths.
 fn push_millionths(out: &mut Vec<u8>, number: u128) -> Result<(), AllocError>
     ensures { OnOk result (out.new.items ≡ out.old.items ++ millionths_text number) }
 {
-    let whole = number / ONE;
-    let text = format!(in *out.allocator(); "{whole}")?;
-    out.extend_from_slice(text.as_bytes())?;
-    push_fraction(out, (number % ONE) as u32)
+    if let Ok(short) = u64::try_from(number) {
+        return push_short(out, short);
+    }
+    let one = u128::from(ONE);
+    out.extend_from_slice(Buffer::new().format(number / one).as_bytes())?;
+    push_fraction(out, (number % one) as u32)
 }
 
 /// Appends a decimal of that many millionths: a `-` where it is negative, the whole part, and where the fraction is not 0 a point and

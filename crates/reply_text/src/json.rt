@@ -1,10 +1,10 @@
 //! The texts of JSON (RFC 8259), appended to one buffer.
 ghost use Rattle.jiff.specs.Words.{date_text};
-ghost use Rattle.std.specs.Prelude.{◌≡◌, ◌++◌, ◌∷◌, [], ◌<◌, OnOk, codes, get_or, length, map, position, unwrap_or};
+ghost use Rattle.std.specs.Prelude.{◌≡◌, ◌++◌, ◌∷◌, [], ◌<◌, IfOk, OnOk, get_or, length, map, position, string_bytes, unwrap_or};
 ghost use Rattle.std.specs.List.{flat_map, join_with_byte, zip};
 ghost use Rattle.std.specs.Fmt.{decimal};
 ghost use Rattle.cell_types.specs.Value.{value_view};
-ghost use Rattle.reply_text.specs.Json.{comma, escaped, hex_digit, json_count, json_member, json_row, json_text, json_value, needs_escape, quote, text_member};
+ghost use Rattle.reply_text.specs.Json.{comma, escaped, hex_digit, json_count, json_member, json_row, json_text, json_value, member_head, needs_escape, quote, text_member, AreHeads};
 
 use crate::decimal::push_decimal;
 use crate::value::{push_bool, push_date, push_integer};
@@ -12,7 +12,7 @@ use cell_types::Value;
 use itoa::Buffer;
 use jiff::civil::Date;
 use query_exec::Rows;
-use std::alloc::AllocError;
+use std::alloc::{AllocError, Global};
 
 /// A hexadecimal digit in lower case.
 fn hex_digit(n: u8) -> u8
@@ -116,16 +116,6 @@ fn push_value(out: &mut Vec<u8>, value: &Value<'_>) -> Result<(), AllocError>
     }
 }
 
-/// Appends a member of an object.
-fn push_member(out: &mut Vec<u8>, name: &str, value: &Value<'_>) -> Result<(), AllocError>
-    ensures { OnOk result
-        (out.new.items ≡ out.old.items ++ json_member (name.now, value_view value.now)) }
-{
-    push_text(out, name.as_bytes())?;
-    out.extend_from_slice(b":")?;
-    push_value(out, value)
-}
-
 /// Appends a comma before every item but the first.
 pub fn push_comma(out: &mut Vec<u8>, place: usize) -> Result<(), AllocError>
     ensures { OnOk result (out.new.items ≡ out.old.items ++ comma place) }
@@ -137,18 +127,62 @@ pub fn push_comma(out: &mut Vec<u8>, place: usize) -> Result<(), AllocError>
     }
 }
 
+/// What stands before the value of a member with that place: a comma, but before the first, the name and a colon.
+fn head_of(alloc: Global, place: usize, name: &str) -> Result<Vec<u8>, AllocError>
+    ensures { IfOk result (λ head. head.items ≡ member_head place name.now) }
+{
+    let mut head = Vec::new(alloc);
+    push_comma(&mut head, place)?;
+    push_text(&mut head, name.as_bytes())?;
+    head.extend_from_slice(b":")?;
+    Ok(head)
+}
+
+/// What stands before the value of each member of a row.
+fn heads_of(alloc: Global, names: &[String]) -> Result<Vec<Vec<u8>>, AllocError>
+    ensures { IfOk result (λ heads. AreHeads (map string_bytes names.now) heads.items) }
+{
+    let mut heads = Vec::with_capacity(alloc, names.len())?;
+    for (place, name) in names.iter().enumerate() {
+        heads.push(head_of(alloc, place, name.as_str())?)?;
+    }
+    Ok(heads)
+}
+
 /// Appends the members of the row with a number, with a comma between each two.
-fn push_members(out: &mut Vec<u8>, rows: &Rows, row: usize) -> Result<(), AllocError>
-    requires { row < length rows.now.rows }
+fn push_members(
+    out: &mut Vec<u8>,
+    rows: &Rows,
+    row: usize,
+    heads: &[Vec<u8>],
+) -> Result<(), AllocError>
+    requires row { row < length rows.now.rows }
+    requires heads { AreHeads rows.now.names heads.now }
     ensures { OnOk result (out.new.items ≡ out.old.items
         ++ join_with_byte 44 (map json_member (zip rows.now.names (get_or rows.now.rows row [])))) }
 {
-    let names = rows.names();
     for col in 0..rows.width() {
-        push_comma(out, col)?;
-        push_member(out, names[col].as_str(), &rows.value(row, col))?;
+        out.extend_from_slice(heads[col].as_slice())?;
+        push_value(out, &rows.value(row, col))?;
     }
     Ok(())
+}
+
+/// Appends the row with a number.
+fn push_object(
+    out: &mut Vec<u8>,
+    rows: &Rows,
+    row: usize,
+    heads: &[Vec<u8>],
+) -> Result<(), AllocError>
+    requires row { row < length rows.now.rows }
+    requires heads { AreHeads rows.now.names heads.now }
+    ensures { OnOk result (out.new.items ≡ out.old.items
+        ++ json_row rows.now.names (get_or rows.now.rows row [])) }
+{
+    out.extend_from_slice(b"{")?;
+    push_members(out, rows, row, heads)?;
+    out.extend_from_slice(b"}")
 }
 
 /// Appends the row with a number.
@@ -157,9 +191,8 @@ pub fn push_row(out: &mut Vec<u8>, rows: &Rows, row: usize) -> Result<(), AllocE
     ensures { OnOk result (out.new.items ≡ out.old.items
         ++ json_row rows.now.names (get_or rows.now.rows row [])) }
 {
-    out.extend_from_slice(b"{")?;
-    push_members(out, rows, row)?;
-    out.extend_from_slice(b"}")
+    let heads = heads_of(*out.allocator(), rows.names())?;
+    push_object(out, rows, row, heads.as_slice())
 }
 
 /// Appends rows, with a comma between each two.
@@ -167,9 +200,10 @@ pub fn push_rows(out: &mut Vec<u8>, rows: &Rows) -> Result<(), AllocError>
     ensures { OnOk result (out.new.items ≡ out.old.items
         ++ join_with_byte 44 (map (json_row rows.now.names) rows.now.rows)) }
 {
+    let heads = heads_of(*out.allocator(), rows.names())?;
     for row in 0..rows.len() {
         push_comma(out, row)?;
-        push_row(out, rows, row)?;
+        push_object(out, rows, row, heads.as_slice())?;
     }
     Ok(())
 }

@@ -1,9 +1,11 @@
 //! The texts of values that JSON and CSV write alike.
-ghost use Rattle.std.specs.Prelude.{◌≡◌, ◌++◌, OnOk};
+ghost use Rattle.std.specs.Prelude.{◌≡◌, ◌≤ℤ◌, ◌++◌, pos, OnOk};
 ghost use Rattle.std.specs.Fmt.{signed_decimal};
 ghost use Rattle.jiff.specs.Words.{date_text};
 ghost use Rattle.reply_text.specs.Value.{bool_text};
 
+use crate::decimal::two_digits;
+use itoa::Buffer;
 use jiff::civil::Date;
 use std::alloc::AllocError;
 
@@ -11,8 +13,10 @@ use std::alloc::AllocError;
 pub fn push_integer(out: &mut Vec<u8>, number: i128) -> Result<(), AllocError>
     ensures { OnOk result (out.new.items ≡ out.old.items ++ signed_decimal number) }
 {
-    let text = format!(in *out.allocator(); "{number}")?;
-    out.extend_from_slice(text.as_bytes())
+    match i64::try_from(number) {
+        Ok(short) => out.extend_from_slice(Buffer::new().format(short).as_bytes()),
+        Err(_) => out.extend_from_slice(Buffer::new().format(number).as_bytes()),
+    }
 }
 
 /// Appends a truth value's word.
@@ -26,10 +30,26 @@ pub fn push_bool(out: &mut Vec<u8>, truth: bool) -> Result<(), AllocError>
     }
 }
 
+/// Appends a date as `yyyy-MM-dd`, whose year is not negative.
+fn push_short_date(out: &mut Vec<u8>, date: Date) -> Result<(), AllocError>
+    requires { pos 0 ≤ℤ date.year }
+    ensures { OnOk result (out.new.items ≡ out.old.items ++ date_text date) }
+{
+    let year = date.year() as u16;
+    let [a, b] = two_digits((year / 100) as u8);
+    let [c, d] = two_digits((year % 100) as u8);
+    let [e, f] = two_digits(date.month() as u8);
+    let [g, h] = two_digits(date.day() as u8);
+    out.extend_from_slice(&[a, b, c, d, b'-', e, f, b'-', g, h])
+}
+
 /// Appends a date as `yyyy-MM-dd`.
 pub fn push_date(out: &mut Vec<u8>, date: Date) -> Result<(), AllocError>
     ensures { OnOk result (out.new.items ≡ out.old.items ++ date_text date) }
 {
+    if date.year() >= 0 {
+        return push_short_date(out, date);
+    }
     let text = format!(in *out.allocator(); "{date}")?;
     out.extend_from_slice(text.as_bytes())
 }

@@ -9,11 +9,12 @@ ghost use Rattle.cell_types.specs.Value.{value_view};
 ghost use Rattle.csvw_meta.specs.Schema.{schema_view};
 ghost use Rattle.table_store.specs.Block.{packed_cells, HasNumbers};
 ghost use Rattle.table_store.specs.Fits.{HasTableRows};
+ghost use Rattle.table_store.specs.Summaries.{IsSummaryOf};
 
 use crate::column_values::packed_values;
 use crate::cursor::RowCursor;
 use crate::table::Table;
-use block_summary::{BLOCK_ROWS, PackedColumn};
+use block_summary::{BLOCK_ROWS, PackedColumn, Summary};
 use cell_types::Value;
 use csvw_meta::Schema;
 use std::alloc::{AllocError, Global};
@@ -101,6 +102,13 @@ impl<'t> Block<'t> {
         };
         column.unpack(numbers);
         column.unpack_nulls(nulls);
+    }
+
+    /// The summary of the block: the range of each of its columns.
+    pub fn summary(&self) -> &'t Summary
+        ensures { IsSummaryOf self.now result.now }
+    {
+        &self.table.summary()[self.first / BLOCK_ROWS]
     }
 
     /// The rows of the block, one after another, the first one first.

@@ -1,5 +1,5 @@
 //! Why a folder is refused.
-ghost use Rattle.std.specs.Prelude.{◌≡◌, ◌++◌, IfOk, OnOk, codes, is_none, string_bytes};
+ghost use Rattle.std.specs.Prelude.{◌≡◌, ◌++◌, IfOk, codes, is_none, string_bytes};
 ghost use Rattle.std.specs.Fmt.{decimal};
 ghost use Rattle.table_store.specs.Fault.{file_text as file_text_of, load_cause, load_fault_text};
 
@@ -7,7 +7,6 @@ use cell_types::CellFault;
 use csv_index::TextFault;
 use csvw_meta::MetaFault;
 use std::alloc::{AllocError, Global};
-use std::fmt::Write;
 
 /// The name of the file that has the metadata of a folder.
 const METADATA: &str = "csv-metadata.json";
@@ -119,13 +118,6 @@ fn file_text(alloc: Global, file: &str, cause: &str) -> Result<String, AllocErro
     Ok(text)
 }
 
-/// Appends a number in decimal.
-fn push_number(text: &mut String, n: usize) -> Result<(), AllocError>
-    ensures { OnOk result (string_bytes text.new ≡ string_bytes text.old ++ decimal n) }
-{
-    write!(text, "{n}")
-}
-
 /// A table, and the place in its header that is refused.
 fn header_text(alloc: Global, table: &str, col: usize) -> Result<String, AllocError>
     ensures { IfOk result
@@ -147,12 +139,7 @@ fn cell_text(
         (codes "Cell row " ++ decimal row ++ codes " col " ++ decimal col ++ codes " " ++
         name.now)) }
 {
-    let mut cause = String::from_str(alloc, "Cell row ")?;
-    push_number(&mut cause, row)?;
-    cause.push_str(" col ")?;
-    push_number(&mut cause, col)?;
-    cause.push_str(" ")?;
-    cause.push_str(name)?;
+    let cause = format!(in alloc; "Cell row {row} col {col} {name}")?;
     file_text(alloc, table, cause.as_str())
 }
 
@@ -161,7 +148,6 @@ fn row_text(alloc: Global, table: &str, cause: &str, row: usize) -> Result<Strin
     ensures { IfOk result
         (λ text. string_bytes text ≡ file_text_of table.now (cause.now ++ decimal row)) }
 {
-    let mut text = String::from_str(alloc, cause)?;
-    push_number(&mut text, row)?;
+    let text = format!(in alloc; "{cause}{row}")?;
     file_text(alloc, table, text.as_str())
 }

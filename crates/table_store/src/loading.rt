@@ -29,22 +29,15 @@ pub struct BadCell {
     pub fault: CellFault,
 }
 
-/// Why a table is refused.
+/// Why a table is refused, as [`LoadFault`](crate::LoadFault) has it.
 #[derive(Clone, Copy, Debug)]
 pub enum TableFault {
-    /// No file has the url for its name.
     FileMissing,
-    /// The file has more bytes than the limit.
     FileTooLarge,
-    /// The file is no table.
     Text(TextFault),
-    /// The first place where a column and a header cell do not match or one is missing.
     Header(usize),
-    /// The first cell that has no value.
     Cell(BadCell),
-    /// What is wrong with the keys.
     Key(KeyFault),
-    /// Memory ran out.
     NoMemory,
 }
 

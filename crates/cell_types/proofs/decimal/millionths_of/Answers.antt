@@ -4,7 +4,7 @@ use Rattle.std.specs.List.{after_first, before_first}
 use Rattle.std.specs.Str.Parse.{starts_with_minus, without_leading_sign}
 use Rattle.cell_types.specs.Decimal.{is_point, signed, value_of_millionths}
 use Rattle.cell_types.proofs.DecimalLemmas.{AllDigits-take, both_parts, out_of_range, read-not, read-too_fine, read-written}
-use Rattle.cell_types.proofs.decimal.read_decimal.Goals as goal
+use Rattle.cell_types.proofs.decimal.millionths_of.Goals as goal
 
 pub returns-then-not-are_parts : goal.returns-then-not-are_parts
 returns-then-not-are_parts c =
@@ -30,7 +30,7 @@ pub returns-in-Some : goal.returns-in-Some
 returns-in-Some c =
     let rest = c.without_sign.ensures ∙ ap without_leading_sign c.as_bytes-bytes.ensures.value in
     let count : c.min.result ≡ min 6 (length c.parts.result.1.now) = omega arith in
-    c.value_in_range.ensures
+    c.number_in_range.ensures
     ∙ ap₂ (λ minus n. value_of_millionths (signed minus n)) (c.is_negative.ensures ∙ ap starts_with_minus c.as_bytes-bytes.ensures.value) c.in-Some.ensures.1
     ∙ read-written c.args.text.now _ _ _ _ _ (c.parts.ensures.whole ∙ ap (before_first is_point) rest, c.parts.ensures.fraction ∙ ap (after_first is_point) rest)
     (sym c.if-not-are_parts.ensures) count c.split_at.ensures.front c.split_at.ensures.back (sym c.if-not-are_zeros.ensures)
