@@ -9,3 +9,7 @@ pub mod PlainRules
 pub mod PlainWalk
 pub mod WalkRows
 pub mod TakenWords
+pub mod TakeLemmas
+pub mod CommandLemmas
+pub mod ReplayLemmas
+pub mod ScriptLemmas

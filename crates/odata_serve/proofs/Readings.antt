@@ -6,7 +6,7 @@ use Rattle.clap.specs.declared.error.ErrorKind.{ErrorKind}
 use Rattle.clap.specs.declared.error.ErrorKind.TheVariants.{OutOfMemory}
 use Rattle.clap.proofs.OnLiterals.{clap_on_literals}
 use Rattle.odata_serve.specs.Words.{IsNumberOf, SaysNothing, program_app}
-use Rattle.odata_serve.specs.declared.words.Words.TheVariants.{Nothing, Check, Query, Answer, Serve}
+use Rattle.odata_serve.specs.declared.words.Words.TheVariants.{Nothing, Check, Query, Answer, Replay, Serve}
 
 -- a kind other than want of memory is one of the kinds, so there are some
 pub some_kind : {k m : ErrorKind} {ks : Kinds} → k ≡ m → (k ≡ OutOfMemory → ⊥) → (m ≡ OutOfMemory) ⊎ IsAmong m ks → ks ≡ [] → ⊥
@@ -46,4 +46,6 @@ no_connections name rows e none (Query folder target) h =
     let bad : 115 ≡ 113 = first_byte (sym e ∙ h.0) in absurd (omega (arith, bad))
 no_connections name rows e none (Answer folder file) h =
     let bad : 115 ≡ 97 = first_byte (sym e ∙ h.0) in absurd (omega (arith, bad))
+no_connections name rows e none (Replay folder script) h =
+    let bad : 115 ≡ 114 = first_byte (sym e ∙ h.0) in absurd (omega (arith, bad))
 no_connections name rows e none (Serve folder port connections) h = none connections h.3

@@ -18,7 +18,7 @@ use Rattle.clap.proofs.OnLiterals.{clap_on_literals}
 use Rattle.clap.proofs.ValueTestLemmas.{accepts-Accepts}
 use Rattle.odata_serve.specs.Words.{IsNumberOf, Says, folder_and_app, folder_app, program_app, serve_app}
 use Rattle.odata_serve.specs.declared.words.Words.{Words}
-use Rattle.odata_serve.specs.declared.words.Words.TheVariants.{Nothing, Check, Query, Answer, Serve}
+use Rattle.odata_serve.specs.declared.words.Words.TheVariants.{Nothing, Check, Query, Answer, Replay, Serve}
 use Rattle.odata_serve.proofs.Numbers.{number_taken}
 use Rattle.odata_serve.proofs.PlainRules.{ArePlain, IsPlainRule, both_none}
 use Rattle.odata_serve.proofs.WalkRows.{HasOne, required_rows}
@@ -35,6 +35,9 @@ query = leaf (folder_and_app (codes "query") (codes "target")).top
 
 abbrev answer : Shape
 answer = leaf (folder_and_app (codes "answer") (codes "file")).top
+
+abbrev replay : Shape
+replay = leaf (folder_and_app (codes "replay") (codes "script")).top
 
 abbrev serve : Shape
 serve = leaf serve_app.top
@@ -57,6 +60,10 @@ query_plain = (one refl refl refl refl, (one refl refl refl refl, (help refl ref
 answer_plain : ArePlain answer.rules answer.rules
 unfolding clap_on_literals
 answer_plain = (one refl refl refl refl, (one refl refl refl refl, (help refl refl refl, tt)))
+
+replay_plain : ArePlain replay.rules replay.rules
+unfolding clap_on_literals
+replay_plain = (one refl refl refl refl, (one refl refl refl refl, (help refl refl refl, tt)))
 
 serve_plain : ArePlain serve.rules serve.rules
 unfolding clap_on_literals
@@ -110,6 +117,14 @@ answer_asks words e =
     let file = text_read _ rows (given.1.0 refl) in
     (Answer (to folder.0) (to file.0), (refl, folder.1, file.1))
 
+replay_asks : (words : List Text) → level_fault replay [] nothing_held words false [] ≡ [] → (w : Words) × Says w (Some (rows_at replay words))
+replay_asks words e =
+    let rows = rows_after replay.rules [] words in
+    let given = required_rows replay words replay_plain refl refl e in
+    let folder = text_read _ rows (given.0 refl) in
+    let script = text_read _ rows (given.1.0 refl) in
+    (Replay (to folder.0) (to script.0), (refl, folder.1, script.1))
+
 serve_asks : (words : List Text) → level_fault serve [] nothing_held words false [] ≡ [] → (w : Words) × Says w (Some (rows_at serve words))
 serve_asks words e =
     let rows = rows_after serve.rules [] words in
@@ -123,18 +138,20 @@ serve_asks words e =
 entered_asks : (stop : Option (Text × List Text)) → entered_fault (built program_app) stop ≡ [] → (w : Words) × Says w (entered (built program_app) stop)
 entered_asks None e = (Nothing, refl)
 entered_asks (Some p) e =
-    go (answers_to p.0 (label_of check)) (answers_to p.0 (label_of query)) (answers_to p.0 (label_of answer)) (answers_to p.0 (label_of serve)) e
+    go (answers_to p.0 (label_of check)) (answers_to p.0 (label_of query)) (answers_to p.0 (label_of answer)) (answers_to p.0 (label_of replay))
+    (answers_to p.0 (label_of serve)) e
   where
-    found : Bool → Bool → Bool → Bool → Option Shape
-    found a b c d = cond a (Some check) (cond b (Some query) (cond c (Some answer) (cond d (Some serve) None)))
+    found : Bool → Bool → Bool → Bool → Bool → Option Shape
+    found a b c d s = cond a (Some check) (cond b (Some query) (cond c (Some answer) (cond d (Some replay) (cond s (Some serve) None))))
 
-    go : (a b c d : Bool) → option_map_or (λ s. level_fault s [] nothing_held p.1 false []) (found a b c d) [] ≡ []
-        → (w : Words) × Says w (option_map (λ s. rows_at s p.1) (found a b c d))
-    go true b c d e = check_asks p.1 e
-    go false true c d e = query_asks p.1 e
-    go false false true d e = answer_asks p.1 e
-    go false false false true e = serve_asks p.1 e
-    go false false false false e = (Nothing, refl)
+    go : (a b c d s : Bool) → option_map_or (λ s. level_fault s [] nothing_held p.1 false []) (found a b c d s) [] ≡ []
+        → (w : Words) × Says w (option_map (λ s. rows_at s p.1) (found a b c d s))
+    go true b c d s e = check_asks p.1 e
+    go false true c d s e = query_asks p.1 e
+    go false false true d s e = answer_asks p.1 e
+    go false false false true s e = replay_asks p.1 e
+    go false false false false true e = serve_asks p.1 e
+    go false false false false false e = (Nothing, refl)
 
 -- words that are taken ask for something
 pub taken_asks : (line : List Text) → fault_of program_app line ≡ [] → (w : Words) × Says w (subcommand_of program_app line)

@@ -7,3 +7,6 @@ pub mod Serving
 pub mod FaultText
 pub mod Words
 pub mod Command
+pub mod Answers
+pub mod Replay
+pub mod ScriptFile

@@ -5,7 +5,7 @@ use Rattle.std.specs.Str.Parse.{IsNumeral, digits_value, without_leading_plus}
 use Rattle.clap.specs.Words.{App, Row, Rule, Text, fault_of, first_of, new_app, new_rule, one_of, subcommand_of, with_rule, with_subcommand}
 use Rattle.clap.specs.declared.builder.ValueParser.TheVariants as parser
 use Rattle.odata_serve.specs.declared.words.Words.{Words}
-use Rattle.odata_serve.specs.declared.words.Words.TheVariants.{Nothing, Check, Query, Answer, Serve}
+use Rattle.odata_serve.specs.declared.words.Words.TheVariants.{Nothing, Check, Query, Answer, Replay, Serve}
 
 -- an argument that has to be there
 abbrev pub required_rule : Text → Rule
@@ -38,12 +38,13 @@ serve_app = with_rule (with_rule (folder_app (codes "serve")) port_rule) connect
 abbrev pub top_app : App
 top_app = record { top = record (new_app (codes "magpiecoffer")).top { disable_help_subcommand = true }; subs = [] }
 
--- the whole command: `check FOLDER`, `query FOLDER TARGET`, `answer FOLDER FILE`, `serve FOLDER --port P --connections N`
+-- the whole command: `check FOLDER`, `query FOLDER TARGET`, `answer FOLDER FILE`, `replay FOLDER SCRIPT`, `serve FOLDER --port P --connections N`
 abbrev pub program_app : App
-program_app = with_subcommand (with_subcommand (with_subcommand (with_subcommand top_app
+program_app = with_subcommand (with_subcommand (with_subcommand (with_subcommand (with_subcommand top_app
     (folder_app (codes "check")).top)
     (folder_and_app (codes "query") (codes "target")).top)
     (folder_and_app (codes "answer") (codes "file")).top)
+    (folder_and_app (codes "replay") (codes "script")).top)
     serve_app.top
 
 -- the words as texts
@@ -69,6 +70,8 @@ SubcommandSays (Query folder target) name rows = (name ≡ codes "query") × (fi
     × (first_of (codes "target") rows ≡ Some target.now)
 SubcommandSays (Answer folder file) name rows = (name ≡ codes "answer") × (first_of (codes "folder") rows ≡ Some folder.now)
     × (first_of (codes "file") rows ≡ Some file.now)
+SubcommandSays (Replay folder script) name rows = (name ≡ codes "replay") × (first_of (codes "folder") rows ≡ Some folder.now)
+    × (first_of (codes "script") rows ≡ Some script.now)
 SubcommandSays (Serve folder port connections) name rows = (name ≡ codes "serve") × (first_of (codes "folder") rows ≡ Some folder.now)
     × IsNumberOf 16 (one_of (codes "port") rows) port
     × IsNumberOf 32 (one_of (codes "connections") rows) connections
@@ -89,3 +92,7 @@ IsTaken line = fault_of program_app line ≡ []
 -- `clap` takes the texts, and what it reads asks for these words
 abbrev pub AreWords : List Text → Words → Type 0
 AreWords line words = IsTaken line × Says words (subcommand_of program_app line)
+
+-- what `clap` reads of the texts asks for a script to be played
+abbrev pub AsksForReplay : List Text → Type 0
+AsksForReplay line = (folder script : Bor Text) × AreWords line (Replay folder script)

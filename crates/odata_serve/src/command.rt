@@ -3,7 +3,7 @@
 ghost use Rattle.std.specs.Prelude.{◌≡◌, ◌≢◌, ◌⊎◌};
 ghost use Rattle.std.specs.IoError.{error_kind};
 ghost use Rattle.odata_serve.specs.Command.{EndsNoScript, IsFaultStatus, IsNoScript, IsStatus};
-ghost use Rattle.odata_serve.specs.Words.{IsTaken, texts};
+ghost use Rattle.odata_serve.specs.Words.{AsksForReplay, IsTaken, texts};
 
 use crate::check::check_folder;
 use crate::disk::Disk;
@@ -11,6 +11,8 @@ use crate::fault_text::{DEVICE, MEMORY, USAGE, fault_line};
 use crate::folders::{BuiltIn, Folders, NOTES};
 use crate::listener::CountedListener;
 use crate::program::{ProgramFault, answer, request_to};
+use crate::replay::replay_script;
+use crate::script_file::read_script;
 use crate::serving::serve;
 use crate::words::{Words, WordsFault, read_words};
 use odata_http::Counted;
@@ -134,6 +136,22 @@ fn answer_file(rt: &(impl Files + Print + Eprint + AllocGlobal), folder: &str, f
     }
 }
 
+/// Plays the script of a file over a folder. The file is read whole before the folder is loaded.
+fn replay_file(rt: &(impl Files + Print + Eprint + AllocGlobal), folder: &str, file: &str) -> u8 {
+    match fs::open(rt, file) {
+        Ok(opened) => match read_script(rt.alloc(), &mut Counted::new(opened)) {
+            Ok(script) => {
+                let mut out = Counted::new(io::writer(rt));
+                let mut disk = Disk::new(rt);
+                let end = replay_script(rt.alloc(), &mut disk, folder, script.as_slice(), &mut out);
+                end_status(rt, end)
+            }
+            Err(fault) => report(rt, &ProgramFault::Run(fault)),
+        },
+        Err(error) => error_status(&error),
+    }
+}
+
 /// Serves a folder on a port of this machine.
 #[tactic(auto, using(crate::proofs::EndLemmas::serve_ends))]
 fn serve_folder<R>(rt: &R, folder: &str, port: u16, connections: u32) -> u8
@@ -156,7 +174,7 @@ where
 }
 
 /// Does what the words ask for, the first of which is the program's name. The status is that of usage where `clap` does not take them, and
-/// nowhere else.
+/// where a script has a line that is no command.
 pub fn line_status<R>(rt: &R, line: &[&str]) -> u8
 where
     R: Files
@@ -166,13 +184,14 @@ where
         + Eprint
         + AllocGlobal,
     ensures usage { ¬ (IsTaken (texts line.now)) → (result ≡ USAGE) ⊎ (result ≡ MEMORY) }
-    ensures taken { IsTaken (texts line.now) → result ≢ USAGE }
+    ensures taken { IsTaken (texts line.now) → (result ≢ USAGE) ⊎ AsksForReplay (texts line.now) }
 {
     match read_words(rt.alloc(), line) {
         Ok(Words::Nothing) => answer_input(rt),
         Ok(Words::Check { folder }) => check_tables(rt, folder),
         Ok(Words::Query { folder, target }) => query(rt, folder, target),
         Ok(Words::Answer { folder, file }) => answer_file(rt, folder, file),
+        Ok(Words::Replay { folder, script }) => replay_file(rt, folder, script),
         Ok(
             Words::Serve {
                 folder,

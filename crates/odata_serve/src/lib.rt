@@ -1,7 +1,9 @@
-//! What the program does: it answers a stream of requests, checks a folder of CSV files or serves connections, as the words of its command line
-//! ask. Folders, streams and connections come by traits, so that each call runs over memory too; contracts see what these tell and count.
+//! What the program does: it answers a stream of requests, checks a folder of CSV files, replays a script of events or serves connections, as the
+//! words of its command line ask. Folders, streams and connections come by traits, so that each call runs over memory too; contracts see what
+//! these tell and count.
 #![tactic(auto)]
 
+mod answers;
 mod check;
 mod command;
 mod disk;
@@ -9,6 +11,8 @@ mod fault_text;
 mod folders;
 mod listener;
 mod program;
+mod replay;
+mod script_file;
 mod serving;
 mod words;
 
@@ -19,5 +23,6 @@ pub use fault_text::{DEVICE, MEMORY, REFUSED, USAGE, fault_line};
 pub use folders::{BuiltIn, FolderFault, Folders, NOTES, NOTES_BYTES, NOTES_FILE, NOTES_METADATA};
 pub use listener::{CountedListener, Listener};
 pub use program::{MAX_READS, ProgramFault, answer, request_to};
+pub use replay::{PLACES, plays_schedule, replay_script};
 pub use serving::serve;
 pub use words::{Words, WordsFault, read_words};

@@ -26,6 +26,16 @@ pub enum ProgramFault {
     NoMemory,
 }
 
+impl From<AllocError> for ProgramFault {
+    ghost use Rattle.odata_serve.specs.declared.program.ProgramFault.TheVariants.{NoMemory};
+
+    ghost from_gives = { λ _ fault. fault ≡ NoMemory };
+
+    fn from(_error: AllocError) -> ProgramFault {
+        ProgramFault::NoMemory
+    }
+}
+
 /// Loads the folder of that name, and answers the input's stream over it in the output, in at most [`MAX_READS`] reads.
 pub fn answer<F: Folders, R: Source, W: Sink>(
     alloc: Global,

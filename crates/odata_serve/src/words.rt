@@ -28,6 +28,11 @@ pub enum Words<'a> {
         folder: &'a str,
         file: &'a str,
     },
+    /// To play the script of a file over a folder.
+    Replay {
+        folder: &'a str,
+        script: &'a str,
+    },
     /// To answer so many connections to a port, one after another, over a folder.
     Serve {
         folder: &'a str,
@@ -118,13 +123,15 @@ fn program_command<'a>(alloc: Global) -> Result<Command<'a>, AllocError>
     let check = folder_command(alloc, "check")?;
     let query = folder_and_command(alloc, "query", "target")?;
     let answer = folder_and_command(alloc, "answer", "file")?;
+    let replay = folder_and_command(alloc, "replay", "script")?;
     let serve = serve_command(alloc)?;
     let top = Command::new(alloc, "magpiecoffer").disable_help_subcommand(true);
     let one = top.subcommand(check)?;
     let two = one.subcommand(query)?;
     let three = two.subcommand(answer)?;
-    let four = three.subcommand(serve)?;
-    Ok(four)
+    let four = three.subcommand(replay)?;
+    let five = four.subcommand(serve)?;
+    Ok(five)
 }
 
 /// The text of an argument.
@@ -170,6 +177,11 @@ fn subcommand_words<'a>(name: &'a str, inner: &ArgMatches<'a>) -> Option<Words<'
             let folder = text(inner, "folder")?;
             let file = text(inner, "file")?;
             Some(Words::Answer { folder, file })
+        }
+        "replay" => {
+            let folder = text(inner, "folder")?;
+            let script = text(inner, "script")?;
+            Some(Words::Replay { folder, script })
         }
         "serve" => {
             let folder = text(inner, "folder")?;

@@ -3,7 +3,7 @@ use odata_serve::{DEVICE, REFUSED, USAGE, line_status, read_words};
 use std::test::Fail;
 
 /// Words behind the program's name, and what they ask for.
-const LINES: [(&[&str], &str); 12] = [
+const LINES: [(&[&str], &str); 14] = [
     (&["p"], "Ok(Nothing)"),
     (&["p", "--"], "Ok(Nothing)"),
     (&["p", "check", "a b"], "Ok(Check { folder: \"a b\" })"),
@@ -16,6 +16,11 @@ const LINES: [(&[&str], &str); 12] = [
         &["p", "answer", "a", "f"],
         "Ok(Answer { folder: \"a\", file: \"f\" })",
     ),
+    (
+        &["p", "replay", "a", "s"],
+        "Ok(Replay { folder: \"a\", script: \"s\" })",
+    ),
+    (&["p", "replay", "a"], "Err(Usage)"),
     (
         &["p", "serve", "a", "--port", "65535", "--connections=0"],
         "Ok(Serve { folder: \"a\", port: 65535, connections: 0 })",
@@ -42,10 +47,11 @@ fn words_of_lines(rt: HostRuntime) -> Result<(), Fail> {
 }
 
 /// The exit status of words that end before anything is served.
-const STATUSES: [(&[&str], u8); 3] = [
+const STATUSES: [(&[&str], u8); 4] = [
     (&["p", "frob"], USAGE),
     (&["p", "check", "/none"], REFUSED),
     (&["p", "answer", "/none", "/none"], DEVICE),
+    (&["p", "replay", "/none", "/none"], DEVICE),
 ];
 
 #[test]
