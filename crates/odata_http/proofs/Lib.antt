@@ -1,4 +1,5 @@
 pub mod HeadLemmas
+pub mod LengthLemmas
 pub mod ReadingLemmas
 pub mod FindingLemmas
 pub mod WorkLemmas

@@ -1,8 +1,7 @@
 -- The run of a query, call by call.
-use Rattle.std.proofs.Common.{◌≡◌, ◌<◌, ◌+◌, ◌-◌, ℕ, zero, suc, Ok, Err, Bool, true, false, List, [], ◌∷◌, length, max, get_or, Option, Some, None, option_map, if◌then◌else◌, refl, sym, ap, ◌∙◌, subst, arith}
-use Rattle.std.specs.Prelude.{slice_get, nat_lt}
+use Rattle.std.proofs.Common.{◌≡◌, ◌<◌, ◌≤◌, ◌+◌, ◌-◌, ℕ, zero, suc, Ok, Err, Bool, List, [], ◌∷◌, length, max, get_or, Option, Some, None, option_map, if◌then◌else◌, refl, sym, ap, ◌∙◌, subst, arith}
+use Rattle.std.specs.Prelude.{slice_get}
 use Rattle.std.proofs.Math.Nat.{max_comm}
-use Rattle.std.proofs.lemmas.Bool.{ltb-true}
 use Rattle.std.proofs.lemmas.Option.{get_or_from_slice_get}
 use Rattle.block_summary.specs.Ranges.{RangeOf}
 use Rattle.csvw_meta.specs.Schema.{SchemaOf}
@@ -12,7 +11,11 @@ use Rattle.table_store.specs.Catalog.{CatalogOf}
 use Rattle.table_store.specs.Fits.{HasTableRows}
 use Rattle.table_store.specs.Table.{TableOf}
 use Rattle.odata_parse.specs.declared.format.Format.{Format}
-use Rattle.query_plan.specs.Plan.{Means, PlanOf, answer_of}
+use Rattle.odata_query.specs.Query.{TypedOf}
+use Rattle.query_plan.specs.Laws.{NeededBlocksAreRead, PlansNeedBlocks}
+use Rattle.query_plan.specs.Needed.{needed_blocks}
+use Rattle.query_plan.specs.Plan.{Means, PlanOf, answer_of, naive_plan, needed}
+use Rattle.query_plan.specs.Push.{rewritten}
 use Rattle.query_plan.specs.Rewrite.{MeansTheSame}
 use Rattle.query_exec.specs.declared.fault.ExecFault.{ExecFault}
 use Rattle.query_exec.specs.declared.fault.ExecFault.TheVariants.{DivisionByZero}
@@ -24,9 +27,10 @@ use Rattle.query_exec.specs.Rows.{RowsOf}
 use Rattle.query_exec.specs.Run.{AdvancesTo, Gives, MayBeHanded, StandsFor, awaited, handed_block, next_block, run_length}
 use Rattle.odata_request.specs.Request.{RowsRequestOf}
 use Rattle.odata_http.specs.declared.reading.Reading.{Reading}
-use Rattle.odata_http.specs.Exchange.{IsReading}
+use Rattle.odata_http.specs.Exchange.{IsReading, query_length}
 use Rattle.odata_http.specs.Work.{MayRead, StartsReading}
 use Rattle.odata_http.specs.Reply.{ResponseOf, RespondsWithRows, rows_response}
+use Rattle.odata_http.proofs.LengthLemmas.{max_below}
 
 -- ---- tables and blocks
 
@@ -38,51 +42,56 @@ inside_at (y ∷ xs) (suc i) x e = let less = inside_at xs i x e in omega (arith
 pub table_is : (tables seen : List TableOf) (number : ℕ) (found table : TableOf) → seen ≡ tables → found ≡ get_or seen number found → slice_get tables number ≡ Some table → found ≡ table
 table_is tables seen number found table same at is = at ∙ ap (λ (ts : List TableOf). get_or ts number found) same ∙ get_or_from_slice_get tables number table found is
 
-less_of : (b : Bool) (n number : ℕ) → Some number ≡ (if b then Some n else None) → (b ≡ true) × (number ≡ n)
-less_of true n number e = (refl, ap number_in e)
-  where
-    number_in : Option ℕ → ℕ
-    number_in (Some k) = k
-    number_in None = number
-less_of false n number e = absurd (cc e)
-
-pub block_inside : (table : TableOf) (handed number : ℕ) → Some number ≡ next_block table handed → number < block_count (length table.rows)
-block_inside table handed number e =
-    let found = less_of (nat_lt handed (block_count (length table.rows))) handed number e in
-    let same = found.1 in let less = ltb-true handed (block_count (length table.rows)) found.0 in omega (arith, same, less)
+pub block_inside : PlansNeedBlocks → (plan : PlanOf) (table : TableOf) (handed number : ℕ) → Some number ≡ next_block plan table handed
+    → number < block_count (length table.rows)
+block_inside law plan table handed number e =
+    let blocks = needed plan table.rows in
+    subst (λ n. n < block_count (length table.rows)) (get_or_from_slice_get blocks handed number number (sym e))
+    (law.each plan table.rows handed number (inside_at blocks handed number (sym e)))
 
 -- ---- what a run is handed
 
 -- the block that is there is the one that the run is to be handed
 pub block_is : (catalog : CatalogOf) (seen : List TableOf) (reading : Reading) (found : TableOf) (block : Option TableOf) (asked : RowsRequestOf) (left : ℕ)
     → (is : IsReading catalog asked left reading) → seen ≡ catalog.tables → found ≡ get_or seen reading.table found
-    → ((plan : PlanOf) (handed : ℕ) → StandsFor reading.run plan found handed → block ≡ handed_block found handed) → block ≡ handed_block is.table is.handed
+    → ((plan : PlanOf) (handed : ℕ) → StandsFor reading.run plan found handed → block ≡ handed_block plan found handed) → block ≡ handed_block is.plan is.table is.handed
 block_is catalog seen reading found block asked left is same at given =
     let here = table_is catalog.tables seen reading.table found is.table same at (subst (λ (n : ℕ). slice_get catalog.tables n ≡ Some is.table) (sym is.number_is) is.table_is) in
     let stands = subst (λ (t : TableOf). StandsFor reading.run is.plan t is.handed) (sym here) is.stands in
-    subst (λ (t : TableOf). block ≡ handed_block t is.handed) here (given is.plan is.handed stands)
+    subst (λ (t : TableOf). block ≡ handed_block is.plan t is.handed) here (given is.plan is.handed stands)
 
 pub may_be_handed : (catalog : CatalogOf) (seen : List TableOf) (reading : Reading) (found : TableOf) (block : Option TableOf) → MayRead catalog reading
     → seen ≡ catalog.tables → found ≡ get_or seen reading.table found
-    → ((plan : PlanOf) (handed : ℕ) → StandsFor reading.run plan found handed → block ≡ handed_block found handed) → MayBeHanded reading.run block
+    → ((plan : PlanOf) (handed : ℕ) → StandsFor reading.run plan found handed → block ≡ handed_block plan found handed) → MayBeHanded reading.run block
 may_be_handed catalog seen reading found block may same at given =
     let is = may.2 in
     awaited (is.plan, is.table, is.handed, is.stands, block_is catalog seen reading found block may.0 may.1 is same at given)
 
 -- ---- a run that begins
 
+-- the plan needs the blocks that the query needs
+pub blocks_are : NeededBlocksAreRead → (plan first : PlanOf) (query : TypedOf) (table : TableOf) → plan ≡ rewritten first → first ≡ naive_plan query → HasTableRows table
+    → needed plan table.rows ≡ needed_blocks query table.rows
+blocks_are law plan first query table is naive fit =
+    let few = fit.count in
+    ap (λ (p : PlanOf). needed p table.rows) (is ∙ ap rewritten naive) ∙ law query table.rows (omega (arith, few))
+
 pub starts : (catalog : CatalogOf) (seen : List TableOf) (asked : RowsRequestOf) (number : ℕ) (found table : TableOf) (schema : SchemaOf) (reading : Reading) (plan : PlanOf)
     (summaries : List (List RangeOf)) → slice_get catalog.tables number ≡ Some table → number ≡ asked.table → seen ≡ catalog.tables → found ≡ get_or seen number found
     → schema ≡ found.schema → HasTableRows found → AreSummariesOf found summaries → asked.query.key ≡ None → (first : PlanOf) → Means first asked.query → MeansTheSame table.schema first plan
-    → reading.table ≡ number → reading.format ≡ asked.format → reading.counting ≡ asked.query.counting → reading.left ≡ max (length summaries) 1
-    → ((t : TableOf) → t.schema ≡ schema → HasTableRows t → AreSummariesOf t summaries → StandsFor reading.run plan t 0) → StartsReading catalog asked reading
-starts catalog seen asked number found table schema reading plan summaries is number_is same at of fit those unkeyed first means alike table_of format counting left stands =
+    → reading.table ≡ number → reading.format ≡ asked.format → reading.counting ≡ asked.query.counting → reading.most ≡ max (length summaries) 1
+    → ((t : TableOf) → t.schema ≡ schema → HasTableRows t → AreSummariesOf t summaries → StandsFor reading.run plan t 0)
+    → PlansNeedBlocks → needed plan table.rows ≡ needed_blocks asked.query table.rows → StartsReading catalog asked reading
+starts catalog seen asked number found table schema reading plan summaries is number_is same at of fit those unkeyed first means alike table_of format counting most stands law blocks =
     let here = table_is catalog.tables seen number found table same at is in
     let asked_is = subst (λ (n : ℕ). slice_get catalog.tables n ≡ Some table) number_is is in
     let known : AreSummariesOf table summaries = subst (λ (t : TableOf). AreSummariesOf t summaries) here those in
     let stood = stands table (ap (λ (t : TableOf). t.schema) (sym here) ∙ sym of) (subst HasTableRows here fit) known in
-    let all : reading.left ≡ run_length table = left ∙ max_turned (length summaries) ∙ ap (max 1) known.count in (
-      run_length table,
+    let calls : run_length plan table ≡ query_length asked.query table = ap (λ (ns : List ℕ). max 1 (length ns)) blocks in
+    let few = law.few plan table.rows in
+    let bound : reading.most ≡ max 1 (block_count (length table.rows)) = most ∙ max_turned (length summaries) ∙ ap (max 1) known.count in
+    let within : max 1 (length (needed plan table.rows)) ≤ max 1 (block_count (length table.rows)) = max_below (length (needed plan table.rows)) (block_count (length table.rows)) few in (
+      query_length asked.query table,
       record { table = table; table_is = asked_is; calls_are = refl },
       record {
         unkeyed = unkeyed;
@@ -95,8 +104,8 @@ starts catalog seen asked number found table schema reading plan summaries is nu
         means = ap (option_map (answer_of asked.query.counting)) (alike table.rows stood.are_rows) ∙ means table.schema table.rows;
         handed = 0;
         stands = stood;
-        left_are = omega arith;
-        counted = all;
+        left_are = omega (arith, calls);
+        few = omega (arith, calls, bound, within);
       },
     )
   where
@@ -106,26 +115,26 @@ starts catalog seen asked number found table schema reading plan summaries is nu
 -- ---- what an advance answers
 
 pub advanced_more : (plan : PlanOf) (table : TableOf) (handed : ℕ) (run : Run) (step : Step) → step ≡ More → AdvancesTo plan table handed run (Ok step)
-    → (handed + 1 < run_length table) × StandsFor run plan table (handed + 1)
+    → (handed + 1 < run_length plan table) × StandsFor run plan table (handed + 1)
 advanced_more plan table handed run step e h = subst (λ (s : Step). AdvancesTo plan table handed run (Ok s)) e h
 
 pub advanced_done : (plan : PlanOf) (table : TableOf) (handed : ℕ) (run : Run) (step : Step) → step ≡ Done → AdvancesTo plan table handed run (Ok step)
-    → (rows : RowsOf) × (handed + 1 ≡ run_length table) × (plan_answer plan table ≡ Some rows) × Gives run rows
+    → (rows : RowsOf) × (handed + 1 ≡ run_length plan table) × (plan_answer plan table ≡ Some rows) × Gives run rows
 advanced_done plan table handed run step e h = subst (λ (s : Step). AdvancesTo plan table handed run (Ok s)) e h
 
 pub advanced_fault : (plan : PlanOf) (table : TableOf) (handed : ℕ) (run : Run) (fault : ExecFault) → fault ≡ DivisionByZero → AdvancesTo plan table handed run (Err fault)
-    → (handed + 1 ≡ run_length table) × (plan_answer plan table ≡ None)
+    → (handed + 1 ≡ run_length plan table) × (plan_answer plan table ≡ None)
 advanced_fault plan table handed run fault e h = subst (λ (f : ExecFault). AdvancesTo plan table handed run (Err f)) e h
 
 -- ---- calls
 
 -- one call more
 pub reads_more : (catalog : CatalogOf) (asked : RowsRequestOf) (left : ℕ) (old new : Reading) → (is : IsReading catalog asked left old)
-    → new.table ≡ old.table → new.format ≡ old.format → new.counting ≡ old.counting → new.left ≡ old.left - 1 → is.handed + 1 < run_length is.table
+    → new.table ≡ old.table → new.format ≡ old.format → new.counting ≡ old.counting → new.most ≡ old.most → is.handed + 1 < run_length is.plan is.table
     → StandsFor new.run is.plan is.table (is.handed + 1) → (1 < left) × IsReading catalog asked (left - 1) new
-reads_more catalog asked left old new is number format counting counted goes_on stands =
+reads_more catalog asked left old new is number format counting most goes_on stands =
     let all = is.left_are in
-    let count = is.counted in
+    let few = is.few in
     let more : 1 < left = omega (arith, all, goes_on) in (
       more,
       record {
@@ -140,13 +149,13 @@ reads_more catalog asked left old new is number format counting counted goes_on 
         handed = is.handed + 1;
         stands = stands;
         left_are = omega (arith, all, more);
-        counted = omega (arith, count, counted);
+        few = omega (arith, few, most, more);
       },
     )
 
 -- the last call: what the plan gives is what the query means
 pub reads_last : (catalog : CatalogOf) (asked : RowsRequestOf) (left : ℕ) (old : Reading) (response : ResponseOf) (answer : Option RowsOf) → (is : IsReading catalog asked left old)
-    → is.handed + 1 ≡ run_length is.table → plan_answer is.plan is.table ≡ answer → response ≡ rows_response old.format (option_map (answer_of old.counting) answer)
+    → is.handed + 1 ≡ run_length is.plan is.table → plan_answer is.plan is.table ≡ answer → response ≡ rows_response old.format (option_map (answer_of old.counting) answer)
     → (left ≡ 1) × RespondsWithRows catalog asked response
 reads_last catalog asked left old response answer is last answers made =
     let all = is.left_are in

@@ -1,5 +1,5 @@
 -- The work for a request, call by call.
-use Rattle.std.proofs.Common.{◌≡◌, ◌<◌, ◌-◌, ℕ, Bool, List, Option, Some, None, Ok, Vec, Global, refl, sym, ap, ap₂, ◌∙◌, subst, arith}
+use Rattle.std.proofs.Common.{◌≡◌, ◌<◌, ◌≤◌, ◌+◌, ◌-◌, ℕ, Bool, List, Option, Some, None, Ok, Vec, Global, refl, sym, ap, ap₂, ◌∙◌, subst, arith}
 use Rattle.cell_types.specs.Value.{CellValue}
 use Rattle.table_store.specs.Catalog.{CatalogOf}
 use Rattle.odata_query.specs.Query.{optional_numbers, values_view}
@@ -17,7 +17,7 @@ use Rattle.odata_http.specs.declared.reading.Reading.{Reading}
 use Rattle.odata_http.specs.declared.response.Response.{Response}
 use Rattle.odata_http.specs.declared.work.Work.{Work}
 use Rattle.odata_http.specs.declared.work.Work.TheVariants.{Refuse, ListTables, Find, Read, Replied, Failed}
-use Rattle.odata_http.specs.Exchange.{Answers, GivesReply, GoesOn, IsFinding, IsReading, IsWork, QueryTakes, calls_left, left_in}
+use Rattle.odata_http.specs.Exchange.{Answers, Begins, GivesReply, GoesOn, IsFinding, IsReading, IsWork, QueryTakes, most_calls}
 use Rattle.odata_http.specs.Reply.{IsReply, RespondsWithRows, ResponseOf, error_response, reply_of, service_response}
 use Rattle.odata_http.specs.Work.{IsAsked, ReadsOn, StartsReading, StartsWork, WorksOn, response_view, step_of}
 
@@ -128,42 +128,55 @@ goes_to catalog head left old work given step same told a w =
     let here = subst (λ (x : Work). GoesOn catalog head left (with_work old x) (Ok (step_of work))) (sym same) (goes_on catalog head left old work a w) in
     subst (λ (s : Step). GoesOn catalog head left (with_work old given) (Ok s)) (sym told) here
 
-left_counted : (catalog : CatalogOf) (request : RequestOf) (left : ℕ) (work : Work) → IsWork catalog request left work → left ≡ left_in work
-left_counted catalog (refused code) left (Refuse other) h = h.1
-left_counted catalog (refused code) left ListTables h = absurd h
-left_counted catalog (refused code) left (Find finding) h = absurd h
-left_counted catalog (refused code) left (Read reading) h = absurd h
-left_counted catalog (refused code) left (Replied bytes) h = absurd h
-left_counted catalog (refused code) left Failed h = absurd h
-left_counted catalog service left (Refuse other) h = absurd h
-left_counted catalog service left ListTables h = h
-left_counted catalog service left (Find finding) h = absurd h
-left_counted catalog service left (Read reading) h = absurd h
-left_counted catalog service left (Replied bytes) h = absurd h
-left_counted catalog service left Failed h = absurd h
-left_counted catalog (rows asked) left (Refuse other) h = absurd h
-left_counted catalog (rows asked) left ListTables h = absurd h
-left_counted catalog (rows asked) left (Find finding) h = h.1
-left_counted catalog (rows asked) left (Read reading) h = sym h.counted
-left_counted catalog (rows asked) left (Replied bytes) h = absurd h
-left_counted catalog (rows asked) left Failed h = absurd h
+left_few : (catalog : CatalogOf) (request : RequestOf) (left : ℕ) (work : Work) → IsWork catalog request left work → (0 < left) × (left ≤ most_calls work)
+left_few catalog (refused code) left (Refuse other) h = let one = h.1 in (omega (arith, one), omega (arith, one))
+left_few catalog (refused code) left ListTables h = absurd h
+left_few catalog (refused code) left (Find finding) h = absurd h
+left_few catalog (refused code) left (Read reading) h = absurd h
+left_few catalog (refused code) left (Replied bytes) h = absurd h
+left_few catalog (refused code) left Failed h = absurd h
+left_few catalog service left (Refuse other) h = absurd h
+left_few catalog service left ListTables h = (omega (arith, h), omega (arith, h))
+left_few catalog service left (Find finding) h = absurd h
+left_few catalog service left (Read reading) h = absurd h
+left_few catalog service left (Replied bytes) h = absurd h
+left_few catalog service left Failed h = absurd h
+left_few catalog (rows asked) left (Refuse other) h = absurd h
+left_few catalog (rows asked) left ListTables h = absurd h
+left_few catalog (rows asked) left (Find finding) h = let one = h.1 in (omega (arith, one), omega (arith, one))
+left_few catalog (rows asked) left (Read reading) h =
+    let all = h.left_are in
+    let on = h.stands.goes_on in (omega (arith, all, on), h.few)
+left_few catalog (rows asked) left (Replied bytes) h = absurd h
+left_few catalog (rows asked) left Failed h = absurd h
 
--- the calls that are left are those that the exchange counts
-pub calls_are : (catalog : CatalogOf) (head : HeadOf) (left : ℕ) (exchange : Exchange) → Answers catalog head left exchange → left ≡ calls_left exchange
-calls_are catalog head left exchange a = left_counted catalog a.request left exchange.work a.work
+-- an exchange stands for a head, and no more calls than so many are left
+pub record IsUnderWay (catalog : CatalogOf) (head : HeadOf) (most : ℕ) (exchange : Exchange) : Type 0 where
+  pub left : ℕ
+  pub few : left ≤ most
+  pub answers : Answers catalog head left exchange
 
-pub answers_counted : (catalog : CatalogOf) (head : HeadOf) (left : ℕ) (exchange : Exchange) → Answers catalog head left exchange
-    → Answers catalog head (calls_left exchange) exchange
-answers_counted catalog head left exchange a = subst (λ (n : ℕ). Answers catalog head n exchange) (calls_are catalog head left exchange a) a
+-- one that begins
+pub is_begun : (catalog : CatalogOf) (head : HeadOf) (exchange : Exchange) → Begins catalog head exchange → IsUnderWay catalog head (most_calls exchange.work) exchange
+is_begun catalog head exchange b = record {
+  left = b.calls;
+  few = (left_few catalog b.answers.request b.calls exchange.work b.answers.work).1;
+  answers = b.answers;
+}
+
+-- a call is left
+pub is_left : (catalog : CatalogOf) (head : HeadOf) (most : ℕ) (exchange : Exchange) → IsUnderWay catalog head most exchange → 0 < most
+is_left catalog head most exchange u =
+    let some = (left_few catalog u.answers.request u.left exchange.work u.answers.work).0 in
+    let few = u.few in omega (arith, some, few)
 
 -- one call more
-pub calls_fall : (catalog : CatalogOf) (head : HeadOf) (left : ℕ) (exchange : Exchange) (step : Step) → step ≡ More → GoesOn catalog head left exchange (Ok step)
-    → (calls_left exchange < left) × Answers catalog head (calls_left exchange) exchange
-calls_fall catalog head left exchange step e h =
-    let on = subst (λ (s : Step). GoesOn catalog head left exchange (Ok s)) e h in
-    let less = on.0 in
-    let count = calls_are catalog head (left - 1) exchange on.1 in
-    (omega (arith, less, count), answers_counted catalog head (left - 1) exchange on.1)
+pub calls_on : (catalog : CatalogOf) (head : HeadOf) (most next : ℕ) (old new : Exchange) (step : Step) → (u : IsUnderWay catalog head most old) → step ≡ More
+    → next + 1 ≡ most → GoesOn catalog head u.left new (Ok step) → IsUnderWay catalog head next new
+calls_on catalog head most next old new step u e one h =
+    let on = subst (λ (s : Step). GoesOn catalog head u.left new (Ok s)) e h in
+    let few = u.few in
+    let less = on.0 in record { left = u.left - 1; few = omega (arith, one, few, less); answers = on.1 }
 
 -- the last call
 pub calls_end : (catalog : CatalogOf) (head : HeadOf) (left : ℕ) (exchange : Exchange) (step : Step) → step ≡ Done → GoesOn catalog head left exchange (Ok step)

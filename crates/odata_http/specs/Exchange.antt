@@ -1,5 +1,5 @@
 -- What an exchange stands for, and what its calls make of that.
-use Rattle.std.specs.Prelude.{◌≡◌, ◌<◌, ◌+◌, ◌-◌, ⊤, ℕ, List, [], Option, Some, None, Result, Ok, Err, option_map, slice_get}
+use Rattle.std.specs.Prelude.{◌≡◌, ◌<◌, ◌≤◌, ◌+◌, ◌-◌, ⊤, ℕ, List, [], Option, Some, None, Result, Ok, Err, length, max, option_map, slice_get}
 use Rattle.std.specs.declared.alloc.AllocError.{AllocError}
 use Rattle.cell_types.specs.Value.{CellValue}
 use Rattle.odata_query.specs.Query.{TypedOf, optional_numbers, values_view}
@@ -11,6 +11,7 @@ use Rattle.query_plan.specs.Plan.{PlanOf, answer_of}
 use Rattle.query_exec.specs.declared.run.Step.{Step}
 use Rattle.query_exec.specs.declared.run.Step.TheVariants.{More, Done}
 use Rattle.query_exec.specs.Answer.{plan_answer}
+use Rattle.query_plan.specs.Needed.{needed_blocks}
 use Rattle.query_exec.specs.Run.{StandsFor, run_length}
 use Rattle.http_heads.specs.Head.{HeadOf}
 use Rattle.http_heads.specs.Checks.{head_fault, closes}
@@ -22,11 +23,15 @@ use Rattle.odata_http.specs.declared.work.Work.TheVariants.{Refuse, ListTables, 
 use Rattle.odata_http.specs.declared.exchange.Exchange.{Exchange}
 use Rattle.odata_http.specs.Reply.{IsReply}
 
--- a run takes as many calls as its table says
+-- how many calls a query takes on its table: one for each block that it needs, and one where it needs none
+abbrev pub query_length : TypedOf → TableOf → ℕ
+query_length query table = max 1 (length (needed_blocks query table.rows))
+
+-- its run takes so many
 pub record TakesRunCalls (catalog : CatalogOf) (asked : RowsRequestOf) (calls : ℕ) : Type 0 where
   pub table : TableOf
   pub table_is : slice_get catalog.tables asked.table ≡ Some table
-  pub calls_are : calls ≡ run_length table
+  pub calls_are : calls ≡ query_length asked.query table
 
 -- how many calls a query takes: with a key there is no run
 abbrev pub QueryTakes : CatalogOf → RowsRequestOf → Option (List CellValue) → ℕ → Type 0
@@ -61,8 +66,8 @@ pub record IsReading (catalog : CatalogOf) (asked : RowsRequestOf) (left : ℕ) 
   pub means : MeansOn table plan asked.query
   pub handed : ℕ
   pub stands : StandsFor reading.run plan table handed
-  pub left_are : left + handed ≡ run_length table
-  pub counted : reading.left ≡ left
+  pub left_are : left + handed ≡ run_length plan table
+  pub few : left ≤ reading.most
 
 -- the key of a query that fits its table, to be found there
 pub record IsFinding (catalog : CatalogOf) (asked : RowsRequestOf) (finding : Finding) : Type 0 where
@@ -83,15 +88,10 @@ IsWork catalog (rows asked) left (Find finding) = IsFinding catalog asked findin
 IsWork catalog (rows asked) left (Read reading) = IsReading catalog asked left reading
 IsWork catalog request left work = ⊥
 
--- how many calls the work counts, and an exchange
-abbrev pub left_in : Work → ℕ
-left_in (Read reading) = reading.left
-left_in (Replied bytes) = 0
-left_in Failed = 0
-left_in work = 1
-
-abbrev pub calls_left : Exchange → ℕ
-calls_left exchange = left_in exchange.work
+-- no more calls than so many are left of the work
+abbrev pub most_calls : Work → ℕ
+most_calls (Read reading) = reading.most
+most_calls work = 1
 
 -- The exchange stands for a head under a catalog, so many calls before its reply.
 pub record Answers (catalog : CatalogOf) (head : HeadOf) (left : ℕ) (exchange : Exchange) : Type 0 where

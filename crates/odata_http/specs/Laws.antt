@@ -1,7 +1,12 @@
--- What holds of the replies of every stream.
-use Rattle.std.specs.Prelude.{◌≡◌, ℕ, Bool, true, false, List, ◌++◌}
+-- What holds of the replies of every stream, and of the calls that each takes.
+use Rattle.std.specs.Prelude.{◌≡◌, ◌<◌, ◌≤◌, ℕ, Bool, true, false, List, ◌++◌, Some, length, max, slice_get}
+use Rattle.table_store.specs.Block.{block_count}
 use Rattle.table_store.specs.Catalog.{CatalogOf}
+use Rattle.table_store.specs.Table.{TableOf}
+use Rattle.http_heads.specs.Checks.{head_fault}
 use Rattle.http_heads.specs.Head.{HeadOf}
+use Rattle.odata_request.specs.Request.{AsksFor, RequestOf, refused, rows, service}
+use Rattle.odata_http.specs.Exchange.{HeadTakes}
 use Rattle.odata_http.specs.Reply.{IsReply}
 use Rattle.odata_http.specs.Replies.{IsCertain, AreReplies}
 
@@ -25,3 +30,17 @@ pub record Joins (R : HeadOf → List ℕ → Type 0) : Type 0 where
 -- of the replies to heads under the tables of some folder
 abbrev pub UnderTables : ((HeadOf → List ℕ → Type 0) → Type 0) → Type 0
 UnderTables law = (catalog : CatalogOf) → law (IsReply catalog)
+
+-- one call for each block of the table at most, and one where it has none, or where no table is asked for
+abbrev pub IsWithin : CatalogOf → RequestOf → ℕ → Type 0
+IsWithin catalog (refused code) calls = calls ≡ 1
+IsWithin catalog service calls = calls ≡ 1
+IsWithin catalog (rows asked) calls =
+    (table : TableOf) → slice_get catalog.tables asked.table ≡ Some table → calls ≤ max 1 (block_count (length table.rows))
+
+-- A head takes one number of calls: one at least, and no more than its table has blocks.
+pub record OneLength : Type 0 where
+  pub one : (catalog : CatalogOf) (head : HeadOf) (calls others : ℕ) → HeadTakes catalog head calls → HeadTakes catalog head others → calls ≡ others
+  pub some : (catalog : CatalogOf) (head : HeadOf) (calls : ℕ) → HeadTakes catalog head calls → 0 < calls
+  pub within : (catalog : CatalogOf) (head : HeadOf) (calls : ℕ) (request : RequestOf) → HeadTakes catalog head calls
+      → AsksFor catalog (head_fault head) head.target request → IsWithin catalog request calls

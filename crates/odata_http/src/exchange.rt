@@ -83,10 +83,11 @@ pub fn reply_to(alloc: Global, catalog: &Catalog, head: &Head) -> Result<Vec<u8>
     ensures { IfOk result (λ reply. IsReply catalog.now (head_view head.now) reply.items) }
 {
     let mut exchange = Exchange::begin_for(alloc, catalog, head)?;
-    'calls: loop {
+    for _call in 0..exchange.work.most_calls() {
         match exchange.advance(alloc, catalog)? {
             Step::More => {}
             Step::Done => return Ok(exchange.reply()),
         }
     }
+    unreachable!()
 }

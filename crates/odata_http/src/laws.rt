@@ -1,5 +1,5 @@
-//! What holds of the replies of every stream. The functions here are theorems, and do nothing.
-ghost use Rattle.odata_http.specs.Laws.{Joins, OneReading, OneReply, UnderTables};
+//! What holds of the replies of every stream, and of the calls that each takes. The functions here are theorems, and do nothing.
+ghost use Rattle.odata_http.specs.Laws.{Joins, OneLength, OneReading, OneReply, UnderTables};
 
 /// Under some tables a head has one reply at most. That it has one is not said here: whether tokens have a tree is known where they are parsed.
 pub fn one_reply()
@@ -22,4 +22,12 @@ pub fn joins()
     ensures { UnderTables Joins }
 {
     http_heads::cuts_join();
+}
+
+/// The exchange of a head takes one number of calls before its reply: one at least, and no more than its table has blocks, or one where it has none.
+pub fn one_length()
+    ensures { OneLength }
+{
+    odata_request::one_request();
+    query_plan::plans_need_blocks();
 }

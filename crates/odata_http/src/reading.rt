@@ -11,7 +11,7 @@ use crate::response::{Response, answer_response, error_response};
 use odata_parse::Format;
 use odata_request::RowsRequest;
 use query_exec::{ExecFault, Run, Step};
-use query_plan::{naive, rewrite};
+use query_plan::{naive, needed_blocks_are_read, plans_need_blocks, rewrite};
 use reply_text::Code;
 use std::alloc::{AllocError, Global};
 use table_store::{Block, Catalog, Table};
@@ -25,8 +25,8 @@ pub(crate) struct Reading {
     pub(crate) format: Format,
     /// Whether only the number of rows is asked for.
     pub(crate) counting: bool,
-    /// How many calls are left.
-    pub(crate) left: usize,
+    /// No more calls than so many are left.
+    pub(crate) most: usize,
     pub(crate) run: Run,
 }
 
@@ -43,8 +43,9 @@ pub(crate) enum Reached {
 fn next_block<'t>(run: &Run, table: &'t Table) -> Option<Block<'t>>
     requires { NeedsBlocksOf run.now table.now }
     ensures { (plan : PlanOf) (handed : ℕ) → StandsFor run.now plan table.now handed
-        → result ≡ handed_block table.now handed }
+        → result ≡ handed_block plan table.now handed }
 {
+    plans_need_blocks();
     match run.next() {
         Some(number) => Some(table.block(number)),
         None => None,
@@ -62,6 +63,8 @@ impl Reading {
         requires unkeyed { (rows_view asked).query.key ≡ None }
         ensures { IfOk result (StartsReading catalog.now (rows_view asked)) }
     {
+        needed_blocks_are_read();
+        plans_need_blocks();
         let table = &catalog.tables()[asked.table];
         table.values_fit();
         let summaries = table.summary();
@@ -73,7 +76,7 @@ impl Reading {
                 table: asked.table,
                 format: asked.format,
                 counting,
-                left: summaries.len().max(1),
+                most: summaries.len().max(1),
                 run,
             }),
             Err(_) => Err(AllocError),
@@ -96,7 +99,7 @@ impl Reading {
                 table: self.table,
                 format: self.format,
                 counting: self.counting,
-                left: self.left - 1,
+                most: self.most,
                 run,
             })),
             Ok(Step::Done) => Ok(Reached::Over(answer_response(

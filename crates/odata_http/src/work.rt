@@ -1,7 +1,7 @@
 //! The work for a request, call by call.
 ghost use Rattle.std.specs.Prelude.{◌≡◌, ℕ, List, IfOk, IsErr, IsOkAnd};
 ghost use Rattle.odata_request.specs.Request.{IsInside, IsRowsInside, RequestOf, request_view, rows, rows_view};
-ghost use Rattle.odata_http.specs.Exchange.{IsReplied, IsWork};
+ghost use Rattle.odata_http.specs.Exchange.{IsReplied, IsWork, most_calls};
 ghost use Rattle.odata_http.specs.declared.work.Work.TheVariants.{Failed};
 ghost use Rattle.odata_http.specs.Work.{IsAsked, MayWork, StartsWork, WorksOn, step_of};
 
@@ -87,6 +87,17 @@ impl Work {
             Work::Replied(_) => Step::Done,
             Work::Refuse(_) | Work::ListTables | Work::Find(_) => Step::More,
             Work::Read(_) | Work::Failed => Step::More,
+        }
+    }
+
+    /// No more calls than so many are left.
+    pub(crate) fn most_calls(&self) -> usize
+        ensures { result ≡ most_calls self.now }
+    {
+        match self {
+            Work::Read(reading) => reading.most,
+            Work::Refuse(_) | Work::ListTables | Work::Find(_) => 1,
+            Work::Replied(_) | Work::Failed => 1,
         }
     }
 

@@ -6,13 +6,12 @@ use Rattle.table_store.specs.Catalog.{CatalogOf}
 use Rattle.http_heads.specs.Head.{HeadOf}
 use Rattle.http_heads.specs.Laws.{OneCut}
 use Rattle.odata_http.specs.Exchange.{HeadTakes}
-use Rattle.odata_http.specs.Laws.{OneReply, UnderTables}
+use Rattle.odata_http.specs.Laws.{OneLength, OneReply, UnderTables}
 use Rattle.odata_hub.specs.declared.answers.HubFault.TheVariants.{NoMemory}
 use Rattle.odata_hub.specs.Streams.{Asked, asked}
 use Rattle.odata_hub.specs.Connections.{ConnOf, FlightOf, Call, Piece, End, Turn, Take, Answer, Refused, IsFed, AddsReply, BeginsNext, IsTurnedBy, IsAfter, answer_to, Step, Own, Run, calls_of, HasMemory}
 use Rattle.odata_hub.specs.Replies.{IsReplyTo}
 use Rattle.odata_hub.specs.Laws.{AreTurns, BringsNext, BringsReply, Replies}
-use Rattle.odata_hub.proofs.LengthLemmas.{OneLength}
 
 answered : (c d : ConnOf) (call : Call) (answer : Answer) → Step c call answer d → answer ≢ Refused NoMemory
     → (answer ≡ answer_to c call) × IsAfter c call d

@@ -1,11 +1,10 @@
 -- The laws, each from a connection's own run.
 use Rattle.http_heads.specs.Laws.{OneCut, CutsJoin}
-use Rattle.odata_http.specs.Laws.{OneReply, UnderTables}
+use Rattle.odata_http.specs.Laws.{OneLength, OneReply, UnderTables}
 use Rattle.odata_hub.specs.declared.answers.Turned.TheVariants.{Idle}
 use Rattle.odata_hub.specs.Connections.{fresh, Turn, Went}
 use Rattle.odata_hub.specs.Schedules.{StepsAt, own_of}
 use Rattle.odata_hub.specs.Laws.{GivesReplies, IdlesWhenAnswered, AnswersAlike, KeepsCatalogs}
-use Rattle.odata_hub.proofs.LengthLemmas.{OneLength}
 use Rattle.odata_hub.proofs.GivenLemmas.{front_taken, idle_answered}
 use Rattle.odata_hub.proofs.AlikeLemmas.{equal_answers}
 use Rattle.odata_hub.proofs.CatalogLemmas.{splits}

@@ -1,8 +1,8 @@
 mod StreamLemmas
 mod ConnLemmas
+mod TurnLemmas
 mod RunLemmas
 mod GivenLemmas
-mod LengthLemmas
 mod AlikeLemmas
 mod HubLemmas
 mod CatalogLemmas

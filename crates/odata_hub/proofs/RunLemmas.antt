@@ -6,7 +6,8 @@ use Rattle.http_heads.specs.Laws.{OneCut, CutsJoin}
 use Rattle.odata_hub.specs.declared.answers.HubFault.TheVariants.{NoMemory}
 use Rattle.odata_hub.specs.Streams.{Came, Asked}
 use Rattle.odata_hub.specs.Connections.{ConnOf, FlightOf, fresh, Call, Piece, End, Turn, Take, Answer, Refused, IsAfter, answer_to, IsFailed, Step, Own, Run, came_with, stream_of, given_by, taken_of, ends_with, has_ended}
-use Rattle.odata_hub.proofs.ConnLemmas.{Keeps, Keeps-end, Keeps-failed, Keeps-fresh, Keeps-piece_closed, Keeps-piece_open, Keeps-same, Keeps-take, Keeps-turn, conn}
+use Rattle.odata_hub.proofs.ConnLemmas.{Keeps, Keeps-end, Keeps-failed, Keeps-fresh, Keeps-piece_closed, Keeps-piece_open, Keeps-same, conn}
+use Rattle.odata_hub.proofs.TurnLemmas.{Keeps-take, Keeps-turn}
 
 -- where memory lasts
 Keeps-piece : CutsJoin → (rest : List ℕ) (waiting : List Asked) (flight : Option FlightOf) (output : List ℕ) (closed ended : Bool)

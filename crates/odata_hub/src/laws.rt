@@ -41,7 +41,7 @@ pub fn brings_reply()
 pub fn brings_next()
     ensures { BringsNext }
 {
-    odata_request::one_request();
+    odata_http::one_length();
 }
 
 /// A connection's answers depend on its own events alone.
@@ -50,7 +50,7 @@ pub fn answers_alike()
 {
     http_heads::one_cut();
     odata_http::one_reply();
-    odata_request::one_request();
+    odata_http::one_length();
 }
 
 /// A head that came before a reload is answered from the older tables, a later one from the newer.

@@ -25,7 +25,7 @@ use std::{env, fs, io};
 pub const DONE: u8 = 0;
 
 /// The exit status of an error of the system.
-fn error_status(error: &io::Error) -> u8
+pub fn error_status(error: &io::Error) -> u8
     ensures memory { error_kind error.now ≡ ErrorKind.OutOfMemory → result ≡ MEMORY }
     ensures device { error_kind error.now ≢ ErrorKind.OutOfMemory → result ≡ DEVICE }
     ensures other { result ≢ USAGE }
@@ -37,7 +37,7 @@ fn error_status(error: &io::Error) -> u8
 }
 
 /// Says that the words are no command of the program.
-fn usage_status(rt: &impl Eprint) -> u8
+pub fn usage_status(rt: &impl Eprint) -> u8
     ensures { result ≡ USAGE }
 {
     let _ = rt.eprintln("bad command line");
@@ -45,7 +45,7 @@ fn usage_status(rt: &impl Eprint) -> u8
 }
 
 /// The exit status where the system hands over no words. A word that is not UTF-8 is no word of a command.
-fn unread_status(rt: &impl Eprint, error: &io::Error) -> u8
+pub fn unread_status(rt: &impl Eprint, error: &io::Error) -> u8
     ensures usage { error_kind error.now ≡ ErrorKind.InvalidData → result ≡ USAGE }
     ensures memory { error_kind error.now ≡ ErrorKind.OutOfMemory → result ≡ MEMORY }
     ensures other { error_kind error.now ≢ ErrorKind.InvalidData → result ≢ USAGE }
@@ -58,7 +58,7 @@ fn unread_status(rt: &impl Eprint, error: &io::Error) -> u8
 
 /// Writes what is said of a fault to standard error, and gives its exit status.
 #[tactic(auto, using(crate::proofs::EndLemmas::other_status))]
-fn report(rt: &(impl Eprint + AllocGlobal), fault: &ProgramFault) -> u8
+pub fn report(rt: &(impl Eprint + AllocGlobal), fault: &ProgramFault) -> u8
     ensures status { IsFaultStatus fault.now result }
     ensures other { IsNoScript fault.now → result ≢ USAGE }
 {

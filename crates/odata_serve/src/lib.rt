@@ -17,7 +17,9 @@ mod serving;
 mod words;
 
 pub use check::check_folder;
-pub use command::{DONE, command_status, line_status};
+pub use command::{
+    DONE, command_status, error_status, line_status, report, unread_status, usage_status,
+};
 pub use disk::Disk;
 pub use fault_text::{DEVICE, MEMORY, REFUSED, USAGE, fault_line};
 pub use folders::{BuiltIn, FolderFault, Folders, NOTES, NOTES_BYTES, NOTES_FILE, NOTES_METADATA};

@@ -1,5 +1,5 @@
 -- The first rows of an order in the place of all.
-use Rattle.std.proofs.Common.{◌≡◌, inl, inr, ℕ, Bool, true, false, ◌&&◌, ◌||◌, cond, Option, Some, None, List, [], ◌∷◌, ◌++◌, get_or, length, map, take, append-nil, refl, sym, ap, ◌∙◌, subst}
+use Rattle.std.proofs.Common.{◌≡◌, inl, inr, ℕ, Bool, true, false, ◌&&◌, ◌||◌, cond, Option, Some, None, List, [], ◌∷◌, ◌++◌, drop, get_or, length, map, take, append-nil, refl, sym, ap, ◌∙◌, subst}
 use Rattle.std.specs.Prelude.{is_none, is_some, option_map, option_and_then, slice_get}
 use Rattle.std.specs.List.{All, AllByRecursion, list_any}
 use Rattle.std.proofs.lemmas.List.Elements.{All-from_recursion}
@@ -18,7 +18,7 @@ use Rattle.query_plan.specs.Plan.{NodeOf, aggregating, choosing, filtering, grou
 use Rattle.query_plan.specs.Plan.{node_view}
 use Rattle.query_plan.specs.declared.plan.Node.{Node}
 use Rattle.query_exec.specs.declared.run.Run.{Run}
-use Rattle.query_exec.specs.Run.{steps_of}
+use Rattle.query_exec.specs.Run.{rows_so_far, steps_of}
 use Rattle.query_exec.specs.Taking.{HasCut, HasTaken, HasTakenIn}
 use Rattle.query_exec.specs.Useful.{are_plain, useful}
 use Rattle.query_exec.specs.Underway.{AreAll}
@@ -191,24 +191,26 @@ kept_alike : (steps : List NodeOf) (b : Bool) (xs zs : List (List CellValue)) �
 kept_alike steps true xs zs e = refl
 kept_alike steps false xs zs e = ap (λ rows. Some rows) e
 
-pub taken_and_cut : (old taken new : Run) (rows : List (List CellValue)) → HasTaken old taken rows → HasCut taken new → HasTakenIn old new rows
-taken_and_cut old taken new rows has cut =
+pub taken_and_cut : (old taken less new : Run) (rows : List (List CellValue)) → HasTaken old taken rows → HasCut taken less → new.left.items ≡ drop 1 less.left.items
+    → new ≡ record less { left = new.left } → HasTakenIn old new rows
+taken_and_cut old taken less new rows has cut left is =
     let steps_are : steps_of taken ≡ steps_of old = ap (λ ns. map node_view ns.items) has.same.steps in
-    let useful_are = subst (λ steps. useful steps new.kept.rows ≡ useful steps taken.kept.rows) steps_are cut.useful_are in
+    let useful_are = subst (λ steps. useful steps less.kept.rows ≡ useful steps taken.kept.rows) steps_are cut.useful_are in
     record {
       same = record {
-        conditions = cut.same.conditions ∙ has.same.conditions;
-        places = cut.same.places ∙ has.same.places;
-        steps = cut.same.steps ∙ has.same.steps;
-        blocks = cut.same.blocks ∙ has.same.blocks;
-        handed = cut.same.handed ∙ has.same.handed;
-        names = cut.same.names ∙ has.same.names;
-        stage = cut.same.stage ∙ has.same.stage;
-        kinds = cut.same.kinds ∙ has.same.kinds;
+        conditions = ap (λ (r : Run). r.conditions) is ∙ cut.same.conditions ∙ has.same.conditions;
+        places = ap (λ (r : Run). r.places) is ∙ cut.same.places ∙ has.same.places;
+        steps = ap (λ (r : Run). r.steps) is ∙ cut.same.steps ∙ has.same.steps;
+        names = ap (λ (r : Run). r.names) is ∙ cut.same.names ∙ has.same.names;
+        stage = ap (λ (r : Run). r.stage) is ∙ cut.same.stage ∙ has.same.stage;
+        kinds = ap (λ (r : Run). r.kept.kinds) is ∙ cut.same.kinds ∙ has.same.kinds;
       };
+      left_are = left ∙ ap (λ (q : _). drop 1 q.items) (cut.left_is ∙ has.left_is);
+      looks_on = ap (λ (r : Run). r.room) is ∙ cut.room_is ∙ has.looks_on;
       passed =
-          ap (λ b. option_map (useful (steps_of old)) (cond b None (Some new.kept.rows))) cut.faulted_is
-          ∙ kept_alike (steps_of old) taken.faulted new.kept.rows taken.kept.rows useful_are
+          ap (λ (r : Run). option_map (useful (steps_of old)) (rows_so_far r)) is
+          ∙ ap (λ b. option_map (useful (steps_of old)) (cond b None (Some less.kept.rows))) cut.faulted_is
+          ∙ kept_alike (steps_of old) taken.faulted less.kept.rows taken.kept.rows useful_are
           ∙ ap (option_map (useful (steps_of old))) has.passed;
     }
 

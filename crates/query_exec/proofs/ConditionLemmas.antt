@@ -18,7 +18,7 @@ use Rattle.query_exec.specs.Picked.{selected_rows}
 abbrev pub joined : Option (List (List CellValue)) → Option (List (List CellValue)) → Option (List (List CellValue))
 joined front back = both (λ xs ys. xs ++ ys) front back
 
-joined_none : (front : Option (List (List CellValue))) → joined front None ≡ None
+pub joined_none : (front : Option (List (List CellValue))) → joined front None ≡ None
 joined_none None = refl
 joined_none (Some xs) = refl
 

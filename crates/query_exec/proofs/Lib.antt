@@ -3,7 +3,11 @@ pub mod RowLemmas
 pub mod TakingLemmas
 pub mod LaneLemmas
 pub mod PassingLemmas
+pub mod KeepingLemmas
 pub mod FitLemmas
+pub mod NeededLemmas
+pub mod PartsLemmas
+pub mod AdmittedLemmas
 pub mod BestLemmas
 pub mod RunLemmas
 pub mod StepLemmas

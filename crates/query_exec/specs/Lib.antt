@@ -14,3 +14,4 @@ pub mod Lanes
 pub mod Underway
 pub mod Run
 pub mod Taking
+pub mod Admitted

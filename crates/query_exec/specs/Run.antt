@@ -1,16 +1,16 @@
 -- What a run stands for, and what its calls make of that.
-use Rattle.std.specs.Prelude.{◌≡◌, ◌<◌, ◌≤◌, ◌+◌, ◌*◌, ◌++◌, ⊤, ℕ, IfSome, Option, Some, None, Result, Ok, Err, List, if◌then◌else◌, nat_lt, length, map, max, option_and_then, option_map, string_bytes, take}
+use Rattle.std.specs.Prelude.{◌≡◌, ◌<◌, ◌+◌, ◌++◌, ⊤, ℕ, true, IfSome, Option, Some, None, Result, Ok, Err, List, drop, if◌then◌else◌, is_some, length, map, max, option_and_then, option_map, slice_get, string_bytes, take}
 use Rattle.std.specs.List.{All}
 use Rattle.cell_types.specs.Value.{CellValue}
-use Rattle.block_summary.specs.declared.block.TheConstants.{BLOCK_ROWS}
 use Rattle.odata_query.specs.Query.{optional_numbers}
 use Rattle.odata_types.specs.TypedTree.{TruthExprOf, boxed_truth}
-use Rattle.table_store.specs.Block.{block_count, block_of}
+use Rattle.table_store.specs.Block.{block_of}
 use Rattle.table_store.specs.Table.{TableOf}
 use Rattle.row_columns.specs.Kinds.{kinds_of}
 use Rattle.query_plan.specs.Fitting.{AreTableRows, IsFitFor, NodesFit}
 use Rattle.query_plan.specs.Meaning.{ResultOf, selected_names, table_names}
-use Rattle.query_plan.specs.Plan.{NodeOf, PlanOf, node_view, nodes_result, select_nodes}
+use Rattle.query_plan.specs.Plan.{NodeOf, PlanOf, leading, needed, node_view, nodes_result, select_nodes}
+use Rattle.query_plan.specs.Scan.{rows_of_blocks, up_to}
 use Rattle.query_exec.specs.declared.fault.ExecFault.{ExecFault}
 use Rattle.query_exec.specs.declared.fault.ExecFault.TheVariants.{DivisionByZero, NoMemory, Failed}
 use Rattle.query_exec.specs.declared.run.Run.{Run}
@@ -23,21 +23,21 @@ use Rattle.query_exec.specs.Picked.{selected_kinds, selected_rows}
 use Rattle.query_exec.specs.Rows.{RowsOf}
 use Rattle.query_exec.specs.Useful.{useful}
 
--- the number of the block that is needed behind those that were handed in, where there is one: every block of the table is needed
-abbrev pub next_block : TableOf → ℕ → Option ℕ
-next_block table handed = if nat_lt handed (block_count (length table.rows)) then Some handed else None
+-- the number of the block that is needed behind those that were handed in, where there is one
+abbrev pub next_block : PlanOf → TableOf → ℕ → Option ℕ
+next_block plan table handed = slice_get (needed plan table.rows) handed
 
 -- and that block
-abbrev pub handed_block : TableOf → ℕ → Option TableOf
-handed_block table handed = option_map (block_of table) (next_block table handed)
+abbrev pub handed_block : PlanOf → TableOf → ℕ → Option TableOf
+handed_block plan table handed = option_map (block_of table) (next_block plan table handed)
 
--- how many calls a run takes: one for each block, and one where there is none
-abbrev pub run_length : TableOf → ℕ
-run_length table = max 1 (block_count (length table.rows))
+-- how many calls a run takes: one for each block that is needed, and one where none is
+abbrev pub run_length : PlanOf → TableOf → ℕ
+run_length plan table = max 1 (length (needed plan table.rows))
 
--- the rows of the first so many blocks
-abbrev pub handed_rows : TableOf → ℕ → List (List CellValue)
-handed_rows table handed = take (handed * BLOCK_ROWS) table.rows
+-- the rows of the first so many blocks that are needed
+abbrev pub handed_rows : PlanOf → TableOf → ℕ → List (List CellValue)
+handed_rows plan table handed = rows_of_blocks table.rows (take handed (needed plan table.rows))
 
 -- the conditions that the plan begins with, the columns that are picked then, if so, and the steps behind them
 abbrev pub conditions_of : Run → List TruthExprOf
@@ -57,21 +57,21 @@ rows_so_far run = if run.faulted then None else Some run.kept.rows
 abbrev pub kept_result : Run → ResultOf
 kept_result run = record { names = map string_bytes run.names.items; rows = run.kept.rows; count = None }
 
--- The run stands for the plan on the table, of which it was handed so many blocks: what it has is of the same use as what the conditions make of their rows,
--- in the columns that are picked.
+-- The run stands for the plan on the table, of which it was handed so many of the blocks that are needed: what it has is of the same use as what the
+-- conditions make of their rows, in the columns that are picked; and up to its stop it is left with the other blocks that are needed.
 pub record StandsFor (run : Run) (plan : PlanOf) (table : TableOf) (handed : ℕ) : Type 0 where
   pub plan_is : condition_nodes (conditions_of run) ++ select_nodes (places_of run) ++ steps_of run ≡ plan.nodes
+  pub conditions_are : leading plan.nodes ≡ conditions_of run
   pub fits : IsFitFor table.schema plan
   pub are_rows : AreTableRows table.schema table.rows
   pub reads : run.stage ≡ Reading
-  pub blocks_are : run.blocks ≡ block_count (length table.rows)
-  pub handed_are : run.handed ≡ handed
-  pub goes_on : handed < run_length table
+  pub left_are : up_to run.room (conditions_of run) table.rows run.left.items ≡ drop handed (needed plan table.rows)
+  pub goes_on : handed < run_length plan table
   pub within : IfSome (places_of run) (All (λ place. place < length table.schema.columns))
   pub names_are : map string_bytes run.names.items ≡ selected_names (places_of run) (table_names table.schema)
   pub kinds_are : run.kept.kinds ≡ selected_kinds (places_of run) (kinds_of table.schema.columns)
   pub passed : option_map (useful (steps_of run)) (rows_so_far run)
-      ≡ option_map (useful (steps_of run)) (option_map (selected_rows (places_of run)) (passing_all (conditions_of run) (handed_rows table handed)))
+      ≡ option_map (useful (steps_of run)) (option_map (selected_rows (places_of run)) (passing_all (conditions_of run) (handed_rows plan table handed)))
 
 -- the run is done, and gives this
 abbrev pub Gives : Run → RowsOf → Type 0
@@ -87,7 +87,7 @@ HasFailed run = run.stage ≡ Refused
 
 -- the next block of a table that the run stands for, or none where that has no more
 abbrev pub IsAwaited : Run → Option TableOf → Type 0
-IsAwaited run block = (plan : PlanOf) × (table : TableOf) × (handed : ℕ) × StandsFor run plan table handed × (block ≡ handed_block table handed)
+IsAwaited run block = (plan : PlanOf) × (table : TableOf) × (handed : ℕ) × StandsFor run plan table handed × (block ≡ handed_block plan table handed)
 
 -- What a run may be handed: what is awaited, before the run is over, and anything then.
 pub data MayBeHanded (run : Run) (block : Option TableOf) : Type 0 where
@@ -98,9 +98,9 @@ pub data MayBeHanded (run : Run) (block : Option TableOf) : Type 0 where
 -- What a run answers that was handed so many blocks before: Done with the answer, or the division by zero, at the call of its length, and
 -- More before it.
 abbrev pub AdvancesTo : PlanOf → TableOf → ℕ → Run → Result Step ExecFault → Type 0
-AdvancesTo plan table handed run (Ok More) = (handed + 1 < run_length table) × StandsFor run plan table (handed + 1)
-AdvancesTo plan table handed run (Ok Done) = (rows : RowsOf) × (handed + 1 ≡ run_length table) × (plan_answer plan table ≡ Some rows) × Gives run rows
-AdvancesTo plan table handed run (Err DivisionByZero) = (handed + 1 ≡ run_length table) × (plan_answer plan table ≡ None)
+AdvancesTo plan table handed run (Ok More) = (handed + 1 < run_length plan table) × StandsFor run plan table (handed + 1)
+AdvancesTo plan table handed run (Ok Done) = (rows : RowsOf) × (handed + 1 ≡ run_length plan table) × (plan_answer plan table ≡ Some rows) × Gives run rows
+AdvancesTo plan table handed run (Err DivisionByZero) = (handed + 1 ≡ run_length plan table) × (plan_answer plan table ≡ None)
 AdvancesTo plan table handed run (Err NoMemory) = ⊤
 AdvancesTo plan table handed run (Err Failed) = ⊥
 
@@ -108,9 +108,9 @@ AdvancesTo plan table handed run (Err Failed) = ⊥
 
 -- as `AdvancesTo`, of a run whose stage is not set yet: there are rows at the call of its length, and none before it
 abbrev pub StepsTo : PlanOf → TableOf → ℕ → Run → Result (Option RowsOf) ExecFault → Type 0
-StepsTo plan table handed run (Ok None) = (handed + 1 < run_length table) × StandsFor run plan table (handed + 1)
-StepsTo plan table handed run (Ok (Some rows)) = (handed + 1 ≡ run_length table) × (plan_answer plan table ≡ Some rows)
-StepsTo plan table handed run (Err DivisionByZero) = (handed + 1 ≡ run_length table) × (plan_answer plan table ≡ None)
+StepsTo plan table handed run (Ok None) = (handed + 1 < run_length plan table) × StandsFor run plan table (handed + 1)
+StepsTo plan table handed run (Ok (Some rows)) = (handed + 1 ≡ run_length plan table) × (plan_answer plan table ≡ Some rows)
+StepsTo plan table handed run (Err DivisionByZero) = (handed + 1 ≡ run_length plan table) × (plan_answer plan table ≡ None)
 StepsTo plan table handed run (Err NoMemory) = ⊤
 StepsTo plan table handed run (Err Failed) = ⊥
 
@@ -123,10 +123,18 @@ pub record IsReady (run : Run) : Type 0 where
   pub width : length run.kept.kinds ≡ length run.names.items
   pub fits : (rows : List (List CellValue)) → rows_so_far run ≡ Some rows → NodesFit (steps_of run) (record (kept_result run) { rows = rows })
 
+-- the next of the blocks that are left, where the stop looks for rows behind those before it
+abbrev pub wanted : Option ℕ → Option ℕ → Option ℕ
+wanted (Some ℕ.zero) next = None
+wanted room next = next
+
+abbrev pub wanted_block : Run → Option ℕ
+wanted_block run = wanted run.room (slice_get run.left.items 0)
+
 -- what a run makes of the blocks that were handed in: nothing yet where others are to come
 abbrev pub GoesOn : Run → Run → Result (Option RowsOf) ExecFault → Type 0
-GoesOn old new (Ok None) = (old.handed < old.blocks) × (new ≡ old)
-GoesOn old new (Ok (Some rows)) = (old.blocks ≤ old.handed) × (kept_answer old ≡ Some rows)
-GoesOn old new (Err DivisionByZero) = (old.blocks ≤ old.handed) × (kept_answer old ≡ None)
+GoesOn old new (Ok None) = (is_some (wanted_block old) ≡ true) × (new ≡ old)
+GoesOn old new (Ok (Some rows)) = (wanted_block old ≡ None) × (kept_answer old ≡ Some rows)
+GoesOn old new (Err DivisionByZero) = (wanted_block old ≡ None) × (kept_answer old ≡ None)
 GoesOn old new (Err NoMemory) = ⊤
 GoesOn old new (Err Failed) = ⊥

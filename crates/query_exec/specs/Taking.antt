@@ -1,5 +1,5 @@
 -- How a run takes in rows.
-use Rattle.std.specs.Prelude.{◌≡◌, ◌<◌, ◌++◌, ◌∷◌, [], ℕ, IfSome, Option, Some, None, List, length, option_map}
+use Rattle.std.specs.Prelude.{◌≡◌, ◌<◌, ◌-◌, ◌++◌, ◌∷◌, [], ℕ, Bool, IfSome, Option, Some, None, List, count_by, drop, if◌then◌else◌, length, option_map}
 use Rattle.std.specs.List.{All}
 use Rattle.cell_types.specs.Value.{CellValue}
 use Rattle.odata_types.specs.TypedTree.{TruthExprOf}
@@ -7,6 +7,7 @@ use Rattle.row_columns.specs.Kinds.{kinds_of}
 use Rattle.row_columns.specs.Picked.{numbered}
 use Rattle.row_eval.specs.Outcome.{both}
 use Rattle.table_store.specs.Table.{TableOf}
+use Rattle.query_plan.specs.Scan.{passes_each}
 use Rattle.query_exec.specs.declared.taking.Fate.{Fate}
 use Rattle.query_exec.specs.declared.taking.Fate.TheVariants.{Kept, Dropped, Faulted}
 use Rattle.query_exec.specs.declared.run.Run.{Run}
@@ -21,23 +22,31 @@ fate_rows Kept row = Some (row ∷ [])
 fate_rows Dropped row = Some []
 fate_rows Faulted row = None
 
--- the numbers of the rows that pass conditions, and none where one of these divides by zero
-pub record ArePassing (es : List TruthExprOf) (rows : List (List CellValue)) (found : Option (List ℕ)) : Type 0 where
-  pub passed : passing_all es rows ≡ option_map (λ numbers. numbered numbers rows) found
-  pub within : IfSome found (All (λ n. n < length rows))
+-- rows, unless a condition divided by zero
+abbrev pub unless_faulted : Bool → List (List CellValue) → Option (List (List CellValue))
+unless_faulted faulted rows = if faulted then None else Some rows
+
+-- the numbers of the rows on which all conditions are true, and whether one of these, in turn, divides by zero on a row
+pub record ArePassing (es : List TruthExprOf) (rows : List (List CellValue)) (numbers : List ℕ) (faulted : Bool) : Type 0 where
+  pub passed : passing_all es rows ≡ unless_faulted faulted (numbered numbers rows)
+  pub within : All (λ n. n < length rows) numbers
+  pub count : length numbers ≡ count_by (passes_each es) rows
+
+-- how many rows a stop looks for behind so many
+abbrev pub room_behind : Option ℕ → ℕ → Option ℕ
+room_behind None passed = None
+room_behind (Some room) passed = Some (room - passed)
 
 -- a run may take in the rows of a block: the columns that are picked are there, and their values are kept
 pub record MayTake (run : Run) (block : TableOf) : Type 0 where
   pub within : IfSome (places_of run) (All (λ place. place < length block.schema.columns))
   pub kinds_are : run.kept.kinds ≡ selected_kinds (places_of run) (kinds_of block.schema.columns)
 
--- nothing but what is kept is another
+-- nothing is another but the blocks that are left, the stop, and what is kept
 pub record IsSameRun (old new : Run) : Type 0 where
   pub conditions : new.conditions ≡ old.conditions
   pub places : new.places ≡ old.places
   pub steps : new.steps ≡ old.steps
-  pub blocks : new.blocks ≡ old.blocks
-  pub handed : new.handed ≡ old.handed
   pub names : new.names ≡ old.names
   pub stage : new.stage ≡ old.stage
   pub kinds : new.kept.kinds ≡ old.kept.kinds
@@ -45,22 +54,34 @@ pub record IsSameRun (old new : Run) : Type 0 where
 -- behind the rows that a run kept it has these
 pub record HasKept (old new : Run) (rows : List (List CellValue)) : Type 0 where
   pub same : IsSameRun old new
+  pub left_is : new.left ≡ old.left
+  pub room_is : new.room ≡ old.room
   pub faulted_is : new.faulted ≡ old.faulted
   pub rows_are : new.kept.rows ≡ old.kept.rows ++ rows
+
+-- the stop looks for fewer rows by those of these that pass
+abbrev pub LooksOn : Run → Run → List (List CellValue) → Type 0
+LooksOn old new rows = new.room ≡ room_behind old.room (count_by (passes_each (conditions_of old)) rows)
 
 -- a run took in rows: behind what it had it has what passed of them, in the columns that are picked
 pub record HasTaken (old new : Run) (rows : List (List CellValue)) : Type 0 where
   pub same : IsSameRun old new
+  pub left_is : new.left ≡ old.left
+  pub looks_on : LooksOn old new rows
   pub passed : rows_so_far new ≡ both (λ xs ys. xs ++ ys) (rows_so_far old) (option_map (selected_rows (places_of old)) (passing_all (conditions_of old) rows))
 
 -- of the rows that a run kept it let go of some that the first step has no use for
 pub record HasCut (old new : Run) : Type 0 where
   pub same : IsSameRun old new
+  pub left_is : new.left ≡ old.left
+  pub room_is : new.room ≡ old.room
   pub faulted_is : new.faulted ≡ old.faulted
   pub useful_are : useful (steps_of old) new.kept.rows ≡ useful (steps_of old) old.kept.rows
 
--- as `HasTaken`, but for rows that the first step has no use for
+-- a run took in the rows of the first of the blocks that are left, as `HasTaken`, but for rows that the first step has no use for
 pub record HasTakenIn (old new : Run) (rows : List (List CellValue)) : Type 0 where
   pub same : IsSameRun old new
+  pub left_are : new.left.items ≡ drop 1 old.left.items
+  pub looks_on : LooksOn old new rows
   pub passed : option_map (useful (steps_of old)) (rows_so_far new)
       ≡ option_map (useful (steps_of old)) (both (λ xs ys. xs ++ ys) (rows_so_far old) (option_map (selected_rows (places_of old)) (passing_all (conditions_of old) rows)))

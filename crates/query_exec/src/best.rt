@@ -11,24 +11,12 @@ ghost use Rattle.query_exec.specs.Useful.{are_plain};
 use crate::run::Run;
 use crate::underway::all_numbers;
 use odata_query::OrderBy;
-use query_plan::{Node, plain_column};
+use query_plan::{Node, are_plain};
 use row_columns::Columns;
 use row_eval::EvalFault;
 use row_order::{best_in_pieces, best_numbers};
 use std::alloc::{AllocError, Global};
 use table_store::Block;
-
-/// Whether each item is a column alone.
-fn are_plain(items: &[OrderBy]) -> bool
-    ensures { result ≡ are_plain (map order_view items.now) }
-{
-    for item in items {
-        if plain_column(&item.expression).is_none() {
-            return false;
-        }
-    }
-    true
-}
 
 /// The first so many rows in the order of items, each of which is a column alone.
 fn best_rows(
@@ -74,6 +62,7 @@ impl Run {
     {
         self.take_block(alloc, block)?;
         self.cut(alloc)?;
+        let _number = self.left.pop_front();
         Ok(())
     }
 }

@@ -2,6 +2,7 @@
 //! table: it is handed the blocks that it names, one at a time, and then gives the plan's meaning on the rows of that table.
 #![tactic(auto)]
 
+mod admitted;
 mod best;
 mod block_texts;
 mod fault;

@@ -5,7 +5,7 @@ ghost use Rattle.cell_types.specs.Column.{column_view};
 ghost use Rattle.odata_query.specs.Query.{optional_numbers};
 ghost use Rattle.odata_types.specs.TypedTree.{boxed_truth};
 ghost use Rattle.query_plan.specs.Meaning.{selected_names};
-ghost use Rattle.query_plan.specs.Plan.{node_view, select_nodes};
+ghost use Rattle.query_plan.specs.Plan.{leading, node_view, select_nodes};
 ghost use Rattle.row_columns.specs.Kinds.{kinds_of};
 ghost use Rattle.query_exec.specs.Conditions.{condition_nodes};
 ghost use Rattle.query_exec.specs.Picked.{selected_kinds};
@@ -29,19 +29,25 @@ pub(crate) struct Parts {
 }
 
 /// The parts of the plan of these steps.
+#[tactic(auto, using(crate::proofs::PartsLemmas::leading_are))]
 pub(crate) fn split(alloc: Global, nodes: Vec<Node>) -> Result<Parts, AllocError>
-    ensures { IfOk result (λ parts. map node_view nodes.items
+    ensures parts { IfOk result (λ parts. map node_view nodes.items
         ≡ condition_nodes (map boxed_truth parts.conditions.items)
         ++ select_nodes (optional_numbers parts.places) ++ map node_view parts.steps.items) }
+    ensures conditions { IfOk result (λ parts. leading (map node_view nodes.items)
+        ≡ map boxed_truth parts.conditions.items) }
 {
     let mut conditions = Vec::new(alloc);
     let mut places = None;
     let mut steps = Vec::new(alloc);
     for node in nodes {
-        let is_first = places.is_none() && steps.is_empty();
+        if places.is_some() || !steps.is_empty() {
+            steps.push(node)?;
+            continue;
+        }
         match node {
-            Node::Filter(condition) if is_first => conditions.push(condition)?,
-            Node::Project(picked) if is_first => places = Some(picked),
+            Node::Filter(condition) => conditions.push(condition)?,
+            Node::Project(picked) => places = Some(picked),
             node => steps.push(node)?,
         }
     }

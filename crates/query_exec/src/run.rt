@@ -1,5 +1,5 @@
 //! A run of a plan on a table that it is handed block by block.
-ghost use Rattle.std.specs.Prelude.{◌≡◌, ◌↔◌, ◌≤◌, ℕ, None, Ok, IfOk, IfErr, OnErr, IsErrOf};
+ghost use Rattle.std.specs.Prelude.{◌≡◌, ◌↔◌, ℕ, None, Ok, IfOk, IfErr, OnErr, IsErrOf};
 ghost use Rattle.csvw_meta.specs.Schema.{schema_view};
 ghost use Rattle.table_store.specs.Fits.{HasTableRows};
 ghost use Rattle.table_store.specs.Summaries.{AreSummariesOf};
@@ -9,21 +9,23 @@ ghost use Rattle.query_plan.specs.Plan.{plan_view, PlanOf};
 ghost use Rattle.query_exec.specs.Rows.{RowsOf};
 ghost use Rattle.query_exec.specs.declared.fault.ExecFault.TheVariants.{NoMemory, Failed};
 ghost use Rattle.query_exec.specs.declared.run.Step.TheVariants.{Done};
-ghost use Rattle.query_exec.specs.Run.{handed_block, next_block, AdvancesTo, Gives, GoesOn, HasFailed, IsAwaited, IsDone, IsReady, MayBeHanded, StandsFor, StepsTo};
+ghost use Rattle.query_exec.specs.Run.{handed_block, next_block, AdvancesTo, Gives, GoesOn, HasFailed, IsAwaited, IsDone, IsReady, MayBeHanded, StandsFor, StepsTo, wanted_block};
 
+use crate::admitted::admitted;
 use crate::fault::ExecFault;
 use crate::lanes::Lanes;
 use crate::parts::{Parts, kept_columns, kept_names, split};
 use crate::rows::Rows;
 use crate::steps::apply_all;
 use crate::underway::Underway;
-use block_summary::Summary;
+use block_summary::{Summary, one_range};
 use csvw_meta::Schema;
 use odata_types::TruthExpr;
-use query_plan::{Node, Plan, nodes_in_turn, true_rows_pass};
+use query_plan::{Node, Plan, nodes_in_turn, scans_read_table_rows, true_rows_pass};
 use row_columns::Columns;
 use row_order::best_in_pieces;
 use std::alloc::{AllocError, Global};
+use std::collections::VecDeque;
 use std::mem;
 use table_store::Block;
 
@@ -51,10 +53,10 @@ pub struct Run {
     pub(crate) places: Option<Vec<usize>>,
     /// The steps behind them, which go over the rows of all blocks together.
     pub(crate) steps: Vec<Node>,
-    /// How many blocks the table has.
-    blocks: usize,
-    /// How many of them were handed in.
-    handed: usize,
+    /// The numbers of the blocks that are admitted and were not handed in.
+    pub(crate) left: VecDeque<usize>,
+    /// How many rows that pass the conditions the stop still looks for, where there is one.
+    pub(crate) room: Option<u64>,
     /// The names of the columns whose values are kept.
     names: Vec<String>,
     /// The columns of a block that a condition names.
@@ -67,13 +69,23 @@ pub struct Run {
 }
 
 impl Run {
-    /// What the steps make of the rows that passed the conditions, once every block was handed in. A division by zero, of a condition too, is
-    /// told here.
+    /// The number of the next block that is needed, where there is one.
+    fn wanted(&self) -> Option<usize>
+        ensures { result ≡ wanted_block self.now }
+    {
+        match self.room {
+            Some(0) => None,
+            Some(_) | None => self.left.front().copied(),
+        }
+    }
+
+    /// What the steps make of the rows that passed the conditions, once every block that is needed was handed in. A division by zero, of a
+    /// condition too, is told here.
     fn go_on(&mut self, alloc: Global) -> Result<Option<Rows>, ExecFault>
-        requires { self.old.blocks ≤ self.old.handed → IsReady self.old }
+        requires { wanted_block self.old ≡ None → IsReady self.old }
         ensures { GoesOn self.old self.new result }
     {
-        if self.handed < self.blocks {
+        if self.wanted().is_some() {
             return Ok(None);
         }
         if self.faulted {
@@ -90,16 +102,16 @@ impl Run {
     fn step(&mut self, alloc: Global, block: Option<Block<'_>>) -> Result<Option<Rows>, ExecFault>
         requires { IsAwaited self.old block }
         ensures steps { (plan : PlanOf) (table : TableOf) (handed : ℕ) → StandsFor self.old plan table handed
-            → block.entry ≡ handed_block table handed → StepsTo plan table handed self.new result }
+            → block.entry ≡ handed_block plan table handed → StepsTo plan table handed self.new result }
         ensures not_failed { ¬ (IsErrOf result Failed) }
     {
         true_rows_pass();
         nodes_in_turn();
         best_in_pieces();
+        scans_read_table_rows();
         if let Some(block) = block {
             block.values_fit();
             self.take_in(alloc, &block)?;
-            self.handed += 1;
         }
         self.go_on(alloc)
     }
@@ -118,11 +130,14 @@ impl Run {
         ensures refused { IfErr result (λ fault. fault ≡ NoMemory) }
     {
         nodes_in_turn();
+        one_range();
+        let Plan { scan, nodes } = plan;
+        let left = admitted(alloc, summaries, &scan.tests)?;
         let Parts {
             conditions,
             places,
             steps,
-        } = split(alloc, plan.nodes)?;
+        } = split(alloc, nodes)?;
         let names = kept_names(alloc, schema.columns.as_slice(), &places)?;
         let lanes = Lanes::new(alloc, schema.columns.len())?;
         let kept = kept_columns(alloc, schema.columns.as_slice(), &places)?;
@@ -130,8 +145,8 @@ impl Run {
             conditions,
             places,
             steps,
-            blocks: summaries.len(),
-            handed: 0,
+            left,
+            room: scan.stop,
             names,
             lanes,
             kept,
@@ -143,13 +158,13 @@ impl Run {
     /// The number of the block that is needed next: none where none is needed, and none once the run is done or was refused.
     pub fn next(&self) -> Option<usize>
         ensures needed { (plan : PlanOf) (table : TableOf) (handed : ℕ) → StandsFor self.now plan table handed
-            → result ≡ next_block table handed }
+            → result ≡ next_block plan table handed }
         ensures done { IsDone self.now → result ≡ None }
         ensures failed { HasFailed self.now → result ≡ None }
     {
         match &self.stage {
-            Stage::Reading if self.handed < self.blocks => Some(self.handed),
-            Stage::Reading | Stage::Ended(_) | Stage::Refused => None,
+            Stage::Reading => self.wanted(),
+            Stage::Ended(_) | Stage::Refused => None,
         }
     }
 
@@ -158,7 +173,7 @@ impl Run {
     pub fn advance(&mut self, alloc: Global, block: Option<Block<'_>>) -> Result<Step, ExecFault>
         requires { MayBeHanded self.old block }
         ensures advances { (plan : PlanOf) (table : TableOf) (handed : ℕ) → StandsFor self.old plan table handed
-            → block.entry ≡ handed_block table handed
+            → block.entry ≡ handed_block plan table handed
             → AdvancesTo plan table handed self.new result }
         ensures done { (rows : RowsOf) → Gives self.old rows → (result ≡ Ok Done)
             × Gives self.new rows }

@@ -15,6 +15,7 @@ use row_eval::EvalFault;
 use row_groups::{aggregated, grouped};
 use row_order::{best_numbers, passing_numbers, piece, sorted_numbers};
 use std::alloc::{AllocError, Global};
+use std::mem;
 
 /// The values of some columns.
 pub(crate) fn project(
@@ -100,19 +101,10 @@ fn sort(alloc: Global, underway: Underway, items: &[OrderBy]) -> Result<Underway
     ensures { GivesUnderway (node_result (sorting (map order_view items.now))
         (underway_view underway)) result }
 {
-    let Underway {
-        names,
-        columns,
-        numbers,
-        count,
-    } = underway;
-    let numbers = sorted_numbers(alloc, &columns, numbers, items)?;
-    Ok(Underway {
-        names,
-        columns,
-        numbers,
-        count,
-    })
+    let mut underway = underway;
+    let numbers = mem::replace(&mut underway.numbers, Vec::new(alloc));
+    underway.numbers = sorted_numbers(alloc, &underway.columns, numbers, items)?;
+    Ok(underway)
 }
 
 /// The first so many rows in the order of items.
@@ -127,19 +119,10 @@ fn choose(
     ensures { GivesUnderway (node_result (choosing (map order_view items.now) most)
         (underway_view underway)) result }
 {
-    let Underway {
-        names,
-        columns,
-        numbers,
-        count,
-    } = underway;
-    let numbers = best_numbers(alloc, &columns, numbers, items, most)?;
-    Ok(Underway {
-        names,
-        columns,
-        numbers,
-        count,
-    })
+    let mut underway = underway;
+    let numbers = mem::replace(&mut underway.numbers, Vec::new(alloc));
+    underway.numbers = best_numbers(alloc, &underway.columns, numbers, items, most)?;
+    Ok(underway)
 }
 
 /// What a step makes of a result.

@@ -1,7 +1,6 @@
 //! How a run takes in the rows of a block.
 ghost use Rattle.std.specs.Prelude.{◌≡◌, ◌<◌, ◌∷◌, [], IfOk, OnOk, length, map};
 ghost use Rattle.std.specs.List.{All};
-ghost use Rattle.odata_query.specs.Query.{optional_numbers};
 ghost use Rattle.odata_types.specs.TypedTree.{boxed_truth, truth_view};
 ghost use Rattle.row_eval.specs.Bounds.{TruthFits};
 ghost use Rattle.row_eval.specs.Row.{row_view};
@@ -10,7 +9,7 @@ ghost use Rattle.query_plan.specs.Filter.{passing};
 ghost use Rattle.query_exec.specs.Conditions.{passing_all, ConditionsFit};
 ghost use Rattle.query_exec.specs.Picked.{selected_rows};
 ghost use Rattle.query_exec.specs.Run.{conditions_of, places_of};
-ghost use Rattle.query_exec.specs.Taking.{fate_rows, ArePassing, HasKept, HasTaken, MayTake};
+ghost use Rattle.query_exec.specs.Taking.{fate_rows, room_behind, ArePassing, HasKept, HasTaken, MayTake};
 
 use crate::lanes::Lanes;
 use crate::passing::passing_rows;
@@ -66,19 +65,29 @@ fn fate_of(
     Ok(Fate::Kept)
 }
 
-/// The numbers of the rows of a block that pass conditions, found one row after another; none where a condition divides by zero on a row.
+/// What conditions make of the rows of a block.
+#[derive(Drop)]
+struct Passed {
+    /// The numbers of the rows on which all of them are true.
+    numbers: Vec<usize>,
+    /// Whether one of them, in turn, divides by zero on a row.
+    faulted: bool,
+}
+
+/// What conditions make of the rows of a block, one row after another.
 fn passing_in_turn(
     alloc: Global,
     conditions: &[Box<TruthExpr>],
     block: &Block<'_>,
-) -> Result<Option<Vec<usize>>, AllocError>
+) -> Result<Passed, AllocError>
     requires { All (ConditionsFit (map boxed_truth conditions.now)) block.now.rows }
     ensures { IfOk result (λ found. ArePassing (map boxed_truth conditions.now) block.now.rows
-        (optional_numbers found)) }
+        found.numbers.items found.faulted) }
 {
     true_rows_pass();
     let mut rows = block.cursor();
     let mut numbers = Vec::new(alloc);
+    let mut faulted = false;
     for number in 0..block.rows() {
         let Some(values) = rows.next_row(alloc)? else {
             unreachable!();
@@ -86,30 +95,46 @@ fn passing_in_turn(
         match fate_of(alloc, conditions, &values)? {
             Fate::Kept => numbers.push(number)?,
             Fate::Dropped => {}
-            Fate::Faulted => return Ok(None),
+            Fate::Faulted => faulted = true,
         }
     }
-    Ok(Some(numbers))
+    Ok(Passed { numbers, faulted })
 }
 
-/// The numbers of the rows of a block that pass conditions; none where a condition divides by zero on a row. They are found a column at a
-/// time where that goes, and else one row after another.
+/// What conditions make of the rows of a block: a column at a time where that goes, and else one row after another.
 fn wanted_rows(
     alloc: Global,
     conditions: &[Box<TruthExpr>],
     block: &Block<'_>,
     lanes: &mut Lanes,
-) -> Result<Option<Vec<usize>>, AllocError>
+) -> Result<Passed, AllocError>
     requires { All (ConditionsFit (map boxed_truth conditions.now)) block.now.rows }
     ensures { IfOk result (λ found. ArePassing (map boxed_truth conditions.now) block.now.rows
-        (optional_numbers found)) }
+        found.numbers.items found.faulted) }
 {
+    true_rows_pass();
     if conditions.is_empty() {
-        return Ok(Some(all_numbers(alloc, block.rows())?));
+        return Ok(Passed {
+            numbers: all_numbers(alloc, block.rows())?,
+            faulted: false,
+        });
     }
     match passing_rows(alloc, conditions, block, lanes) {
-        Ok(numbers) => Ok(Some(numbers)),
+        Ok(numbers) => Ok(Passed {
+            numbers,
+            faulted: false,
+        }),
         Err(_) => passing_in_turn(alloc, conditions, block),
+    }
+}
+
+/// How many rows a stop looks for behind so many that passed.
+fn room_behind(room: Option<u64>, passed: usize) -> Option<u64>
+    ensures { result ≡ room_behind room passed }
+{
+    match room {
+        Some(room) => Some(room.saturating_sub(passed as u64)),
+        None => None,
     }
 }
 
@@ -138,13 +163,15 @@ impl Run {
         requires fits { All (ConditionsFit (conditions_of self.old)) block.now.rows }
         ensures { OnOk result (HasTaken self.old self.new block.now.rows) }
     {
+        if self.faulted && self.room.is_none() {
+            return Ok(());
+        }
+        let found = wanted_rows(alloc, &self.conditions, block, &mut self.lanes)?;
+        self.room = room_behind(self.room, found.numbers.len());
+        self.faulted = self.faulted | found.faulted;
         if self.faulted {
             return Ok(());
         }
-        match wanted_rows(alloc, &self.conditions, block, &mut self.lanes)? {
-            Some(numbers) => self.keep(alloc, block, &numbers)?,
-            None => self.faulted = true,
-        }
-        Ok(())
+        self.keep(alloc, block, &found.numbers)
     }
 }

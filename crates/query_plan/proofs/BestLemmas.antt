@@ -14,7 +14,7 @@ use Rattle.query_plan.proofs.MeaningLemmas.{under}
 few_first : (skip top : ℕ) (rows : List (List CellValue)) → take top (drop skip (take (skip + top) rows)) ≡ take top (drop skip rows)
 few_first skip top rows = ap (take top) (drop-take skip top rows) ∙ take-take top top (drop skip rows) (omega arith)
 
-when_some : (b : Bool) (n most : ℕ) → cond b (Some n) None ≡ Some most → n ≡ most
+pub when_some : (b : Bool) (n most : ℕ) → cond b (Some n) None ≡ Some most → n ≡ most
 when_some true n most e = cc
 when_some false n most e = absurd (cc)
 

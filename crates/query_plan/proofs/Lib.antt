@@ -1,4 +1,5 @@
 pub mod FilterLemmas
+pub mod ScanLemmas
 pub mod PlanLemmas
 pub mod MeaningLemmas
 pub mod SortLemmas
@@ -12,6 +13,16 @@ pub mod BestLemmas
 pub mod RenumberLemmas
 pub mod NarrowLemmas
 pub mod NarrowFitLemmas
+pub mod RewriteLemmas
+pub mod PushLemmas
+pub mod StopLemmas
+pub mod SplitFitLemmas
+pub mod TestLemmas
+pub mod TestedLemmas
+pub mod TypedLemmas
+pub mod TypedQueryLemmas
+pub mod PushedLemmas
+pub mod NeededLemmas
 pub mod PlainLemmas
 pub mod StepLemmas
 pub mod QueryLemmas

@@ -15,10 +15,12 @@ use Rattle.query_plan.specs.Apply.{applied, applied_names, transformed, transfor
 use Rattle.query_plan.specs.Filter.{passing}
 use Rattle.query_plan.specs.Meaning.{ResultOf, asked_count, first_rows, keyed_meaning, kept_rows, number, piece, result, rows_meaning, selected_names, selected_values, table_names}
 use Rattle.query_plan.specs.Order.{Item, order_faults, ordered, placed, rows_cmp, sorted}
-use Rattle.query_plan.specs.Plan.{Means, NodeOf, answer_of, apply_nodes, asked_slice, count_nodes, filter_nodes, naive_plan, node_result, nodes_result, order_nodes, piece_nodes, select_nodes, slice_nodes, table_result, transformation_node}
+use Rattle.query_plan.specs.Plan.{Means, NodeOf, PlanOf, answer_of, apply_nodes, asked_slice, count_nodes, filter_nodes, naive_plan, node_result, nodes_result, order_nodes, leading, piece_nodes, select_nodes, slice_nodes, table_result, transformation_node}
 use Rattle.query_plan.specs.Query.{filtered}
+use Rattle.query_plan.specs.Scan.{ScanOf}
 use Rattle.query_plan.proofs.FilterLemmas.{some_if}
 use Rattle.query_plan.proofs.PlanLemmas.{turn}
+use Rattle.query_plan.proofs.ScanLemmas.{bare_rows}
 
 -- rows under names, with a count
 abbrev pub under : List (List ℕ) → Option ℕ → List (List CellValue) → ResultOf
@@ -180,4 +182,10 @@ module _ (schema : SchemaOf) (q : TypedOf) (rows : List (List CellValue)) where
       ∙ answers_after b
 
 pub means : (q : TypedOf) → q.key ≡ None → Means (naive_plan q) q
-means q e schema rows = answers schema q rows q.counting ∙ ap (λ (key : Option (List CellValue)). keyed_meaning key schema q rows) (sym e)
+means q e schema rows =
+    ap (λ (read : List (List CellValue)). option_map (answer_of q.counting) (nodes_result (naive_plan q).nodes (table_result schema read))) (bare_rows (leading (naive_plan q).nodes) rows)
+    ∙ answers schema q rows q.counting ∙ ap (λ (key : Option (List CellValue)). keyed_meaning key schema q rows) (sym e)
+
+-- a plan is its scan and its steps
+pub plan_is : (scan : ScanOf) (nodes : List NodeOf) (plan : PlanOf) → scan ≡ plan.scan → nodes ≡ plan.nodes → record { scan = scan; nodes = nodes } ≡ plan
+plan_is scan nodes plan e f = ap (λ (s : ScanOf). record { scan = s; nodes = nodes }) e ∙ ap (λ (ns : List NodeOf). record plan { nodes = ns }) f

@@ -1,7 +1,8 @@
 -- What holds of filters, orders, groups and plans.
-use Rattle.std.specs.Prelude.{Ok, ◌≡◌, ℕ, ◌↔◌, ◌++◌, List, [], ◌∷◌, Some, None, option_and_then}
-use Rattle.std.specs.List.{Any, Contains, IsDistinct}
+use Rattle.std.specs.Prelude.{Ok, ◌≡◌, ℕ, ◌^◌, ◌<◌, ◌≤◌, ◌↔◌, ◌++◌, true, false, filter, List, [], ◌∷◌, Some, None, length, option_and_then}
+use Rattle.std.specs.List.{All, Any, Contains, IsDistinct}
 use Rattle.std.specs.List.Sorted.{IsPermutation, IsSorted, IsStable}
+use Rattle.block_summary.specs.Blocks.{block_count}
 use Rattle.cell_types.specs.Value.{CellValue}
 use Rattle.csvw_meta.specs.Schema.{SchemaOf}
 use Rattle.odata_parse.specs.Tree.{TransformationOf}
@@ -11,14 +12,20 @@ use Rattle.row_eval.specs.declared.truth.Truth.TheVariants.{True}
 use Rattle.odata_query.specs.Aggregate.{TypedTransformationOf}
 use Rattle.odata_query.specs.Query.{TypedOf}
 use Rattle.odata_query.specs.Apply.{apply_typing}
-use Rattle.row_eval.specs.Input.{IsInput}
+use Rattle.odata_types.specs.Schema.{inputs_of}
+use Rattle.row_eval.specs.Input.{IsInput, IsTableRow}
 use Rattle.row_eval.specs.Outcome.{both, outcome, truth_outcome}
 use Rattle.query_plan.specs.Apply.{applied, group_values, rows_of_group, same_values, values_at}
 use Rattle.query_plan.specs.Filter.{passing}
 use Rattle.query_plan.specs.Order.{Item, ordered, rows_cmp, sorted}
-use Rattle.query_plan.specs.Fitting.{AreRowsOf, IsFitFor, IsTypedFor, NodesFit}
+use Rattle.query_plan.specs.Fitting.{AreRowsOf, AreTableRows, IsFitFor, IsTypedFor, NodesFit}
 use Rattle.query_plan.specs.Meaning.{ResultOf}
-use Rattle.query_plan.specs.Plan.{NodeOf, naive_plan, nodes_result}
+use Rattle.query_plan.specs.Needed.{needed_blocks}
+use Rattle.query_plan.specs.Plan.{NodeOf, PlanOf, naive_plan, needed, nodes_result}
+use Rattle.query_plan.specs.Push.{rewritten}
+use Rattle.query_plan.specs.Scan.{ScanOf, TestOf, admits_all, bare, block_numbers, passes_test, passes_tests, read_blocks, rows_of_blocks}
+use Rattle.query_plan.specs.Tests.{test_of}
+use Rattle.query_plan.specs.Types.{IsTruthOver, IsTypedPlan}
 
 -- A filter has no rows to give just where it divides by zero on some row. Else a row is kept just where it is one of the rows and its outcome is
 -- true. What is kept of rows and of rows behind them is what is kept of the first, and then what is kept of the others: so the rows that are
@@ -29,6 +36,29 @@ pub record TrueRowsPass : Type 0 where
       → Contains kept row ↔ (Contains rows row × (truth_outcome e row ≡ Some True))
   pub one : (e : TruthExprOf) (row : List CellValue) → truth_outcome e row ≡ Some True → passing e (row ∷ []) ≡ Some (row ∷ [])
   pub parts : (e : TruthExprOf) (front back : List (List CellValue)) → passing e (front ++ back) ≡ both (λ xs ys. xs ++ ys) (passing e front) (passing e back)
+
+-- A bare scan reads the blocks of all numbers, whose rows are all rows.
+pub record BareScansReadAll : Type 0 where
+  pub blocks : (conditions : List TruthExprOf) (rows : List (List CellValue)) → read_blocks bare conditions rows ≡ block_numbers rows
+  pub rows : (rows : List (List CellValue)) → rows_of_blocks rows (block_numbers rows) ≡ rows
+
+-- What a scan reads of the rows of a table are rows of a table.
+abbrev pub ScansReadTableRows : Type 0
+ScansReadTableRows = (schema : SchemaOf) (scan : ScanOf) (conditions : List TruthExprOf) (rows : List (List CellValue)) → AreTableRows schema rows
+    → AreTableRows schema (rows_of_blocks rows (read_blocks scan conditions rows))
+
+-- Rows whose summary does not admit all tests have none that passes them all.
+abbrev pub UnadmittedBlocksPassNone : Type 0
+UnadmittedBlocksPassNone = (tests : List TestOf) (rows : List (List CellValue)) → admits_all tests rows ≡ false → filter (passes_tests tests) rows ≡ []
+
+-- A row of a table on which a condition is true passes the test that the condition is, where it compares a column as what that is.
+abbrev pub TestsArePassed : Type 0
+TestsArePassed = (schema : SchemaOf) (row : List CellValue) (e : TruthExprOf) (t : TestOf) → IsTableRow schema.columns row → IsTruthOver (inputs_of schema) e
+    → test_of e ≡ Some t → truth_outcome e row ≡ Some True → passes_test row t ≡ true
+
+-- The filters that the plan of a query begins with do so, where the query was typed for the table.
+abbrev pub QueriesAreTyped : Type 0
+QueriesAreTyped = (schema : SchemaOf) (q : TypedOf) → IsTypedFor schema q → IsTypedPlan schema (naive_plan q)
 
 -- Steps above others are given what those below give, and none below is none above. Steps fit where those below do, and those above on what is given them.
 pub record NodesInTurn : Type 0 where
@@ -69,3 +99,12 @@ ResultsAreRows = (inputs outputs : List InputOf) (ts : List TransformationOf) (m
 -- A query that was typed for a table has a plan of which each step fits the rows that come to it.
 abbrev pub QueriesFit : Type 0
 QueriesFit = (schema : SchemaOf) (q : TypedOf) → IsTypedFor schema q → IsFitFor schema (naive_plan q)
+
+-- Of a table of fewer than 2 to the 64 rows the plan of a query, rewritten, needs the blocks that the query needs.
+abbrev pub NeededBlocksAreRead : Type 0
+NeededBlocksAreRead = (q : TypedOf) (rows : List (List CellValue)) → length rows < 2 ^ 64 → needed (rewritten (naive_plan q)) rows ≡ needed_blocks q rows
+
+-- What a plan needs are blocks of the table, and no more than it has.
+pub record PlansNeedBlocks : Type 0 where
+  pub each : (plan : PlanOf) (rows : List (List CellValue)) → All (λ number. number < block_count (length rows)) (needed plan rows)
+  pub few : (plan : PlanOf) (rows : List (List CellValue)) → length (needed plan rows) ≤ block_count (length rows)

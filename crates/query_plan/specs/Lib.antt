@@ -8,9 +8,14 @@ pub mod Query
 pub mod Order
 pub mod Apply
 pub mod Meaning
+pub mod Scan
 pub mod Plan
 pub mod Fitting
 pub mod Narrow
 pub mod Rewrite
+pub mod Tests
+pub mod Push
+pub mod Types
+pub mod Needed
 pub mod Worked
 pub mod Laws

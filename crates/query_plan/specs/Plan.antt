@@ -14,6 +14,7 @@ use Rattle.query_plan.specs.Apply.{computed_values, group_values, names_at, rows
 use Rattle.query_plan.specs.Filter.{passing}
 use Rattle.query_plan.specs.Meaning.{MeaningOf, ResultOf, first_rows, number, query_meaning, result, table_names}
 use Rattle.query_plan.specs.Order.{Item, ordered}
+use Rattle.query_plan.specs.Scan.{ScanOf, bare, read_blocks, rows_of_blocks, scan_view}
 
 -- a piece of the rows, and whether the number of all of them is the count
 pub record SliceOf : Type 0 where
@@ -43,12 +44,13 @@ node_view (node.Best items most) = choosing (map order_view items.items) most
 node_view (node.Slice s) = slicing (slice_view s)
 node_view (node.Project places) = projecting places.items
 
--- the steps on the rows of a table, in turn
+-- what is read of a table, and the steps on its rows, in turn
 pub record PlanOf : Type 0 where
+  pub scan : ScanOf
   pub nodes : List NodeOf
 
 abbrev pub plan_view : Plan → PlanOf
-plan_view plan = record { nodes = map node_view plan.nodes.items }
+plan_view plan = record { scan = scan_view plan.scan; nodes = map node_view plan.nodes.items }
 
 -- ---- what a step makes of a result
 
@@ -89,8 +91,18 @@ nodes_result (n ∷ ns) r = option_and_then (nodes_result ns) (node_result n r)
 abbrev pub table_result : SchemaOf → List (List CellValue) → ResultOf
 table_result schema rows = record { names = table_names schema; rows = rows; count = None }
 
+-- the conditions of the filters that the steps begin with
+abbrev pub leading : List NodeOf → List TruthExprOf
+leading (filtering e ∷ nodes) = e ∷ leading nodes
+leading _ = []
+
+-- the blocks that a plan reads of a table, in order: those that its tests admit, up to its stop
+abbrev pub needed : PlanOf → List (List CellValue) → List ℕ
+needed plan rows = read_blocks plan.scan (leading plan.nodes) rows
+
+-- the steps on the rows of these
 abbrev pub plan_result : SchemaOf → PlanOf → List (List CellValue) → Option ResultOf
-plan_result schema plan rows = nodes_result plan.nodes (table_result schema rows)
+plan_result schema plan rows = nodes_result plan.nodes (table_result schema (rows_of_blocks rows (needed plan rows)))
 
 -- ---- the steps of a query, in its own order
 
@@ -131,6 +143,7 @@ count_nodes = projecting [] ∷ slicing (record { skip = 0; top = Some 0; counts
 
 abbrev pub naive_plan : TypedOf → PlanOf
 naive_plan q = record {
+  scan = bare;
   nodes =
       apply_nodes q.apply
       ++ filter_nodes q.filter

@@ -34,5 +34,5 @@ best_nodes (n ∷ m ∷ ns) = chosen n (rows_needed m) ∷ best_nodes (m ∷ ns)
 -- ---- the whole
 
 -- few rows of a sort, and few columns
-abbrev pub IsRewritten : PlanOf → PlanOf → Type 0
-IsRewritten p q = q.nodes ≡ narrowed_nodes (best_nodes p.nodes)
+abbrev pub narrowed_plan : PlanOf → PlanOf
+narrowed_plan p = record p { nodes = narrowed_nodes (best_nodes p.nodes) }

@@ -1,6 +1,6 @@
 //! The laws of filters and plans: each function is a theorem, and does nothing.
 
-ghost use Rattle.query_plan.specs.Laws.{NodesInTurn, QueriesFit, ResultsAreInputs, ResultsAreRows, RowsAreInGroups, RowsAreInOrder, TrueRowsPass};
+ghost use Rattle.query_plan.specs.Laws.{BareScansReadAll, NeededBlocksAreRead, NodesInTurn, PlansNeedBlocks, QueriesAreTyped, QueriesFit, ResultsAreInputs, ResultsAreRows, RowsAreInGroups, RowsAreInOrder, ScansReadTableRows, TestsArePassed, TrueRowsPass, UnadmittedBlocksPassNone};
 ghost use Rattle.query_plan.specs.Worked.{WorkedQueries};
 
 use row_eval::{bounds_hold, tables_are_inputs};
@@ -9,6 +9,46 @@ use row_eval::{bounds_hold, tables_are_inputs};
 /// one of the whole.
 pub fn true_rows_pass()
     ensures { TrueRowsPass }
+{}
+
+/// A bare scan reads every block, and gives all rows.
+pub fn bare_scans_read_all()
+    ensures { BareScansReadAll }
+{}
+
+/// A scan of the rows of a table gives rows of that table.
+pub fn scans_read_table_rows()
+    ensures { ScansReadTableRows }
+{}
+
+/// A block that is not admitted has no row that passes the tests.
+pub fn unadmitted_blocks_pass_none()
+    ensures { UnadmittedBlocksPassNone }
+{
+    block_summary::one_range();
+    block_summary::skips_nothing();
+}
+
+/// A row of a table on which a condition is true passes the test that the condition is.
+pub fn tests_are_passed()
+    ensures { TestsArePassed }
+{
+    tables_are_inputs();
+}
+
+/// The conditions of a query that was typed for a table compare its columns as what they are.
+pub fn queries_are_typed()
+    ensures { QueriesAreTyped }
+{}
+
+/// The plan of a query, rewritten, needs the blocks that the query needs.
+pub fn needed_blocks_are_read()
+    ensures { NeededBlocksAreRead }
+{}
+
+/// What a plan needs are blocks of the table, and no more than it has.
+pub fn plans_need_blocks()
+    ensures { PlansNeedBlocks }
 {}
 
 /// Each step of a plan is given what those before it give, and a division by zero below is one above; steps fit in turn.

@@ -5,13 +5,19 @@
 mod law;
 mod narrow;
 mod plan;
+mod push;
 mod renumber;
 mod rewrites;
+mod scan;
+mod test;
 
 pub use law::{
-    nodes_in_turn, queries_fit, results_are_inputs, results_are_rows, rows_are_in_groups,
-    rows_are_in_order, true_rows_pass, worked_queries,
+    bare_scans_read_all, needed_blocks_are_read, nodes_in_turn, plans_need_blocks,
+    queries_are_typed, queries_fit, results_are_inputs, results_are_rows, rows_are_in_groups,
+    rows_are_in_order, scans_read_table_rows, tests_are_passed, true_rows_pass,
+    unadmitted_blocks_pass_none, worked_queries,
 };
-pub use narrow::plain_column;
+pub use narrow::{are_plain, plain_column};
 pub use plan::{Node, Plan, Slice, naive};
 pub use rewrites::rewrite;
+pub use scan::{ColumnTest, Scan};

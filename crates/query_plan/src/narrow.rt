@@ -73,7 +73,7 @@ fn push_aggregate_columns(
 }
 
 /// Whether each item is a column alone.
-fn are_plain(items: &[OrderBy]) -> bool
+pub fn are_plain(items: &[OrderBy]) -> bool
     ensures { result ≡ list_all (λ item. is_some (plain_column item.0))
         (map order_view items.now) }
 {

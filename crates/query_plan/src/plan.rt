@@ -5,9 +5,11 @@ ghost use Rattle.odata_types.specs.TypedTree.{boxed_truth};
 ghost use Rattle.odata_query.specs.Aggregate.{transformation_view, transformations_view};
 ghost use Rattle.odata_query.specs.Query.{optional_numbers, order_view, query_typed_view};
 ghost use Rattle.query_plan.specs.Fitting.{IsFitFor, IsTypedFor};
+ghost use Rattle.query_plan.specs.Types.{IsTypedPlan};
 ghost use Rattle.query_plan.specs.Plan.{apply_nodes, filter_nodes, naive_plan, node_view, order_nodes, plan_view, select_nodes, slice_nodes, slice_view, transformation_node, Adds, Means};
 
-use crate::law::queries_fit;
+use crate::law::{queries_are_typed, queries_fit};
+use crate::scan::Scan;
 use odata_query::{NamedAggregate, OrderBy, Typed, TypedTransformation};
 use odata_types::TruthExpr;
 use std::alloc::{AllocError, Global};
@@ -42,7 +44,9 @@ pub enum Node {
 /// What is done to the rows of a table.
 #[derive(Drop)]
 pub struct Plan {
-    /// The steps, in turn.
+    /// What is read of the table.
+    pub scan: Scan,
+    /// The steps on the rows that are read, in turn.
     pub nodes: Vec<Node>,
 }
 
@@ -150,15 +154,21 @@ fn steps_of(alloc: Global, query: Typed) -> Result<Vec<Node>, AllocError>
     Ok(nodes)
 }
 
-/// The plan that does what a query says, in the query's own order. A query for a key needs none.
+/// The plan that reads every block and does what a query says, in the query's own order. A query for a key needs none.
 pub fn naive(alloc: Global, query: Typed) -> Result<Plan, AllocError>
     requires { (query_typed_view query).key ≡ None }
     ensures plan { IfOk result (λ plan. plan_view plan ≡ naive_plan (query_typed_view query)) }
     ensures means { IfOk result (λ plan. Means (plan_view plan) (query_typed_view query)) }
     ensures fits { IfOk result (λ plan. (schema : SchemaOf)
         → IsTypedFor schema (query_typed_view query) → IsFitFor schema (plan_view plan)) }
+    ensures typed { IfOk result (λ plan. (schema : SchemaOf)
+        → IsTypedFor schema (query_typed_view query) → IsTypedPlan schema (plan_view plan)) }
 {
     queries_fit();
+    queries_are_typed();
     let nodes = steps_of(alloc, query)?;
-    Ok(Plan { nodes })
+    Ok(Plan {
+        scan: Scan::bare(alloc),
+        nodes,
+    })
 }

@@ -4,10 +4,15 @@ ghost use Rattle.csvw_meta.specs.Schema.{SchemaOf};
 ghost use Rattle.query_plan.specs.Fitting.{IsFitFor};
 ghost use Rattle.query_plan.specs.Narrow.{leading_filters, narrowed_nodes};
 ghost use Rattle.query_plan.specs.Plan.{node_view, plan_view};
-ghost use Rattle.query_plan.specs.Rewrite.{best_nodes, chosen, rows_needed, IsRewritten, MeansTheSame};
+ghost use Rattle.query_plan.specs.Push.{rewritten};
+ghost use Rattle.query_plan.specs.Types.{IsTypedPlan};
+ghost use Rattle.query_plan.specs.Rewrite.{best_nodes, chosen, rows_needed, MeansTheSame};
 
+use crate::law::unadmitted_blocks_pass_none;
 use crate::plan::{Node, Plan};
+use crate::push::pushed;
 use crate::renumber::narrowed;
+use row_eval::{faults_are_foreseen, tables_are_inputs};
 use std::alloc::{AllocError, Global};
 
 /// Of how many first rows a step has a use: None, where it is of all.
@@ -77,16 +82,21 @@ fn narrowed_nodes(alloc: Global, nodes: Vec<Node>) -> Result<Vec<Node>, AllocErr
     Ok(made)
 }
 
-/// A plan that gives the same result on the rows of any table that the plan fits: of a whole sort only the rows that are asked for, and of the
-/// columns those that are named.
+/// A plan that gives the same result on the rows of any table that the plan was typed for. It reads only the blocks that its first filters ask
+/// for, and keeps of a whole sort only the rows that are asked for, and of the columns those that are named.
 pub fn rewrite(alloc: Global, plan: Plan) -> Result<Plan, AllocError>
-    ensures rewritten { IfOk result (λ made. IsRewritten (plan_view plan) (plan_view made)) }
+    ensures rewritten { IfOk result (λ made. plan_view made ≡ rewritten (plan_view plan)) }
     ensures means { IfOk result (λ made. (schema : SchemaOf)
-        → IsFitFor schema (plan_view plan) → MeansTheSame schema (plan_view plan) (plan_view made)) }
+        → IsTypedPlan schema (plan_view plan) → MeansTheSame schema (plan_view plan) (plan_view made)) }
     ensures fits { IfOk result (λ made. (schema : SchemaOf)
         → IsFitFor schema (plan_view plan) → IsFitFor schema (plan_view made)) }
 {
-    let nodes = with_best_rows(alloc, plan.nodes)?;
+    unadmitted_blocks_pass_none();
+    faults_are_foreseen();
+    tables_are_inputs();
+    let plan = pushed(alloc, plan)?;
+    let Plan { scan, nodes } = plan;
+    let nodes = with_best_rows(alloc, nodes)?;
     let nodes = narrowed_nodes(alloc, nodes)?;
-    Ok(Plan { nodes })
+    Ok(Plan { scan, nodes })
 }

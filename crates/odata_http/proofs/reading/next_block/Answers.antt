@@ -4,7 +4,7 @@ use Rattle.odata_http.proofs.ReadingLemmas.{block_inside}
 use Rattle.odata_http.proofs.reading.next_block.Goals as goal
 
 pub block-requires : goal.block-requires
-block-requires c = block_inside c.args.table.now c.requires.1 c.in-Some.number (c.in-Some.ensures.needed c.requires.0 c.args.table.now c.requires.1 c.requires.2)
+block-requires c = block_inside c.plans_need_blocks.ensures c.requires.0 c.args.table.now c.requires.1 c.in-Some.number (c.in-Some.ensures.needed c.requires.0 c.args.table.now c.requires.1 c.requires.2)
 
 pub returns-in-Some : goal.returns-in-Some
 returns-in-Some c = λ plan handed stands.

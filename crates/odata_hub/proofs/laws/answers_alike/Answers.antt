@@ -1,6 +1,5 @@
 use Rattle.odata_hub.proofs.LawLemmas.{answers_alike}
-use Rattle.odata_hub.proofs.LengthLemmas.{one_length}
 use Rattle.odata_hub.proofs.laws.answers_alike.Goals as goal
 
 pub returns : goal.returns
-returns c = answers_alike c.one_cut.ensures c.one_reply.ensures (one_length c.one_request.ensures)
+returns c = answers_alike c.one_cut.ensures c.one_reply.ensures c.one_length.ensures

@@ -4,7 +4,7 @@ use Rattle.row_eval.specs.Row.{row_view}
 use Rattle.query_exec.specs.Conditions.{ConditionsFit}
 use Rattle.query_exec.proofs.TakingLemmas.{none_found, one_left, row_faults, row_is, row_kept, row_left, AreFound}
 use Rattle.query_exec.proofs.taking.passing_in_turn.Goals as goal
-use Rattle.query_exec.proofs.taking.passing_in_turn.Goals.{in-Kept+in_ok-push-in-Kept, in-Dropped}
+use Rattle.query_exec.proofs.taking.passing_in_turn.Goals.{in-Kept+in_ok-push-in-Kept, in-Dropped, in-Faulted}
 
 pub loop-number-init : goal.loop-number-init
 loop-number-init c =
@@ -14,7 +14,7 @@ loop-number-init c =
 pub unreachable-requires : goal.unreachable-requires
 unreachable-requires c =
     let end = rw c.in_default.is at c.in_ok-values.ensures.row in
-    one_left (map boxed_truth c.args.conditions.now) c.args.block.now.rows c.loop-number.number c.loop-number.rows c.loop-number.numbers.items
+    one_left (map boxed_truth c.args.conditions.now) c.args.block.now.rows c.loop-number.number c.loop-number.rows c.loop-number.numbers.items c.loop-number.faulted
     (rw c.rows-number-end.ensures at c.loop-number-test.true) c.loop-number.invariant end.0
 
 pub fate_of-requires : goal.fate_of-requires
@@ -26,18 +26,8 @@ fate_of-requires c =
     let next = rw c.in-Some.is at c.in_ok-values.ensures.row in
     let inside = rw c.rows-number-end.ensures at c.loop-number-test.true in
     rw c.deref.ensures.value (subst (ConditionsFit es)
-    (sym (row_is c.true_rows_pass.ensures es rows i c.loop-number.rows c.next_row.new.self row c.loop-number.numbers.items inside next c.loop-number.invariant))
+    (sym (row_is c.true_rows_pass.ensures es rows i c.loop-number.rows c.next_row.new.self row c.loop-number.numbers.items c.loop-number.faulted inside next c.loop-number.invariant))
     (c.requires i [] inside))
-
-pub returns-in-Faulted : goal.returns-in-Faulted
-returns-in-Faulted c =
-    let es = map boxed_truth c.args.conditions.now in
-    let row = row_view c.in-Some.values.items in
-    let next = rw c.in-Some.is at c.in_ok-values.ensures.row in
-    let inside = rw c.rows-number-end.ensures at c.loop-number-test.true in
-    let fate = rw (c.deref.ensures.value, c.in-Faulted.is) at c.in_ok-fate_of.ensures in
-    row_faults c.true_rows_pass.ensures es c.args.block.now.rows c.loop-number.number c.loop-number.rows c.next_row.new.self row c.loop-number.numbers.items inside next
-    c.loop-number.invariant fate
 
 pub loop-number-preserved : goal.loop-number-preserved
 loop-number-preserved c =
@@ -45,15 +35,19 @@ loop-number-preserved c =
     let rows = c.args.block.now.rows in
     let i = c.loop-number.number in
     let numbers = c.loop-number.numbers.items in
+    let faulted = c.loop-number.faulted in
     let row = row_view c.in-Some.values.items in
     let next = rw c.in-Some.is at c.in_ok-values.ensures.row in
     let inside = rw c.rows-number-end.ensures at c.loop-number-test.true in
     let fate = rw c.deref.ensures.value at c.in_ok-fate_of.ensures in
     elim c.match-branch-4.branch [
       | in-Kept+in_ok-push-in-Kept w ↦
-          rw w.numbers-is (subst (AreFound es rows (i + 1) c.next_row.new.self) (sym w.in_ok-push-in-Kept.ensures.items)
-          (row_kept c.true_rows_pass.ensures es rows i c.loop-number.rows c.next_row.new.self row numbers inside next c.loop-number.invariant (rw w.in-Kept.is at fate)))
+          rw (w.numbers-is, w.faulted-is) (subst (λ ns. AreFound es rows (i + 1) c.next_row.new.self ns faulted) (sym w.in_ok-push-in-Kept.ensures.items)
+          (row_kept c.true_rows_pass.ensures es rows i c.loop-number.rows c.next_row.new.self row numbers faulted inside next c.loop-number.invariant (rw w.in-Kept.is at fate)))
       | in-Dropped w ↦
-          rw w.numbers-is
-          (row_left c.true_rows_pass.ensures es rows i c.loop-number.rows c.next_row.new.self row numbers inside next c.loop-number.invariant (rw w.in-Dropped.is at fate))
+          rw (w.numbers-is, w.faulted-is)
+          (row_left c.true_rows_pass.ensures es rows i c.loop-number.rows c.next_row.new.self row numbers faulted inside next c.loop-number.invariant (rw w.in-Dropped.is at fate))
+      | in-Faulted w ↦
+          rw (w.numbers-is, w.faulted-is)
+          (row_faults c.true_rows_pass.ensures es rows i c.loop-number.rows c.next_row.new.self row numbers faulted inside next c.loop-number.invariant (rw w.in-Faulted.is at fate))
     ]

@@ -1,21 +1,25 @@
-use Rattle.std.proofs.Common.{List, ap, ◌∙◌, sym, subst}
-use Rattle.query_plan.specs.Fitting.{NodesFit}
-use Rattle.query_plan.specs.Narrow.{narrowed_nodes}
-use Rattle.query_plan.specs.Plan.{NodeOf, nodes_result, plan_view, table_result}
-use Rattle.query_plan.specs.Rewrite.{best_nodes}
-use Rattle.query_plan.proofs.BestLemmas.{best_fit, best_result}
-use Rattle.query_plan.proofs.NarrowFitLemmas.{narrowed_fits, narrowed_means}
+use Rattle.std.proofs.Common.{map, ap, ◌∙◌, sym, subst}
+use Rattle.query_plan.specs.Fitting.{IsFitFor}
+use Rattle.query_plan.specs.Plan.{node_view, plan_view}
+use Rattle.query_plan.specs.Rewrite.{MeansTheSame, narrowed_plan}
+use Rattle.query_plan.proofs.PushedLemmas.{is_narrowed, rewritten_fits, rewritten_means}
 use Rattle.query_plan.proofs.rewrites.rewrite.Goals as goal
 
+pub returns-clause-rewritten : goal.returns-clause-rewritten
+returns-clause-rewritten c =
+    is_narrowed (plan_view c.in_ok-plan.plan) (map node_view c.in_ok-nodes.nodes.items) (map node_view c.in_ok-nodes-2.nodes.items) c.in_ok-nodes.ensures c.in_ok-nodes-2.ensures
+    ∙ ap narrowed_plan c.in_ok-plan.ensures
+
 pub returns-clause-means : goal.returns-clause-means
-returns-clause-means c = λ schema fit rows are.
-    let best = best_nodes (plan_view c.args.plan).nodes in
-    ap (λ (nodes : List NodeOf). nodes_result nodes (table_result schema rows)) (c.in_ok-nodes-2.ensures ∙ ap narrowed_nodes c.in_ok-nodes.ensures)
-    ∙ narrowed_means best (table_result schema rows)
-    ∙ best_result (plan_view c.args.plan).nodes (table_result schema rows)
+returns-clause-means c = λ schema typed.
+    let p = plan_view c.args.plan in
+    subst (MeansTheSame schema p) (sym (is_narrowed (plan_view c.in_ok-plan.plan) (map node_view c.in_ok-nodes.nodes.items) (map node_view c.in_ok-nodes-2.nodes.items) c.in_ok-nodes.ensures c.in_ok-nodes-2.ensures
+    ∙ ap narrowed_plan c.in_ok-plan.ensures))
+    (rewritten_means (record { faults = c.faults_are_foreseen.ensures; unadmitted = c.unadmitted_blocks_pass_none.ensures; tables = c.tables_are_inputs.ensures }) schema p typed)
 
 pub returns-clause-fits : goal.returns-clause-fits
-returns-clause-fits c = λ schema fit rows are.
-    let best = best_nodes (plan_view c.args.plan).nodes in
-    subst (λ (nodes : List NodeOf). NodesFit nodes (table_result schema rows)) (sym (c.in_ok-nodes-2.ensures ∙ ap narrowed_nodes c.in_ok-nodes.ensures))
-    (narrowed_fits best (table_result schema rows) (best_fit (plan_view c.args.plan).nodes (table_result schema rows) (fit rows are)))
+returns-clause-fits c = λ schema fit.
+    let p = plan_view c.args.plan in
+    subst (IsFitFor schema) (sym (is_narrowed (plan_view c.in_ok-plan.plan) (map node_view c.in_ok-nodes.nodes.items) (map node_view c.in_ok-nodes-2.nodes.items) c.in_ok-nodes.ensures c.in_ok-nodes-2.ensures
+    ∙ ap narrowed_plan c.in_ok-plan.ensures))
+    (rewritten_fits c.faults_are_foreseen.ensures schema p fit)

@@ -1,4 +1,4 @@
-use Rattle.std.proofs.Common.{Some, None, refl, ap, sym, ◌∙◌, arith}
+use Rattle.std.proofs.Common.{Some, None, refl, ap, sym, ◌∙◌}
 use Rattle.odata_http.proofs.ReadingLemmas.{advanced_done, advanced_fault, advanced_more, block_is, may_be_handed, reads_last, reads_more}
 use Rattle.odata_http.proofs.reading.Reading.read_on.Goals as goal
 
@@ -6,17 +6,6 @@ pub advance-requires : goal.advance-requires
 advance-requires c =
     may_be_handed c.args.catalog.now c.tables.result.now c.args.self c.index-tables-self.result c.next_block-block.result c.requires c.tables.ensures c.index-tables-self.is
     c.next_block-block.ensures
-
-pub overflow_sub-result : goal.overflow_sub-result
-overflow_sub-result c =
-    let is = c.requires.2 in
-    let block = block_is c.args.catalog.now c.tables.result.now c.args.self c.index-tables-self.result c.next_block-block.result c.requires.0 c.requires.1 is c.tables.ensures
-    c.index-tables-self.is c.next_block-block.ensures in
-    let on = (advanced_more is.plan is.table is.handed _ _ c.in-Ok-More.field-0-is
-    (c.in-Ok-More.ensures.advances is.plan is.table is.handed is.stands block)).0 in
-    let all = is.left_are in
-    let count = is.counted in
-    omega (arith, on, all, count)
 
 pub returns-in-Ok-More-clause-reads : goal.returns-in-Ok-More-clause-reads
 returns-in-Ok-More-clause-reads c = λ asked left is.

@@ -9,6 +9,6 @@ returns-in-Ok-None-clause-advances c = λ plan table handed stands is.
 
 pub returns-in-Ok-Some-clause-advances : goal.returns-in-Ok-Some-clause-advances
 returns-in-Ok-Some-clause-advances c = λ plan table handed stands is.
-    let steps : (handed + 1 ≡ run_length table) × (plan_answer plan table ≡ Some c.in-Ok-Some.rows) =
+    let steps : (handed + 1 ≡ run_length plan table) × (plan_answer plan table ≡ Some c.in-Ok-Some.rows) =
     subst (StepsTo plan table handed c.step.new.self) (c.in-Ok-Some.is ∙ ap (λ r. Ok r) c.in-Ok-Some.field-0-is) (c.step.ensures.steps plan table handed stands is) in
     (c.in-Ok-Some.rows, steps.0, steps.1, refl)

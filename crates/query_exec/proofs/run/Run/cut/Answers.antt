@@ -23,12 +23,12 @@ returns c =
         conditions = refl;
         places = refl;
         steps = refl;
-        blocks = refl;
-        handed = refl;
         names = refl;
         stage = refl;
         kinds = c.in_ok-self.ensures.kinds;
       };
+      left_is = refl;
+      room_is = refl;
       faulted_is = refl;
       useful_are =
           first_are_useful c.best_in_pieces.ensures c.args.self.now.steps.items node items most rows c.in_ok-self.field-0.rows at

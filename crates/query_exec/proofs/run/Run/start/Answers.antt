@@ -8,13 +8,16 @@ use Rattle.cell_types.specs.declared.column.Column.{Column}
 use Rattle.csvw_meta.specs.Schema.{SchemaOf, schema_view}
 use Rattle.odata_query.specs.Query.{optional_numbers}
 use Rattle.odata_types.specs.TypedTree.{boxed_truth}
-use Rattle.table_store.specs.Block.{block_count}
 use Rattle.row_columns.specs.Kinds.{kinds_of}
 use Rattle.query_plan.specs.Fitting.{IsFitFor}
 use Rattle.query_plan.specs.Meaning.{selected_names}
-use Rattle.query_plan.specs.Plan.{node_view, plan_view}
+use Rattle.query_plan.specs.Plan.{leading, needed, node_view, plan_view}
+use Rattle.query_plan.specs.Scan.{up_to}
+use Rattle.query_plan.specs.Scan.{test_view}
+use Rattle.query_exec.specs.Admitted.{admitted_numbers}
 use Rattle.query_exec.specs.Picked.{selected_kinds, selected_rows}
 use Rattle.query_exec.specs.Useful.{useful}
+use Rattle.query_exec.proofs.AdmittedLemmas.{admitted_are}
 use Rattle.query_exec.proofs.ConditionLemmas.{none_pass, selected_none}
 use Rattle.query_exec.proofs.FitLemmas.{are_rows, places_within}
 use Rattle.query_exec.proofs.RunLemmas.{names-column_view}
@@ -26,7 +29,7 @@ kept_names-requires c =
     let columns = c.args.schema.now.columns.items in
     let picked = optional_numbers parts.places in
     let within = places_within c.nodes_in_turn.ensures (map boxed_truth parts.conditions.items) picked (map node_view parts.steps.items) (schema_view c.args.schema.now)
-    (plan_view c.args.plan) (sym c.in_ok-conditions.ensures) c.requires in
+    (plan_view c.args.plan) (sym c.in_ok-conditions.ensures.parts) c.requires in
     subst (λ n. IfSome picked (All (λ place. place < n))) (length-map columns column_view ∙ ap length (sym c.as_slice.ensures.value)) within
 
 pub kept_columns-requires : goal.kept_columns-requires
@@ -35,7 +38,7 @@ kept_columns-requires c =
     let columns = c.args.schema.now.columns.items in
     let picked = optional_numbers parts.places in
     let within = places_within c.nodes_in_turn.ensures (map boxed_truth parts.conditions.items) picked (map node_view parts.steps.items) (schema_view c.args.schema.now)
-    (plan_view c.args.plan) (sym c.in_ok-conditions.ensures) c.requires in
+    (plan_view c.args.plan) (sym c.in_ok-conditions.ensures.parts) c.requires in
     subst (λ n. IfSome picked (All (λ place. place < n))) (length-map columns column_view ∙ ap length (sym c.as_slice-2.ensures.value)) within
 
 pub returns-clause-stands : goal.returns-clause-stands
@@ -45,15 +48,19 @@ returns-clause-stands c = λ table schema rows summaries.
     let es = map boxed_truth parts.conditions.items in
     let picked = optional_numbers parts.places in
     let within = places_within c.nodes_in_turn.ensures es picked (map node_view parts.steps.items) (schema_view c.args.schema.now) (plan_view c.args.plan)
-    (sym c.in_ok-conditions.ensures) c.requires in
+    (sym c.in_ok-conditions.ensures.parts) c.requires in
     record {
-      plan_is = sym c.in_ok-conditions.ensures;
+      plan_is = sym c.in_ok-conditions.ensures.parts;
+      conditions_are = c.in_ok-conditions.ensures.conditions;
       fits = subst (λ (s : SchemaOf). IsFitFor s (plan_view c.args.plan)) (sym schema) c.requires;
       are_rows = are_rows table rows;
       reads = refl;
-      blocks_are = summaries.count;
-      handed_are = refl;
-      goes_on = omega (arith, le-max_left 1 (block_count (length table.rows)));
+      left_are =
+          ap (λ fs. up_to c.args.plan.scan.stop fs table.rows c.in_ok-left.left.items) (sym c.in_ok-conditions.ensures.conditions)
+          ∙ ap (up_to c.args.plan.scan.stop (leading (plan_view c.args.plan).nodes) table.rows)
+          (c.in_ok-left.ensures ∙ ap (λ ts. admitted_numbers (map test_view ts) c.args.summaries.now) c.deref.ensures.value
+          ∙ admitted_are c.one_range.ensures (plan_view c.args.plan).scan.tests table c.args.summaries.now rows summaries);
+      goes_on = omega (arith, le-max_left 1 (length (needed (plan_view c.args.plan) table.rows)));
       within = subst (λ (s : SchemaOf). IfSome picked (All (λ place. place < length s.columns))) (sym schema) within;
       names_are =
           c.in_ok-names.ensures ∙ ap (λ cs. selected_names picked (map (λ (column : Column). string_bytes column.name) cs)) c.as_slice.ensures.value

@@ -1,0 +1,48 @@
+-- Other steps on the same rows.
+use Rattle.std.proofs.Common.{◌≡◌, ℕ, suc, ◌+◌, Option, Some, None, List, [], ◌∷◌, ◌++◌, take, drop, refl, ap, ◌∙◌, arith}
+use Rattle.cell_types.specs.Value.{CellValue}
+use Rattle.csvw_meta.specs.Schema.{SchemaOf}
+use Rattle.odata_types.specs.TypedTree.{TruthExprOf}
+use Rattle.query_plan.specs.Order.{Item}
+use Rattle.query_plan.specs.Narrow.{leading_filters, narrowed, narrowed_nodes, selected_first, wanted_columns}
+use Rattle.query_plan.specs.Plan.{NodeOf, PlanOf, aggregating, choosing, filtering, grouping, projecting, slicing, leading, needed, nodes_result, sorting, table_result}
+use Rattle.query_plan.specs.Rewrite.{MeansTheSame, best_nodes, chosen, rows_needed}
+use Rattle.query_plan.specs.Scan.{read_blocks, rows_of_blocks}
+
+-- steps that begin with the same filters, and have the same result on the rows of a table
+pub same_steps : (schema : SchemaOf) (p : PlanOf) (nodes : List NodeOf) → leading nodes ≡ leading p.nodes
+    → ((rows : List (List CellValue)) → nodes_result nodes (table_result schema rows) ≡ nodes_result p.nodes (table_result schema rows))
+    → MeansTheSame schema p (record p { nodes = nodes })
+same_steps schema p nodes e each rows are =
+    ap (λ (conditions : List TruthExprOf). nodes_result nodes (table_result schema (rows_of_blocks rows (read_blocks p.scan conditions rows)))) e
+    ∙ each (rows_of_blocks rows (needed p rows))
+
+-- ---- the filters that steps begin with
+
+leading_chosen : (items : List Item) (most : Option ℕ) (ns : List NodeOf) → leading (chosen (sorting items) most ∷ ns) ≡ []
+leading_chosen items None ns = refl
+leading_chosen items (Some most) ns = refl
+
+pub leading_best : (ns : List NodeOf) → leading (best_nodes ns) ≡ leading ns
+leading_best [] = refl
+leading_best (n ∷ []) = refl
+leading_best (filtering e ∷ m ∷ ns) = ap (λ (es : List TruthExprOf). e ∷ es) (leading_best (m ∷ ns))
+leading_best (sorting items ∷ m ∷ ns) = leading_chosen items (rows_needed m) (best_nodes (m ∷ ns))
+leading_best (n ∷ m ∷ ns) = refl
+
+leading_selected : (o : Option (List ℕ)) (n : NodeOf) (ns : List NodeOf) → leading (n ∷ ns) ≡ [] → leading (selected_first o (n ∷ ns)) ≡ []
+leading_selected None n ns e = e
+leading_selected (Some places) n ns e = refl
+
+pub leading_narrowed : (ns : List NodeOf) → leading (narrowed_nodes ns) ≡ leading ns
+leading_narrowed [] = refl
+leading_narrowed (filtering e ∷ ns) =
+    let all = filtering e ∷ ns in
+    let more : 1 + leading_filters ns ≡ suc (leading_filters ns) = omega arith in
+    ap (λ (k : ℕ). leading (take k all ++ narrowed (drop k all))) more ∙ ap (λ (es : List TruthExprOf). e ∷ es) (leading_narrowed ns)
+leading_narrowed (aggregating aggregates ∷ ns) = leading_selected (wanted_columns (aggregating aggregates ∷ ns)) (aggregating aggregates) ns refl
+leading_narrowed (grouping places aggregates ∷ ns) = leading_selected (wanted_columns (grouping places aggregates ∷ ns)) (grouping places aggregates) ns refl
+leading_narrowed (sorting items ∷ ns) = leading_selected (wanted_columns (sorting items ∷ ns)) (sorting items) ns refl
+leading_narrowed (choosing items most ∷ ns) = leading_selected (wanted_columns (choosing items most ∷ ns)) (choosing items most) ns refl
+leading_narrowed (slicing s ∷ ns) = leading_selected (wanted_columns (slicing s ∷ ns)) (slicing s) ns refl
+leading_narrowed (projecting places ∷ ns) = leading_selected (wanted_columns (projecting places ∷ ns)) (projecting places) ns refl
