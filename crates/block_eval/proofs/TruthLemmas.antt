@@ -2,6 +2,7 @@
 use Rattle.std.proofs.Common.{◌≡◌, ◌<◌, ℕ, Bool, true, false, Option, Some, List, length, map, refl, sym, ap, ◌∙◌, arith}
 use Rattle.std.specs.Prelude.{ℤ, option_map}
 use Rattle.std.specs.Ordering.{bool_cmp, int_cmp}
+use Rattle.block_summary.specs.Ranges.{RangeOf}
 use Rattle.cell_types.specs.Value.{CellValue}
 use Rattle.odata_parse.specs.declared.tree.ComparisonOperator.{ComparisonOperator}
 use Rattle.row_eval.specs.declared.truth.Truth.{Truth}
@@ -10,7 +11,7 @@ use Rattle.row_eval.specs.Logic.{option_of_truth, truth_of}
 use Rattle.row_eval.specs.Outcome.{both}
 use Rattle.block_eval.specs.declared.columns.Column.{Column}
 use Rattle.block_lanes.specs.declared.numbers.Numbers.{Numbers}
-use Rattle.block_eval.specs.Lanes.{comparison, number_lane, truth_lane, GivesTruths, HasTruths}
+use Rattle.block_eval.specs.Lanes.{comparison, number_lane, truth_lane, GivesTruthsWithin, HasTruths}
 use Rattle.block_eval.specs.Truths.{number_of_truth, AreTruthNumbers}
 use Rattle.block_eval.proofs.ListLemmas.{among-map, compared-map}
 use Rattle.block_eval.proofs.LogicLemmas.{wanted_within}
@@ -54,26 +55,26 @@ numbers-among xs ts v items numbers rows l are e has = record {
 }
 
 -- truths that are there on each wanted row
-pub compared-gives : (o : ComparisonOperator) (f g : List CellValue → Option Truth) (columns : List Column) (wanted : List Bool) (ls rs xs ys ts : List Truth) → xs ≡ ls → ys ≡ rs
-    → GivesTruths f columns wanted ls → GivesTruths g columns wanted rs → HasTruths (length ys) (λ row. truth_comparison o (truth_lane xs row) (truth_lane ys row)) ts
-    → GivesTruths (λ cells. both (truth_comparison o) (f cells) (g cells)) columns wanted ts
-compared-gives o f g columns wanted ls rs xs ys ts e d left right has = record {
-  each = λ row cells h at.
+pub compared-gives : (o : ComparisonOperator) (f g : List CellValue → Option Truth) (ranges : List RangeOf) (columns : List Column) (wanted : List Bool) (ls rs xs ys ts : List Truth) → xs ≡ ls → ys ≡ rs
+    → GivesTruthsWithin f ranges columns wanted ls → GivesTruthsWithin g ranges columns wanted rs → HasTruths (length ys) (λ row. truth_comparison o (truth_lane xs row) (truth_lane ys row)) ts
+    → GivesTruthsWithin (λ cells. both (truth_comparison o) (f cells) (g cells)) ranges columns wanted ts
+compared-gives o f g ranges columns wanted ls rs xs ys ts e d left right has = record {
+  each = λ row cells h at within_ranges.
       let within : row < length ys = omega (arith, wanted_within wanted row h, ap length d, right.long) in
-      ap (λ x. both (truth_comparison o) x (g cells)) (left.each row cells h at)
-      ∙ ap (both (truth_comparison o) (Some (truth_lane ls row))) (right.each row cells h at)
+      ap (λ x. both (truth_comparison o) x (g cells)) (left.each row cells h at within_ranges)
+      ∙ ap (both (truth_comparison o) (Some (truth_lane ls row))) (right.each row cells h at within_ranges)
       ∙ ap (λ x. Some (truth_comparison o (truth_lane x row) (truth_lane rs row))) (sym e)
       ∙ ap (λ y. Some (truth_comparison o (truth_lane xs row) (truth_lane y row))) (sym d)
       ∙ ap (λ t. Some t) (sym (has.each row within));
   long = has.long ∙ ap length d ∙ right.long;
 }
 
-pub among-gives : (f : List CellValue → Option Truth) (columns : List Column) (wanted : List Bool) (xs ys ts : List Truth) (items : List (Option Bool)) → ys ≡ xs → GivesTruths f columns wanted xs
-    → HasTruths (length ys) (λ row. truth_among items (truth_lane ys row)) ts → GivesTruths (λ cells. option_map (truth_among items) (f cells)) columns wanted ts
-among-gives f columns wanted xs ys ts items e gives has = record {
-  each = λ row cells h at.
+pub among-gives : (f : List CellValue → Option Truth) (ranges : List RangeOf) (columns : List Column) (wanted : List Bool) (xs ys ts : List Truth) (items : List (Option Bool)) → ys ≡ xs → GivesTruthsWithin f ranges columns wanted xs
+    → HasTruths (length ys) (λ row. truth_among items (truth_lane ys row)) ts → GivesTruthsWithin (λ cells. option_map (truth_among items) (f cells)) ranges columns wanted ts
+among-gives f ranges columns wanted xs ys ts items e gives has = record {
+  each = λ row cells h at within_ranges.
       let within : row < length ys = omega (arith, wanted_within wanted row h, ap length e, gives.long) in
-      ap (option_map (truth_among items)) (gives.each row cells h at)
+      ap (option_map (truth_among items)) (gives.each row cells h at within_ranges)
       ∙ ap (λ x. Some (truth_among items (truth_lane x row))) (sym e)
       ∙ ap (λ t. Some t) (sym (has.each row within));
   long = has.long ∙ ap length e ∙ gives.long;

@@ -14,6 +14,8 @@ use Rattle.row_eval.specs.Outcome.{computed, decimal_outcome, integer_outcome, t
 use Rattle.block_eval.specs.declared.columns.Column.{Column}
 use Rattle.block_lanes.specs.declared.numbers.Numbers.{Numbers}
 use Rattle.block_eval.specs.Columns.{number_at, IsRowAt}
+use Rattle.summary_eval.specs.Known.{IsRowWithin}
+use Rattle.block_summary.specs.Ranges.{RangeOf}
 
 -- ---- numbers
 
@@ -38,3 +40,12 @@ pub record GivesTruths (f : List CellValue → Option Truth) (columns : List Col
 -- for each wanted row the lane is the outcome of the condition, which is no fault
 abbrev pub AreOutcomes : TruthExprOf → List Column → List Bool → List Truth → Type 0
 AreOutcomes e columns wanted truths = GivesTruths (truth_outcome e) columns wanted truths
+
+-- for each wanted row the lane is what f makes of its cells, which is no fault, where the columns of the block have these ranges
+pub record GivesTruthsWithin (f : List CellValue → Option Truth) (ranges : List RangeOf) (columns : List Column) (wanted : List Bool) (truths : List Truth) : Type 0 where
+  pub each : (row : ℕ) (cells : List CellValue) → IsWanted wanted row → IsRowAt columns row cells → IsRowWithin ranges cells → f cells ≡ Some (truth_lane truths row)
+  pub long : length truths ≡ length wanted
+
+-- for each wanted row the lane is the outcome of the condition, which is no fault, where the columns of the block have these ranges
+abbrev pub AreOutcomesWithin : TruthExprOf → List RangeOf → List Column → List Bool → List Truth → Type 0
+AreOutcomesWithin e ranges columns wanted truths = GivesTruthsWithin (truth_outcome e) ranges columns wanted truths

@@ -3,6 +3,7 @@ pub use Rattle.block_summary.specs.Types
 pub use Rattle.row_eval.specs.Comparison
 pub use Rattle.row_eval.specs.Logic
 pub use Rattle.row_eval.specs.Outcome
+pub use Rattle.summary_eval.specs.Known
 pub mod Columns
 pub mod Lanes
 pub mod Texts

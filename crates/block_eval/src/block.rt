@@ -1,57 +1,95 @@
 //! A condition on the rows of a block, a column at a time.
 
-ghost use Rattle.std.specs.Prelude.{◌≡◌, IfOk};
+ghost use Rattle.std.specs.Prelude.{◌≡◌, IfOk, IfSome, List};
+ghost use Rattle.block_summary.specs.Ranges.{RangeOf};
 ghost use Rattle.odata_types.specs.TypedTree.{truth_view};
-ghost use Rattle.block_eval.specs.Lanes.{AreOutcomes};
+ghost use Rattle.block_eval.specs.Lanes.{AreOutcomesWithin};
 
 use crate::columns::Column;
 use crate::leaf::eval_leaf;
 use crate::truths::{compare_truths, truths_among};
-use block_lanes::{Fallback, conjunction, disjunction, negation, open_rows};
+use block_lanes::{Fallback, conjunction, disjunction, negation, open_rows, same_truth};
+use block_summary::Summary;
 use odata_types::TruthExpr;
 use row_eval::Truth;
 use std::alloc::Global;
+use summary_eval::known_truth;
 
-/// The truths of a condition on the wanted rows of a block. Where it falls back, the rows are to be evaluated one by one; nothing says
-/// when it does. The right side of `and` is evaluated on those rows alone whose left side is not false, that of `or` on those whose left
-/// side is not true.
-pub fn eval_block(
+/// The truths of a condition on the wanted rows of a block, where the ranges tell them.
+fn known_truths(
+    alloc: Global,
+    expr: &TruthExpr,
+    summary: &Summary,
+    wanted: &[bool],
+) -> Result<Option<Vec<Truth>>, Fallback>
+    ensures { IfOk result (λ known. IfSome known (λ truths. (columns : List Column)
+        → AreOutcomesWithin (truth_view expr.now) summary.now columns wanted.now truths.items)) }
+{
+    match known_truth(expr, summary) {
+        Some(truth) => {
+            let truths = same_truth(alloc, truth, wanted)?;
+            Ok(Some(truths))
+        }
+        None => Ok(None),
+    }
+}
+
+/// The truths of a condition that has no condition as a part, with a look at its rows.
+fn leaf_truths(
     alloc: Global,
     expr: &TruthExpr,
     columns: &[Column<'_>],
     wanted: &[bool],
 ) -> Result<Vec<Truth>, Fallback>
-    ensures { IfOk result
-        (λ truths. AreOutcomes (truth_view expr.now) columns.now wanted.now truths.items) }
+    ensures { IfOk result (λ truths. (ranges : List RangeOf)
+        → AreOutcomesWithin (truth_view expr.now) ranges columns.now wanted.now truths.items) }
 {
+    let truths = eval_leaf(alloc, expr, columns, wanted)?;
+    Ok(truths)
+}
+
+/// The truths of a condition on the wanted rows of a block. Where it falls back, the rows are to be evaluated one by one; nothing says
+/// when it does. The right side of `and` is evaluated on those rows alone whose left side is not false, that of `or` on those whose left
+/// side is not true. A condition whose truth the ranges of the block tell is not evaluated at all, and no column that it names is looked at.
+pub fn eval_block(
+    alloc: Global,
+    expr: &TruthExpr,
+    columns: &[Column<'_>],
+    summary: &Summary,
+    wanted: &[bool],
+) -> Result<Vec<Truth>, Fallback>
+    ensures { IfOk result (λ truths. AreOutcomesWithin (truth_view expr.now) summary.now columns.now
+        wanted.now truths.items) }
+{
+    if let Some(truths) = known_truths(alloc, expr, summary, wanted)? {
+        return Ok(truths);
+    }
     match expr {
         TruthExpr::Not(operand) => {
-            let truths = eval_block(alloc, operand, columns, wanted)?;
+            let truths = eval_block(alloc, operand, columns, summary, wanted)?;
             Ok(negation(truths))
         }
         TruthExpr::And(left, right) => {
-            let left = eval_block(alloc, left, columns, wanted)?;
+            let left = eval_block(alloc, left, columns, summary, wanted)?;
             let asked = open_rows(alloc, wanted, left.as_slice(), Truth::False)?;
-            let right = eval_block(alloc, right, columns, asked.as_slice())?;
+            let right = eval_block(alloc, right, columns, summary, asked.as_slice())?;
             Ok(conjunction(left, right))
         }
         TruthExpr::Or(left, right) => {
-            let left = eval_block(alloc, left, columns, wanted)?;
+            let left = eval_block(alloc, left, columns, summary, wanted)?;
             let asked = open_rows(alloc, wanted, left.as_slice(), Truth::True)?;
-            let right = eval_block(alloc, right, columns, asked.as_slice())?;
+            let right = eval_block(alloc, right, columns, summary, asked.as_slice())?;
             Ok(disjunction(left, right))
         }
         TruthExpr::CompareTruths(operator, left, right) => {
-            let left = eval_block(alloc, left, columns, wanted)?;
-            let right = eval_block(alloc, right, columns, wanted)?;
-            let truths = compare_truths(alloc, *operator, left.as_slice(), right.as_slice())?;
-            Ok(truths)
+            let left = eval_block(alloc, left, columns, summary, wanted)?;
+            let right = eval_block(alloc, right, columns, summary, wanted)?;
+            compare_truths(alloc, *operator, left.as_slice(), right.as_slice())
         }
         TruthExpr::TruthIn(operand, items) => {
-            let truths = eval_block(alloc, operand, columns, wanted)?;
-            let found = truths_among(alloc, truths.as_slice(), items)?;
-            Ok(found)
+            let truths = eval_block(alloc, operand, columns, summary, wanted)?;
+            truths_among(alloc, truths.as_slice(), items)
         }
-        _ => eval_leaf(alloc, expr, columns, wanted),
+        _ => leaf_truths(alloc, expr, columns, wanted),
     }
 }

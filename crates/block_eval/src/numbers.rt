@@ -103,10 +103,7 @@ pub fn eval_decimals<'a>(
 {
     match expr {
         DecimalExpr::Null => Ok(Numbers::Null),
-        DecimalExpr::Column(place) => {
-            let numbers = decimals_in(columns, *place, wanted)?;
-            Ok(numbers)
-        }
+        DecimalExpr::Column(place) => decimals_in(columns, *place, wanted),
         DecimalExpr::Literal(number) => {
             let numbers = same(*number)?;
             Ok(numbers)

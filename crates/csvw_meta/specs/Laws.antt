@@ -6,7 +6,8 @@ use Rattle.serde_json.specs.Data.{Data, null}
 use Rattle.csv_grammar.specs.Bytes.{byte_order_mark}
 use Rattle.cell_types.specs.Column.{ColumnOf}
 use Rattle.csvw_meta.specs.declared.document.TheConstants.{MOST_METADATA_BYTES}
-use Rattle.csvw_meta.specs.declared.limits.TheConstants.{MOST_FILE_BYTES}
+use Rattle.csvw_meta.specs.declared.forms.TheConstants.{MOST_NAME_BYTES, MOST_URL_BYTES}
+use Rattle.csvw_meta.specs.declared.limits.TheConstants.{MOST_FILE_BYTES, MOST_TABLES, MOST_COLUMNS, MOST_TRANSFORMATIONS}
 use Rattle.csvw_meta.specs.Fault.{MetaCause}
 use Rattle.csvw_meta.specs.Limits.{LimitsOf}
 use Rattle.csvw_meta.specs.Refusal.{first_cause}
@@ -89,3 +90,8 @@ DefaultsAreShort = (limits : LimitsOf) (bytes : List ℕ) (schemas : List Schema
 pub record Sizes : Type 0 where
   pub file : MOST_FILE_BYTES ≡ 2 ^ 30
   pub metadata : MOST_METADATA_BYTES ≡ 2 ^ 30
+  pub tables : MOST_TABLES ≡ 256
+  pub columns : MOST_COLUMNS ≡ 256
+  pub transformations : MOST_TRANSFORMATIONS ≡ 8
+  pub name : MOST_NAME_BYTES ≡ 128
+  pub url : MOST_URL_BYTES ≡ 132

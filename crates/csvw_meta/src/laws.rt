@@ -32,7 +32,8 @@ pub fn defaults_are_short()
     ensures { DefaultsAreShort }
 {}
 
-/// A file and a metadata text have at most 2 to the 30 bytes.
+/// The numbers of the profile: a file and a metadata text have at most 2 to the 30 bytes; how many tables, columns and transformations there may
+/// be; and how long a name and a url.
 pub fn sizes()
     ensures { Sizes }
 {}

@@ -11,6 +11,6 @@ mod number;
 
 pub use answers::{bytes_line, place_line, refusal_line, text_line};
 pub use command::{Command, CommandFault, Word, read_command};
-pub use laws::{one_command, reads_back};
+pub use laws::{limits, one_command, reads_back};
 pub use lines::first_line;
 pub use number::MOST_NUMBER;

@@ -1,5 +1,13 @@
 //! What holds of the replies of every stream, and of the calls that each takes. The functions here are theorems, and do nothing.
+ghost use Rattle.std.specs.Prelude.{◌≡◌};
 ghost use Rattle.odata_http.specs.Laws.{Joins, OneLength, OneReading, OneReply, UnderTables};
+
+use crate::response::OK;
+
+/// The status of a reply that has what was asked for (RFC 9110, section 15.3.1).
+pub fn statuses()
+    ensures { OK ≡ 200 }
+{}
 
 /// Under some tables a head has one reply at most. That it has one is not said here: whether tokens have a tree is known where they are parsed.
 pub fn one_reply()

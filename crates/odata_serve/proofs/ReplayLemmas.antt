@@ -4,7 +4,6 @@ use Rattle.std.specs.Prelude.{⊤}
 use Rattle.std.specs.Io.KnownBytes.{Appends}
 use Rattle.std.proofs.KnownBytes.{Appends-trans}
 use Rattle.std.proofs.lemmas.List.Concat.{flat_map-append}
-use Rattle.std.proofs.Math.Seq.{take-append-add}
 use Rattle.event_scripts.specs.Lines.{script_lines}
 use Rattle.table_store.specs.Catalog.{CatalogOf}
 use Rattle.odata_http.specs.Device.{SinkOf}
@@ -128,25 +127,22 @@ module _ {script : List ℕ} {start : Stage} {rest : List ℕ} {number : ℕ} {s
   played_fault next Device h =
       let (c, is, bytes, comes, count, failed) = h to.hub to.stands in
       let front : List ℕ = outcome_lines to.outcomes in
-      let text : take count bytes ≡ take count (outcome_line comes.outcome) = ap (take count) comes.text_is in
-      let whole : take (length front + count) (outcome_lines (to.outcomes ++ comes.outcome ∷ [])) ≡ front ++ take count (outcome_line comes.outcome) =
-      ap (take (length front + count)) (lines_more to.outcomes comes.outcome) ∙ take-append-add front (outcome_line comes.outcome) count in record {
-        before = to.before ++ line ∷ [];
+      let text : take count bytes ≡ take count (outcome_line comes.outcome) = ap (take count) comes.text_is in record {
+        before = to.before;
+        line = line;
         behind = script_lines behind;
-        lines = lines_behind;
+        lines = lines_here;
+        between = stage to.hub now.folders;
+        bytes = front;
+        plays = record { outcomes = to.outcomes; plays = to.plays; bytes_are = refl };
+        outcome = comes.outcome;
         end = stage comes.new next.folders;
-        bytes = outcome_lines (to.outcomes ++ comes.outcome ∷ []);
-        plays = record {
-          outcomes = to.outcomes ++ comes.outcome ∷ [];
-          plays = plays_more to.before line to.outcomes comes.outcome start (stage to.hub now.folders) (stage comes.new next.folders) to.plays
-              (record { command = c; is = is; comes = comes.comes });
-          bytes_are = refl;
-        };
+        last = record { command = c; is = is; comes = comes.comes };
         folders = refl;
-        count = length front + count;
+        count = count;
         failed = record {
-          gained = rw whole (Appends-trans sink.taken now.sink.taken next.sink.taken front (take count (outcome_line comes.outcome))
-              to.written.gained (subst (λ (t : List ℕ). Appends now.sink.taken next.sink.taken t) text failed.gained));
+          gained = Appends-trans sink.taken now.sink.taken next.sink.taken front (take count (outcome_line comes.outcome))
+              to.written.gained (subst (λ (t : List ℕ). Appends now.sink.taken next.sink.taken t) text failed.gained);
           failed = rw to.written.failed at failed.failed;
         };
       }

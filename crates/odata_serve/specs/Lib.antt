@@ -10,3 +10,4 @@ pub mod Command
 pub mod Answers
 pub mod Replay
 pub mod ScriptFile
+pub mod Laws

@@ -140,17 +140,21 @@ pub record StopsAt (p : Playing) (number : ℕ) : Type 0 where
   pub folders : p.folders_after ≡ end.folders
   pub written : HasWritten p.sink p.sink_after bytes
 
--- a write failed: some first lines were played, and a front of what they came to was written
+-- a write failed: some first lines were played, and what they came to was written; of what the next line came to, a front was written
 pub record FailsToWrite (p : Playing) : Type 0 where
   pub before : List (List ℕ)
+  pub line : List ℕ
   pub behind : List (List ℕ)
-  pub lines : script_lines p.script ≡ before ++ behind
-  pub end : Stage
+  pub lines : script_lines p.script ≡ before ++ line ∷ behind
+  pub between : Stage
   pub bytes : List ℕ
-  pub plays : PlaysTo p before end bytes
+  pub plays : PlaysTo p before between bytes
+  pub outcome : Outcome
+  pub end : Stage
+  pub last : LineComes line between outcome end
   pub folders : p.folders_after ≡ end.folders
   pub count : ℕ
-  pub failed : HasFailed p.sink p.sink_after (take count bytes)
+  pub failed : HasFailed p.sink p.sink_after (bytes ++ take count (outcome_line outcome))
 
 -- memory ran out: some first lines were played, and what they came to was written
 pub record RunsOut (p : Playing) : Type 0 where

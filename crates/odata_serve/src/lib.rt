@@ -24,7 +24,7 @@ pub use disk::Disk;
 pub use fault_text::{DEVICE, MEMORY, REFUSED, USAGE, fault_line};
 pub use folders::{BuiltIn, FolderFault, Folders, NOTES, NOTES_BYTES, NOTES_FILE, NOTES_METADATA};
 pub use listener::{CountedListener, Listener};
-pub use program::{MAX_READS, ProgramFault, answer, request_to};
+pub use program::{MAX_READS, ProgramFault, answer, request_to, sizes};
 pub use replay::{PLACES, plays_schedule, replay_script};
 pub use serving::serve;
 pub use words::{Words, WordsFault, read_words};

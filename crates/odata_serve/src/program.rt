@@ -2,6 +2,7 @@
 ghost use Rattle.std.specs.Prelude.{◌≡◌, IfOk, string_bytes};
 ghost use Rattle.odata_http.specs.Device.{CountsFit};
 ghost use Rattle.odata_http.specs.Runs.{course};
+ghost use Rattle.odata_serve.specs.Laws.{Sizes};
 ghost use Rattle.odata_serve.specs.Program.{IsAnswer, loading, request_to};
 
 use crate::folders::{FolderFault, Folders};
@@ -10,6 +11,11 @@ use std::alloc::{AllocError, Global};
 
 /// The most reads of one stream.
 pub const MAX_READS: u32 = 1_048_576;
+
+/// The numbers of the program: its limits and its exit statuses.
+pub fn sizes()
+    ensures { Sizes }
+{}
 
 /// Why the program ended early.
 #[derive(Debug, Drop)]

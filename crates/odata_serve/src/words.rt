@@ -1,7 +1,7 @@
 //! The words of the program's command line, read by `clap` as one command with a subcommand for each thing that the program does.
 //! What is read is `clap`'s reading of that command, no more and no less.
 ghost use Rattle.std.specs.Prelude.{◌≡◌, IfOk, IfErr, IfNone, IfSome, codes, option_map, false, Some};
-ghost use Rattle.clap.specs.Words.{app_of, first_of, found_of, one_of, rows_of, rule_of, subcommand_rows_of};
+ghost use Rattle.clap.specs.Words.{app_of, first_of, found_of, one_of, rows_of, rule_of, subcommand_rows_of, with_subcommand};
 ghost use Rattle.clap.specs.declared.Command.TheViews.{out-Command};
 ghost use Rattle.odata_serve.specs.Words.{AreWords, IsTaken, ReadsNumber, Says, SaysNothing, connections_rule, folder_app, folder_and_app, port_rule, program_app, required_rule, serve_app, texts};
 
@@ -116,22 +116,29 @@ fn serve_command<'a>(alloc: Global) -> Result<Command<'a>, AllocError>
         .arg(connections_option(alloc))
 }
 
+/// The command with a subcommand of that name over a folder and one thing more.
+fn with_command<'a>(
+    alloc: Global,
+    whole: Command<'a>,
+    name: &'a str,
+    second: &'a str,
+) -> Result<Command<'a>, AllocError>
+    ensures app { IfOk result (λ c. app_of c ≡ with_subcommand (app_of whole.entry)
+        (folder_and_app name.entry.now second.entry.now).top) }
+{
+    whole.subcommand(folder_and_command(alloc, name, second)?)
+}
+
 /// The whole command.
 fn program_command<'a>(alloc: Global) -> Result<Command<'a>, AllocError>
     ensures app { IfOk result (λ c. app_of c ≡ program_app) }
 {
-    let check = folder_command(alloc, "check")?;
-    let query = folder_and_command(alloc, "query", "target")?;
-    let answer = folder_and_command(alloc, "answer", "file")?;
-    let replay = folder_and_command(alloc, "replay", "script")?;
-    let serve = serve_command(alloc)?;
     let top = Command::new(alloc, "magpiecoffer").disable_help_subcommand(true);
-    let one = top.subcommand(check)?;
-    let two = one.subcommand(query)?;
-    let three = two.subcommand(answer)?;
-    let four = three.subcommand(replay)?;
-    let five = four.subcommand(serve)?;
-    Ok(five)
+    let one = top.subcommand(folder_command(alloc, "check")?)?;
+    let two = with_command(alloc, one, "query", "target")?;
+    let three = with_command(alloc, two, "answer", "file")?;
+    let four = with_command(alloc, three, "replay", "script")?;
+    four.subcommand(serve_command(alloc)?)
 }
 
 /// The text of an argument.

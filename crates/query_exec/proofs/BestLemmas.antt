@@ -58,7 +58,7 @@ plain_row (item ∷ items) row h =
     let others = and_right (is_some (plain_column item.0)) (are_plain items) h in
     ap (λ b. b || order_faults items row) (plain_works item.0 row first) ∙ plain_row items row others
 
-none_faults : (items : List Item) (rows : List (List CellValue)) → are_plain items ≡ true → list_any (order_faults items) rows ≡ false
+pub none_faults : (items : List Item) (rows : List (List CellValue)) → are_plain items ≡ true → list_any (order_faults items) rows ≡ false
 none_faults items [] h = refl
 none_faults items (row ∷ rows) h = ap (λ b. b || list_any (order_faults items) rows) (plain_row items row h) ∙ none_faults items rows h
 
@@ -79,11 +79,11 @@ plain_rows_fit items rows h = λ k d inside. All-from_recursion (λ item. Number
 
 -- ---- the rows that the first step has a use for
 
-some_same : {X : Type 0} (x y : X) → Some x ≡ Some y → x ≡ y
+pub some_same : {X : Type 0} (x y : X) → Some x ≡ Some y → x ≡ y
 some_same x y e = cc
 
 module _ (items : List Item) (most : ℕ) (ns : List NodeOf) where
-  useful_plain : (rows : List (List CellValue)) → are_plain items ≡ true → useful (choosing items most ∷ ns) rows ≡ take most (sorted (rows_cmp items) rows)
+  pub useful_plain : (rows : List (List CellValue)) → are_plain items ≡ true → useful (choosing items most ∷ ns) rows ≡ take most (sorted (rows_cmp items) rows)
   useful_plain rows h = ap (λ b. cond b (take most (sorted (rows_cmp items) rows)) rows) h
 
   useful_whole : (rows : List (List CellValue)) → are_plain items ≡ false → useful (choosing items most ∷ ns) rows ≡ rows
@@ -211,7 +211,7 @@ taken_and_cut old taken less new rows has cut left is =
           ap (λ (r : Run). option_map (useful (steps_of old)) (rows_so_far r)) is
           ∙ ap (λ b. option_map (useful (steps_of old)) (cond b None (Some less.kept.rows))) cut.faulted_is
           ∙ kept_alike (steps_of old) taken.faulted less.kept.rows taken.kept.rows useful_are
-          ∙ ap (option_map (useful (steps_of old))) has.passed;
+          ∙ has.passed;
     }
 
 -- the first rows in the order of the first step are of the same use as all

@@ -1,13 +1,14 @@
 -- What a run has behind the rows of a block.
-use Rattle.std.proofs.Common.{◌≡◌, ℕ, Bool, true, false, ◌||◌, cond, Option, None, Some, List, ◌++◌, length, refl, sym, ap, ◌∙◌}
+use Rattle.std.proofs.Common.{◌≡◌, ℕ, Bool, true, false, ◌||◌, cond, Option, None, Some, List, ◌++◌, length, refl, sym, ap, ◌∙◌, subst}
 use Rattle.std.specs.Prelude.{OnOk, Result, Ok, Err, option_map}
 use Rattle.cell_types.specs.Value.{CellValue}
 use Rattle.row_columns.specs.Picked.{numbered}
 use Rattle.query_exec.specs.declared.lanes.Lanes.{Lanes}
 use Rattle.query_exec.specs.declared.run.Run.{Run}
 use Rattle.query_exec.specs.Picked.{selected_rows}
-use Rattle.query_exec.specs.Run.{conditions_of, places_of}
+use Rattle.query_exec.specs.Run.{conditions_of, places_of, steps_of}
 use Rattle.query_exec.specs.Taking.{room_behind, unless_faulted, ArePassing, HasKept, HasTaken, LooksOn}
+use Rattle.query_exec.specs.Useful.{useful}
 use Rattle.query_exec.proofs.ConditionLemmas.{joined}
 
 looks_on : (old new : Run) (rows : List (List CellValue)) (numbers : List ℕ) (faulted : Bool) → ArePassing (conditions_of old) rows numbers faulted
@@ -30,10 +31,12 @@ taken_some old mid new rows numbers faulted is room found now was none kept = re
   left_is = kept.left_is ∙ ap (λ (r : Run). r.left) is;
   looks_on = looks_on old new rows numbers faulted found (kept.room_is ∙ room);
   passed =
-      ap (λ b. cond b None (Some new.kept.rows)) (kept.faulted_is ∙ now)
-      ∙ ap (λ rs. Some rs) (kept.rows_are ∙ ap (λ (r : Run). r.kept.rows ++ selected_rows (places_of old) (numbered numbers rows)) is)
-      ∙ ap (λ b. joined (cond b None (Some old.kept.rows)) (Some (selected_rows (places_of old) (numbered numbers rows)))) (sym was)
-      ∙ ap (λ passed. joined (cond old.faulted None (Some old.kept.rows)) (option_map (selected_rows (places_of old)) passed))
+      let steps = steps_of old in
+      let added = selected_rows (places_of old) (numbered numbers rows) in
+      ap (λ b. option_map (useful steps) (cond b None (Some new.kept.rows))) (kept.faulted_is ∙ now)
+      ∙ ap (λ rs. Some rs) (subst (λ (r : Run). useful (steps_of r) new.kept.rows ≡ useful (steps_of r) (r.kept.rows ++ added)) is kept.useful_are)
+      ∙ ap (λ b. option_map (useful steps) (joined (cond b None (Some old.kept.rows)) (Some added))) (sym was)
+      ∙ ap (λ passed. option_map (useful steps) (joined (cond old.faulted None (Some old.kept.rows)) (option_map (selected_rows (places_of old)) passed)))
       (sym (found.passed ∙ ap (λ b. unless_faulted b (numbered numbers rows)) none));
 }
 

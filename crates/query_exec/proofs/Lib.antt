@@ -4,6 +4,7 @@ pub mod TakingLemmas
 pub mod LaneLemmas
 pub mod PassingLemmas
 pub mod KeepingLemmas
+pub mod InTimeLemmas
 pub mod FitLemmas
 pub mod NeededLemmas
 pub mod PartsLemmas

@@ -11,7 +11,8 @@ use Rattle.row_eval.specs.declared.truth.Truth.{Truth}
 use Rattle.row_eval.specs.declared.truth.Truth.TheVariants.{False, Null, True}
 use Rattle.row_eval.specs.Outcome.{both, truth_outcome}
 use Rattle.block_eval.specs.declared.columns.Column.{Column}
-use Rattle.block_eval.specs.Lanes.{truth_lane, AreOutcomes}
+use Rattle.block_eval.specs.Lanes.{truth_lane, AreOutcomesWithin}
+use Rattle.block_summary.specs.Ranges.{RangeOf, AreRangesOf}
 use Rattle.query_plan.specs.Filter.{passing}
 use Rattle.query_plan.specs.Laws.{TrueRowsPass}
 use Rattle.query_exec.specs.Lanes.{AreColumnsOf}
@@ -55,26 +56,26 @@ passing_marked law e (row ∷ rows) (w ∷ was) (n ∷ now) h g each =
     ∙ ap (λ xs. Some xs) (sym (marked_head n now row rows))
 
 -- what the truths of a block leave of the rows that were wanted
-pub narrowed_by : (e : TruthExprOf) (rows : List (List CellValue)) (columns : List Column) (was now : List Bool) (truths : List Truth) → AreColumnsOf rows columns
-    → AreOutcomes e columns was truths → length was ≡ length rows → ((row : ℕ) → row < length was → get_or now row false ≡ (get_or was row false && is_true (truth_lane truths row)))
+pub narrowed_by : (e : TruthExprOf) (rows : List (List CellValue)) (ranges : List RangeOf) (columns : List Column) (was now : List Bool) (truths : List Truth) → AreColumnsOf rows columns
+    → AreRangesOf ranges rows → AreOutcomesWithin e ranges columns was truths → length was ≡ length rows → ((row : ℕ) → row < length was → get_or now row false ≡ (get_or was row false && is_true (truth_lane truths row)))
     → (row : ℕ) → row < length rows → IsNarrowed e (get_or rows row []) (get_or was row false) (get_or now row false)
-narrowed_by e rows columns was now truths are outcomes long each row h =
+narrowed_by e rows ranges columns was now truths are within outcomes long each row h =
     let inside : row < length was = omega arith in
     let is = each row inside in
     record {
       out = λ unmarked. is ∙ ap (λ b. b && is_true (truth_lane truths row)) unmarked;
       stays = λ marked_is. (
         truth_lane truths row,
-        outcomes.each row (get_or rows row []) marked_is (are row h),
+        outcomes.each row (get_or rows row []) marked_is (are row h) (record { rows = rows; row = row; are_ranges = within; within = h; cells_are = refl }),
         is ∙ ap (λ b. b && is_true (truth_lane truths row)) marked_is,
       );
     }
 
-pub filter_narrows : TrueRowsPass → (e : TruthExprOf) (rows : List (List CellValue)) (columns : List Column) (was now : List Bool) (truths : List Truth) → AreColumnsOf rows columns
-    → AreOutcomes e columns was truths → length was ≡ length rows → length now ≡ length was
+pub filter_narrows : TrueRowsPass → (e : TruthExprOf) (rows : List (List CellValue)) (ranges : List RangeOf) (columns : List Column) (was now : List Bool) (truths : List Truth) → AreColumnsOf rows columns
+    → AreRangesOf ranges rows → AreOutcomesWithin e ranges columns was truths → length was ≡ length rows → length now ≡ length was
     → ((row : ℕ) → row < length was → get_or now row false ≡ (get_or was row false && is_true (truth_lane truths row))) → passing e (marked was rows) ≡ Some (marked now rows)
-filter_narrows law e rows columns was now truths are outcomes long same each =
-    passing_marked law e rows was now long (same ∙ long) (narrowed_by e rows columns was now truths are outcomes long each)
+filter_narrows law e rows ranges columns was now truths are within outcomes long same each =
+    passing_marked law e rows was now long (same ∙ long) (narrowed_by e rows ranges columns was now truths are within outcomes long each)
 
 -- ---- all rows, and rows by their numbers
 

@@ -6,6 +6,8 @@ use Rattle.block_summary.specs.Types.{cell_of}
 use Rattle.block_summary.specs.declared.number.PackedType.{PackedType}
 use Rattle.cell_types.specs.declared.value.Value.{Value}
 use Rattle.cell_types.specs.Value.{CellValue, null, value_view}
+use Rattle.row_order.specs.declared.keys_in_time.KeyColumn.{KeyColumn}
+use Rattle.row_order.specs.declared.keys_in_time.Keys.{Keys}
 use Rattle.query_exec.specs.declared.lanes.Lane.{Lane}
 
 -- a column has the cells of rows at a place
@@ -41,3 +43,19 @@ AreTextsOf {A} rows texts = (place : ℕ) (default : Option (Vec Value A)) → p
 -- a column is made of what was read: of numbers and nulls, or of values
 abbrev pub IsMadeOf : Lane → Option (List CellValue) → Column → Type 0
 IsMadeOf lane values column = (rows : List (List CellValue)) (place : ℕ) → IsLaneOf rows place lane → AreValuesOf rows place values → IsColumnOf rows place column
+
+-- the numbers of a column as keys of so many rows
+pub record AreKeysIn (lane : Lane) (column : KeyColumn) (rows : ℕ) (keys : Keys) : Type 0 where
+  pub column_is : keys.column ≡ column
+  pub type : lane.packed_type ≡ Some column.packed_type
+  pub numbers_are : keys.numbers.now ≡ lane.numbers.items
+  pub nulls_are : keys.nulls.now ≡ lane.nulls.items
+  pub long : length keys.numbers.now ≡ rows
+  pub marked : length keys.nulls.now ≡ rows
+
+-- keys stand for the cells of rows at a place
+pub record AreKeysOf (rows : List (List CellValue)) (place : ℕ) (column : KeyColumn) (keys : Keys) : Type 0 where
+  pub column_is : keys.column ≡ column
+  pub long : length keys.numbers.now ≡ length rows
+  pub marked : length keys.nulls.now ≡ length rows
+  pub stand : StandAt rows place column.packed_type keys.numbers.now keys.nulls.now

@@ -1,5 +1,5 @@
 -- How a run takes in rows.
-use Rattle.std.specs.Prelude.{◌≡◌, ◌<◌, ◌-◌, ◌++◌, ◌∷◌, [], ℕ, Bool, IfSome, Option, Some, None, List, count_by, drop, if◌then◌else◌, length, option_map}
+use Rattle.std.specs.Prelude.{◌≡◌, ◌<◌, ◌-◌, ◌++◌, ◌∷◌, [], ℕ, Bool, IfSome, Option, Some, None, List, count_by, drop, if◌then◌else◌, length, option_map, slice_get}
 use Rattle.std.specs.List.{All}
 use Rattle.cell_types.specs.Value.{CellValue}
 use Rattle.odata_types.specs.TypedTree.{TruthExprOf}
@@ -51,24 +51,36 @@ pub record IsSameRun (old new : Run) : Type 0 where
   pub stage : new.stage ≡ old.stage
   pub kinds : new.kept.kinds ≡ old.kept.kinds
 
--- behind the rows that a run kept it has these
+-- the column of a block whose values are kept in a place
+abbrev pub IsSourceOf : Option (List ℕ) → ℕ → ℕ → Type 0
+IsSourceOf None place col = col ≡ place
+IsSourceOf (Some places) place col = slice_get places place ≡ Some col
+
+-- of rows by their numbers the new ones, behind those that a run kept, are of the same use to the first step
+pub record AreOfUse (run : Run) (rows : List (List CellValue)) (old new : List ℕ) : Type 0 where
+  pub within : All (λ n. n < length rows) new
+  pub useful_are : useful (steps_of run) (run.kept.rows ++ selected_rows (places_of run) (numbered new rows))
+      ≡ useful (steps_of run) (run.kept.rows ++ selected_rows (places_of run) (numbered old rows))
+
+-- behind the rows that a run kept it has these, but for rows that the first step has no use for
 pub record HasKept (old new : Run) (rows : List (List CellValue)) : Type 0 where
   pub same : IsSameRun old new
   pub left_is : new.left ≡ old.left
   pub room_is : new.room ≡ old.room
   pub faulted_is : new.faulted ≡ old.faulted
-  pub rows_are : new.kept.rows ≡ old.kept.rows ++ rows
+  pub useful_are : useful (steps_of old) new.kept.rows ≡ useful (steps_of old) (old.kept.rows ++ rows)
 
 -- the stop looks for fewer rows by those of these that pass
 abbrev pub LooksOn : Run → Run → List (List CellValue) → Type 0
 LooksOn old new rows = new.room ≡ room_behind old.room (count_by (passes_each (conditions_of old)) rows)
 
--- a run took in rows: behind what it had it has what passed of them, in the columns that are picked
+-- a run took in rows: behind what it had it has what passed of them, in the columns that are picked, but for rows that the first step has no use for
 pub record HasTaken (old new : Run) (rows : List (List CellValue)) : Type 0 where
   pub same : IsSameRun old new
   pub left_is : new.left ≡ old.left
   pub looks_on : LooksOn old new rows
-  pub passed : rows_so_far new ≡ both (λ xs ys. xs ++ ys) (rows_so_far old) (option_map (selected_rows (places_of old)) (passing_all (conditions_of old) rows))
+  pub passed : option_map (useful (steps_of old)) (rows_so_far new)
+      ≡ option_map (useful (steps_of old)) (both (λ xs ys. xs ++ ys) (rows_so_far old) (option_map (selected_rows (places_of old)) (passing_all (conditions_of old) rows)))
 
 -- of the rows that a run kept it let go of some that the first step has no use for
 pub record HasCut (old new : Run) : Type 0 where
@@ -78,7 +90,7 @@ pub record HasCut (old new : Run) : Type 0 where
   pub faulted_is : new.faulted ≡ old.faulted
   pub useful_are : useful (steps_of old) new.kept.rows ≡ useful (steps_of old) old.kept.rows
 
--- a run took in the rows of the first of the blocks that are left, as `HasTaken`, but for rows that the first step has no use for
+-- a run took in the rows of the first of the blocks that are left, as `HasTaken`
 pub record HasTakenIn (old new : Run) (rows : List (List CellValue)) : Type 0 where
   pub same : IsSameRun old new
   pub left_are : new.left.items ≡ drop 1 old.left.items

@@ -1,13 +1,14 @@
 //! The columns of a block that are read for a condition.
-ghost use Rattle.std.specs.Prelude.{◌≡◌, ◌<◌, List, OnOk, IfOk, IsTrue, length, map, option_map};
+ghost use Rattle.std.specs.Prelude.{◌≡◌, ◌<◌, List, OnOk, IfOk, IfSome, IsTrue, length, map, option_map};
 ghost use Rattle.cell_types.specs.Value.{CellValue, value_view};
-ghost use Rattle.query_exec.specs.Lanes.{AreColumnsOf, AreLanesOf, AreTextsOf, IsLaneOf, IsMadeOf};
+ghost use Rattle.query_exec.specs.Lanes.{AreColumnsOf, AreKeysIn, AreKeysOf, AreLanesOf, AreTextsOf, IsLaneOf, IsMadeOf};
 
 use crate::block_texts::texts_at;
 use block_eval::Column;
 use block_summary::{PackedType, packed_type_of};
 use cell_types::Value;
 use row_eval::tables_are_inputs;
+use row_order::{KeyColumn, Keys};
 use std::alloc::{AllocError, Global};
 use table_store::Block;
 
@@ -72,6 +73,24 @@ impl Lane {
             (None, None) => Column::Unread,
         }
     }
+
+    /// The numbers of so many rows as keys of a column, if they were read and are of its type.
+    fn keys(&self, column: KeyColumn, rows: usize) -> Option<Keys<'_>>
+        ensures { IfSome result (AreKeysIn self.now column rows) }
+    {
+        if self.numbers.len() != rows || self.nulls.len() != rows {
+            return None;
+        }
+        match (self.packed_type, column.packed_type) {
+            (Some(PackedType::Integer), PackedType::Integer)
+            | (Some(PackedType::Decimal), PackedType::Decimal) => Some(Keys {
+                column,
+                numbers: &self.numbers,
+                nulls: &self.nulls,
+            }),
+            _ => None,
+        }
+    }
 }
 
 fn is_marked(marks: &[bool], place: usize) -> bool
@@ -118,6 +137,24 @@ impl Lanes {
             self.lanes[col].read(alloc, block, col, is_named)?;
         }
         Ok(())
+    }
+
+    /// Reads one column of a block: its numbers as keys, if they are of the type of these.
+    pub(crate) fn keys(
+        &mut self,
+        alloc: Global,
+        block: &Block<'_>,
+        col: usize,
+        column: KeyColumn,
+    ) -> Result<Option<Keys<'_>>, AllocError>
+        requires { col < length block.now.schema.columns }
+        ensures { IfOk result (λ made. IfSome made (AreKeysOf block.now.rows col column)) }
+    {
+        let Some(lane) = self.lanes.get_mut(col) else {
+            return Ok(None);
+        };
+        lane.read(alloc, block, col, true)?;
+        Ok(lane.keys(column, block.rows()))
     }
 
     /// The columns that were read, as numbers or texts.

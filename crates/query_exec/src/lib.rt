@@ -6,6 +6,7 @@ mod admitted;
 mod best;
 mod block_texts;
 mod fault;
+mod in_time;
 mod lanes;
 mod named;
 mod names;

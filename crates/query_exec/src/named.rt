@@ -1,6 +1,8 @@
 //! The columns that a condition names.
 
+use block_summary::Summary;
 use odata_types::{DateExpr, DecimalExpr, IntegerExpr, TextExpr, TruthExpr};
+use summary_eval::known_truth;
 
 fn mark(place: usize, named: &mut [bool]) {
     if place < named.len() {
@@ -57,17 +59,21 @@ fn mark_decimal(expr: &DecimalExpr, named: &mut [bool]) {
     }
 }
 
-/// Marks the columns that a condition names, by their numbers.
-pub(crate) fn mark_truth(expr: &TruthExpr, named: &mut [bool]) {
+/// Marks the columns that a condition names, by their numbers, on a block with these ranges: those of a part whose truth the ranges tell are
+/// not looked at.
+pub(crate) fn mark_truth(expr: &TruthExpr, summary: &Summary, named: &mut [bool]) {
+    if known_truth(expr, summary).is_some() {
+        return;
+    }
     match expr {
         TruthExpr::Null | TruthExpr::Literal(_) => {}
         TruthExpr::Column(place) => mark(*place, named),
-        TruthExpr::Not(operand) => mark_truth(operand, named),
+        TruthExpr::Not(operand) => mark_truth(operand, summary, named),
         TruthExpr::And(left, right)
         | TruthExpr::Or(left, right)
         | TruthExpr::CompareTruths(_, left, right) => {
-            mark_truth(left, named);
-            mark_truth(right, named);
+            mark_truth(left, summary, named);
+            mark_truth(right, summary, named);
         }
         TruthExpr::CompareIntegers(_, left, right) => {
             mark_integer(left, named);
@@ -89,6 +95,6 @@ pub(crate) fn mark_truth(expr: &TruthExpr, named: &mut [bool]) {
         TruthExpr::DecimalIn(operand, _) => mark_decimal(operand, named),
         TruthExpr::TextIn(operand, _) => mark_text(operand, named),
         TruthExpr::DateIn(operand, _) => mark_date(operand, named),
-        TruthExpr::TruthIn(operand, _) => mark_truth(operand, named),
+        TruthExpr::TruthIn(operand, _) => mark_truth(operand, summary, named),
     }
 }

@@ -44,11 +44,12 @@ fn narrow_by(
 {
     true_rows_pass();
     let mut named = Vec::from_elem(alloc, false, block.schema().columns.len())?;
-    mark_truth(condition, named.as_mut_slice());
+    let summary = block.summary();
+    mark_truth(condition, summary, named.as_mut_slice());
     lanes.read(alloc, block, named.as_slice())?;
     let texts = texts_of(alloc, block, named.as_slice())?;
     let columns = lanes.columns(alloc, texts.as_slice())?;
-    let truths = eval_block(alloc, condition, columns.as_slice(), wanted)?;
+    let truths = eval_block(alloc, condition, columns.as_slice(), summary, wanted)?;
     keep_true(truths.as_slice(), wanted);
     Ok(())
 }

@@ -139,21 +139,22 @@ fn room_behind(room: Option<u64>, passed: usize) -> Option<u64>
 }
 
 impl Run {
-    /// Keeps the rows of a block with these numbers.
+    /// Keeps the rows of a block with these numbers, but for those that the first step has no use for.
     fn keep(
         &mut self,
         alloc: Global,
         block: &Block<'_>,
-        numbers: &[usize],
+        numbers: Vec<usize>,
     ) -> Result<(), AllocError>
         requires block { MayTake self.old block.now }
-        requires within { All (λ n. n < length block.now.rows) numbers.now }
+        requires within { All (λ n. n < length block.now.rows) numbers.items }
         ensures { OnOk result (HasKept self.old self.new
-            (selected_rows (places_of self.old) (numbered numbers.now block.now.rows))) }
+            (selected_rows (places_of self.old) (numbered numbers.items block.now.rows))) }
     {
+        let numbers = self.in_time(alloc, block, numbers)?;
         match &self.places {
-            Some(places) => self.kept.take_places(alloc, block, places, numbers),
-            None => self.kept.take(alloc, block, numbers),
+            Some(places) => self.kept.take_places(alloc, block, places, &numbers),
+            None => self.kept.take(alloc, block, &numbers),
         }
     }
 
@@ -172,6 +173,6 @@ impl Run {
         if self.faulted {
             return Ok(());
         }
-        self.keep(alloc, block, &found.numbers)
+        self.keep(alloc, block, found.numbers)
     }
 }

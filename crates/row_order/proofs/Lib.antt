@@ -4,3 +4,6 @@ pub mod NumberLemmas
 pub mod BestLemmas
 pub mod PlainLemmas
 pub mod KeptLemmas
+pub mod KeyLemmas
+pub mod NearLemmas
+pub mod InTimeLemmas

@@ -7,3 +7,4 @@ pub mod Numbers
 pub mod Keys
 pub mod Best
 pub mod Plain
+pub mod InTime

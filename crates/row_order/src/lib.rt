@@ -3,8 +3,10 @@
 #![tactic(auto)]
 
 mod best;
+mod in_time;
 mod keyed;
 mod keys;
+mod keys_in_time;
 mod law;
 mod passing;
 mod pieces;
@@ -12,6 +14,8 @@ mod plain;
 mod sorting;
 
 pub use best::best_numbers;
+pub use in_time::{key_column, rows_in_time};
+pub use keys_in_time::{KeyColumn, Keys};
 pub use law::best_in_pieces;
 pub use passing::passing_numbers;
 pub use pieces::piece;

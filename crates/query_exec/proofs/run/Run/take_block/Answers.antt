@@ -1,9 +1,6 @@
-use Rattle.std.proofs.Common.{OnOk, ap, map, subst, ◌∙◌, ◌||◌}
+use Rattle.std.proofs.Common.{ap, map, subst, ◌∙◌, ◌||◌}
 use Rattle.odata_types.specs.TypedTree.{boxed_truth}
-use Rattle.row_columns.specs.Picked.{numbered}
-use Rattle.query_exec.specs.Picked.{selected_rows}
-use Rattle.query_exec.specs.Run.{places_of}
-use Rattle.query_exec.specs.Taking.{room_behind, ArePassing, HasKept}
+use Rattle.query_exec.specs.Taking.{room_behind, ArePassing}
 use Rattle.query_exec.proofs.KeepingLemmas.{kept_is_taken}
 use Rattle.query_exec.proofs.run.Run.take_block.Goals as goal
 
@@ -18,4 +15,4 @@ returns c =
     (c.room_behind-self.ensures ∙ ap (room_behind old.room) (c.len.ensures ∙ found.numbers.ok.0))
     (subst (λ cs. ArePassing (map boxed_truth cs) rows numbers found.faulted) c.deref.ensures.value c.in_ok-found.ensures)
     c.if-self-2.false
-    (subst (λ ns. OnOk c.keep.result (HasKept mid c.keep.new.self (selected_rows (places_of old) (numbered ns rows)))) c.deref-2.ensures.value c.keep.ensures)
+    c.keep.ensures

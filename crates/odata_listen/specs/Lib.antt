@@ -1,0 +1,3 @@
+pub mod Slow
+pub mod Watch
+pub mod Sockets

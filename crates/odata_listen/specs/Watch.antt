@@ -1,0 +1,25 @@
+-- When a folder is loaded anew, and what is done with what was loaded.
+use Rattle.std.specs.Prelude.{◌≡◌, ◌≢◌, ⊤, ℕ, List, Result, Ok, Err}
+use Rattle.table_store.specs.Catalog.{CatalogOf}
+use Rattle.odata_hub.specs.declared.hub.Hub.{Hub}
+use Rattle.odata_hub.specs.Connections.{Done}
+use Rattle.odata_hub.specs.Schedules.{Reload}
+use Rattle.odata_hub.specs.Stands.{IsHubStep}
+use Rattle.odata_serve.specs.declared.folders.FolderFault.{FolderFault}
+use Rattle.odata_serve.specs.declared.program.ProgramFault.{ProgramFault}
+use Rattle.odata_serve.specs.declared.program.ProgramFault.TheVariants.{Folder, NoMemory}
+use Rattle.odata_listen.specs.declared.watch.Look.{Look}
+use Rattle.odata_listen.specs.declared.watch.Look.TheVariants.{Same, Moves, Changed}
+
+-- what a look says of the state that it found, by the one that was taken and the one that the look before found
+abbrev pub Looks : List ℕ → List ℕ → List ℕ → Look → Type 0
+Looks taken seen found Same = found ≡ taken
+Looks taken seen found Changed = (found ≢ taken) × (found ≡ seen)
+Looks taken seen found Moves = (found ≢ taken) × (found ≢ seen)
+
+-- The hub has the tables that were loaded from now on. Where none were, or memory ran out, it is as it was.
+abbrev pub HandsOver : Result CatalogOf FolderFault → Hub → Hub → Result ⊤ ProgramFault → Type 0
+HandsOver (Ok catalog) old new (Ok u) = IsHubStep old (Reload catalog) Done new
+HandsOver (Ok catalog) old new (Err fault) = (fault ≡ NoMemory) × (new ≡ old)
+HandsOver (Err fault) old new (Ok u) = ⊥
+HandsOver (Err fault) old new (Err other) = (other ≡ Folder fault) × (new ≡ old)

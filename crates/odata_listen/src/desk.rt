@@ -1,0 +1,139 @@
+//! The hub with its places: what is kept of each, and its socket.
+ghost use Rattle.std.specs.Prelude.{◌≡◌, ◌<◌, ◌^◌, length};
+
+use crate::partings::Partings;
+use crate::peer::Peer;
+use crate::slow::{Due, Limits};
+use crate::sockets::Sockets;
+use odata_hub::{Conn, Hub, HubFault};
+use odata_rounds::{Outbox, Seat, Stepped, has_worked, round};
+use std::alloc::{AllocError, Global};
+use std::rc::Rc;
+use table_store::Catalog;
+
+/// The most bytes that are read at once.
+pub const READ_BYTES: usize = 16_384;
+
+/// Nothing waits at a place any more.
+fn clear_seat(seats: &mut [Seat], place: u32)
+    ensures len { length seats.new ≡ length seats.old }
+{
+    let at = place as usize;
+    if at < seats.len() {
+        seats[at].waits.clear();
+        seats[at].stepped = Stepped::Free;
+    }
+}
+
+/// A hub, its places, and room for one piece.
+#[derive(Drop)]
+pub struct Desk {
+    pub hub: Hub,
+    pub seats: Vec<Seat>,
+    pub sockets: Sockets,
+    partings: Partings,
+    room: Vec<u8>,
+    ghost some_room: { 0 < length room.items },
+    ghost few_seats: { length seats.items < 2 ^ 32 },
+}
+
+impl Desk {
+    ghost use Rattle.std.specs.List.{list_any};
+    ghost use Rattle.odata_rounds.specs.Rounds.{Rounds, is_working, sight};
+    ghost use Rattle.odata_hub.specs.Connections.{Done, Opened, answer_of};
+    ghost use Rattle.odata_hub.specs.Schedules.{Drop, Open};
+    ghost use Rattle.odata_hub.specs.Stands.{IsHubStep};
+    ghost use Rattle.odata_listen.specs.Sockets.{wire_at};
+
+    /// So many places, all of them free, over these tables.
+    pub fn new(alloc: Global, catalog: Rc<Catalog>, places: u32) -> Result<Desk, AllocError> {
+        let mut seats = Vec::with_capacity(alloc, places as usize)?;
+        for _place in 0..places {
+            seats.push(Seat {
+                waits: Outbox::new(alloc)?,
+                stepped: Stepped::Free,
+            })?;
+        }
+        Ok(Desk {
+            hub: Hub::new(alloc, catalog, places)?,
+            seats,
+            sockets: Sockets::new(alloc, places)?,
+            partings: Partings::new(alloc, places)?,
+            room: Vec::from_elem(alloc, 0u8, READ_BYTES)?,
+        })
+    }
+
+    /// One round, and whether something was done in it.
+    pub fn round(&mut self) -> bool
+        ensures rounds { Rounds (length self.old.seats.items)
+            (sight self.old.hub self.old.seats.items (wire_at self.old.sockets.slots.items))
+            (sight self.new.hub self.new.seats.items (wire_at self.new.sockets.slots.items)) }
+        ensures worked { result ≡ list_any is_working self.new.seats.items }
+    {
+        round(
+            &mut self.hub,
+            &mut self.seats,
+            &mut self.sockets,
+            &mut self.room,
+        );
+        has_worked(&self.seats)
+    }
+
+    /// Seats a connection at the least free place, and answers which; none where there is no free place.
+    pub fn open(&mut self, peer: Peer) -> Result<Conn, HubFault>
+        ensures { IsHubStep self.old.hub Open (answer_of (λ conn. Opened conn.0) result)
+            self.new.hub }
+    {
+        match self.hub.open() {
+            Ok(conn) => {
+                self.sockets.put(conn.0, peer);
+                Ok(conn)
+            }
+            Err(fault) => Err(fault),
+        }
+    }
+
+    /// Frees a place, and closes its socket: where it lingers, once its peer has closed too, or after a while.
+    pub fn free(&mut self, place: u32, lingers: bool) -> Result<(), HubFault>
+        ensures { IsHubStep self.old.hub (Drop place) (answer_of (λ _. Done) result)
+            self.new.hub }
+    {
+        clear_seat(&mut self.seats, place);
+        if let Some(peer) = self.sockets.close(place, &mut self.room) {
+            if lingers {
+                self.partings.hold(place, peer);
+            }
+        }
+        self.hub.drop_conn(Conn(place))
+    }
+
+    /// A second later: tends one of the sockets that are held open.
+    pub fn tend_parting(&mut self, at: u32) {
+        self.partings.tend(at, &mut self.room);
+    }
+
+    /// How many places there are.
+    pub fn places(&self) -> u32 {
+        self.seats.len() as u32
+    }
+
+    /// What became of a place in the last round.
+    pub fn stepped(&self, place: u32) -> Stepped {
+        match self.seats.get(place as usize) {
+            Some(seat) => seat.stepped,
+            None => Stepped::Free,
+        }
+    }
+
+    /// What is due of the connection at a place.
+    pub fn due(&self, place: u32, limits: &Limits, now: u64) -> Due {
+        let waits = match self.seats.get(place as usize) {
+            Some(seat) => !seat.waits.is_empty(),
+            None => false,
+        };
+        match self.sockets.times(place) {
+            Some(times) => times.due(limits, waits, now),
+            None => Due::Nothing,
+        }
+    }
+}

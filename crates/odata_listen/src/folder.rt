@@ -1,0 +1,94 @@
+//! A folder that is looked at, and taken up where it changed.
+use crate::journal::Journal;
+use crate::watch::{Look, hand_over, look_of};
+use odata_hub::Hub;
+use odata_serve::{Disk, Folders};
+use std::alloc::AllocError;
+use std::fs::Metadata;
+use std::os::unix::fs::MetadataExt;
+use std::rt::Files;
+use std::{fs, io};
+
+/// A folder, with its states as it was taken last and at the last look.
+#[derive(Drop)]
+pub struct Folder<'a> {
+    name: &'a str,
+    taken: String,
+    seen: String,
+}
+
+/// Adds to a text what tells one state of a file from another: its number, its length, and the times of its last write and change.
+fn push_state(text: &mut String, found: &Metadata) -> Result<(), AllocError> {
+    write!(
+        text,
+        "{} {} {} {} {} {}
+",
+        found.ino(),
+        found.len(),
+        found.mtime(),
+        found.mtime_nsec(),
+        found.ctime(),
+        found.ctime_nsec()
+    )
+}
+
+/// The state of a folder and of the files in it.
+fn read_state<R: Files + AllocGlobal + Clone + Drop>(rt: &R, name: &str) -> io::Result<String> {
+    let mut text = String::new(rt.alloc());
+    push_state(&mut text, &fs::metadata(rt, name)?)?;
+    for entry in fs::read_dir(rt, name)? {
+        let found = fs::metadata(rt, entry?.path())?;
+        push_state(&mut text, &found)?;
+    }
+    Ok(text)
+}
+
+/// The same; nothing where the folder can't be looked at.
+fn state_of<R: Files + AllocGlobal + Clone + Drop>(rt: &R, name: &str) -> String {
+    match read_state(rt, name) {
+        Ok(text) => text,
+        Err(_) => String::new(rt.alloc()),
+    }
+}
+
+impl<'a> Folder<'a> {
+    /// The folder as it is now, before it is loaded.
+    pub fn new<R: Files + AllocGlobal + Clone + Drop>(rt: &R, name: &'a str) -> Folder<'a> {
+        Folder {
+            name,
+            taken: state_of(rt, name),
+            seen: String::new(rt.alloc()),
+        }
+    }
+
+    /// Loads the folder; where it is behind that as it was at the last look, the hub has its tables from now on.
+    fn take_up<R: Files + Print + Eprint + AllocGlobal + Clone + Drop>(
+        &mut self,
+        rt: &R,
+        hub: &mut Hub,
+        journal: &mut Journal<'_, R>,
+    ) {
+        let loaded = Disk::new(rt).load(rt.alloc(), self.name);
+        let after = state_of(rt, self.name);
+        if look_of(&self.seen, &self.seen, &after) == Look::Same {
+            self.taken = after;
+            let end = hand_over(rt.alloc(), hub, loaded);
+            journal.reloaded(end);
+        }
+    }
+
+    /// Looks at the folder. Where it changed, and stands still since the last look, it is taken up.
+    pub fn look<R: Files + Print + Eprint + AllocGlobal + Clone + Drop>(
+        &mut self,
+        rt: &R,
+        hub: &mut Hub,
+        journal: &mut Journal<'_, R>,
+    ) {
+        let found = state_of(rt, self.name);
+        let says = look_of(&self.taken, &self.seen, &found);
+        self.seen = found;
+        if says == Look::Changed {
+            self.take_up(rt, hub, journal);
+        }
+    }
+}

@@ -1,0 +1,182 @@
+//! The sockets of the places. They tell no bytes, and count how often one had or took nothing, and how often one was found lost.
+ghost use Rattle.std.specs.Prelude.{◌≡◌, length};
+ghost use Rattle.std.specs.Io.{ReadsAtMost, WritesAtMost};
+ghost use Rattle.odata_http.specs.Device.{TakesSome};
+
+use crate::peer::Peer;
+use crate::slow::Times;
+use mio::Poll;
+use odata_rounds::{PeerFault, Peers};
+use std::alloc::{AllocError, Global};
+
+/// A place, and what is counted there.
+#[derive(Drop)]
+pub struct Slot {
+    pub peer: Option<Peer>,
+    waits: u64,
+    losses: u64,
+}
+
+impl Slot {
+    ghost use Rattle.odata_rounds.specs.Peers.{CountsFault, IsRead, IsWrite};
+    ghost use Rattle.odata_listen.specs.Sockets.{slot_wire};
+
+    /// Counts what a socket answered.
+    fn count(&mut self, answer: Result<usize, PeerFault>)
+        ensures { CountsFault (slot_wire self.old) (slot_wire self.new) answer }
+    {
+        match answer {
+            Ok(_) => {}
+            Err(PeerFault::Waits) => self.waits = self.waits.saturating_add(1),
+            Err(PeerFault::Lost) => self.losses = self.losses.saturating_add(1),
+        }
+    }
+
+    /// Gives bytes to the socket, where there is one.
+    fn write_peer(&mut self, bytes: &[u8]) -> Result<usize, PeerFault>
+        ensures bound { WritesAtMost result bytes.now }
+        ensures some { TakesSome bytes.now result }
+        ensures counts { slot_wire self.new ≡ slot_wire self.old }
+    {
+        match &mut self.peer {
+            Some(peer) => peer.write(bytes),
+            None => Err(PeerFault::Lost),
+        }
+    }
+
+    /// Takes bytes of the socket, where there is one.
+    fn read_peer(&mut self, buf: &mut [u8]) -> Result<usize, PeerFault>
+        ensures bound { ReadsAtMost result buf.new }
+        ensures counts { slot_wire self.new ≡ slot_wire self.old }
+    {
+        match &mut self.peer {
+            Some(peer) => peer.read(buf),
+            None => Err(PeerFault::Lost),
+        }
+    }
+
+    fn write(&mut self, bytes: &[u8]) -> Result<usize, PeerFault>
+        ensures { IsWrite (slot_wire self.old) (slot_wire self.new) bytes.now result }
+    {
+        let answer = self.write_peer(bytes);
+        self.count(answer);
+        answer
+    }
+
+    fn read(&mut self, buf: &mut [u8]) -> Result<usize, PeerFault>
+        ensures { IsRead (slot_wire self.old) (slot_wire self.new) buf.new result }
+    {
+        let answer = self.read_peer(buf);
+        self.count(answer);
+        answer
+    }
+}
+
+/// The sockets of so many places.
+#[derive(Drop)]
+pub struct Sockets {
+    pub slots: Vec<Slot>,
+}
+
+impl Sockets {
+    /// So many places, at none of which is a socket.
+    pub fn new(alloc: Global, places: u32) -> Result<Sockets, AllocError> {
+        let mut slots = Vec::with_capacity(alloc, places as usize)?;
+        for _place in 0..places {
+            slots.push(Slot {
+                peer: None,
+                waits: 0,
+                losses: 0,
+            })?;
+        }
+        Ok(Sockets { slots })
+    }
+
+    /// Puts a socket at a place.
+    pub fn put(&mut self, place: u32, peer: Peer) {
+        if let Some(slot) = self.slots.get_mut(place as usize) {
+            slot.peer = Some(peer);
+        }
+    }
+
+    /// Sends no more to the socket at a place, and gives it where its peer may still send.
+    pub fn close(&mut self, place: u32, room: &mut [u8]) -> Option<Peer>
+        ensures len { length room.new ≡ length room.old }
+    {
+        if let Some(slot) = self.slots.get_mut(place as usize) {
+            if let Some(mut peer) = slot.peer.take() {
+                if peer.close(room) {
+                    return Some(peer);
+                }
+            }
+        }
+        None
+    }
+
+    /// Whether there is a place with no socket.
+    pub fn has_free(&self) -> bool {
+        self.slots.iter().any(|slot| slot.peer.is_none())
+    }
+
+    /// Has the system report the socket at a place under its number.
+    pub fn register(&mut self, poll: &Poll, place: u32) -> bool {
+        match self.slots.get_mut(place as usize) {
+            Some(slot) => match &mut slot.peer {
+                Some(peer) => peer.register(poll, place),
+                None => false,
+            },
+            None => false,
+        }
+    }
+
+    /// Notes what a visit that worked did at a place.
+    pub fn note_work(&mut self, place: u32, now: u64) {
+        if let Some(slot) = self.slots.get_mut(place as usize) {
+            if let Some(peer) = &mut slot.peer {
+                peer.note_work(now);
+            }
+        }
+    }
+
+    /// Ends the stream of the socket at a place.
+    pub fn end_stream(&mut self, place: u32, now: u64) {
+        if let Some(slot) = self.slots.get_mut(place as usize) {
+            if let Some(peer) = &mut slot.peer {
+                peer.end(now);
+            }
+        }
+    }
+
+    /// The times of the socket at a place.
+    pub fn times(&self, place: u32) -> Option<Times> {
+        match self.slots.get(place as usize) {
+            Some(slot) => match &slot.peer {
+                Some(peer) => Some(peer.times),
+                None => None,
+            },
+            None => None,
+        }
+    }
+}
+
+impl Peers for Sockets {
+    ghost use Rattle.odata_listen.specs.Sockets.{wire_at};
+
+    ghost wires = { λ s place. wire_at s.slots.items place };
+
+    fn write(&mut self, place: u32, bytes: &[u8]) -> Result<usize, PeerFault> {
+        let place = place as usize;
+        if place >= self.slots.len() {
+            return Err(PeerFault::Lost);
+        }
+        self.slots[place].write(bytes)
+    }
+
+    fn read(&mut self, place: u32, buf: &mut [u8]) -> Result<usize, PeerFault> {
+        let place = place as usize;
+        if place >= self.slots.len() {
+            return Err(PeerFault::Lost);
+        }
+        self.slots[place].read(buf)
+    }
+}

@@ -1,0 +1,54 @@
+//! When a folder is loaded anew, and what is done with what was loaded.
+ghost use Rattle.std.specs.Prelude.{◌≡◌};
+ghost use Rattle.odata_listen.specs.Watch.{HandsOver, Looks};
+
+use odata_hub::Hub;
+use odata_serve::{FolderFault, ProgramFault};
+use std::alloc::Global;
+use std::rc::Rc;
+use table_store::Catalog;
+
+/// What a look at a folder says.
+#[derive(Clone, Copy, Debug, PartialEq, Eq)]
+pub enum Look {
+    /// It is as it was taken.
+    Same,
+    /// It changed since it was looked at last.
+    Moves,
+    /// It changed, and stands still since it was looked at last.
+    Changed,
+}
+
+/// What a look says that found a folder in one state, where it was taken in another, and seen in a third at the look before.
+pub fn look_of(taken: &str, seen: &str, found: &str) -> Look
+    ensures { Looks taken.now seen.now found.now result }
+{
+    if found == taken {
+        Look::Same
+    } else if found == seen {
+        Look::Changed
+    } else {
+        Look::Moves
+    }
+}
+
+#[tactic(auto, using(crate::proofs::ReloadLemmas::reload_step))]
+/// Hands the tables of a folder to the hub; where the folder was refused, the hub keeps those that it has.
+pub fn hand_over(
+    alloc: Global,
+    hub: &mut Hub,
+    loaded: Result<Catalog, FolderFault>,
+) -> Result<(), ProgramFault>
+    ensures { HandsOver loaded hub.old hub.new result }
+{
+    match loaded {
+        Ok(catalog) => {
+            let Ok(tables) = Rc::new(alloc, catalog) else {
+                return Err(ProgramFault::NoMemory);
+            };
+            hub.reload(tables);
+            Ok(())
+        }
+        Err(fault) => Err(ProgramFault::Folder(fault)),
+    }
+}

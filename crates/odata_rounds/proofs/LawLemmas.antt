@@ -1,0 +1,187 @@
+-- What visits and rounds move, and the laws.
+use Rattle.std.proofs.Common.{◌≡◌, ◌≢◌, ℕ, ◌+◌, ◌<◌, ◌≤◌, zero, suc, List, [], ◌∷◌, ◌++◌, length, set, Option, None, Some, refl, sym, ap, subst, ◌∙◌, inl, inr, arith, append-nil, append_assoc}
+use Rattle.std.specs.Prelude.{slice_get, Bool, true, false, ◌==◌, if◌then◌else◌}
+use Rattle.std.proofs.lemmas.Bool.Decides.{eqb_tells}
+use Rattle.std.specs.Io.KnownBytes.{Appends, Consumes}
+use Rattle.odata_hub.specs.Connections.{Answer, Call, Done, End, Gave, Opened, Own, Piece, Refused, Take, Turn, Went, came_with, given_by, stream_of, taken_of}
+use Rattle.odata_hub.specs.Laws.{GivesReplies, IsFrontOf}
+use Rattle.odata_hub.specs.Schedules.{Drop, Event, Happening, On, Open, Reload, own_before, own_of}
+use Rattle.odata_hub.specs.Streams.{bytes_of}
+use Rattle.odata_rounds.specs.declared.seat.Seat.{Seat}
+use Rattle.odata_rounds.specs.Peers.{WireOf}
+use Rattle.odata_rounds.specs.Visits.{IsHubRun, Moves, at_place, piece_of, pieces_of}
+use Rattle.odata_rounds.specs.Rounds.{Rounds, ServesAt, SightOf}
+use Rattle.odata_rounds.specs.Laws.{AreAccepted, AreCalls, IsAccepted, IsCall, IsServed, Moved, MovesAt, MovesJoin, RoundMoves, ServesSocket, waits_at}
+use Rattle.odata_rounds.proofs.RunLemmas.{run_joins, run_none}
+use Rattle.odata_rounds.proofs.VisitLemmas.{appends_none, consumes_none}
+
+-- ---- lists of calls
+
+given_join : (os ps : List Own) → taken_of (os ++ ps) ≡ taken_of os ++ taken_of ps
+given_join [] ps = refl
+given_join (o ∷ os) ps = ap (λ l. given_by o.answer ++ l) (given_join os ps) ∙ sym (append_assoc (given_by o.answer) (taken_of os) (taken_of ps))
+
+pieces_join : (os ps : List Own) → pieces_of (os ++ ps) ≡ pieces_of os ++ pieces_of ps
+pieces_join [] ps = refl
+pieces_join (o ∷ os) ps = ap (λ l. piece_of o.call ++ l) (pieces_join os ps) ∙ sym (append_assoc (piece_of o.call) (pieces_of os) (pieces_of ps))
+
+appends_join : (a b c : Option (List ℕ)) (xs ys : List ℕ) → Appends a b xs → Appends b c ys → Appends a c (xs ++ ys)
+appends_join None b c xs ys p q = tt
+appends_join (Some x) None c xs ys p q = absurd p
+appends_join (Some x) (Some y) None xs ys p q = absurd q
+appends_join (Some x) (Some y) (Some z) xs ys p q = q ∙ ap (λ l. l ++ ys) p ∙ append_assoc x xs ys
+
+consumes_join : (a b c : Option (List ℕ)) (xs ys : List ℕ) → Consumes a b xs → Consumes b c ys → Consumes a c (xs ++ ys)
+consumes_join None b c xs ys p q = tt
+consumes_join (Some x) None c xs ys p q = absurd p
+consumes_join (Some x) (Some y) None xs ys p q = absurd q
+consumes_join (Some x) (Some y) (Some z) xs ys p q = p ∙ ap (λ l. xs ++ l) q ∙ sym (append_assoc xs ys z)
+
+pub moves_join : MovesJoin
+moves_join a b c before mid after os ps p q =
+    let P : List ℕ → Type 0 = λ l. Consumes a.left c.left l in record {
+      sent = p.sent ++ q.sent;
+      output = ap (λ l. before ++ l) (given_join os ps) ∙ sym (append_assoc before (taken_of os) (taken_of ps))
+          ∙ ap (λ l. l ++ taken_of ps) p.output ∙ append_assoc p.sent mid (taken_of ps) ∙ ap (λ l. p.sent ++ l) q.output
+          ∙ sym (append_assoc p.sent q.sent after);
+      taken = appends_join _ _ _ p.sent q.sent p.taken q.taken;
+      left = subst P (sym (pieces_join os ps)) (consumes_join _ _ _ (pieces_of os) (pieces_of ps) p.left q.left);
+    }
+
+moves_none : (w : WireOf) (waits : List ℕ) → Moves w w waits waits []
+moves_none w waits = record { sent = []; output = append-nil waits; taken = appends_none _ _ refl; left = consumes_none _ _ refl }
+
+-- ---- the own events of a place
+
+own_if : (b : Bool) (o : Own) (more os ps : List Own) → more ≡ os ++ ps → (if b then o ∷ more else more) ≡ (if b then o ∷ os else os) ++ ps
+own_if true o more os ps e = ap (λ l. o ∷ l) e
+own_if false o more os ps e = e
+
+own_before_join : (place : ℕ) (event : Event) (answer : Answer) (more os ps : List Own) → IsCall event → more ≡ os ++ ps
+    → own_before place event answer more ≡ own_before place event answer os ++ ps
+own_before_join place (On at call) answer more os ps i e = own_if (at == place) (record { call = call; answer = answer }) more os ps e
+own_before_join place Open answer more os ps i e = absurd i
+own_before_join place (Drop at) answer more os ps i e = absurd i
+own_before_join place (Reload catalog) answer more os ps i e = absurd i
+
+own_join : (place : ℕ) (xs ys : List Happening) → AreCalls xs → own_of place (xs ++ ys) ≡ own_of place xs ++ own_of place ys
+own_join place [] ys c = refl
+own_join place (x ∷ xs) ys c =
+    own_before_join place x.event x.answer (own_of place (xs ++ ys)) (own_of place xs) (own_of place ys) c.0 (own_join place xs ys c.1)
+
+own_here : (place : ℕ) (os : List Own) → own_of place (at_place place os) ≡ os
+own_here place [] = refl
+own_here place (o ∷ os) = elim (eqb_tells place place) [
+  | inl h ↦ rw h.0 (ap (λ l. o ∷ l) (own_here place os))
+  | inr h ↦ absurd (h.1 refl)
+]
+
+own_away : (place other : ℕ) (os : List Own) → place ≢ other → own_of other (at_place place os) ≡ []
+own_away place other [] away = refl
+own_away place other (o ∷ os) away = elim (eqb_tells place other) [
+  | inl h ↦ absurd (away h.1)
+  | inr h ↦ rw h.0 (own_away place other os away)
+]
+
+calls_at : (place : ℕ) (os : List Own) → AreCalls (at_place place os)
+calls_at place [] = tt
+calls_at place (o ∷ os) = (tt, calls_at place os)
+
+calls_join : (xs ys : List Happening) → AreCalls xs → AreCalls ys → AreCalls (xs ++ ys)
+calls_join [] ys c d = d
+calls_join (x ∷ xs) ys c d = (c.0, calls_join xs ys c.1 d)
+
+-- ---- what waits at a place
+
+waits_here : (seats : List Seat) (place : ℕ) (seat : Seat) → slice_get seats place ≡ Some seat → waits_at seats place ≡ seat.waits
+waits_here [] place seat e = absurd (cc e)
+waits_here (x ∷ seats) zero seat e = let same : x ≡ seat = cc e in ap (λ (s : Seat). s.waits) same
+waits_here (x ∷ seats) (suc place) seat e = waits_here seats place seat e
+
+waits_set : (seats : List Seat) (place : ℕ) (seat next : Seat) → slice_get seats place ≡ Some seat → waits_at (set seats place next) place ≡ next.waits
+waits_set [] place seat next e = absurd (cc e)
+waits_set (x ∷ seats) zero seat next e = refl
+waits_set (x ∷ seats) (suc place) seat next e = waits_set seats place seat next e
+
+waits_away : (seats : List Seat) (place other : ℕ) (next : Seat) → other ≢ place → waits_at (set seats place next) other ≡ waits_at seats other
+waits_away [] place other next away = refl
+waits_away (x ∷ seats) zero zero next away = absurd (away refl)
+waits_away (x ∷ seats) zero (suc other) next away = refl
+waits_away (x ∷ seats) (suc place) zero next away = refl
+waits_away (x ∷ seats) (suc place) (suc other) next away = waits_away seats place other next (λ e. away (ap suc e))
+
+-- ---- rounds
+
+visit_moves_here : (place : ℕ) (a b : SightOf) (s : ServesAt place a b) → MovesAt place a b (at_place place s.serves.os)
+visit_moves_here place a b s =
+    let P : List Own → Type 0 = λ os. Moves (a.wires place) (b.wires place) (waits_at a.seats place) (waits_at b.seats place) os in
+    let Q : List ℕ → Type 0 = λ l. Moves (a.wires place) (b.wires place) l (waits_at b.seats place) s.serves.os in
+    let R : List ℕ → Type 0 = λ l. Moves (a.wires place) (b.wires place) s.seat.waits l s.serves.os in
+    let after : waits_at b.seats place ≡ s.next.waits =
+    ap (λ l. waits_at l place) s.seats_are ∙ waits_set a.seats place s.seat s.next s.seat_is in
+    subst P (sym (own_here place s.serves.os))
+    (subst Q (sym (waits_here a.seats place s.seat s.seat_is)) (subst R (sym after) s.serves.moves))
+
+visit_moves_away : (place other : ℕ) (a b : SightOf) (s : ServesAt place a b) → other ≢ place → MovesAt other a b (at_place place s.serves.os)
+visit_moves_away place other a b s away =
+    let P : List Own → Type 0 = λ os. Moves (a.wires other) (b.wires other) (waits_at a.seats other) (waits_at b.seats other) os in
+    let Q : WireOf → Type 0 = λ w. Moves (a.wires other) w (waits_at a.seats other) (waits_at b.seats other) [] in
+    let R : List ℕ → Type 0 = λ l. Moves (a.wires other) (a.wires other) (waits_at a.seats other) l [] in
+    let after : waits_at b.seats other ≡ waits_at a.seats other =
+    ap (λ l. waits_at l other) s.seats_are ∙ waits_away a.seats place other s.next away in
+    subst P (sym (own_away place other s.serves.os (λ e. away (sym e))))
+    (subst Q (sym (s.serves.others other away)) (subst R (sym after) (moves_none (a.wires other) (waits_at a.seats other))))
+
+visit_moves : (place : ℕ) (a b : SightOf) (s : ServesAt place a b) (other : ℕ) → MovesAt other a b (at_place place s.serves.os)
+visit_moves place a b s other = elim (eqb_tells other place) [
+  | inl h ↦ let P : ℕ → Type 0 = λ q. MovesAt q a b (at_place place s.serves.os) in subst P (sym h.1) (visit_moves_here place a b s)
+  | inr h ↦ visit_moves_away place other a b s h.1
+]
+
+moved_more : (place : ℕ) (a b c : SightOf) → Moved a b → ServesAt place b c → Moved a c
+moved_more place a b c m s = record {
+  events = m.events ++ at_place place s.serves.os;
+  calls = calls_join m.events (at_place place s.serves.os) m.calls (calls_at place s.serves.os);
+  run = run_joins a.hub b.hub c.hub m.events (at_place place s.serves.os) m.run s.serves.run;
+  moves = λ other.
+      let P : List Own → Type 0 = λ os. Moves (a.wires other) (c.wires other) (waits_at a.seats other) (waits_at c.seats other) os in
+      subst P (sym (own_join other m.events (at_place place s.serves.os) m.calls))
+      (moves_join _ _ _ _ _ _ _ _ (m.moves other) (visit_moves place b c s other));
+}
+
+moved_none : (a b : SightOf) → b ≡ a → Moved a b
+moved_none a b e = let P : SightOf → Type 0 = λ x. Moved a x in subst P (sym e)
+    (record { events = []; calls = tt; run = run_none a.hub; moves = λ other. moves_none (a.wires other) (waits_at a.seats other) })
+
+pub round_moves : RoundMoves
+round_moves zero a b r = moved_none a b r
+round_moves (suc place) a b r = moved_more place a r.0 b (round_moves place a r.0 r.1) r.2
+
+-- ---- what a socket was given
+
+stream_join : (call : Call) (answer : Answer) (os : List Own) → IsAccepted call answer → bytes_of (stream_of os) ≡ pieces_of os
+    → bytes_of (came_with call answer ++ stream_of os) ≡ piece_of call ++ pieces_of os
+stream_join (Piece catalog bytes) answer os a e = rw a (ap (λ l. bytes ++ l) e)
+stream_join End answer os a e = e
+stream_join Turn answer os a e = e
+stream_join (Take room) answer os a e = e
+
+stream_is : (os : List Own) → AreAccepted os → bytes_of (stream_of os) ≡ pieces_of os
+stream_is [] a = refl
+stream_is (o ∷ os) a = stream_join o.call o.answer os a.0 (stream_is os a.1)
+
+front_of : (sent after taken all : List ℕ) → taken ≡ sent ++ after → IsFrontOf taken all → IsFrontOf sent all
+front_of sent after taken all e f = (after ++ f.0, sym (append_assoc sent after f.0) ∙ ap (λ l. l ++ f.0) (sym e) ∙ f.1)
+
+pub serves_socket : GivesReplies → ServesSocket
+serves_socket gives start end place events old new after run m =
+    let g = gives start end place events run in record {
+      sent = m.sent;
+      taken = m.taken;
+      some = g.some;
+      first = g.first;
+      front = front_of m.sent after (taken_of (own_of place events)) g.some m.output g.front;
+      whole = λ all r. front_of m.sent after (taken_of (own_of place events)) all m.output (g.whole all r);
+      left = m.left;
+      stream = stream_is (own_of place events);
+    }

@@ -1,0 +1,4 @@
+mod RunLemmas
+mod VisitLemmas
+mod RoundLemmas
+mod LawLemmas

@@ -1,0 +1,81 @@
+-- What follows for the connection at a place from what its visits do.
+use Rattle.std.specs.Prelude.{◌≡◌, ⊤, ℕ, zero, suc, List, [], ◌∷◌, ◌++◌}
+use Rattle.std.specs.Io.KnownBytes.{Appends, Consumes}
+use Rattle.odata_hub.specs.declared.hub.Hub.{Hub}
+use Rattle.odata_hub.specs.Connections.{Answer, Call, Done, End, Own, Piece, Take, Turn, has_ended, stream_of, taken_of}
+use Rattle.odata_hub.specs.Laws.{IsFrontOf}
+use Rattle.odata_hub.specs.Replies.{AreFirstReplies, AreReplies}
+use Rattle.odata_hub.specs.Schedules.{Event, Happening, HubOf, HubRun, On, opened, own_of}
+use Rattle.odata_hub.specs.Streams.{bytes_of}
+use Rattle.odata_rounds.specs.declared.seat.Seat.{Seat}
+use Rattle.odata_rounds.specs.Peers.{WireOf}
+use Rattle.odata_rounds.specs.Visits.{IsHubRun, Moves, pieces_of}
+use Rattle.odata_rounds.specs.Rounds.{Rounds, SightOf}
+
+-- the bytes that wait for the socket at a place; none where there is no such place
+abbrev pub waits_at : List Seat → ℕ → List ℕ
+waits_at [] place = []
+waits_at (seat ∷ seats) zero = seat.waits
+waits_at (seat ∷ seats) (suc place) = waits_at seats place
+
+-- what moved between the connection at a place and its socket, by its own events among these
+abbrev pub MovesAt : ℕ → SightOf → SightOf → List Happening → Type 0
+MovesAt place old new events =
+    Moves (old.wires place) (new.wires place) (waits_at old.seats place) (waits_at new.seats place) (own_of place events)
+
+abbrev pub IsCall : Event → Type 0
+IsCall (On place call) = ⊤
+IsCall event = ⊥
+
+-- each event is a call on a connection
+abbrev pub AreCalls : List Happening → Type 0
+AreCalls [] = ⊤
+AreCalls (h ∷ hs) = IsCall h.event × AreCalls hs
+
+-- the calls of rounds are a run of the hub, and at each place what moved is by its own of them
+pub record Moved (old new : SightOf) : Type 0 where
+  pub events : List Happening
+  pub calls : AreCalls events
+  pub run : IsHubRun old.hub events new.hub
+  pub moves : (place : ℕ) → MovesAt place old new events
+
+-- a round moves so
+abbrev pub RoundMoves : Type 0
+RoundMoves = (places : ℕ) (old new : SightOf) → Rounds places old new → Moved old new
+
+-- what moved in turn moved together
+abbrev pub MovesJoin : Type 0
+MovesJoin = (a b c : WireOf) (before mid after : List ℕ) (os ps : List Own) → Moves a b before mid os → Moves b c mid after ps
+    → Moves a c before after (os ++ ps)
+
+-- one run of a hub behind another is a run
+abbrev pub RunsJoin : Type 0
+RunsJoin = (a b c : Hub) (xs ys : List Happening) → IsHubRun a xs b → IsHubRun b ys c → IsHubRun a (xs ++ ys) c
+
+-- no piece was refused
+abbrev pub IsAccepted : Call → Answer → Type 0
+IsAccepted (Piece catalog bytes) answer = answer ≡ Done
+IsAccepted End answer = ⊤
+IsAccepted Turn answer = ⊤
+IsAccepted (Take room) answer = ⊤
+
+abbrev pub AreAccepted : List Own → Type 0
+AreAccepted [] = ⊤
+AreAccepted (o ∷ os) = IsAccepted o.call o.answer × AreAccepted os
+
+-- What a socket took is a front of the replies of the stream, each head answered from its own tables; and the stream is what was read from the socket,
+-- where no piece of it was refused.
+pub record IsServed (os : List Own) (old new : WireOf) : Type 0 where
+  pub sent : List ℕ
+  pub taken : Appends old.taken new.taken sent
+  pub some : List ℕ
+  pub first : AreFirstReplies (stream_of os) (has_ended os) some
+  pub front : IsFrontOf sent some
+  pub whole : (all : List ℕ) → AreReplies (stream_of os) (has_ended os) all → IsFrontOf sent all
+  pub left : Consumes old.left new.left (pieces_of os)
+  pub stream : AreAccepted os → bytes_of (stream_of os) ≡ pieces_of os
+
+-- Whatever happened since a connection was opened: its socket, for which nothing waited then, was served so by its own events.
+abbrev pub ServesSocket : Type 0
+ServesSocket = (start end : HubOf) (place : ℕ) (events : List Happening) (old new : WireOf) (after : List ℕ)
+    → HubRun start (opened place ∷ events) end → Moves old new [] after (own_of place events) → IsServed (own_of place events) old new

@@ -1,0 +1,4 @@
+pub mod Peers
+pub mod Visits
+pub mod Rounds
+pub mod Laws

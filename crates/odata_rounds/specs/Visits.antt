@@ -1,0 +1,149 @@
+-- What one visit does at a place: the calls on its connection, and what became of its socket and of the bytes that wait for that.
+use Rattle.std.specs.Prelude.{◌≡◌, ◌≢◌, ◌⊎◌, ⊤, ℕ, true, List, [], ◌∷◌, ◌++◌, map, Result, Ok, Err}
+use Rattle.std.specs.Io.KnownBytes.{Appends, Consumes}
+use Rattle.table_store.specs.Catalog.{CatalogOf}
+use Rattle.odata_http.specs.Device.{Counts}
+use Rattle.odata_hub.specs.declared.hub.Hub.{Hub}
+use Rattle.odata_hub.specs.declared.answers.HubFault.{HubFault}
+use Rattle.odata_hub.specs.declared.answers.HubFault.TheVariants as refusal
+use Rattle.odata_hub.specs.declared.answers.Turned.TheVariants.{Idle, Worked as TurnWorked}
+use Rattle.odata_hub.specs.Connections.{Answer, Call, Done, End, Gave, Own, Piece, Refused, Take, Turn, Went, taken_of}
+use Rattle.odata_hub.specs.Schedules.{Happening, HubOf, HubRun, On, conn_at}
+use Rattle.odata_hub.specs.Stands.{StandsFor, TellsOver}
+use Rattle.odata_rounds.specs.declared.answers.Stepped.{Stepped}
+use Rattle.odata_rounds.specs.declared.answers.Stepped.TheVariants.{Free, Rests, Worked, Answered, Lost, Failed}
+use Rattle.odata_rounds.specs.declared.outbox.TheConstants.{TAKE_BYTES}
+use Rattle.odata_rounds.specs.Peers.{KeepsOthers, WireOf}
+
+-- a schedule of calls leads from one hub to the other
+abbrev pub IsHubRun : Hub → List Happening → Hub → Type 0
+IsHubRun old events new = (h : HubOf) → StandsFor old h → (n : HubOf) × HubRun h events n × StandsFor new n
+
+-- the calls on the connection at a place, as happenings of the hub
+abbrev pub at_place : ℕ → List Own → List Happening
+at_place place os = map (λ o. record { event = On place o.call; answer = o.answer }) os
+
+abbrev pub took : Answer → Own
+took answer = record { call = Take TAKE_BYTES; answer = answer }
+
+abbrev pub went : Answer → Own
+went answer = record { call = Turn; answer = answer }
+
+abbrev pub piece : CatalogOf → List ℕ → Answer → Own
+piece catalog bytes answer = record { call = Piece catalog bytes; answer = answer }
+
+abbrev pub end : Answer → Own
+end answer = record { call = End; answer = answer }
+
+-- what a visit came to: no connection is at the place; only bytes were written; a turn was answered so; or a piece or the end was
+pub data Last : Type 0 where
+  nowhere : Last
+  wrote : Last
+  turned : (answer : Answer) → Last
+  came : (answer : Answer) → Last
+
+-- the calls behind an idle turn: one piece comes, or the end is told, or nothing
+pub data AfterIdle : Last → List Own → Type 0 where
+  nothing : AfterIdle (turned (Went Idle)) []
+  reads : (catalog : CatalogOf) (b : ℕ) (bytes : List ℕ) (answer : Answer)
+      → AfterIdle (came answer) (piece catalog (b ∷ bytes) answer ∷ [])
+  ends : (answer : Answer) → AfterIdle (came answer) (end answer ∷ [])
+
+-- the calls where no output waits: one turn, and what comes where that was idle
+pub data AfterTake : Last → List Own → Type 0 where
+  goes : (answer : Answer) → AfterTake (turned answer) (went answer ∷ [])
+  idles : (last : Last) (os : List Own) → AfterIdle last os → AfterTake last (went (Went Idle) ∷ os)
+
+-- the calls where nothing waits for the socket: output is taken; and where there was none, the others
+pub data Visit : Last → List Own → Type 0 where
+  refused : (fault : HubFault) → Visit nowhere (took (Refused fault) ∷ [])
+  gives : (b : ℕ) (bytes : List ℕ) → Visit wrote (took (Gave (b ∷ bytes)) ∷ [])
+  none : (last : Last) (os : List Own) → AfterTake last os → Visit last (took (Gave []) ∷ os)
+
+-- no call where bytes wait
+abbrev pub IsVisit : List ℕ → Last → List Own → Type 0
+IsVisit [] last os = Visit last os
+IsVisit (b ∷ waits) last os = (last ≡ wrote) × (os ≡ [])
+
+-- the bytes of the pieces among calls
+abbrev pub piece_of : Call → List ℕ
+piece_of (Piece catalog bytes) = bytes
+piece_of End = []
+piece_of Turn = []
+piece_of (Take room) = []
+
+abbrev pub pieces_of : List Own → List ℕ
+pieces_of [] = []
+pieces_of (o ∷ os) = piece_of o.call ++ pieces_of os
+
+-- What moved between a connection and its socket, by the calls on the connection: the socket took the bytes that waited for it and those that were
+-- taken of the output, in order, but for those that still wait; and the pieces are the bytes that were read, each once.
+pub record Moves (old new : WireOf) (before after : List ℕ) (os : List Own) : Type 0 where
+  pub sent : List ℕ
+  pub output : before ++ taken_of os ≡ sent ++ after
+  pub taken : Appends old.taken new.taken sent
+  pub left : Consumes old.left new.left (pieces_of os)
+
+-- the connection at the place is over: a closing head was cut off, and all replies were taken
+abbrev pub IsOverAt : Hub → ℕ → Type 0
+IsOverAt hub place = (h : HubOf) → StandsFor hub h → TellsOver (conn_at h place) (Ok true)
+
+-- bytes wait, or the connection has nothing to do
+abbrev pub IsAtRest : List ℕ → Last → Type 0
+IsAtRest [] last = last ≡ turned (Went Idle)
+IsAtRest (b ∷ waits) last = ⊤
+
+-- the socket took bytes, or the last call did something
+abbrev pub IsWork : List ℕ → Last → Type 0
+IsWork [] last = (last ≡ turned (Went TurnWorked)) ⊎ (last ≡ came Done)
+IsWork (b ∷ sent) last = ⊤
+
+-- a call was refused, and not since the stream had ended
+abbrev pub IsFailure : Last → Type 0
+IsFailure last = (fault : HubFault) × ((last ≡ turned (Refused fault)) ⊎ ((fault ≢ refusal.Ended) × (last ≡ came (Refused fault))))
+
+-- Why a place became so: by its socket before and after, the bytes that this took and those that wait for it, and what the visit came to.
+abbrev pub Became : Stepped → Hub → ℕ → WireOf → WireOf → List ℕ → List ℕ → Last → Type 0
+Became Free hub place old new sent after last = last ≡ nowhere
+Became Rests hub place old new sent after last = Counts old.waits new.waits × IsAtRest after last
+Became Worked hub place old new sent after last = IsWork sent last
+Became Answered hub place old new sent after last = (last ≡ came (Refused refusal.Ended)) ⊎ ((last ≡ turned (Went Idle)) × IsOverAt hub place)
+Became Lost hub place old new sent after last = Counts old.losses new.losses
+Became Failed hub place old new sent after last = IsFailure last
+
+-- the calls of a visit that writes nothing are of a kind, and this is what they came to
+pub record Calls (Kind : Last → List Own → Type 0) (place : ℕ) (old new : Hub) (wires next : ℕ → WireOf) (stepped : Stepped) : Type 0 where
+  pub os : List Own
+  pub last : Last
+  pub kind : Kind last os
+  pub run : IsHubRun old (at_place place os) new
+  pub output : taken_of os ≡ []
+  pub taken : (next place).taken ≡ (wires place).taken
+  pub left : Consumes (wires place).left (next place).left (pieces_of os)
+  pub became : Became stepped new place (wires place) (next place) [] [] last
+  pub others : KeepsOthers place wires next
+
+-- bytes that wait are written, and no call is made
+pub record Writes (place : ℕ) (wires next : ℕ → WireOf) (before after : List ℕ) (stepped : Stepped) : Type 0 where
+  pub sent : List ℕ
+  pub split : before ≡ sent ++ after
+  pub taken : Appends (wires place).taken (next place).taken sent
+  pub left : (next place).left ≡ (wires place).left
+  pub became : (hub : Hub) → Became stepped hub place (wires place) (next place) sent after wrote
+  pub others : KeepsOthers place wires next
+
+-- one visit at a place
+pub record Serves (place : ℕ) (old new : Hub) (wires next : ℕ → WireOf) (before after : List ℕ) (stepped : Stepped) : Type 0 where
+  pub os : List Own
+  pub last : Last
+  pub visit : IsVisit before last os
+  pub run : IsHubRun old (at_place place os) new
+  pub moves : Moves (wires place) (next place) before after os
+  pub became : Became stepped new place (wires place) (next place) moves.sent after last
+  pub others : KeepsOthers place wires next
+
+-- what an answer to a piece or an end makes of its place
+abbrev pub came_to : Result ⊤ HubFault → Stepped
+came_to (Ok u) = Worked
+came_to (Err refusal.Ended) = Answered
+came_to (Err fault) = Failed

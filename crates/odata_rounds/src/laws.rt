@@ -1,0 +1,25 @@
+//! What holds of a connection whatever rounds there are. The functions here are theorems, and do nothing.
+ghost use Rattle.odata_rounds.specs.Laws.{MovesJoin, RoundMoves, RunsJoin, ServesSocket};
+
+/// The calls of a round are a run of the hub; and at each place what its socket took is what waited and what was taken of the output, in order, but
+/// for what still waits, and what was read came as pieces, each byte once.
+pub fn round_moves()
+    ensures { RoundMoves }
+{}
+
+/// One run of a hub behind another is a run: so is the life of a service, which opens and frees places, reloads and goes round.
+pub fn runs_join()
+    ensures { RunsJoin }
+{}
+
+/// What moved at a place in one round and in the next moved in both together.
+pub fn moves_join()
+    ensures { MovesJoin }
+{}
+
+/// What the socket of a connection took since that was opened is a front of the replies of what was read from it, each head answered from its own tables.
+pub fn serves_socket()
+    ensures { ServesSocket }
+{
+    odata_hub::laws::gives_replies();
+}

@@ -1,0 +1,15 @@
+-- The numbers of the program: how often a stream is read at most, how many places the hub of a script has, and the exit statuses.
+use Rattle.std.specs.Prelude.{◌≡◌}
+use Rattle.odata_serve.specs.declared.command.TheConstants.{DONE}
+use Rattle.odata_serve.specs.declared.fault_text.TheConstants.{REFUSED, USAGE, DEVICE, MEMORY}
+use Rattle.odata_serve.specs.declared.program.TheConstants.{MAX_READS}
+use Rattle.odata_serve.specs.declared.replay.TheConstants.{PLACES}
+
+pub record Sizes : Type 0 where
+  pub reads : MAX_READS ≡ 1_048_576
+  pub places : PLACES ≡ 64
+  pub done : DONE ≡ 0
+  pub refused : REFUSED ≡ 1
+  pub usage : USAGE ≡ 2
+  pub device : DEVICE ≡ 3
+  pub memory : MEMORY ≡ 4

@@ -1,0 +1,150 @@
+//! Keys that rows are compared by first: numbers, and nulls, in a direction.
+ghost use Rattle.std.specs.Prelude.{◌≡◌, ◌<◌, IfOk, false, filter, length};
+ghost use Rattle.std.specs.List.{All};
+ghost use Rattle.row_order.specs.InTime.{is_before, is_within, key_at};
+
+use block_summary::PackedType;
+use std::alloc::{AllocError, Global};
+
+/// Whether a key stands before another: null before each number.
+#[tactic(auto, unfolding(cell_types::specs::Value::value_cmp))]
+fn is_less(a: Option<i64>, b: Option<i64>) -> bool
+    ensures { result ≡ is_before false a b }
+{
+    match (a, b) {
+        (Some(a), Some(b)) => a.cmp(&b).is_lt(),
+        (None, Some(_)) => true,
+        (Some(_) | None, None) => false,
+    }
+}
+
+/// Whether a key stands before another in a direction.
+fn is_before(descending: bool, a: Option<i64>, b: Option<i64>) -> bool
+    ensures { result ≡ is_before descending a b }
+{
+    if descending {
+        is_less(b, a)
+    } else {
+        is_less(a, b)
+    }
+}
+
+/// The last of keys in a direction.
+pub(crate) fn last_of(keys: &[Option<i64>], descending: bool) -> Option<i64>
+    ensures { All (λ key. is_before descending result key ≡ false) keys.now }
+{
+    cell_types::values_are_ordered();
+    let Some(first) = keys.first() else {
+        return None;
+    };
+    let mut last = *first;
+    for key in keys {
+        if is_before(descending, last, *key) {
+            last = *key;
+        }
+    }
+    last
+}
+
+/// A key up to which rows are told from others.
+#[derive(Clone, Copy)]
+pub(crate) struct Bound {
+    pub(crate) descending: bool,
+    /// Whether those that tie with the key are among them.
+    pub(crate) ties: bool,
+    pub(crate) key: Option<i64>,
+}
+
+impl Bound {
+    fn admits(self, key: Option<i64>) -> bool
+        ensures { result ≡ is_within self.descending self.ties self.key key }
+    {
+        if self.ties {
+            !is_before(self.descending, self.key, key)
+        } else {
+            is_before(self.descending, key, self.key)
+        }
+    }
+}
+
+/// A column by its place, and what its numbers stand for.
+#[derive(Clone, Copy)]
+pub struct KeyColumn {
+    pub place: usize,
+    pub packed_type: PackedType,
+}
+
+/// The numbers of a column of a block, one for each row, and marks of its nulls.
+#[derive(Clone, Copy)]
+pub struct Keys<'a> {
+    pub column: KeyColumn,
+    pub numbers: &'a [i64],
+    pub nulls: &'a [bool],
+}
+
+impl<'a> Keys<'a> {
+    fn at(self, row: usize) -> Option<i64>
+        requires numbers { row < length self.numbers.now }
+        requires nulls { row < length self.nulls.now }
+        ensures { result ≡ key_at self.entry.numbers.now self.entry.nulls.now row }
+    {
+        if self.nulls[row] {
+            None
+        } else {
+            Some(self.numbers[row])
+        }
+    }
+
+    /// The numbers of those rows whose keys are within a bound.
+    pub(crate) fn within(
+        self,
+        alloc: Global,
+        rows: &[usize],
+        bound: Bound,
+    ) -> Result<Vec<usize>, AllocError>
+        requires numbers { All (λ row. row < length self.numbers.now) rows.now }
+        requires nulls { length self.nulls.now ≡ length self.numbers.now }
+        ensures { IfOk result (λ made. made.items
+            ≡ filter (λ row. is_within bound.descending bound.ties bound.key
+            (key_at self.entry.numbers.now self.entry.nulls.now row)) rows.now) }
+    {
+        let mut made = Vec::new(alloc);
+        for row in rows {
+            if bound.admits(self.at(*row)) {
+                made.push(*row)?;
+            }
+        }
+        Ok(made)
+    }
+
+    /// A key that some `most` of the rows do not stand behind, and not many more: the last of the first ones of so many parts of them.
+    pub(crate) fn near(
+        self,
+        alloc: Global,
+        rows: &[usize],
+        most: usize,
+        descending: bool,
+    ) -> Result<Option<i64>, AllocError>
+        requires numbers { All (λ row. row < length self.numbers.now) rows.now }
+        requires nulls { length self.nulls.now ≡ length self.numbers.now }
+    {
+        let mut firsts = Vec::new(alloc);
+        let mut part = 0;
+        for row in rows {
+            let key = self.at(*row);
+            match firsts.get_mut(part) {
+                None => firsts.push(key)?,
+                Some(first) => {
+                    if is_before(descending, key, *first) {
+                        *first = key;
+                    }
+                }
+            }
+            part = part.wrapping_add(1);
+            if part >= most {
+                part = 0;
+            }
+        }
+        Ok(last_of(firsts.as_slice(), descending))
+    }
+}

@@ -1,0 +1,3 @@
+pub use Rattle.block_summary.specs.Ranges
+pub use Rattle.row_eval.specs.Outcome
+pub mod Known
