@@ -1,10 +1,11 @@
 /* Makes the devices of a program fail. The reads of the file INPUT and the writes of standard output are counted, each
-   from 1; number READ or WRITE fails with the error ERRNO. With ONE_BYTE each of them moves one byte; with NOTHING a
+   from 1; number READ or WRITE fails with the error ERRNO, as does opening the file OPEN. With ONE_BYTE each of them moves one byte; with NOTHING a
    write takes none. Each is noted in the file LOG, one line each: `r` or `w`, and how many bytes it moved or -1. */
 #define _GNU_SOURCE
 #include <dlfcn.h>
 #include <errno.h>
 #include <fcntl.h>
+#include <stdarg.h>
 #include <stdio.h>
 #include <stdlib.h>
 #include <string.h>
@@ -39,6 +40,22 @@ static int fails(const char *name, long number) {
     if (!which || atol(which) != number) return 0;
     errno = error ? atoi(error) : EIO;
     return 1;
+}
+
+int open(const char *path, int how, ...) {
+    const char *refused = getenv("OPEN"), *error = getenv("ERRNO");
+    int mode = 0;
+    if (refused && !strcmp(path, refused)) {
+        errno = error ? atoi(error) : EACCES;
+        return -1;
+    }
+    if (how & O_CREAT) {
+        va_list more;
+        va_start(more, how);
+        mode = va_arg(more, int);
+        va_end(more);
+    }
+    return (int)syscall(SYS_openat, AT_FDCWD, path, how, mode);
 }
 
 ssize_t read(int file, void *bytes, size_t size) {

@@ -4,7 +4,7 @@ use std::alloc::AllocError;
 
 /// The rows are to be evaluated one by one: memory was refused, a number may not fit 64 bits, a divisor is zero, or a part of the
 /// expression has no loop here.
-#[derive(Clone, Copy, Debug)]
+#[derive(Clone, Copy)]
 pub struct Fallback;
 
 impl From<AllocError> for Fallback {

@@ -6,7 +6,7 @@ use std::alloc::{AllocError, Global};
 
 /// The first thing wrong with a file. Places are bytes from the file's first byte, a byte order mark included; rows count from
 /// 0, which is the record after the header.
-#[derive(Clone, Copy, Debug, PartialEq, Eq)]
+#[derive(Clone, Copy, PartialEq, Eq)]
 pub enum TextFault {
     /// The bytes are not UTF-8; `at` is the length of their longest front that is.
     NotUtf8 { at: usize },

@@ -11,7 +11,7 @@ use std::alloc::{AllocError, Global};
 use std::borrow::CowStr;
 
 /// The bytes of a field without its enclosing double quotes.
-#[derive(Clone, Copy, Debug)]
+#[derive(Clone, Copy)]
 pub struct Raw<'a> {
     pub bytes: &'a str,
     /// Whether double quotes enclose the field, and each double quote in `bytes` is written as two.

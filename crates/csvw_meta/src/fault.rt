@@ -5,7 +5,7 @@ ghost use Rattle.csvw_meta.specs.Fault.{meta_fault_name, meta_fault_text};
 use std::alloc::{AllocError, Global};
 
 /// The first fault of the walk over metadata.
-#[derive(Debug, Drop)]
+#[derive(Drop)]
 pub enum MetaFault {
     /// More than 1,073,741,824 bytes, or no JSON text in UTF-8.
     NotJson,

@@ -8,7 +8,7 @@ use std::alloc::{AllocError, Global};
 use std::str;
 
 /// The word that a command begins with.
-#[derive(Clone, Copy, Debug)]
+#[derive(Clone, Copy)]
 pub enum Word {
     Open,
     Piece,
@@ -20,7 +20,7 @@ pub enum Word {
 }
 
 /// A command of a script. A place is the number of a connection.
-#[derive(Debug, Drop)]
+#[derive(Drop)]
 pub enum Command<'a> {
     /// Opens a connection.
     Open,

@@ -7,7 +7,7 @@ use std::io::{Read, Write};
 use std::marker::Model;
 
 /// A reader or a writer of std. The counts stop at `u64::MAX`. An interrupted call has failed.
-#[derive(Debug, Drop)]
+#[derive(Drop)]
 pub struct Counted<T> {
     inner: T,
     reads: u64,

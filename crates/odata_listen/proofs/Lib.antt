@@ -1,3 +1,4 @@
 mod DeskLemmas
+mod HubLemmas
 mod ReloadLemmas
 mod SocketLemmas

@@ -1,3 +1,5 @@
 pub mod Slow
 pub mod Watch
 pub mod Sockets
+pub mod Serving
+pub mod Journal

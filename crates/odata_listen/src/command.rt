@@ -4,7 +4,7 @@ use crate::folder::Folder;
 use crate::journal::Journal;
 use crate::serving::serve;
 use crate::slow::Limits;
-use crate::words::{MOST_PLACES, Words, read_words};
+use listen_words::{MOST_PLACES, Words, read_words};
 use mio::net::TcpListener;
 use odata_serve::{
     DONE, Disk, Folders, MEMORY, ProgramFault, WordsFault, error_status, report, unread_status,

@@ -6,6 +6,7 @@ use crate::peer::Peer;
 use crate::slow::{Due, Limits};
 use crate::sockets::Sockets;
 use odata_hub::{Conn, Hub, HubFault};
+use odata_rounds::laws::round_moves;
 use odata_rounds::{Outbox, Seat, Stepped, has_worked, round};
 use std::alloc::{AllocError, Global};
 use std::rc::Rc;
@@ -43,6 +44,7 @@ impl Desk {
     ghost use Rattle.odata_hub.specs.Connections.{Done, Opened, answer_of};
     ghost use Rattle.odata_hub.specs.Schedules.{Drop, Open};
     ghost use Rattle.odata_hub.specs.Stands.{IsHubStep};
+    ghost use Rattle.odata_listen.specs.Serving.{RunsTo, stepped_at};
     ghost use Rattle.odata_listen.specs.Sockets.{wire_at};
 
     /// So many places, all of them free, over these tables.
@@ -69,7 +71,9 @@ impl Desk {
             (sight self.old.hub self.old.seats.items (wire_at self.old.sockets.slots.items))
             (sight self.new.hub self.new.seats.items (wire_at self.new.sockets.slots.items)) }
         ensures worked { result ≡ list_any is_working self.new.seats.items }
+        ensures runs { RunsTo self.old.hub self.new.hub }
     {
+        round_moves();
         round(
             &mut self.hub,
             &mut self.seats,
@@ -108,7 +112,9 @@ impl Desk {
     }
 
     /// A second later: tends one of the sockets that are held open.
-    pub fn tend_parting(&mut self, at: u32) {
+    pub fn tend_parting(&mut self, at: u32)
+        ensures { self.new.hub ≡ self.old.hub }
+    {
         self.partings.tend(at, &mut self.room);
     }
 
@@ -118,7 +124,9 @@ impl Desk {
     }
 
     /// What became of a place in the last round.
-    pub fn stepped(&self, place: u32) -> Stepped {
+    pub fn stepped(&self, place: u32) -> Stepped
+        ensures { result ≡ stepped_at self.now.seats.items place }
+    {
         match self.seats.get(place as usize) {
             Some(seat) => seat.stepped,
             None => Stepped::Free,

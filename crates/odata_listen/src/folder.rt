@@ -52,6 +52,8 @@ fn state_of<R: Files + AllocGlobal + Clone + Drop>(rt: &R, name: &str) -> String
 }
 
 impl<'a> Folder<'a> {
+    ghost use Rattle.odata_listen.specs.Serving.{MayReload};
+
     /// The folder as it is now, before it is loaded.
     pub fn new<R: Files + AllocGlobal + Clone + Drop>(rt: &R, name: &'a str) -> Folder<'a> {
         Folder {
@@ -61,13 +63,16 @@ impl<'a> Folder<'a> {
         }
     }
 
+    #[tactic(auto, using(crate::proofs::HubLemmas::may_hand_over))]
     /// Loads the folder; where it is behind that as it was at the last look, the hub has its tables from now on.
     fn take_up<R: Files + Print + Eprint + AllocGlobal + Clone + Drop>(
         &mut self,
         rt: &R,
         hub: &mut Hub,
         journal: &mut Journal<'_, R>,
-    ) {
+    )
+        ensures { MayReload hub.old hub.new }
+    {
         let loaded = Disk::new(rt).load(rt.alloc(), self.name);
         let after = state_of(rt, self.name);
         if look_of(&self.seen, &self.seen, &after) == Look::Same {
@@ -83,7 +88,9 @@ impl<'a> Folder<'a> {
         rt: &R,
         hub: &mut Hub,
         journal: &mut Journal<'_, R>,
-    ) {
+    )
+        ensures { MayReload hub.old hub.new }
+    {
         let found = state_of(rt, self.name);
         let says = look_of(&self.taken, &self.seen, &found);
         self.seen = found;

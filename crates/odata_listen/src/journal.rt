@@ -1,6 +1,66 @@
 //! What the service tells of itself: a line on standard output for each connection that is opened or ends and for each reload, where that is asked;
 //! and on standard error why a folder was not taken up.
+ghost use Rattle.std.specs.Prelude.{◌≡◌, IfOk, string_bytes};
+ghost use Rattle.odata_listen.specs.Journal.{ended_text, opened_text, refused_text, why_text};
+
 use odata_serve::{ProgramFault, fault_line};
+use std::alloc::{AllocError, Global};
+
+/// Why a connection ended.
+#[derive(Clone, Copy, Debug, PartialEq, Eq)]
+pub enum Why {
+    /// Its stream was over, and all replies were written.
+    Answered,
+    /// It was lost.
+    Lost,
+    /// It stood still for too long.
+    Slow,
+    /// Memory ran out.
+    NoMemory,
+}
+
+impl Why {
+    fn text(self) -> &'static str
+        ensures { result.now ≡ why_text self }
+    {
+        match self {
+            Why::Answered => "answered",
+            Why::Lost => "lost",
+            Why::Slow => "slow",
+            Why::NoMemory => "out of memory",
+        }
+    }
+}
+
+/// What is told of a changed folder that was not taken up, where nothing more is known of it.
+const NOT_RELOADED: &str = "not reloaded: a device failed or memory ran out";
+
+/// The line of a connection that was opened at a place.
+fn opened_line(alloc: Global, place: u32) -> Result<String, AllocError>
+    ensures { IfOk result (λ line. string_bytes line ≡ opened_text place) }
+{
+    format!(in alloc; "opened {place}")
+}
+
+/// The line of a connection that ended.
+fn ended_line(alloc: Global, place: u32, why: &str) -> Result<String, AllocError>
+    ensures { IfOk result (λ line. string_bytes line ≡ ended_text place why.now) }
+{
+    let mut line = format!(in alloc; "ended {place} ")?;
+    line.push_str(why)?;
+    Ok(line)
+}
+
+/// The line of a changed folder that was not taken up.
+fn refused_line(alloc: Global, fault: &ProgramFault) -> Result<String, AllocError>
+    ensures { IfOk result (λ line. string_bytes line ≡ refused_text fault.now) }
+{
+    let (line, _) = fault_line(alloc, fault)?;
+    if line.is_empty() {
+        return String::from_str(alloc, NOT_RELOADED);
+    }
+    Ok(line)
+}
 
 /// The lines of a log. It ends where its output takes no more.
 #[derive(Drop)]
@@ -14,27 +74,26 @@ impl<'a, R: Print + Eprint + AllocGlobal> Journal<'a, R> {
         Journal { rt, open }
     }
 
-    fn line(&mut self, line: String) {
-        if self.rt.println(line).is_err() {
-            self.open = false;
+    /// Writes a line, where there is a log and memory for it.
+    fn line(&mut self, line: Result<String, AllocError>) {
+        if let Ok(line) = line {
+            if self.rt.println(line).is_err() {
+                self.open = false;
+            }
         }
     }
 
     /// Tells that a connection was opened at a place.
     pub fn opened(&mut self, place: u32) {
         if self.open {
-            if let Ok(line) = format!(in self.rt.alloc(); "opened {place}") {
-                self.line(line);
-            }
+            self.line(opened_line(self.rt.alloc(), place));
         }
     }
 
     /// Tells that the connection at a place ended, and why.
-    pub fn ended(&mut self, place: u32, why: &str) {
+    pub fn ended(&mut self, place: u32, why: Why) {
         if self.open {
-            if let Ok(line) = format!(in self.rt.alloc(); "ended {place} {why}") {
-                self.line(line);
-            }
+            self.line(ended_line(self.rt.alloc(), place, why.text()));
         }
     }
 
@@ -43,17 +102,13 @@ impl<'a, R: Print + Eprint + AllocGlobal> Journal<'a, R> {
         match end {
             Ok(()) => {
                 if self.open {
-                    if let Ok(line) = format!(in self.rt.alloc(); "reloaded") {
-                        self.line(line);
-                    }
+                    self.line(String::from_str(self.rt.alloc(), "reloaded"));
                 }
             }
             Err(fault) => {
-                let _ = match fault_line(self.rt.alloc(), &fault) {
-                    Ok((line, _)) if !line.is_empty() => self.rt.eprintln(line),
-                    _ => self
-                        .rt
-                        .eprintln("not reloaded: a device failed or memory ran out"),
+                let _ = match refused_line(self.rt.alloc(), &fault) {
+                    Ok(line) => self.rt.eprintln(line),
+                    Err(_) => self.rt.eprintln(NOT_RELOADED),
                 };
             }
         }

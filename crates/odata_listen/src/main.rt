@@ -13,7 +13,6 @@ mod serving;
 mod slow;
 mod sockets;
 mod watch;
-mod words;
 
 use command::command_status;
 use std::process::ExitCode;

@@ -1,18 +1,19 @@
 //! The service: connections are taken in as places are free, each tick has some rounds, and once a second slow peers are ended and the folder is
-//! looked at.
+//! looked at. Whatever that does with the hub is a schedule of its calls, so what holds of a hub in every schedule holds of the service.
+ghost use Rattle.odata_listen.specs.Serving.{Frees, MayFree, RunsTo, Settles, stepped_at};
+
 use crate::desk::Desk;
 use crate::folder::Folder;
 use crate::gate::Gate;
-use crate::journal::Journal;
+use crate::journal::{Journal, Why};
 use crate::peer::Peer;
 use crate::slow::{Due, Limits};
-use crate::words::MOST_PLACES;
+use listen_words::MOST_PLACES;
 use mio::Poll;
 use mio::net::TcpListener;
 use odata_hub::Conn;
 use odata_rounds::Stepped;
-use std::io;
-use std::io::ErrorKind;
+use std::io::{self, ErrorKind};
 use std::net::Net;
 use std::rt::{Clock, Files};
 
@@ -20,12 +21,15 @@ use std::rt::{Clock, Files};
 const ROUNDS: u32 = 16;
 
 /// Seats a socket, and has the system report it.
+#[tactic(auto, using(crate::proofs::HubLemmas::runs_none))]
 fn seat<R: Print + Eprint + AllocGlobal>(
     desk: &mut Desk,
     poll: &Poll,
     peer: Peer,
     journal: &mut Journal<'_, R>,
-) {
+)
+    ensures { RunsTo desk.old.hub desk.new.hub }
+{
     let Ok(Conn(place)) = desk.open(peer) else {
         return;
     };
@@ -48,12 +52,15 @@ enum Taken {
 }
 
 /// Takes in a connection that waits, where a place is free.
+#[tactic(auto, using(crate::proofs::HubLemmas::runs_none))]
 fn take_in<R: Print + Eprint + AllocGlobal>(
     desk: &mut Desk,
     gate: &Gate,
     now: u64,
     journal: &mut Journal<'_, R>,
-) -> Taken {
+) -> Taken
+    ensures { RunsTo desk.old.hub desk.new.hub }
+{
     if !desk.sockets.has_free() {
         return Taken::Later;
     }
@@ -70,12 +77,15 @@ fn take_in<R: Print + Eprint + AllocGlobal>(
 }
 
 /// Takes in connections, where some may wait, as long as places are free. Whether one was taken in.
+#[tactic(auto, using(crate::proofs::HubLemmas::runs_none))]
 fn accept<R: Print + Eprint + AllocGlobal>(
     desk: &mut Desk,
     gate: &mut Gate,
     now: u64,
     journal: &mut Journal<'_, R>,
-) -> bool {
+) -> bool
+    ensures { RunsTo desk.old.hub desk.new.hub }
+{
     let mut took = false;
     if !gate.accepts {
         return took;
@@ -97,21 +107,21 @@ fn accept<R: Print + Eprint + AllocGlobal>(
 fn end<R: Print + Eprint + AllocGlobal>(
     desk: &mut Desk,
     place: u32,
-    why: &str,
+    why: Why,
     journal: &mut Journal<'_, R>,
-) {
+)
+    ensures { Frees place desk.old.hub desk.new.hub }
+{
     let _ = desk.free(place, false);
     journal.ended(place, why);
 }
 
 /// Frees a place whose connection is over. What its peer still sends is dropped for a while.
-fn part<R: Print + Eprint + AllocGlobal>(
-    desk: &mut Desk,
-    place: u32,
-    journal: &mut Journal<'_, R>,
-) {
+fn part<R: Print + Eprint + AllocGlobal>(desk: &mut Desk, place: u32, journal: &mut Journal<'_, R>)
+    ensures { Frees place desk.old.hub desk.new.hub }
+{
     let _ = desk.free(place, true);
-    journal.ended(place, "answered");
+    journal.ended(place, Why::Answered);
 }
 
 /// Notes what the last round did at a place, and frees it where its connection is over, lost or failed.
@@ -120,23 +130,28 @@ fn settle<R: Print + Eprint + AllocGlobal>(
     place: u32,
     now: u64,
     journal: &mut Journal<'_, R>,
-) {
+)
+    ensures { Settles (stepped_at desk.old.seats.items place) place desk.old.hub desk.new.hub }
+{
     match desk.stepped(place) {
         Stepped::Free => {}
         Stepped::Rests => {}
         Stepped::Worked => desk.sockets.note_work(place, now),
         Stepped::Answered => part(desk, place, journal),
-        Stepped::Lost => end(desk, place, "lost", journal),
-        Stepped::Failed => end(desk, place, "out of memory", journal),
+        Stepped::Lost => end(desk, place, Why::Lost, journal),
+        Stepped::Failed => end(desk, place, Why::NoMemory, journal),
     }
 }
 
 /// The same at each place.
+#[tactic(auto, using(crate::proofs::HubLemmas::runs_none))]
 fn settle_all<R: Print + Eprint + AllocGlobal>(
     desk: &mut Desk,
     now: u64,
     journal: &mut Journal<'_, R>,
-) {
+)
+    ensures { RunsTo desk.old.hub desk.new.hub }
+{
     for place in 0..desk.places() {
         settle(desk, place, now, journal);
     }
@@ -149,28 +164,36 @@ fn end_slow<R: Print + Eprint + AllocGlobal>(
     limits: &Limits,
     now: u64,
     journal: &mut Journal<'_, R>,
-) {
+)
+    ensures { MayFree place desk.old.hub desk.new.hub }
+{
     match desk.due(place, limits, now) {
         Due::Nothing => {}
         Due::End => desk.sockets.end_stream(place, now),
-        Due::Drop => end(desk, place, "slow", journal),
+        Due::Drop => end(desk, place, Why::Slow, journal),
     }
 }
 
 /// The same at each place.
+#[tactic(auto, using(crate::proofs::HubLemmas::runs_none))]
 fn end_all_slow<R: Print + Eprint + AllocGlobal>(
     desk: &mut Desk,
     limits: &Limits,
     now: u64,
     journal: &mut Journal<'_, R>,
-) {
+)
+    ensures { RunsTo desk.old.hub desk.new.hub }
+{
     for place in 0..desk.places() {
         end_slow(desk, place, limits, now, journal);
     }
 }
 
 /// Tends the sockets that are held open.
-fn tend_partings(desk: &mut Desk) {
+#[tactic(auto, using(crate::proofs::HubLemmas::runs_none))]
+fn tend_partings(desk: &mut Desk)
+    ensures { RunsTo desk.old.hub desk.new.hub }
+{
     for at in 0..desk.places() {
         desk.tend_parting(at);
     }
@@ -181,18 +204,23 @@ fn run_round<R: Print + Eprint + AllocGlobal>(
     desk: &mut Desk,
     now: u64,
     journal: &mut Journal<'_, R>,
-) -> bool {
+) -> bool
+    ensures { RunsTo desk.old.hub desk.new.hub }
+{
     let worked = desk.round();
     settle_all(desk, now, journal);
     worked
 }
 
 /// Some rounds, until one did nothing. Whether the last of them did something.
+#[tactic(auto, using(crate::proofs::HubLemmas::runs_none))]
 fn run_rounds<R: Print + Eprint + AllocGlobal>(
     desk: &mut Desk,
     now: u64,
     journal: &mut Journal<'_, R>,
-) -> bool {
+) -> bool
+    ensures { RunsTo desk.old.hub desk.new.hub }
+{
     for _turn in 0..ROUNDS {
         if !run_round(desk, now, journal) {
             return false;
@@ -202,6 +230,7 @@ fn run_rounds<R: Print + Eprint + AllocGlobal>(
 }
 
 /// What is done where a second began: slow peers are ended, and the folder is looked at.
+#[tactic(auto, using(crate::proofs::HubLemmas::runs_none))]
 fn tend<R>(
     rt: &R,
     desk: &mut Desk,
@@ -213,6 +242,7 @@ fn tend<R>(
 )
 where
     R: Files + Print + Eprint + AllocGlobal + Clone + Drop,
+    ensures { RunsTo desk.old.hub desk.new.hub }
 {
     if !is_new {
         return;
@@ -223,6 +253,7 @@ where
 }
 
 /// One tick: the events that there are, some rounds, what is done once a second, and new connections. Whether there is more to do at once.
+#[tactic(auto, using(crate::proofs::HubLemmas::runs_none))]
 fn tick<R>(
     rt: &R,
     gate: &mut Gate,
@@ -234,6 +265,7 @@ fn tick<R>(
 ) -> io::Result<bool>
 where
     R: Net + Clock + Files + Print + Eprint + AllocGlobal + Clone + Drop,
+    ensures { RunsTo desk.old.hub desk.new.hub }
 {
     let now = gate.wait(rt, &mut desk.sockets, busy)?;
     let is_new = gate.is_new_second(now);
@@ -245,6 +277,7 @@ where
 }
 
 /// Serves a folder for so many ticks.
+#[tactic(auto, using(crate::proofs::HubLemmas::runs_none))]
 pub fn serve<R>(
     rt: &R,
     desk: &mut Desk,
@@ -256,6 +289,7 @@ pub fn serve<R>(
 ) -> io::Result<()>
 where
     R: Net + Clock + Files + Print + Eprint + AllocGlobal + Clone + Drop,
+    ensures { RunsTo desk.old.hub desk.new.hub }
 {
     let mut gate = Gate::new(rt, listener)?;
     let mut busy = false;

@@ -1,19 +1,20 @@
 -- What visits and rounds move, and the laws.
-use Rattle.std.proofs.Common.{◌≡◌, ◌≢◌, ℕ, ◌+◌, ◌<◌, ◌≤◌, zero, suc, List, [], ◌∷◌, ◌++◌, length, set, Option, None, Some, refl, sym, ap, subst, ◌∙◌, inl, inr, arith, append-nil, append_assoc}
-use Rattle.std.specs.Prelude.{slice_get, Bool, true, false, ◌==◌, if◌then◌else◌}
+use Rattle.std.proofs.Common.{◌≡◌, ◌≢◌, ℕ, zero, suc, List, [], ◌∷◌, ◌++◌, set, Option, None, Some, refl, sym, ap, subst, ◌∙◌, inl, inr, append-nil, append_assoc}
+use Rattle.std.specs.Prelude.{slice_get, Bool, true, false, ◌==◌, if◌then◌else◌, ◌||◌}
 use Rattle.std.proofs.lemmas.Bool.Decides.{eqb_tells}
 use Rattle.std.specs.Io.KnownBytes.{Appends, Consumes}
-use Rattle.odata_hub.specs.Connections.{Answer, Call, Done, End, Gave, Opened, Own, Piece, Refused, Take, Turn, Went, came_with, given_by, stream_of, taken_of}
+use Rattle.odata_hub.specs.Connections.{Answer, Call, End, Own, Piece, Take, Turn, came_with, ends_with, given_by, has_ended, stream_of, taken_of}
 use Rattle.odata_hub.specs.Laws.{GivesReplies, IsFrontOf}
 use Rattle.odata_hub.specs.Schedules.{Drop, Event, Happening, On, Open, Reload, own_before, own_of}
 use Rattle.odata_hub.specs.Streams.{bytes_of}
 use Rattle.odata_rounds.specs.declared.seat.Seat.{Seat}
 use Rattle.odata_rounds.specs.Peers.{WireOf}
-use Rattle.odata_rounds.specs.Visits.{IsHubRun, Moves, at_place, piece_of, pieces_of}
-use Rattle.odata_rounds.specs.Rounds.{Rounds, ServesAt, SightOf}
-use Rattle.odata_rounds.specs.Laws.{AreAccepted, AreCalls, IsAccepted, IsCall, IsServed, Moved, MovesAt, MovesJoin, RoundMoves, ServesSocket, waits_at}
+use Rattle.odata_rounds.specs.Visits.{IsReadOut, Moves, at_place, piece_of, pieces_of}
+use Rattle.odata_rounds.specs.Rounds.{ServesAt, SightOf}
+use Rattle.odata_rounds.specs.Laws.{AreAccepted, AreCalls, IsAccepted, IsCall, Moved, MovesAt, MovesJoin, RoundMoves, ServesSocket, waits_at}
 use Rattle.odata_rounds.proofs.RunLemmas.{run_joins, run_none}
-use Rattle.odata_rounds.proofs.VisitLemmas.{appends_none, consumes_none}
+use Rattle.odata_rounds.proofs.ByteLemmas.{consumes_none}
+use Rattle.odata_rounds.proofs.VisitLemmas.{appends_none}
 
 -- ---- lists of calls
 
@@ -37,6 +38,29 @@ consumes_join (Some x) None c xs ys p q = absurd p
 consumes_join (Some x) (Some y) None xs ys p q = absurd q
 consumes_join (Some x) (Some y) (Some z) xs ys p q = p ∙ ap (λ l. xs ++ l) q ∙ sym (append_assoc xs ys z)
 
+or_assoc : (a b c : Bool) → (a || b) || c ≡ a || (b || c)
+or_assoc true b c = refl
+or_assoc false b c = refl
+
+ended_join : (os ps : List Own) → has_ended (os ++ ps) ≡ has_ended os || has_ended ps
+ended_join [] ps = refl
+ended_join (o ∷ os) ps = ap (λ b. ends_with o.call o.answer || b) (ended_join os ps)
+    ∙ sym (or_assoc (ends_with o.call o.answer) (has_ended os) (has_ended ps))
+
+none_behind : (xs ys : List ℕ) → xs ++ ys ≡ [] → ys ≡ []
+none_behind [] ys e = e
+none_behind (x ∷ xs) ys e = absurd (cc e)
+
+read_out_join : (a b c : Option (List ℕ)) (xs ys : List ℕ) (p q : Bool) → Consumes a b xs → Consumes b c ys → (p ≡ true → IsReadOut a b)
+    → (q ≡ true → IsReadOut b c) → p || q ≡ true → IsReadOut a c
+read_out_join None b c xs ys p q s t f g e = tt
+read_out_join (Some x) None c xs ys p q s t f g e = absurd s
+read_out_join (Some x) (Some y) None xs ys p q s t f g e = absurd t
+read_out_join (Some x) (Some y) (Some z) xs ys true q s t f g e =
+    let none : y ≡ [] = cc (f refl) in
+    ap Some (none_behind ys z (sym t ∙ none))
+read_out_join (Some x) (Some y) (Some z) xs ys false q s t f g e = g e
+
 pub moves_join : MovesJoin
 moves_join a b c before mid after os ps p q =
     let P : List ℕ → Type 0 = λ l. Consumes a.left c.left l in record {
@@ -46,10 +70,12 @@ moves_join a b c before mid after os ps p q =
           ∙ sym (append_assoc p.sent q.sent after);
       taken = appends_join _ _ _ p.sent q.sent p.taken q.taken;
       left = subst P (sym (pieces_join os ps)) (consumes_join _ _ _ (pieces_of os) (pieces_of ps) p.left q.left);
+      ended = λ e. read_out_join _ _ _ (pieces_of os) (pieces_of ps) (has_ended os) (has_ended ps) p.left q.left p.ended q.ended
+          (sym (ended_join os ps) ∙ e);
     }
 
 moves_none : (w : WireOf) (waits : List ℕ) → Moves w w waits waits []
-moves_none w waits = record { sent = []; output = append-nil waits; taken = appends_none _ _ refl; left = consumes_none _ _ refl }
+moves_none w waits = record { sent = []; output = append-nil waits; taken = appends_none _ _ refl; left = consumes_none _ _ refl; ended = λ no. absurd (cc no) }
 
 -- ---- the own events of a place
 
@@ -83,27 +109,27 @@ own_away place other (o ∷ os) away = elim (eqb_tells place other) [
   | inr h ↦ rw h.0 (own_away place other os away)
 ]
 
-calls_at : (place : ℕ) (os : List Own) → AreCalls (at_place place os)
+pub calls_at : (place : ℕ) (os : List Own) → AreCalls (at_place place os)
 calls_at place [] = tt
 calls_at place (o ∷ os) = (tt, calls_at place os)
 
-calls_join : (xs ys : List Happening) → AreCalls xs → AreCalls ys → AreCalls (xs ++ ys)
+pub calls_join : (xs ys : List Happening) → AreCalls xs → AreCalls ys → AreCalls (xs ++ ys)
 calls_join [] ys c d = d
 calls_join (x ∷ xs) ys c d = (c.0, calls_join xs ys c.1 d)
 
 -- ---- what waits at a place
 
-waits_here : (seats : List Seat) (place : ℕ) (seat : Seat) → slice_get seats place ≡ Some seat → waits_at seats place ≡ seat.waits
+pub waits_here : (seats : List Seat) (place : ℕ) (seat : Seat) → slice_get seats place ≡ Some seat → waits_at seats place ≡ seat.waits
 waits_here [] place seat e = absurd (cc e)
 waits_here (x ∷ seats) zero seat e = let same : x ≡ seat = cc e in ap (λ (s : Seat). s.waits) same
 waits_here (x ∷ seats) (suc place) seat e = waits_here seats place seat e
 
-waits_set : (seats : List Seat) (place : ℕ) (seat next : Seat) → slice_get seats place ≡ Some seat → waits_at (set seats place next) place ≡ next.waits
+pub waits_set : (seats : List Seat) (place : ℕ) (seat next : Seat) → slice_get seats place ≡ Some seat → waits_at (set seats place next) place ≡ next.waits
 waits_set [] place seat next e = absurd (cc e)
 waits_set (x ∷ seats) zero seat next e = refl
 waits_set (x ∷ seats) (suc place) seat next e = waits_set seats place seat next e
 
-waits_away : (seats : List Seat) (place other : ℕ) (next : Seat) → other ≢ place → waits_at (set seats place next) other ≡ waits_at seats other
+pub waits_away : (seats : List Seat) (place other : ℕ) (next : Seat) → other ≢ place → waits_at (set seats place next) other ≡ waits_at seats other
 waits_away [] place other next away = refl
 waits_away (x ∷ seats) zero zero next away = absurd (away refl)
 waits_away (x ∷ seats) zero (suc other) next away = refl
@@ -184,4 +210,5 @@ serves_socket gives start end place events old new after run m =
       whole = λ all r. front_of m.sent after (taken_of (own_of place events)) all m.output (g.whole all r);
       left = m.left;
       stream = stream_is (own_of place events);
+      ended = m.ended;
     }

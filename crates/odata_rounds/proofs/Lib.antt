@@ -1,4 +1,8 @@
+mod ByteLemmas
+mod CallLemmas
+mod LawLemmas
+mod LeaveLemmas
+mod RoundLemmas
 mod RunLemmas
 mod VisitLemmas
-mod RoundLemmas
-mod LawLemmas
+mod WalkLemmas

@@ -1,5 +1,5 @@
 -- Schedules of a hub, one behind another.
-use Rattle.std.proofs.Common.{◌≡◌, List, [], ◌∷◌, ◌++◌, refl, subst}
+use Rattle.std.proofs.Common.{List, [], ◌∷◌, ◌++◌, refl}
 use Rattle.odata_hub.specs.declared.hub.Hub.{Hub}
 use Rattle.odata_hub.specs.Connections.{Answer}
 use Rattle.odata_hub.specs.Schedules.{Event, Happening, HubOf, HubRun}
@@ -16,7 +16,7 @@ run_step a b c event answer events step rest h s = let first = step h s in let o
 pub run_one : (a b : Hub) (event : Event) (answer : Answer) → IsHubStep a event answer b → IsHubRun a (record { event = event; answer = answer } ∷ []) b
 run_one a b event answer step = run_step a b b event answer [] step (run_none b)
 
-hub_joins : (a b c : HubOf) (xs ys : List Happening) → HubRun a xs b → HubRun b ys c → HubRun a (xs ++ ys) c
+pub hub_joins : (a b c : HubOf) (xs ys : List Happening) → HubRun a xs b → HubRun b ys c → HubRun a (xs ++ ys) c
 hub_joins a b c [] ys r s = rw (← r) s
 hub_joins a b c (x ∷ xs) ys r s = (r.0, r.1, hub_joins r.0 b c xs ys r.2 s)
 

@@ -1,16 +1,14 @@
 -- What the steps of a visit come to.
-use Rattle.std.proofs.Common.{◌≡◌, ◌≢◌, ℕ, ◌<◌, ◌≤◌, zero, suc, List, [], ◌∷◌, ◌++◌, take, drop, length, Option, None, Some, Result, Ok, Err, refl, sym, ap, ◌∙◌, subst, inl, inr, arith, append-nil, take-append-drop, length-take-le}
+use Rattle.std.proofs.Common.{◌≡◌, ℕ, ◌<◌, ◌≤◌, zero, suc, List, [], ◌∷◌, ◌++◌, take, drop, length, Option, None, Some, Result, Ok, Err, refl, sym, ◌∙◌, subst, inl, inr, arith, append-nil, take-append-drop}
 use Rattle.std.specs.Prelude.{⊤, Bool, true, false, ◌==◌}
 use Rattle.std.proofs.lemmas.Bool.{eqb-true}
-use Rattle.std.specs.Io.KnownBytes.{Appends, Consumes, Keeps}
+use Rattle.std.specs.Io.KnownBytes.{Appends, Consumes}
 use Rattle.table_store.specs.Catalog.{CatalogOf}
-use Rattle.odata_http.specs.Device.{Counts}
 use Rattle.odata_hub.specs.declared.hub.Hub.{Hub}
 use Rattle.odata_hub.specs.declared.answers.HubFault.{HubFault}
 use Rattle.odata_hub.specs.declared.answers.HubFault.TheVariants.{Full, NoSuchConnection, Ended, Failed as HubFailed, NoMemory}
-use Rattle.odata_hub.specs.declared.answers.Turned.{Turned}
 use Rattle.odata_hub.specs.declared.answers.Turned.TheVariants.{Idle, Worked as TurnWorked}
-use Rattle.odata_hub.specs.Connections.{Answer, Call, Done, End, Gave, Own, Piece, Refused, Take, Turn, Went, answer_of, given_by, taken_of}
+use Rattle.odata_hub.specs.Connections.{Done, End, Gave, Piece, Refused, Take, Turn, Went, answer_of, given_by}
 use Rattle.odata_hub.specs.Schedules.{On}
 use Rattle.odata_hub.specs.Stands.{IsHubStep}
 use Rattle.odata_rounds.specs.declared.answers.PeerFault.TheVariants.{Waits, Lost as PeerLost}
@@ -18,25 +16,9 @@ use Rattle.odata_rounds.specs.declared.answers.Stepped.{Stepped}
 use Rattle.odata_rounds.specs.declared.answers.Stepped.TheVariants.{Free, Rests, Worked, Answered, Lost, Failed}
 use Rattle.odata_rounds.specs.declared.outbox.TheConstants.{TAKE_BYTES}
 use Rattle.odata_rounds.specs.Peers.{IsRead, IsWrite, KeepsOthers, WireOf}
-use Rattle.odata_rounds.specs.Visits.{AfterIdle, AfterTake, Became, Calls, IsAtRest, IsOverAt, IsWork, Last, Serves, Visit, Writes, at_place, came, came_to, end, nothing, nowhere, piece, pieces_of, reads, ends, goes, idles, none, gives, refused, took, turned, went, wrote}
+use Rattle.odata_rounds.specs.Visits.{AfterIdle, AfterTake, Became, Calls, IsAtRest, IsOverAt, IsWork, Last, Serves, Writes, at_place, came, came_to, end, nothing, nowhere, piece, reads, ends, goes, idles, none, gives, refused, took, turned, went, wrote}
+use Rattle.odata_rounds.proofs.ByteLemmas.{consumes_none, keeps_appends, keeps_consumes, read_out}
 use Rattle.odata_rounds.proofs.RunLemmas.{run_none, run_one, run_step}
-
--- ---- bytes that are known
-
-pub consumes_none : (a b : Option (List ℕ)) → b ≡ a → Consumes a b []
-consumes_none None b e = tt
-consumes_none (Some xs) None e = absurd (cc e)
-consumes_none (Some xs) (Some ys) e = cc e
-
-pub keeps_consumes : (a b : Option (List ℕ)) → Keeps a b → Consumes a b []
-keeps_consumes None b e = tt
-keeps_consumes (Some xs) None e = absurd e
-keeps_consumes (Some xs) (Some ys) e = sym e
-
-keeps_appends : (a b : Option (List ℕ)) → Keeps a b → Appends a b []
-keeps_appends None b e = tt
-keeps_appends (Some xs) None e = absurd e
-keeps_appends (Some xs) (Some ys) e = e ∙ sym (append-nil xs)
 
 -- ---- answers to pieces and ends
 
@@ -62,9 +44,9 @@ came_became_by answer stepped hub place old new e =
 -- ---- what is read of an idle connection's socket
 
 pub read_end : (place : ℕ) (a b : Hub) (w v : ℕ → WireOf) (buf : List ℕ) (n : ℕ) (answer : Result ⊤ HubFault) (stepped : Stepped)
-    → n ≡ 0 → IsRead (w place) (v place) buf (Ok n) → KeepsOthers place w v → IsHubStep a (On place End) (answer_of (λ _. Done) answer) b
+    → n ≡ 0 → 0 < length buf → IsRead (w place) (v place) buf (Ok n) → KeepsOthers place w v → IsHubStep a (On place End) (answer_of (λ _. Done) answer) b
     → stepped ≡ came_to answer → Calls AfterIdle place a b w v stepped
-read_end place a b w v buf zero answer stepped e r others step is = record {
+read_end place a b w v buf zero answer stepped e lt r others step is = record {
   os = end (answer_of (λ _. Done) answer) ∷ [];
   last = came (answer_of (λ _. Done) answer);
   kind = ends (answer_of (λ _. Done) answer);
@@ -72,10 +54,11 @@ read_end place a b w v buf zero answer stepped e r others step is = record {
   output = came_output answer;
   taken = r.taken;
   left = r.left.0;
+  ended = λ _. read_out _ _ _ r.left.0 (r.left.1 refl lt);
   became = came_became_by answer stepped b place (w place) (v place) is;
   others = others;
 }
-read_end place a b w v buf (suc n) answer stepped e r others step is = absurd (omega arith)
+read_end place a b w v buf (suc n) answer stepped e lt r others step is = absurd (omega arith)
 
 piece_of_bytes : (place : ℕ) (a b : Hub) (w v : ℕ → WireOf) (bytes : List ℕ) (catalog : CatalogOf) (answer : Result ⊤ HubFault) (stepped : Stepped)
     → 0 < length bytes → Consumes (w place).left (v place).left bytes → (v place).taken ≡ (w place).taken → KeepsOthers place w v
@@ -90,6 +73,7 @@ piece_of_bytes place a b w v (x ∷ bytes) catalog answer stepped lt left taken 
       output = came_output answer;
       taken = taken;
       left = subst P (sym (append-nil (x ∷ bytes))) left;
+      ended = λ no. absurd (cc no);
       became = came_became_by answer stepped b place (w place) (v place) is;
       others = others;
     }
@@ -112,6 +96,7 @@ read_waits place a w v buf r others = record {
   output = refl;
   taken = r.taken;
   left = keeps_consumes _ _ r.left;
+  ended = λ no. absurd (cc no);
   became = (r.counts.0, refl);
   others = others;
 }
@@ -126,7 +111,8 @@ read_lost place a w v buf r others = record {
   output = refl;
   taken = r.taken;
   left = keeps_consumes _ _ r.left;
-  became = r.counts.1;
+  ended = λ no. absurd (cc no);
+  became = (r.counts.1, refl);
   others = others;
 }
 
@@ -139,6 +125,7 @@ idle_over place a w over = record {
   output = refl;
   taken = refl;
   left = consumes_none _ _ refl;
+  ended = λ no. absurd (cc no);
   became = inr (refl, over);
   others = λ other away. refl;
 }
@@ -155,6 +142,7 @@ turn_worked place a b w step = record {
   output = refl;
   taken = refl;
   left = consumes_none _ _ refl;
+  ended = λ no. absurd (cc no);
   became = inl refl;
   others = λ other away. refl;
 }
@@ -169,6 +157,7 @@ turn_refused place a b w fault step = record {
   output = refl;
   taken = refl;
   left = consumes_none _ _ refl;
+  ended = λ no. absurd (cc no);
   became = (fault, inl refl);
   others = λ other away. refl;
 }
@@ -183,6 +172,7 @@ turn_idle place a b c w v stepped step rest = record {
   output = rest.output;
   taken = rest.taken;
   left = rest.left;
+  ended = rest.ended;
   became = rest.became;
   others = rest.others;
 }
@@ -220,14 +210,14 @@ writes_waits place w v before lt r others = record {
   others = others;
 }
 
-pub writes_lost : (place : ℕ) (w v : ℕ → WireOf) (before : List ℕ) → IsWrite (w place) (v place) before (Err PeerLost) → KeepsOthers place w v
-    → Writes place w v before before Lost
-writes_lost place w v before r others = record {
+pub writes_lost : (place : ℕ) (w v : ℕ → WireOf) (before : List ℕ) → 0 < length before → IsWrite (w place) (v place) before (Err PeerLost)
+    → KeepsOthers place w v → Writes place w v before before Lost
+writes_lost place w v before lt r others = record {
   sent = [];
   split = refl;
   taken = keeps_appends _ _ r.taken;
   left = r.left;
-  became = λ hub. r.counts.1;
+  became = λ hub. (r.counts.1, IsAtRest-some before wrote lt);
   others = others;
 }
 
@@ -246,7 +236,7 @@ serves_waiting place a w v (b ∷ before) after stepped lt x = record {
   last = wrote;
   visit = (refl, refl);
   run = run_none a;
-  moves = record { sent = x.sent; output = append-nil (b ∷ before) ∙ x.split; taken = x.taken; left = consumes_none _ _ x.left };
+  moves = record { sent = x.sent; output = append-nil (b ∷ before) ∙ x.split; taken = x.taken; left = consumes_none _ _ x.left; ended = λ no. absurd (cc no) };
   became = x.became a;
   others = x.others;
 }
@@ -259,7 +249,7 @@ serves_output place a b w v (y ∷ mid) after stepped lt step x = record {
   last = wrote;
   visit = gives y mid;
   run = run_one a b (On place (Take TAKE_BYTES)) (Gave (y ∷ mid)) step;
-  moves = record { sent = x.sent; output = append-nil (y ∷ mid) ∙ x.split; taken = x.taken; left = consumes_none _ _ x.left };
+  moves = record { sent = x.sent; output = append-nil (y ∷ mid) ∙ x.split; taken = x.taken; left = consumes_none _ _ x.left; ended = λ no. absurd (cc no) };
   became = x.became b;
   others = x.others;
 }
@@ -271,7 +261,7 @@ serves_none place a b c w v [] stepped e step x = record {
   last = x.last;
   visit = none x.last x.os x.kind;
   run = run_step a b c (On place (Take TAKE_BYTES)) (Gave []) (at_place place x.os) step x.run;
-  moves = record { sent = []; output = x.output; taken = appends_none _ _ x.taken; left = x.left };
+  moves = record { sent = []; output = x.output; taken = appends_none _ _ x.taken; left = x.left; ended = x.ended };
   became = x.became;
   others = x.others;
 }
@@ -284,7 +274,7 @@ serves_refused place a b w [] fault e step = record {
   last = nowhere;
   visit = refused fault;
   run = run_one a b (On place (Take TAKE_BYTES)) (Refused fault) step;
-  moves = record { sent = []; output = refl; taken = appends_none _ _ refl; left = consumes_none _ _ refl };
+  moves = record { sent = []; output = refl; taken = appends_none _ _ refl; left = consumes_none _ _ refl; ended = λ no. absurd (cc no) };
   became = refl;
   others = λ other away. refl;
 }

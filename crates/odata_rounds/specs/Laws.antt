@@ -1,15 +1,15 @@
 -- What follows for the connection at a place from what its visits do.
-use Rattle.std.specs.Prelude.{◌≡◌, ⊤, ℕ, zero, suc, List, [], ◌∷◌, ◌++◌}
+use Rattle.std.specs.Prelude.{◌≡◌, ⊤, ℕ, zero, suc, true, List, [], ◌∷◌, ◌++◌}
 use Rattle.std.specs.Io.KnownBytes.{Appends, Consumes}
 use Rattle.odata_hub.specs.declared.hub.Hub.{Hub}
-use Rattle.odata_hub.specs.Connections.{Answer, Call, Done, End, Own, Piece, Take, Turn, has_ended, stream_of, taken_of}
+use Rattle.odata_hub.specs.Connections.{Answer, Call, Done, End, Own, Piece, Take, Turn, has_ended, stream_of}
 use Rattle.odata_hub.specs.Laws.{IsFrontOf}
 use Rattle.odata_hub.specs.Replies.{AreFirstReplies, AreReplies}
 use Rattle.odata_hub.specs.Schedules.{Event, Happening, HubOf, HubRun, On, opened, own_of}
 use Rattle.odata_hub.specs.Streams.{bytes_of}
 use Rattle.odata_rounds.specs.declared.seat.Seat.{Seat}
 use Rattle.odata_rounds.specs.Peers.{WireOf}
-use Rattle.odata_rounds.specs.Visits.{IsHubRun, Moves, pieces_of}
+use Rattle.odata_rounds.specs.Visits.{IsHubRun, IsReadOut, Moves, pieces_of}
 use Rattle.odata_rounds.specs.Rounds.{Rounds, SightOf}
 
 -- the bytes that wait for the socket at a place; none where there is no such place
@@ -64,7 +64,7 @@ AreAccepted [] = ⊤
 AreAccepted (o ∷ os) = IsAccepted o.call o.answer × AreAccepted os
 
 -- What a socket took is a front of the replies of the stream, each head answered from its own tables; and the stream is what was read from the socket,
--- where no piece of it was refused.
+-- where no piece of it was refused; and it ended only where nothing is left to be read there.
 pub record IsServed (os : List Own) (old new : WireOf) : Type 0 where
   pub sent : List ℕ
   pub taken : Appends old.taken new.taken sent
@@ -74,6 +74,7 @@ pub record IsServed (os : List Own) (old new : WireOf) : Type 0 where
   pub whole : (all : List ℕ) → AreReplies (stream_of os) (has_ended os) all → IsFrontOf sent all
   pub left : Consumes old.left new.left (pieces_of os)
   pub stream : AreAccepted os → bytes_of (stream_of os) ≡ pieces_of os
+  pub ended : has_ended os ≡ true → IsReadOut old.left new.left
 
 -- Whatever happened since a connection was opened: its socket, for which nothing waited then, was served so by its own events.
 abbrev pub ServesSocket : Type 0

@@ -2,3 +2,4 @@ pub mod Peers
 pub mod Visits
 pub mod Rounds
 pub mod Laws
+pub mod Leaves

@@ -1,5 +1,5 @@
 -- What one visit does at a place: the calls on its connection, and what became of its socket and of the bytes that wait for that.
-use Rattle.std.specs.Prelude.{◌≡◌, ◌≢◌, ◌⊎◌, ⊤, ℕ, true, List, [], ◌∷◌, ◌++◌, map, Result, Ok, Err}
+use Rattle.std.specs.Prelude.{◌≡◌, ◌≢◌, ◌⊎◌, ⊤, ℕ, true, List, [], ◌∷◌, ◌++◌, map, Option, Some, None, Result, Ok, Err}
 use Rattle.std.specs.Io.KnownBytes.{Appends, Consumes}
 use Rattle.table_store.specs.Catalog.{CatalogOf}
 use Rattle.odata_http.specs.Device.{Counts}
@@ -7,7 +7,7 @@ use Rattle.odata_hub.specs.declared.hub.Hub.{Hub}
 use Rattle.odata_hub.specs.declared.answers.HubFault.{HubFault}
 use Rattle.odata_hub.specs.declared.answers.HubFault.TheVariants as refusal
 use Rattle.odata_hub.specs.declared.answers.Turned.TheVariants.{Idle, Worked as TurnWorked}
-use Rattle.odata_hub.specs.Connections.{Answer, Call, Done, End, Gave, Own, Piece, Refused, Take, Turn, Went, taken_of}
+use Rattle.odata_hub.specs.Connections.{Answer, Call, Done, End, Gave, Own, Piece, Refused, Take, Turn, Went, has_ended, taken_of}
 use Rattle.odata_hub.specs.Schedules.{Happening, HubOf, HubRun, On, conn_at}
 use Rattle.odata_hub.specs.Stands.{StandsFor, TellsOver}
 use Rattle.odata_rounds.specs.declared.answers.Stepped.{Stepped}
@@ -76,13 +76,20 @@ abbrev pub pieces_of : List Own → List ℕ
 pieces_of [] = []
 pieces_of (o ∷ os) = piece_of o.call ++ pieces_of os
 
+-- of the bytes that were told to be left none is
+abbrev pub IsReadOut : Option (List ℕ) → Option (List ℕ) → Type 0
+IsReadOut None new = ⊤
+IsReadOut (Some bytes) new = new ≡ Some []
+
 -- What moved between a connection and its socket, by the calls on the connection: the socket took the bytes that waited for it and those that were
--- taken of the output, in order, but for those that still wait; and the pieces are the bytes that were read, each once.
+-- taken of the output, in order, but for those that still wait; the pieces are the bytes that were read, each once; and the end was told only where
+-- nothing is left to be read.
 pub record Moves (old new : WireOf) (before after : List ℕ) (os : List Own) : Type 0 where
   pub sent : List ℕ
   pub output : before ++ taken_of os ≡ sent ++ after
   pub taken : Appends old.taken new.taken sent
   pub left : Consumes old.left new.left (pieces_of os)
+  pub ended : has_ended os ≡ true → IsReadOut old.left new.left
 
 -- the connection at the place is over: a closing head was cut off, and all replies were taken
 abbrev pub IsOverAt : Hub → ℕ → Type 0
@@ -108,7 +115,7 @@ Became Free hub place old new sent after last = last ≡ nowhere
 Became Rests hub place old new sent after last = Counts old.waits new.waits × IsAtRest after last
 Became Worked hub place old new sent after last = IsWork sent last
 Became Answered hub place old new sent after last = (last ≡ came (Refused refusal.Ended)) ⊎ ((last ≡ turned (Went Idle)) × IsOverAt hub place)
-Became Lost hub place old new sent after last = Counts old.losses new.losses
+Became Lost hub place old new sent after last = Counts old.losses new.losses × IsAtRest after last
 Became Failed hub place old new sent after last = IsFailure last
 
 -- the calls of a visit that writes nothing are of a kind, and this is what they came to
@@ -120,6 +127,7 @@ pub record Calls (Kind : Last → List Own → Type 0) (place : ℕ) (old new : 
   pub output : taken_of os ≡ []
   pub taken : (next place).taken ≡ (wires place).taken
   pub left : Consumes (wires place).left (next place).left (pieces_of os)
+  pub ended : has_ended os ≡ true → IsReadOut (wires place).left (next place).left
   pub became : Became stepped new place (wires place) (next place) [] [] last
   pub others : KeepsOthers place wires next
 

@@ -1,5 +1,6 @@
 //! What holds of a connection whatever rounds there are. The functions here are theorems, and do nothing.
 ghost use Rattle.odata_rounds.specs.Laws.{MovesJoin, RoundMoves, RunsJoin, ServesSocket};
+ghost use Rattle.odata_rounds.specs.Leaves.{RoundLeaves};
 
 /// The calls of a round are a run of the hub; and at each place what its socket took is what waited and what was taken of the output, in order, but
 /// for what still waits, and what was read came as pieces, each byte once.
@@ -23,3 +24,9 @@ pub fn serves_socket()
 {
     odata_hub::laws::gives_replies();
 }
+
+/// No more than one reply waits at a place, for its socket and in the output behind that; and a round of which nothing says that it worked leaves each
+/// place with nothing to do before its socket takes or has bytes.
+pub fn round_leaves()
+    ensures { RoundLeaves }
+{}

@@ -45,7 +45,8 @@ impl Outbox {
 
     /// The bytes that wait.
     pub fn as_slice(&self) -> &[u8]
-        ensures { result.now ≡ self.now }
+        ensures bytes { result.now ≡ self.now }
+        ensures within { length result.now ≤ TAKE_BYTES }
     {
         &self.bytes[self.from..self.to]
     }

@@ -1,5 +1,4 @@
-//! What the words of the command line ask for, done: each line of words ends with an exit status, and what is said of a fault goes to
-//! standard error.
+//! What the words of the command line ask for, done: each line of words ends with an exit status, and what is said of a fault goes to standard error.
 ghost use Rattle.std.specs.Prelude.{◌≡◌, ◌≢◌, ◌⊎◌};
 ghost use Rattle.std.specs.IoError.{error_kind};
 ghost use Rattle.odata_serve.specs.Command.{EndsNoScript, IsFaultStatus, IsNoScript, IsStatus};
@@ -48,6 +47,8 @@ pub fn usage_status(rt: &impl Eprint) -> u8
 pub fn unread_status(rt: &impl Eprint, error: &io::Error) -> u8
     ensures usage { error_kind error.now ≡ ErrorKind.InvalidData → result ≡ USAGE }
     ensures memory { error_kind error.now ≡ ErrorKind.OutOfMemory → result ≡ MEMORY }
+    ensures device { error_kind error.now ≢ ErrorKind.InvalidData
+        → error_kind error.now ≢ ErrorKind.OutOfMemory → result ≡ DEVICE }
     ensures other { error_kind error.now ≢ ErrorKind.InvalidData → result ≢ USAGE }
 {
     match error.kind() {
@@ -173,8 +174,7 @@ where
     }
 }
 
-/// Does what the words ask for, the first of which is the program's name. The status is that of usage where `clap` does not take them, and
-/// where a script has a line that is no command.
+/// Does what the words ask for, the first of which is the program's name. The status is that of usage where `clap` does not take them, or a script has a bad line.
 pub fn line_status<R>(rt: &R, line: &[&str]) -> u8
 where
     R: Files

@@ -1,5 +1,4 @@
-//! Folders on a disk. Of a folder `csv-metadata.json` is read, then each file that the metadata names, once, and no other file; of each
-//! at most one byte more than the limit of a file.
+//! Folders on a disk. Of `csv-metadata.json`, then of each file that it names, once, and of no other, at most one byte more than the limit of a file is read.
 ghost use Rattle.std.specs.Prelude.{◌≡◌, ◌≢◌, ◌≤◌, ◌+◌, None, IfOk, IfSome, is_none, map, vec_len};
 ghost use Rattle.std.specs.IoError.{error_kind};
 ghost use Rattle.csvw_meta.specs.Document.{schemas_of};
@@ -44,12 +43,10 @@ impl<'a, R: Files> Disk<'a, R> {
     }
 }
 
-/// Why the files of a folder were not taken.
-#[derive(Clone, Copy, Debug, Drop)]
+/// Why the files of a folder were not taken: one could not be read, or memory ran out.
+#[derive(Clone, Copy, Drop)]
 enum TakeFault {
-    /// A file could not be read.
     Device,
-    /// Memory ran out.
     NoMemory,
 }
 

@@ -10,7 +10,7 @@ use std::alloc::{AllocError, Global};
 use table_store::{Catalog, LoadFault, NamedFile};
 
 /// Why a folder gives no catalog.
-#[derive(Debug, Drop)]
+#[derive(Drop)]
 pub enum FolderFault {
     /// The folder has no `csv-metadata.json`.
     NoMetadata,
@@ -59,7 +59,7 @@ pub const NOTES_FILE: &str = "notes.csv";
 pub const NOTES_BYTES: &str = "Id,Text\n1,hello\n2,\"a, b\"\n";
 
 /// The folder `notes`, which the program has in itself; there is no other. It counts its loads, and those under other names.
-#[derive(Debug, Drop)]
+#[derive(Drop)]
 pub struct BuiltIn {
     loads: u64,
     others: u64,

@@ -1,6 +1,5 @@
 //! What the program does: it answers a stream of requests, checks a folder of CSV files, replays a script of events or serves connections, as the
-//! words of its command line ask. Folders, streams and connections come by traits, so that each call runs over memory too; contracts see what
-//! these tell and count.
+//! words of its command line ask. Folders, streams and connections come by traits; contracts see what these tell and count.
 #![tactic(auto)]
 
 mod answers;

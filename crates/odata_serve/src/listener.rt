@@ -24,8 +24,7 @@ pub trait Listener {
         ensures failed { CountsFailure
             (listener self.old).failed (listener self.new).failed result };
 
-    /// Takes the next connection, and answers its stream from the catalog. A read or a write of it that fails, and too many reads, end it
-    /// alone.
+    /// Takes the next connection, and answers its stream from the catalog. A read or a write of it that fails, and too many reads, end it alone.
     fn answer_next(&mut self, alloc: Global, catalog: &Catalog) -> Result<(), ProgramFault>
         ensures port { (listener self.new).port ≡ (listener self.old).port }
         ensures counts { CountsAnswer (listener self.old) (listener self.new) result };

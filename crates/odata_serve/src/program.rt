@@ -18,7 +18,7 @@ pub fn sizes()
 {}
 
 /// Why the program ended early.
-#[derive(Debug, Drop)]
+#[derive(Drop)]
 pub enum ProgramFault {
     /// The folder gave no catalog.
     Folder(FolderFault),

@@ -1,5 +1,4 @@
-//! Event scripts over a folder: each line is a command to a hub of connections, is answered by one line, and the first line that is no command
-//! ends the replay.
+//! Event scripts over a folder: each line is a command to a hub of connections and is answered by one line; the first that is no command ends the replay.
 ghost use Rattle.event_scripts.specs.Command as command;
 ghost use Rattle.event_scripts.specs.Command.{command_view};
 ghost use Rattle.odata_hub.specs.Stands.{StandsFor};

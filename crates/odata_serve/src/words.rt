@@ -10,7 +10,7 @@ use clap::{Arg, ArgMatches, Command, value_parser};
 use std::alloc::{AllocError, Global};
 
 /// What the program is asked to do.
-#[derive(Clone, Copy, Debug)]
+#[derive(Clone, Copy)]
 pub enum Words<'a> {
     /// To answer standard input over the folder that is built in.
     Nothing,
@@ -42,7 +42,7 @@ pub enum Words<'a> {
 }
 
 /// Why no words were read.
-#[derive(Clone, Copy, Debug)]
+#[derive(Clone, Copy)]
 pub enum WordsFault {
     /// They are no command of the program.
     Usage,
@@ -215,8 +215,7 @@ fn matches_words<'a>(matches: &ArgMatches<'a>) -> Option<Words<'a>>
     }
 }
 
-/// What the words of the command line ask for, of which the first is the program's own name. They are `Usage` exactly where `clap` does not take them;
-/// it does not take words that ask for its help.
+/// What the words of the command line ask for, the first of which is the program's own name: `Usage` exactly where `clap` does not take them, or they ask for help.
 pub fn read_words<'a>(alloc: Global, words: &'a [&'a str]) -> Result<Words<'a>, WordsFault>
     ensures words { IfOk result (AreWords (texts words.now)) }
     ensures usage { IfErr result (λ e. e ≡ WordsFault.Usage → ¬ (IsTaken (texts words.now))) }

@@ -1,86 +1,77 @@
-//! Whole replies over the folder `examples/base` in memory, and over the one that is built in.
-use crate::base::BASE;
-use crate::files::MemoryFiles;
+//! Replies over the folder `examples/base` on the disk, and over the one that is built in, and what lines of words end with.
+use crate::base::{BASE, NOTES_REPLY, NOTES_REQUEST};
 use odata_http::Counted;
-use odata_serve::{BuiltIn, Disk, Folders, NOTES, answer, request_to};
-use std::process::Abort;
-use std::rt::Files;
+use odata_serve::{BuiltIn, DONE, Disk, Folders, NOTES, answer, line_status, request_to};
+use std::alloc::Global;
+use std::fs;
 use std::test::Fail;
 
-/// Targets, and the whole replies to a GET that closes.
-const REPLIES: [(&str, &str); 6] = [
-    (
-        "/codes?$format=text/csv",
-        "HTTP/1.1 200 OK\r\nContent-Type: text/csv;charset=utf-8\r\nOData-Version: 4.0\r\nContent-Length: 28\r\nConnection: close\r\n\r\nId,Code\r\n1,\r\n2,\"\"\r\n3,\"a,b\"\r\n",
-    ),
+/// Targets, and the bodies of the replies to a GET.
+const BODIES: [(&str, &str); 8] = [
     (
         "/",
-        "HTTP/1.1 200 OK\r\nContent-Type: application/json;odata.metadata=none\r\nOData-Version: 4.0\r\nContent-Length: 165\r\nConnection: close\r\n\r\n{\"value\":[{\"name\":\"cities\",\"kind\":\"EntitySet\",\"url\":\"cities\"},{\"name\":\"people\",\"kind\":\"EntitySet\",\"url\":\"people\"},{\"name\":\"codes\",\"kind\":\"EntitySet\",\"url\":\"codes\"}]}",
+        "{\"value\":[{\"name\":\"cities\",\"kind\":\"EntitySet\",\"url\":\"cities\"},{\"name\":\"people\",\"kind\":\"EntitySet\",\"url\":\"people\"},{\"name\":\"codes\",\"kind\":\"EntitySet\",\"url\":\"codes\"}]}",
+    ),
+    (
+        "/codes?$format=text/csv",
+        "Id,Code\r\n1,\r\n2,\"\"\r\n3,\"a,b\"\r\n",
+    ),
+    ("/cities/$count?$filter=Id%20gt%201", "2"),
+    ("/people('O''Hara')", "{\"Name\":\"O'Hara\",\"Age\":41}"),
+    (
+        "/cities?$filter=Pop%20add%201%20gt%205%20and%20contains(Name,'sl')&$select=Id,Since",
+        "{\"value\":[{\"Id\":1,\"Since\":\"1048-01-01\"}]}",
+    ),
+    (
+        "/cities?$orderby=Pop%20desc&$top=1&$skip=1&$count=true&$select=Id",
+        "{\"@odata.count\":3,\"value\":[{\"Id\":3}]}",
+    ),
+    (
+        "/cities?$apply=groupby((Open),aggregate(Pop%20with%20sum%20as%20S,$count%20as%20N))&$orderby=S,N",
+        "{\"value\":[{\"Open\":false,\"S\":null,\"N\":1},{\"Open\":null,\"S\":5,\"N\":1},{\"Open\":true,\"S\":700000,\"N\":1}]}",
     ),
     (
         "/nope",
-        "HTTP/1.1 404 Not Found\r\nContent-Type: application/json;odata.metadata=none\r\nOData-Version: 4.0\r\nContent-Length: 57\r\nConnection: close\r\n\r\n{\"error\":{\"code\":\"UnknownSet\",\"message\":\"no such table\"}}",
-    ),
-    (
-        "/cities/Name",
-        "HTTP/1.1 404 Not Found\r\nContent-Type: application/json;odata.metadata=none\r\nOData-Version: 4.0\r\nContent-Length: 58\r\nConnection: close\r\n\r\n{\"error\":{\"code\":\"NotFound\",\"message\":\"no such resource\"}}",
-    ),
-    (
-        "/$metadata",
-        "HTTP/1.1 501 Not Implemented\r\nContent-Type: application/json;odata.metadata=none\r\nOData-Version: 4.0\r\nContent-Length: 69\r\nConnection: close\r\n\r\n{\"error\":{\"code\":\"NotServed\",\"message\":\"not served by this profile\"}}",
-    ),
-    (
-        "/people",
-        "HTTP/1.1 200 OK\r\nContent-Type: application/json;odata.metadata=none\r\nOData-Version: 4.0\r\nContent-Length: 38\r\nConnection: close\r\n\r\n{\"value\":[{\"Name\":\"O'Hara\",\"Age\":41}]}",
+        "{\"error\":{\"code\":\"UnknownSet\",\"message\":\"no such table\"}}",
     ),
 ];
 
-/// The request of the program's first run, and its reply.
-const NOTES_REQUEST: &str = "GET /notes HTTP/1.1\r\nHost: x\r\nConnection: close\r\n\r\n";
+/// Lines of words over the folder where the test stands.
+const LINES: [&[&str]; 2] = [&["p", "check", "."], &["p", "replay", ".", "script"]];
 
-const NOTES_REPLY: &str =
-    "HTTP/1.1 200 OK\r\nContent-Type: application/json;odata.metadata=none\r\nOData-Version: 4.0\r\nContent-Length: 62\r\nConnection: close\r\n\r\n{\"value\":[{\"Id\":\"1\",\"Text\":\"hello\"},{\"Id\":\"2\",\"Text\":\"a, b\"}]}";
-
-/// Checks what a stream over a folder is answered with.
-fn check_answer<F: Folders>(
-    rt: &(impl Abort + AllocGlobal),
+/// What a stream over a folder is answered with.
+fn answered<F: Folders>(
+    alloc: Global,
     folders: &mut F,
     name: &str,
     stream: &str,
-    reply: &str,
-) {
-    let mut written = Vec::new(rt.alloc());
+) -> Result<Vec<u8>, Fail> {
+    let mut written = Vec::new(alloc);
     let end = answer(
-        rt.alloc(),
+        alloc,
         folders,
         name,
         &mut Counted::new(stream.as_bytes()),
         &mut Counted::new(&mut written),
     );
-    assert!(rt; end.is_ok(), "{stream:?}");
-    assert!(rt; written.as_slice() == reply.as_bytes(), "{stream:?}");
-}
-
-/// Checks what a stream over the folder on a disk is answered with.
-fn check_base<R: Files>(rt: &(impl Abort + AllocGlobal), files: &R, stream: &str, reply: &str) {
-    check_answer(rt, &mut Disk::new(files), "base", stream, reply);
+    end.or(Err("a stream that is not answered"))?;
+    Ok(written)
 }
 
 #[test]
-fn whole_replies(rt: HostRuntime) -> Result<(), Fail> {
-    let files = MemoryFiles {
-        entries: BASE,
-        changed: None,
-    };
-    for (target, reply) in REPLIES {
-        let request = request_to(rt.alloc(), target)?;
-        check_base(&rt, &files, request.as_str(), reply);
+fn replies(rt: HostRuntime) -> Result<(), Fail> {
+    for (name, text) in BASE {
+        fs::write(&rt, name, text)?;
     }
-    check_answer(&rt, &mut BuiltIn::new(), NOTES, NOTES_REQUEST, NOTES_REPLY);
-    let request = request_to(rt.alloc(), "/x y")?;
-    assert_eq!(rt;
-        request.as_str(),
-        "GET /x y HTTP/1.1\r\nHost: localhost\r\nConnection: close\r\n\r\n"
-    );
+    for (target, body) in BODIES {
+        let request = request_to(rt.alloc(), target)?;
+        let reply = answered(rt.alloc(), &mut Disk::new(&rt), ".", request.as_str())?;
+        assert!(rt; reply.ends_with(body.as_bytes()), "{target}");
+    }
+    let reply = answered(rt.alloc(), &mut BuiltIn::new(), NOTES, NOTES_REQUEST)?;
+    assert!(rt; reply.as_slice() == NOTES_REPLY.as_bytes());
+    for line in LINES {
+        assert_eq!(rt; line_status(&rt, line), DONE);
+    }
     Ok(())
 }

@@ -1,137 +1,58 @@
-//! What `check_folder` and the text of a fault say of folders on a disk.
-use crate::base::BASE;
-use crate::files::{Entry, MemoryFiles};
-use odata_http::{Counted, RunFault};
-use odata_serve::{
-    DEVICE, DONE, Disk, FolderFault, MEMORY, ProgramFault, REFUSED, USAGE, check_folder, fault_line,
-};
+//! Folders in memory: the limit of a file, and two files of one name.
+use csvw_meta::Limits;
 use std::alloc::{AllocError, Global};
-use std::io::ErrorKind;
-use std::rt::Files;
+use std::process::Abort;
 use std::test::Fail;
-use table_store::LoadFault;
+use table_store::{Catalog, LoadFault, NamedFile};
 
-/// The cities with a key that stands twice.
-const CITIES_TWICE: Entry = Entry::Bytes(
-    "Id,Name,Pop,Open,Since\n1,Oslo,700000,true,1048-01-01\n2,\"Foo, \"\"Bar\"\"\",,false,\n3,,5,,2024-02-29\n1,x,,,\n",
-);
+/// The metadata of one table of two columns.
+const META: &str =
+    r#"{"url":"a.csv","tableSchema":{"columns":[{"name":"Id","datatype":"integer"},{"name":"Since","datatype":"date"}]}}"#;
 
-/// A file of the folder in the place of its own.
-type Change = Option<(&'static str, Entry)>;
+/// The most bytes of a file, the bytes of files `a.csv`, and the number of the table's rows and blocks, or why the folder is refused: a file has at most
+/// as many bytes as the limit, before anything in it is looked at, and of two files with one name the first counts.
+const FOLDERS: [(u32, &[&str], Result<(usize, usize), &str>); 5] = [
+    (9, &["Id,Since\n"], Ok((0, 0))),
+    (9, &["Id,Since\n\""], Err("a.csv: FileTooLarge")),
+    (100, &["Id,Since\n7,\n", ""], Ok((1, 1))),
+    (100, &["", "Id,Since\n7,\n"], Err("a.csv: NoHeader")),
+    (100, &[], Err("a.csv: FileMissing")),
+];
 
-/// The folder with one change.
-fn base_with(changed: Change) -> MemoryFiles {
-    MemoryFiles {
-        entries: BASE,
-        changed,
+/// The tables of a folder whose files have the table's name.
+fn load(
+    alloc: Global,
+    most: u32,
+    texts: &[&str],
+) -> Result<Result<Catalog, LoadFault>, AllocError> {
+    let mut files = Vec::new(alloc);
+    for text in texts {
+        files.push(NamedFile {
+            name: String::from_str(alloc, "a.csv")?,
+            bytes: Vec::from_slice(alloc, text.as_bytes())?,
+        })?;
     }
-}
-
-/// What is written, the text for standard error and the exit status of a check of the folder.
-fn check<R: Files>(alloc: Global, files: &R) -> Result<(Vec<u8>, String, u8), AllocError> {
-    let mut lines = Vec::new(alloc);
-    let end = check_folder(
-        alloc,
-        &mut Disk::new(files),
-        "base",
-        &mut Counted::new(&mut lines),
-    );
-    let (text, status) = match end {
-        Ok(()) => (String::new(alloc), DONE),
-        Err(fault) => fault_line(alloc, &fault)?,
+    let limits = Limits {
+        file: most,
+        tables: 1,
+        columns: 2,
+        transformations: 1,
     };
-    Ok((lines, text, status))
-}
-
-/// Changes of the folder, and what a check writes and says, with its exit status.
-const CHECKS: [(Change, &str, &str, u8); 4] = [
-    (None, "cities 3 5\npeople 1 2\ncodes 3 2\n", "", 0),
-    (
-        Some(("base/people.csv", Entry::NotOpened(ErrorKind::NotFound))),
-        "",
-        "refused: people.csv: FileMissing",
-        1,
-    ),
-    (
-        Some(("base/cities.csv", CITIES_TWICE)),
-        "",
-        "refused: cities.csv: KeyTwice row 3",
-        1,
-    ),
-    (
-        Some((
-            "base/csv-metadata.json",
-            Entry::NotOpened(ErrorKind::NotFound),
-        )),
-        "",
-        "refused: csv-metadata.json: NoMetadata",
-        1,
-    ),
-];
-
-#[test]
-fn folders_on_disks(rt: HostRuntime) -> Result<(), Fail> {
-    for (changed, wanted, said, status) in CHECKS {
-        let (written, text, code) = check(rt.alloc(), &base_with(changed))?;
-        assert_eq!(rt; (text.as_str(), code), (said, status));
-        assert_eq!(rt; written.as_slice(), wanted.as_bytes(), "{said}");
-    }
-    Ok(())
-}
-
-/// Which error of a disk is which end: a fault of the device, or want of memory.
-const ERRORS: [(Entry, u8); 5] = [
-    (Entry::NotOpened(ErrorKind::PermissionDenied), DEVICE),
-    (Entry::NotOpened(ErrorKind::NotADirectory), DEVICE),
-    (Entry::NotOpened(ErrorKind::OutOfMemory), MEMORY),
-    (Entry::NotRead(ErrorKind::Other), DEVICE),
-    (Entry::NotRead(ErrorKind::OutOfMemory), MEMORY),
-];
-
-#[test]
-fn errors_of_disks(rt: HostRuntime) -> Result<(), Fail> {
-    for (number, (entry, status)) in ERRORS.iter().enumerate() {
-        for path in ["base/csv-metadata.json", "base/people.csv"] {
-            let (written, text, code) = check(rt.alloc(), &base_with(Some((path, *entry))))?;
-            assert_eq!(rt;
-                (written.len(), text.len()),
-                (0, 0),
-                "{path}, error {number}"
-            );
-            assert_eq!(rt; code, *status, "{path}, error {number}");
-        }
-    }
-    Ok(())
+    let meta = Vec::from_slice(alloc, META.as_bytes())?;
+    Ok(Catalog::load(alloc, limits, meta, files))
 }
 
 #[test]
-fn texts_of_faults(rt: HostRuntime) -> Result<(), Fail> {
-    for (fault, said, status) in [
-        (
-            ProgramFault::Folder(FolderFault::NoMetadata),
-            "refused: csv-metadata.json: NoMetadata",
-            REFUSED,
-        ),
-        (
-            ProgramFault::Folder(FolderFault::Load(LoadFault::NoMemory)),
-            "",
-            MEMORY,
-        ),
-        (ProgramFault::Folder(FolderFault::Device), "", DEVICE),
-        (ProgramFault::Folder(FolderFault::NoMemory), "", MEMORY),
-        (ProgramFault::Run(RunFault::Read), "", DEVICE),
-        (ProgramFault::Run(RunFault::TooManyReads), "", DEVICE),
-        (ProgramFault::Run(RunFault::NoMemory), "", MEMORY),
-        (
-            ProgramFault::Script { line: 1 },
-            "line 1: bad command",
-            USAGE,
-        ),
-        (ProgramFault::Device, "", DEVICE),
-        (ProgramFault::NoMemory, "", MEMORY),
-    ] {
-        let (text, code) = fault_line(rt.alloc(), &fault)?;
-        assert_eq!(rt; (text.as_str(), code), (said, status));
+fn folders(rt: HostRuntime) -> Result<(), Fail> {
+    for (most, texts, wanted) in FOLDERS {
+        let is_right = match load(rt.alloc(), most, texts)? {
+            Ok(catalog) => {
+                let table = catalog.tables().first().ok_or("no table")?;
+                wanted == Ok((table.rows(), table.blocks()))
+            }
+            Err(fault) => wanted == Err(fault.text(rt.alloc())?.as_str()),
+        };
+        assert!(rt; is_right, "{texts:?}");
     }
     Ok(())
 }

@@ -1,5 +1,6 @@
-//! Cases of the program: folders in memory, some of which cannot be read; whole replies, words, texts of faults, and connections over the
-//! loopback device. Expected bytes are written by hand, from the standards.
+//! Cases of the service: each public call answers once, over a folder on the disk, the one that is built in, and connections over the loopback device. Expected
+//! bytes are written by hand, from the standards. What each request, folder and line of words is answered with, byte for byte, is asked of the proved
+//! program by the scripts in `tests/`.
 #![tactic(auto)]
 
 #[cfg(test)]
@@ -9,8 +10,6 @@ mod base;
 #[cfg(test)]
 mod connections;
 #[cfg(test)]
-mod files;
-#[cfg(test)]
 mod folders;
 #[cfg(test)]
-mod words;
+mod sessions;

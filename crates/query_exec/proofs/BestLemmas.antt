@@ -16,13 +16,15 @@ use Rattle.query_plan.specs.Meaning.{ResultOf}
 use Rattle.query_plan.specs.Order.{Item, order_faults, plain_column, rows_cmp, sorted}
 use Rattle.query_plan.specs.Plan.{NodeOf, aggregating, choosing, filtering, grouping, node_result, nodes_result, projecting, slicing, sorting}
 use Rattle.query_plan.specs.Plan.{node_view}
+use Rattle.query_plan.specs.Push.{room_of}
 use Rattle.query_plan.specs.declared.plan.Node.{Node}
 use Rattle.query_exec.specs.declared.run.Run.{Run}
 use Rattle.query_exec.specs.Run.{rows_so_far, steps_of}
 use Rattle.query_exec.specs.Taking.{HasCut, HasTaken, HasTakenIn}
 use Rattle.query_exec.specs.Useful.{are_plain, useful}
 use Rattle.query_exec.specs.Underway.{AreAll}
-use Rattle.query_exec.proofs.ConditionLemmas.{joined}
+use Rattle.block_filter.specs.Conditions.{joined}
+use Rattle.query_exec.proofs.PieceLemmas.{first_front, sliced_same}
 use Rattle.query_exec.proofs.StepLemmas.{all_numbered}
 
 -- ---- items that are columns alone
@@ -131,7 +133,7 @@ useful_front law (aggregating aggregates ∷ ns) xs ys = refl
 useful_front law (grouping places aggregates ∷ ns) xs ys = refl
 useful_front law (sorting items ∷ ns) xs ys = refl
 useful_front law (choosing items most ∷ ns) xs ys = choosing_front items most ns law xs ys
-useful_front law (slicing s ∷ ns) xs ys = refl
+useful_front law (slicing s ∷ ns) xs ys = first_front (room_of s.skip s.top s.counts) xs ys
 useful_front law (projecting places ∷ ns) xs ys = refl
 
 -- of the rows that it has a use for it has a use
@@ -146,7 +148,7 @@ useful_result (aggregating aggregates ∷ ns) r xs zs e = ap (λ rows. nodes_res
 useful_result (grouping places aggregates ∷ ns) r xs zs e = ap (λ rows. nodes_result (grouping places aggregates ∷ ns) (record r { rows = rows })) e
 useful_result (sorting items ∷ ns) r xs zs e = ap (λ rows. nodes_result (sorting items ∷ ns) (record r { rows = rows })) e
 useful_result (choosing items most ∷ ns) r xs zs e = ap (option_and_then (nodes_result ns)) (chosen_same items most ns r xs zs e)
-useful_result (slicing s ∷ ns) r xs zs e = ap (λ rows. nodes_result (slicing s ∷ ns) (record r { rows = rows })) e
+useful_result (slicing s ∷ ns) r xs zs e = ap (option_and_then (nodes_result ns)) (sliced_same s r xs zs e)
 useful_result (projecting places ∷ ns) r xs zs e = ap (λ rows. nodes_result (projecting places ∷ ns) (record r { rows = rows })) e
 
 pub useful_fit : (steps : List NodeOf) (r : ResultOf) (xs zs : List (List CellValue)) → useful steps xs ≡ useful steps zs → NodesFit steps (record r { rows = zs })
@@ -157,7 +159,7 @@ useful_fit (aggregating aggregates ∷ ns) r xs zs e fit = subst (λ rows. Nodes
 useful_fit (grouping places aggregates ∷ ns) r xs zs e fit = subst (λ rows. NodesFit (grouping places aggregates ∷ ns) (record r { rows = rows })) (sym e) fit
 useful_fit (sorting items ∷ ns) r xs zs e fit = subst (λ rows. NodesFit (sorting items ∷ ns) (record r { rows = rows })) (sym e) fit
 useful_fit (choosing items most ∷ ns) r xs zs e fit = choosing_fit items most ns r xs zs e fit
-useful_fit (slicing s ∷ ns) r xs zs e fit = subst (λ rows. NodesFit (slicing s ∷ ns) (record r { rows = rows })) (sym e) fit
+useful_fit (slicing s ∷ ns) r xs zs e fit = (tt, λ made is. fit.1 made (sym (sliced_same s r xs zs e) ∙ is))
 useful_fit (projecting places ∷ ns) r xs zs e fit = subst (λ rows. NodesFit (projecting places ∷ ns) (record r { rows = rows })) (sym e) fit
 
 -- ---- what is kept

@@ -1,55 +1,18 @@
--- Conditions in turn, on rows and on rows behind them, and before the steps of a plan.
+-- Conditions in turn before the steps of a plan.
 use Rattle.std.proofs.Common.{◌≡◌, ℕ, Option, Some, None, List, [], ◌∷◌, ◌++◌, refl, sym, ap, ◌∙◌, subst, append_assoc, append-nil}
 use Rattle.std.specs.Prelude.{option_and_then, option_map}
 use Rattle.std.proofs.lemmas.List.{map-append}
 use Rattle.cell_types.specs.Value.{CellValue}
 use Rattle.odata_types.specs.TypedTree.{TruthExprOf}
-use Rattle.row_eval.specs.Outcome.{both}
 use Rattle.query_plan.specs.Filter.{passing}
 use Rattle.query_plan.specs.Fitting.{NodesFit}
-use Rattle.query_plan.specs.Laws.{NodesInTurn, TrueRowsPass}
+use Rattle.query_plan.specs.Laws.{NodesInTurn}
 use Rattle.query_plan.specs.Meaning.{ResultOf, selected_names}
 use Rattle.query_plan.specs.Plan.{NodeOf, nodes_result, select_nodes}
 use Rattle.row_columns.specs.Picked.{values_at}
-use Rattle.query_exec.specs.Conditions.{condition_nodes, passing_all}
+use Rattle.block_filter.specs.Conditions.{joined, passing_all}
+use Rattle.query_exec.specs.Conditions.{condition_nodes}
 use Rattle.query_exec.specs.Picked.{selected_rows}
-
--- rows, and others behind them; none where either is none
-abbrev pub joined : Option (List (List CellValue)) → Option (List (List CellValue)) → Option (List (List CellValue))
-joined front back = both (λ xs ys. xs ++ ys) front back
-
-pub joined_none : (front : Option (List (List CellValue))) → joined front None ≡ None
-joined_none None = refl
-joined_none (Some xs) = refl
-
-pub joined_assoc : (a b c : Option (List (List CellValue))) → joined (joined a b) c ≡ joined a (joined b c)
-joined_assoc None b c = refl
-joined_assoc (Some xs) None c = refl
-joined_assoc (Some xs) (Some ys) None = refl
-joined_assoc (Some xs) (Some ys) (Some zs) = ap (λ l. Some l) (append_assoc xs ys zs)
-
-pub joined_nothing : (a : Option (List (List CellValue))) → joined a (Some []) ≡ a
-joined_nothing None = refl
-joined_nothing (Some xs) = ap (λ l. Some l) (append-nil xs)
-
-pub none_pass : (es : List TruthExprOf) → passing_all es [] ≡ Some []
-none_pass [] = refl
-none_pass (e ∷ es) = none_pass es
-
-step_in_parts : (es : List TruthExprOf) (front back : Option (List (List CellValue)))
-    → ((xs ys : List (List CellValue)) → passing_all es (xs ++ ys) ≡ joined (passing_all es xs) (passing_all es ys))
-    → option_and_then (passing_all es) (joined front back) ≡ joined (option_and_then (passing_all es) front) (option_and_then (passing_all es) back)
-step_in_parts es None back each = refl
-step_in_parts es (Some xs) None each = sym (joined_none (passing_all es xs))
-step_in_parts es (Some xs) (Some ys) each = each xs ys
-
--- what passes of rows is what passes of a first part, and of what is behind it
-pub pass_in_parts : TrueRowsPass → (es : List TruthExprOf) (front back : List (List CellValue))
-    → passing_all es (front ++ back) ≡ joined (passing_all es front) (passing_all es back)
-pass_in_parts law [] front back = refl
-pass_in_parts law (e ∷ es) front back =
-    ap (option_and_then (passing_all es)) (law.parts e front back)
-    ∙ step_in_parts es (passing e front) (passing e back) (pass_in_parts law es)
 
 above : (es : List TruthExprOf) (steps : List NodeOf) (r : ResultOf) (passed : Option (List (List CellValue)))
     → ((rows : List (List CellValue)) → nodes_result (condition_nodes es ++ steps) (record r { rows = rows })

@@ -17,11 +17,12 @@ use Rattle.query_plan.specs.Laws.{NodesInTurn}
 use Rattle.query_plan.specs.Meaning.{table_names}
 use Rattle.query_plan.specs.Plan.{NodeOf, PlanOf, select_nodes, table_result}
 use Rattle.query_exec.specs.declared.run.Run.{Run}
-use Rattle.query_exec.specs.Conditions.{condition_nodes, ConditionsFit}
+use Rattle.block_filter.specs.Conditions.{ConditionsFit, ConditionsInTurn}
+use Rattle.query_exec.specs.Conditions.{condition_nodes}
 use Rattle.query_exec.specs.Picked.{selected_kinds}
 use Rattle.query_exec.specs.Run.{conditions_of, places_of, steps_of, StandsFor}
 use Rattle.query_exec.specs.Taking.{MayTake}
-use Rattle.query_exec.proofs.ConditionLemmas.{conditions_give, none_pass}
+use Rattle.query_exec.proofs.ConditionLemmas.{conditions_give}
 
 -- a row of a table is one of the rows that the evaluation is for
 short_value : (v : CellValue) → fits.IsShortValue v → inputs.IsShortValue v
@@ -96,10 +97,10 @@ no_rows : (schema : SchemaOf) → AreTableRows schema []
 no_rows schema = record { each = λ k d h. absurd (omega (arith, h)); count = omega arith }
 
 -- are columns of the table
-pub places_within : NodesInTurn → (es : List TruthExprOf) (picked : Option (List ℕ)) (steps : List NodeOf) (schema : SchemaOf) (plan : PlanOf)
+pub places_within : NodesInTurn → ConditionsInTurn → (es : List TruthExprOf) (picked : Option (List ℕ)) (steps : List NodeOf) (schema : SchemaOf) (plan : PlanOf)
     → condition_nodes es ++ select_nodes picked ++ steps ≡ plan.nodes → IsFitFor schema plan → IfSome picked (All (λ place. place < length schema.columns))
-places_within law es picked steps schema plan is fits =
+places_within law turn es picked steps schema plan is fits =
     let r = table_result schema [] in
     let fit : NodesFit (condition_nodes es ++ (select_nodes picked ++ steps)) r =
     subst (λ ns. NodesFit ns r) (sym is ∙ append_assoc (condition_nodes es) (select_nodes picked) steps) (fits [] (no_rows schema)) in
-    picked_within picked steps schema [] (law.above_fit (condition_nodes es) (select_nodes picked ++ steps) r r fit (conditions_give es r [] [] (none_pass es)))
+    picked_within picked steps schema [] (law.above_fit (condition_nodes es) (select_nodes picked ++ steps) r r fit (conditions_give es r [] [] (turn.none es)))

@@ -4,7 +4,7 @@ use Rattle.std.specs.Prelude.{IfOk, Result, Ok, Err, slice_get}
 use Rattle.std.specs.List.{All, AllByRecursion}
 use Rattle.std.proofs.lemmas.List.{get_or-map, length-map}
 use Rattle.std.proofs.lemmas.List.Elements.{recursion_from_All}
-use Rattle.block_eval.specs.Columns.{unless_null}
+use Rattle.block_filter.specs.Columns.{unless_null}
 use Rattle.block_summary.specs.Cells.{cell}
 use Rattle.block_summary.specs.Types.{cell_of}
 use Rattle.block_summary.specs.declared.number.PackedType.{PackedType}
@@ -18,7 +18,7 @@ use Rattle.row_order.specs.InTime.{key_at, AreEnoughByKeys, HaveKeys, NeverFault
 use Rattle.row_order.specs.declared.keys_in_time.KeyColumn.{KeyColumn}
 use Rattle.row_order.specs.declared.keys_in_time.Keys.{Keys}
 use Rattle.query_exec.specs.declared.run.Run.{Run}
-use Rattle.query_exec.specs.Lanes.{AreKeysOf, StandAt}
+use Rattle.block_filter.specs.Lanes.{AreKeysOf, StandAt}
 use Rattle.query_exec.specs.Picked.{selected_rows}
 use Rattle.query_exec.specs.Run.{places_of}
 use Rattle.query_exec.specs.Taking.{AreOfUse, IsSourceOf}

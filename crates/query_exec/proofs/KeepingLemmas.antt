@@ -1,25 +1,38 @@
 -- What a run has behind the rows of a block.
-use Rattle.std.proofs.Common.{◌≡◌, ℕ, Bool, true, false, ◌||◌, cond, Option, None, Some, List, ◌++◌, length, refl, sym, ap, ◌∙◌, subst}
+use Rattle.std.proofs.Common.{◌≡◌, ℕ, Bool, true, false, ◌||◌, cond, Option, None, Some, List, ◌++◌, refl, sym, ap, ◌∙◌, subst}
 use Rattle.std.specs.Prelude.{OnOk, Result, Ok, Err, option_map}
 use Rattle.cell_types.specs.Value.{CellValue}
 use Rattle.row_columns.specs.Picked.{numbered}
-use Rattle.query_exec.specs.declared.lanes.Lanes.{Lanes}
+use Rattle.block_filter.specs.declared.lanes.Lanes.{Lanes}
 use Rattle.query_exec.specs.declared.run.Run.{Run}
 use Rattle.query_exec.specs.Picked.{selected_rows}
 use Rattle.query_exec.specs.Run.{conditions_of, places_of, steps_of}
-use Rattle.query_exec.specs.Taking.{room_behind, unless_faulted, ArePassing, HasKept, HasTaken, LooksOn}
+use Rattle.block_filter.specs.declared.block.Passed.{Passed}
+use Rattle.block_filter.specs.Passing.{unless_faulted, ArePassing}
+use Rattle.query_exec.specs.Taking.{room_behind, HasKept, HasTaken, IsSpare, LooksOn}
 use Rattle.query_exec.specs.Useful.{useful}
-use Rattle.query_exec.proofs.ConditionLemmas.{joined}
+use Rattle.block_filter.specs.Conditions.{joined, passing_all}
+use Rattle.query_plan.specs.Meaning.{first_rows}
+use Rattle.query_exec.proofs.PieceLemmas.{first_selected}
 
-looks_on : (old new : Run) (rows : List (List CellValue)) (numbers : List ℕ) (faulted : Bool) → ArePassing (conditions_of old) rows numbers faulted
-    → new.room ≡ room_behind old.room (length numbers) → LooksOn old new rows
-looks_on old new rows numbers faulted found is = is ∙ ap (room_behind old.room) found.count
+looks_on : (old new : Run) (most : Option ℕ) (rows : List (List CellValue)) (found : Passed) → ArePassing (conditions_of old) most rows found
+    → new.room ≡ room_behind old.room found.count → LooksOn old new rows
+looks_on old new most rows found are is = is ∙ ap (room_behind old.room) are.count
+
+some_first : (most : Option ℕ) (passed : Option (List (List CellValue))) (kept : List (List CellValue)) → option_map (first_rows most) passed ≡ Some kept
+    → (all : List (List CellValue)) × (passed ≡ Some all) × (first_rows most all ≡ kept)
+some_first most None kept is = absurd (cc)
+some_first most (Some all) kept is = (all, refl, cc)
+
+none_first : (most : Option ℕ) (passed : Option (List (List CellValue))) → option_map (first_rows most) passed ≡ None → passed ≡ None
+none_first most None is = refl
+none_first most (Some all) is = absurd (cc)
 
 -- a run that keeps the rows that pass
-pub taken_some : (old mid new : Run) (rows : List (List CellValue)) (numbers : List ℕ) (faulted : Bool) → mid ≡ record old { lanes = mid.lanes; room = mid.room; faulted = mid.faulted }
-    → mid.room ≡ room_behind old.room (length numbers) → ArePassing (conditions_of old) rows numbers faulted → mid.faulted ≡ false → old.faulted ≡ false → faulted ≡ false
-    → HasKept mid new (selected_rows (places_of old) (numbered numbers rows)) → HasTaken old new rows
-taken_some old mid new rows numbers faulted is room found now was none kept = record {
+pub taken_some : (old mid new : Run) (most : Option ℕ) (rows : List (List CellValue)) (found : Passed) → mid ≡ record old { lanes = mid.lanes; room = mid.room; faulted = mid.faulted }
+    → mid.room ≡ room_behind old.room found.count → IsSpare old most → ArePassing (conditions_of old) most rows found → mid.faulted ≡ false → old.faulted ≡ false → found.faulted ≡ false
+    → HasKept mid new (selected_rows (places_of old) (numbered found.numbers.items rows)) → HasTaken old new rows
+taken_some old mid new most rows found is room spare are now was none kept = record {
   same = record {
     conditions = kept.same.conditions ∙ ap (λ (r : Run). r.conditions) is;
     places = kept.same.places ∙ ap (λ (r : Run). r.places) is;
@@ -29,15 +42,18 @@ taken_some old mid new rows numbers faulted is room found now was none kept = re
     kinds = kept.same.kinds ∙ ap (λ (r : Run). r.kept.kinds) is;
   };
   left_is = kept.left_is ∙ ap (λ (r : Run). r.left) is;
-  looks_on = looks_on old new rows numbers faulted found (kept.room_is ∙ room);
+  looks_on = looks_on old new most rows found are (kept.room_is ∙ room);
   passed =
       let steps = steps_of old in
-      let added = selected_rows (places_of old) (numbered numbers rows) in
+      let picked = selected_rows (places_of old) in
+      let first = numbered found.numbers.items rows in
+      let all = some_first most (passing_all (conditions_of old) rows) first (are.passed ∙ ap (λ b. unless_faulted b first) none) in
       ap (λ b. option_map (useful steps) (cond b None (Some new.kept.rows))) (kept.faulted_is ∙ now)
-      ∙ ap (λ rs. Some rs) (subst (λ (r : Run). useful (steps_of r) new.kept.rows ≡ useful (steps_of r) (r.kept.rows ++ added)) is kept.useful_are)
-      ∙ ap (λ b. option_map (useful steps) (joined (cond b None (Some old.kept.rows)) (Some added))) (sym was)
-      ∙ ap (λ passed. option_map (useful steps) (joined (cond old.faulted None (Some old.kept.rows)) (option_map (selected_rows (places_of old)) passed)))
-      (sym (found.passed ∙ ap (λ b. unless_faulted b (numbered numbers rows)) none));
+      ∙ ap (λ rs. Some rs) (subst (λ (r : Run). useful (steps_of r) new.kept.rows ≡ useful (steps_of r) (r.kept.rows ++ picked first)) is kept.useful_are)
+      ∙ ap (λ rs. Some (useful steps (old.kept.rows ++ rs))) (ap picked (sym all.2) ∙ first_selected (places_of old) most all.0)
+      ∙ ap (λ rs. Some rs) (spare (picked all.0))
+      ∙ ap (λ b. option_map (useful steps) (joined (cond b None (Some old.kept.rows)) (Some (picked all.0)))) (sym was)
+      ∙ ap (λ passed. option_map (useful steps) (joined (cond old.faulted None (Some old.kept.rows)) (option_map picked passed))) (sym all.1);
 }
 
 or_left : (a b : Bool) → (a || b) ≡ false → a ≡ false
@@ -48,11 +64,30 @@ or_right : (a b : Bool) → (a || b) ≡ false → b ≡ false
 or_right true b h = absurd (cc)
 or_right false b h = h
 
-pub kept_is_taken : {X E : Type 0} (old new : Run) (lanes : Lanes) (room : Option ℕ) (rows : List (List CellValue)) (numbers : List ℕ) (faulted : Bool) (result : Result X E)
-    → room ≡ room_behind old.room (length numbers) → ArePassing (conditions_of old) rows numbers faulted → (old.faulted || faulted) ≡ false
-    → OnOk result (HasKept (record old { lanes = lanes; room = room; faulted = old.faulted || faulted }) new (selected_rows (places_of old) (numbered numbers rows)))
+pub kept_is_taken : {X E : Type 0} (old new : Run) (lanes : Lanes) (room most : Option ℕ) (rows : List (List CellValue)) (found : Passed) (result : Result X E)
+    → room ≡ room_behind old.room found.count → IsSpare old most → ArePassing (conditions_of old) most rows found → (old.faulted || found.faulted) ≡ false
+    → OnOk result (HasKept (record old { lanes = lanes; room = room; faulted = old.faulted || found.faulted }) new (selected_rows (places_of old) (numbered found.numbers.items rows)))
     → OnOk result (HasTaken old new rows)
-kept_is_taken old new lanes room rows numbers faulted (Ok x) is found none kept =
-    taken_some old (record old { lanes = lanes; room = room; faulted = old.faulted || faulted }) new rows numbers faulted refl is found none (or_left old.faulted faulted none)
-    (or_right old.faulted faulted none) kept
-kept_is_taken old new lanes room rows numbers faulted (Err e) is found none kept = kept
+kept_is_taken old new lanes room most rows found (Ok x) is spare are none kept =
+    taken_some old (record old { lanes = lanes; room = room; faulted = old.faulted || found.faulted }) new most rows found refl is spare are none (or_left old.faulted found.faulted none)
+    (or_right old.faulted found.faulted none) kept
+kept_is_taken old new lanes room most rows found (Err e) is spare are none kept = kept
+
+-- a run that keeps none, since a condition divided by zero
+none_joined : (picked : Option (List ℕ)) (was faulted : Bool) (kept : List (List CellValue)) (passed : Option (List (List CellValue))) → (was || faulted) ≡ true
+    → (faulted ≡ true → passed ≡ None) → joined (cond was None (Some kept)) (option_map (selected_rows picked) passed) ≡ None
+none_joined picked true faulted kept passed h none = refl
+none_joined picked false faulted kept passed h none = ap (λ p. joined (Some kept) (option_map (selected_rows picked) p)) (none h)
+
+pub taken_none : (old : Run) (lanes : Lanes) (room most : Option ℕ) (rows : List (List CellValue)) (found : Passed) → room ≡ room_behind old.room found.count
+    → ArePassing (conditions_of old) most rows found → (old.faulted || found.faulted) ≡ true
+    → HasTaken old (record old { lanes = lanes; room = room; faulted = old.faulted || found.faulted }) rows
+taken_none old lanes room most rows found is are faults = record {
+  same = record { conditions = refl; places = refl; steps = refl; names = refl; stage = refl; kinds = refl };
+  left_is = refl;
+  looks_on = is ∙ ap (room_behind old.room) are.count;
+  passed =
+      ap (λ b. option_map (useful (steps_of old)) (cond b None (Some old.kept.rows))) faults
+      ∙ ap (option_map (useful (steps_of old))) (sym (none_joined (places_of old) old.faulted found.faulted old.kept.rows (passing_all (conditions_of old) rows) faults
+      (λ b. none_first most (passing_all (conditions_of old) rows) (are.passed ∙ ap (λ f. unless_faulted f (numbered found.numbers.items rows)) b))));
+}

@@ -1,8 +1,6 @@
 pub mod ConditionLemmas
 pub mod RowLemmas
-pub mod TakingLemmas
-pub mod LaneLemmas
-pub mod PassingLemmas
+pub mod PieceLemmas
 pub mod KeepingLemmas
 pub mod InTimeLemmas
 pub mod FitLemmas

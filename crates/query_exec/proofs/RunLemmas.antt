@@ -14,7 +14,7 @@ use Rattle.odata_types.specs.TypedTree.{boxed_truth, TruthExprOf}
 use Rattle.table_store.specs.Block.{block_of}
 use Rattle.table_store.specs.Table.{TableOf}
 use Rattle.query_plan.specs.Fitting.{AreTableRows, IsFitFor, NodesFit}
-use Rattle.query_plan.specs.Laws.{NodesInTurn, ScansReadTableRows, TrueRowsPass}
+use Rattle.query_plan.specs.Laws.{NodesInTurn, ScansReadTableRows}
 use Rattle.query_plan.specs.Meaning.{ResultOf, selected_names, table_names}
 use Rattle.query_plan.specs.Plan.{NodeOf, PlanOf, leading, needed, node_view, nodes_result, select_nodes, table_result}
 use Rattle.query_plan.specs.Scan.{passes_each, rows_of_blocks, up_to}
@@ -25,7 +25,8 @@ use Rattle.query_exec.specs.declared.fault.ExecFault.TheVariants.{DivisionByZero
 use Rattle.query_exec.specs.declared.run.Run.{Run}
 use Rattle.query_exec.specs.declared.run.Stage.TheVariants.{Reading}
 use Rattle.query_exec.specs.Answer.{plan_answer}
-use Rattle.query_exec.specs.Conditions.{condition_nodes, passing_all}
+use Rattle.block_filter.specs.Conditions.{joined, passing_all, ConditionsInTurn}
+use Rattle.query_exec.specs.Conditions.{condition_nodes}
 use Rattle.query_exec.specs.Rows.{RowsOf}
 use Rattle.query_exec.specs.Picked.{selected_kinds, selected_rows}
 use Rattle.query_exec.specs.Run.{conditions_of, handed_block, handed_rows, kept_answer, kept_result, next_block, places_of, rows_so_far, run_length, steps_of, wanted_block, GoesOn, IsReady, StandsFor, StepsTo}
@@ -33,7 +34,7 @@ use Rattle.query_exec.specs.Taking.{room_behind, HasTakenIn}
 use Rattle.query_exec.specs.Useful.{useful}
 use Rattle.query_exec.proofs.NeededLemmas.{all_rows, drop_one, first_left, is_block, is_no_block, more_rows, needed_behind, none_behind, wanted_is_first}
 use Rattle.query_exec.proofs.BestLemmas.{alike_answer, alike_fit, alike_joined, Alike}
-use Rattle.query_exec.proofs.ConditionLemmas.{joined, pass_in_parts, parts_fit, parts_give, selected_joined, selected_result}
+use Rattle.query_exec.proofs.ConditionLemmas.{parts_fit, parts_give, selected_joined, selected_result}
 
 -- the names of a table's columns
 pub names-column_view : (columns : List Column) → map (λ (c : ColumnOf). c.name) (map column_view columns) ≡ map (λ c. string_bytes c.name) columns
@@ -77,7 +78,7 @@ wanted_is_next run plan table blocks has =
     ∙ first_left (needed plan table.rows) blocks
 
 -- what is kept behind one block more
-one_block_more : TrueRowsPass → BestInPieces → (steps : List NodeOf) (es : List TruthExprOf) (picked : Option (List ℕ)) (front block whole : List (List CellValue))
+one_block_more : ConditionsInTurn → BestInPieces → (steps : List NodeOf) (es : List TruthExprOf) (picked : Option (List ℕ)) (front block whole : List (List CellValue))
     (before after : Option (List (List CellValue))) → whole ≡ front ++ block → Alike steps before (option_map (selected_rows picked) (passing_all es front))
     → Alike steps after (joined before (option_map (selected_rows picked) (passing_all es block))) → Alike steps after (option_map (selected_rows picked) (passing_all es whole))
 one_block_more law pieces steps es picked front block whole before after whole_is was taken =
@@ -85,9 +86,9 @@ one_block_more law pieces steps es picked front block whole before after whole_i
     taken ∙ alike_joined pieces steps before (kept (passing_all es front)) (kept (passing_all es block)) was
     ∙ ap (option_map (useful steps))
     (sym (selected_joined picked (passing_all es front) (passing_all es block))
-    ∙ ap kept (sym (pass_in_parts law es front block) ∙ ap (passing_all es) (sym whole_is)))
+    ∙ ap kept (sym (law.parts es front block) ∙ ap (passing_all es) (sym whole_is)))
 
-pub block_read : TrueRowsPass → BestInPieces → (old new : Run) (plan : PlanOf) (table : TableOf) (handed number : ℕ) → StandsFor old plan table handed
+pub block_read : ConditionsInTurn → BestInPieces → (old new : Run) (plan : PlanOf) (table : TableOf) (handed number : ℕ) → StandsFor old plan table handed
     → next_block plan table handed ≡ Some number → HasTakenIn old new (block_of table number).rows → HasRead new plan table (handed + 1)
 block_read law pieces old new plan table handed number stands next taken =
     let same = taken.same in
@@ -236,7 +237,7 @@ answers run new plan table handed blocks (Err DivisionByZero) has more last goes
 answers run new plan table handed blocks (Err NoMemory) has more last goes = goes
 answers run new plan table handed blocks (Err Failed) has more last goes = goes
 
-pub after_block : TrueRowsPass → BestInPieces → (old new next : Run) (block : TableOf) (plan : PlanOf) (table : TableOf) (handed : ℕ) (result : Result (Option RowsOf) ExecFault)
+pub after_block : ConditionsInTurn → BestInPieces → (old new next : Run) (block : TableOf) (plan : PlanOf) (table : TableOf) (handed : ℕ) (result : Result (Option RowsOf) ExecFault)
     → StandsFor old plan table handed → Some block ≡ handed_block plan table handed → HasTakenIn old new block.rows
     → GoesOn new next result → StepsTo plan table handed next result
 after_block law pieces old new next block plan table handed result stands is taken goes =
@@ -254,7 +255,7 @@ after_none run next plan table handed result stands is goes =
 
 -- ---- before the steps
 
-pub ready_behind_block : TrueRowsPass → BestInPieces → NodesInTurn → ScansReadTableRows → (old new : Run) (block : TableOf) (plan : PlanOf) (table : TableOf) (handed : ℕ)
+pub ready_behind_block : ConditionsInTurn → BestInPieces → NodesInTurn → ScansReadTableRows → (old new : Run) (block : TableOf) (plan : PlanOf) (table : TableOf) (handed : ℕ)
     → StandsFor old plan table handed → Some block ≡ handed_block plan table handed → HasTakenIn old new block.rows → wanted_block new ≡ None → IsReady new
 ready_behind_block law pieces turn scans old new block plan table handed stands is taken beyond =
     let at = is_block plan table handed block is in

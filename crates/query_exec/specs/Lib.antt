@@ -3,6 +3,8 @@ pub use Rattle.table_store.specs.Block
 pub use Rattle.query_plan.specs.Fitting
 pub use Rattle.query_plan.specs.Meaning
 pub use Rattle.query_plan.specs.Plan as Plans
+pub use Rattle.block_filter.specs.Passing
+pub use Rattle.block_filter.specs.Conditions as Filters
 pub mod Fault
 pub mod Rows
 pub mod Inside
@@ -10,7 +12,6 @@ pub mod Answer
 pub mod Conditions
 pub mod Picked
 pub mod Useful
-pub mod Lanes
 pub mod Underway
 pub mod Run
 pub mod Taking

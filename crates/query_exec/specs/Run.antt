@@ -18,7 +18,8 @@ use Rattle.query_exec.specs.declared.run.Stage.TheVariants.{Reading, Ended, Refu
 use Rattle.query_exec.specs.declared.run.Step.{Step}
 use Rattle.query_exec.specs.declared.run.Step.TheVariants.{More, Done}
 use Rattle.query_exec.specs.Answer.{plan_answer}
-use Rattle.query_exec.specs.Conditions.{condition_nodes, passing_all}
+use Rattle.block_filter.specs.Conditions.{passing_all}
+use Rattle.query_exec.specs.Conditions.{condition_nodes}
 use Rattle.query_exec.specs.Picked.{selected_kinds, selected_rows}
 use Rattle.query_exec.specs.Rows.{RowsOf}
 use Rattle.query_exec.specs.Useful.{useful}

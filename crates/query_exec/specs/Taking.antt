@@ -1,36 +1,17 @@
 -- How a run takes in rows.
-use Rattle.std.specs.Prelude.{◌≡◌, ◌<◌, ◌-◌, ◌++◌, ◌∷◌, [], ℕ, Bool, IfSome, Option, Some, None, List, count_by, drop, if◌then◌else◌, length, option_map, slice_get}
+use Rattle.std.specs.Prelude.{◌≡◌, ◌<◌, ◌-◌, ◌++◌, ℕ, IfSome, Option, Some, None, List, count_by, drop, length, option_map, slice_get}
 use Rattle.std.specs.List.{All}
 use Rattle.cell_types.specs.Value.{CellValue}
-use Rattle.odata_types.specs.TypedTree.{TruthExprOf}
 use Rattle.row_columns.specs.Kinds.{kinds_of}
 use Rattle.row_columns.specs.Picked.{numbered}
-use Rattle.row_eval.specs.Outcome.{both}
 use Rattle.table_store.specs.Table.{TableOf}
+use Rattle.query_plan.specs.Meaning.{first_rows}
 use Rattle.query_plan.specs.Scan.{passes_each}
-use Rattle.query_exec.specs.declared.taking.Fate.{Fate}
-use Rattle.query_exec.specs.declared.taking.Fate.TheVariants.{Kept, Dropped, Faulted}
 use Rattle.query_exec.specs.declared.run.Run.{Run}
-use Rattle.query_exec.specs.Conditions.{passing_all}
+use Rattle.block_filter.specs.Conditions.{joined, passing_all}
 use Rattle.query_exec.specs.Picked.{selected_kinds, selected_rows}
 use Rattle.query_exec.specs.Run.{conditions_of, places_of, rows_so_far, steps_of}
 use Rattle.query_exec.specs.Useful.{useful}
-
--- what is left of a row
-abbrev pub fate_rows : Fate → List CellValue → Option (List (List CellValue))
-fate_rows Kept row = Some (row ∷ [])
-fate_rows Dropped row = Some []
-fate_rows Faulted row = None
-
--- rows, unless a condition divided by zero
-abbrev pub unless_faulted : Bool → List (List CellValue) → Option (List (List CellValue))
-unless_faulted faulted rows = if faulted then None else Some rows
-
--- the numbers of the rows on which all conditions are true, and whether one of these, in turn, divides by zero on a row
-pub record ArePassing (es : List TruthExprOf) (rows : List (List CellValue)) (numbers : List ℕ) (faulted : Bool) : Type 0 where
-  pub passed : passing_all es rows ≡ unless_faulted faulted (numbered numbers rows)
-  pub within : All (λ n. n < length rows) numbers
-  pub count : length numbers ≡ count_by (passes_each es) rows
 
 -- how many rows a stop looks for behind so many
 abbrev pub room_behind : Option ℕ → ℕ → Option ℕ
@@ -41,6 +22,10 @@ room_behind (Some room) passed = Some (room - passed)
 pub record MayTake (run : Run) (block : TableOf) : Type 0 where
   pub within : IfSome (places_of run) (All (λ place. place < length block.schema.columns))
   pub kinds_are : run.kept.kinds ≡ selected_kinds (places_of run) (kinds_of block.schema.columns)
+
+-- of rows behind those that a run kept the first step has a use for these first ones alone, where that is limited
+abbrev pub IsSpare : Run → Option ℕ → Type 0
+IsSpare run most = (rows : List (List CellValue)) → useful (steps_of run) (run.kept.rows ++ first_rows most rows) ≡ useful (steps_of run) (run.kept.rows ++ rows)
 
 -- nothing is another but the blocks that are left, the stop, and what is kept
 pub record IsSameRun (old new : Run) : Type 0 where
@@ -80,7 +65,7 @@ pub record HasTaken (old new : Run) (rows : List (List CellValue)) : Type 0 wher
   pub left_is : new.left ≡ old.left
   pub looks_on : LooksOn old new rows
   pub passed : option_map (useful (steps_of old)) (rows_so_far new)
-      ≡ option_map (useful (steps_of old)) (both (λ xs ys. xs ++ ys) (rows_so_far old) (option_map (selected_rows (places_of old)) (passing_all (conditions_of old) rows)))
+      ≡ option_map (useful (steps_of old)) (joined (rows_so_far old) (option_map (selected_rows (places_of old)) (passing_all (conditions_of old) rows)))
 
 -- of the rows that a run kept it let go of some that the first step has no use for
 pub record HasCut (old new : Run) : Type 0 where
@@ -96,4 +81,4 @@ pub record HasTakenIn (old new : Run) (rows : List (List CellValue)) : Type 0 wh
   pub left_are : new.left.items ≡ drop 1 old.left.items
   pub looks_on : LooksOn old new rows
   pub passed : option_map (useful (steps_of old)) (rows_so_far new)
-      ≡ option_map (useful (steps_of old)) (both (λ xs ys. xs ++ ys) (rows_so_far old) (option_map (selected_rows (places_of old)) (passing_all (conditions_of old) rows)))
+      ≡ option_map (useful (steps_of old)) (joined (rows_so_far old) (option_map (selected_rows (places_of old)) (passing_all (conditions_of old) rows)))

@@ -3,7 +3,7 @@ ghost use Rattle.std.specs.Prelude.{◌≡◌, IfOk, OnOk, map, take, true};
 ghost use Rattle.std.specs.List.{All};
 ghost use Rattle.odata_query.specs.Query.{order_view};
 ghost use Rattle.query_plan.specs.Order.{rows_cmp, sorted};
-ghost use Rattle.query_exec.specs.Conditions.{ConditionsFit};
+ghost use Rattle.block_filter.specs.Conditions.{ConditionsFit};
 ghost use Rattle.query_exec.specs.Run.{conditions_of};
 ghost use Rattle.query_exec.specs.Taking.{HasCut, HasTakenIn, MayTake};
 ghost use Rattle.query_exec.specs.Useful.{are_plain};

@@ -4,14 +4,10 @@
 
 mod admitted;
 mod best;
-mod block_texts;
 mod fault;
 mod in_time;
-mod lanes;
-mod named;
 mod names;
 mod parts;
-mod passing;
 mod rows;
 mod run;
 mod steps;

@@ -13,15 +13,15 @@ ghost use Rattle.query_exec.specs.Run.{handed_block, next_block, AdvancesTo, Giv
 
 use crate::admitted::admitted;
 use crate::fault::ExecFault;
-use crate::lanes::Lanes;
 use crate::parts::{Parts, kept_columns, kept_names, split};
 use crate::rows::Rows;
 use crate::steps::apply_all;
 use crate::underway::Underway;
+use block_filter::{Lanes, conditions_in_turn};
 use block_summary::{Summary, one_range};
 use csvw_meta::Schema;
 use odata_types::TruthExpr;
-use query_plan::{Node, Plan, nodes_in_turn, scans_read_table_rows, true_rows_pass};
+use query_plan::{Node, Plan, nodes_in_turn, scans_read_table_rows};
 use row_columns::Columns;
 use row_order::best_in_pieces;
 use std::alloc::{AllocError, Global};
@@ -105,7 +105,7 @@ impl Run {
             → block.entry ≡ handed_block plan table handed → StepsTo plan table handed self.new result }
         ensures not_failed { ¬ (IsErrOf result Failed) }
     {
-        true_rows_pass();
+        conditions_in_turn();
         nodes_in_turn();
         best_in_pieces();
         scans_read_table_rows();
@@ -129,6 +129,7 @@ impl Run {
             → StandsFor run (plan_view plan) table 0) }
         ensures refused { IfErr result (λ fault. fault ≡ NoMemory) }
     {
+        conditions_in_turn();
         nodes_in_turn();
         one_range();
         let Plan { scan, nodes } = plan;

@@ -3,6 +3,7 @@ pub mod KeptLemmas
 pub mod RowLemmas
 pub mod PickedLemmas
 pub mod FitLemmas
+pub mod CopyLemmas
 pub mod PickLemmas
 pub mod PlaceLemmas
 pub mod TakenLemmas

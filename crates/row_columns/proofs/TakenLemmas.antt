@@ -1,5 +1,5 @@
 -- Values of a column that are read at once.
-use Rattle.std.proofs.Common.{◌≡◌, ℕ, ℤ, pos, zero, suc, ◌+◌, ◌<◌, Bool, false, Option, Some, None, Result, Ok, Err, OnOk, Vec, Global, subst, List, [], ◌∷◌, ◌++◌, length, map, take, get_or, refl, sym, ap, ◌∙◌, arith, append_assoc}
+use Rattle.std.proofs.Common.{◌≡◌, ℕ, ℤ, pos, suc, ◌+◌, ◌<◌, Bool, false, Option, Some, None, Result, Ok, Err, OnOk, Vec, Global, subst, List, [], ◌∷◌, ◌++◌, length, map, take, get_or, refl, sym, ap, ◌∙◌, arith, append_assoc}
 use Rattle.std.specs.Prelude.{option_map, option_and_then}
 use Rattle.std.specs.List.{All}
 use Rattle.std.proofs.lemmas.List.{get_or-map, length-map, map-append, map_more}
@@ -13,7 +13,6 @@ use Rattle.cell_types.specs.Column.{ColumnOf}
 use Rattle.cell_types.specs.Value.{CellValue, null, integer, text, boolean, date, decimal}
 use Rattle.table_store.specs.Block.{packed_cells}
 use Rattle.table_store.specs.Table.{TableOf}
-use Rattle.row_columns.specs.declared.cells.Cells.{Cells}
 use Rattle.row_columns.specs.declared.cells.Cells.TheVariants as variants
 use Rattle.row_columns.specs.Cells.{value_or_null, IsExtended}
 use Rattle.row_columns.specs.Kinds.{decimals, integers, IsOfKind, KindOf}

@@ -5,5 +5,6 @@ pub mod Picked
 pub mod Columns
 pub mod Cells
 pub mod Numbers
+pub mod Text
 pub mod Kept
 pub mod Inside

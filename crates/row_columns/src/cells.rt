@@ -1,13 +1,15 @@
 //! The values of a column, of its own kind.
-ghost use Rattle.std.specs.Prelude.{◌≡◌, ◌++◌, ◌∷◌, [], ◌<◌, ◌↔◌, IfOk, IfSome, IsSome, OnOk, Some, length, map, slice_get};
+ghost use Rattle.std.specs.Prelude.{◌≡◌, ◌++◌, ◌∷◌, [], ◌<◌, ◌↔◌, IfOk, IfSome, IsSome, OnOk, Some, length, map, option_map, slice_get, slice_index_or};
 ghost use Rattle.cell_types.specs.Datatype.{datatype_view};
 ghost use Rattle.cell_types.specs.Value.{value_view, decimal, integer, null};
 ghost use Rattle.std.specs.List.{All};
 ghost use Rattle.block_summary.specs.Ranges.{column_of};
 ghost use Rattle.row_columns.specs.Cells.{cells_view, kind_of, values_numbered, value_or_null, IsExtended, IsPushed, IsWhole};
 ghost use Rattle.row_columns.specs.Kinds.{decimals, integers, kind_of_datatype, IsOfKind};
+ghost use Rattle.row_columns.specs.Text.{text_in};
 ghost use Rattle.row_columns.specs.Picked.{numbered};
 
+use crate::copies::copies;
 use crate::numbers::push_numbers;
 use crate::texts::Texts;
 use crate::values::{
@@ -212,8 +214,53 @@ impl Cells {
         }
     }
 
+    /// The text with a number, counted from 0; nothing where the value is null, or no text.
+    pub(crate) fn text(&self, number: usize) -> Option<&str>
+        requires whole { IsWhole self.now }
+        requires within { number < length (cells_view self.now) }
+        ensures { option_map (λ t. t.now) result
+            ≡ text_in (slice_index_or (cells_view self.now) number null) }
+    {
+        match self {
+            Cells::Integers(_) => None,
+            Cells::Texts(texts) => texts.get(number),
+            Cells::Truths(_) => None,
+            Cells::Dates(_) => None,
+            Cells::Decimals(_) => None,
+            Cells::Any(values) => match &values[number] {
+                Value::Text(text) => Some(text.as_str()),
+                _ => None,
+            },
+        }
+    }
+
     /// The values with these numbers.
     pub(crate) fn picked(&self, alloc: Global, numbers: &[usize]) -> Result<Cells, AllocError>
+        requires whole { IsWhole self.now }
+        requires within { All (λ number. number < length (cells_view self.now)) numbers.now }
+        ensures values { IfOk result
+            (λ cells. cells_view cells ≡ values_numbered numbers.now (cells_view self.now)) }
+        ensures kind { IfOk result (λ cells. kind_of cells ≡ kind_of self.now) }
+        ensures whole { IfOk result IsWhole }
+    {
+        match self {
+            Cells::Integers(values) => {
+                Ok(Cells::Integers(copies(alloc, values.as_slice(), numbers)?))
+            }
+            Cells::Texts(texts) if numbers.len() >= texts.len() / FEW => {
+                Ok(Cells::Texts(texts.picked(alloc, numbers)?))
+            }
+            Cells::Truths(values) => Ok(Cells::Truths(copies(alloc, values.as_slice(), numbers)?)),
+            Cells::Dates(values) => Ok(Cells::Dates(copies(alloc, values.as_slice(), numbers)?)),
+            Cells::Decimals(values) => {
+                Ok(Cells::Decimals(copies(alloc, values.as_slice(), numbers)?))
+            }
+            _ => self.picked_each(alloc, numbers),
+        }
+    }
+
+    /// The same, one by one.
+    fn picked_each(&self, alloc: Global, numbers: &[usize]) -> Result<Cells, AllocError>
         requires whole { IsWhole self.now }
         requires within { All (λ number. number < length (cells_view self.now)) numbers.now }
         ensures values { IfOk result

@@ -1,12 +1,13 @@
 //! Columns of values.
-ghost use Rattle.std.specs.Prelude.{◌≡◌, ◌++◌, ◌∷◌, [], ◌<◌, ◌↔◌, IfOk, IfSome, IsSome, OnErr, OnOk, Some, length, map, option_and_then, slice_get, slice_index_or};
+ghost use Rattle.std.specs.Prelude.{◌≡◌, ◌++◌, ◌∷◌, [], ◌<◌, ◌↔◌, IfOk, IfSome, IsSome, OnErr, OnOk, Some, length, map, option_and_then, option_map, slice_get, slice_index_or};
 ghost use Rattle.std.specs.List.{All};
 ghost use Rattle.block_summary.specs.Ranges.{column_of};
 ghost use Rattle.cell_types.specs.Column.{column_view};
-ghost use Rattle.cell_types.specs.Value.{value_view, decimal, integer};
+ghost use Rattle.cell_types.specs.Value.{value_view, decimal, integer, null};
 ghost use Rattle.row_columns.specs.Cells.{value_or_null};
 ghost use Rattle.row_columns.specs.Columns.{beside, columns_of_any, no_columns};
 ghost use Rattle.row_columns.specs.Kinds.{any, decimals, integers, kinds_of, AreOfKinds};
+ghost use Rattle.row_columns.specs.Text.{text_in};
 ghost use Rattle.row_columns.specs.Picked.{kinds_at, numbered, values_at};
 
 use crate::kept::Kept;
@@ -164,6 +165,16 @@ impl Columns {
             ≡ Some (value_view result) }
     {
         self.kept.value(row, col)
+    }
+
+    /// The text of a row and a column, both counted from 0; nothing where the value is null, or no text. It takes no memory.
+    pub fn text(&self, row: usize, col: usize) -> Option<&str>
+        requires row { row < length self.now.rows }
+        requires col { col < length self.now.kinds }
+        ensures { option_map (λ t. t.now) result
+            ≡ text_in (slice_index_or (slice_index_or self.now.rows row []) col null) }
+    {
+        self.kept.column(col).text(row)
     }
 
     /// The integers of a column, one for each row and None for null; nothing where it is no column of integers.

@@ -4,6 +4,7 @@
 
 mod cells;
 mod columns;
+mod copies;
 mod kept;
 mod numbers;
 mod texts;

@@ -1,7 +1,9 @@
 //! The texts of a column, in one buffer.
-ghost use Rattle.std.specs.Prelude.{◌≡◌, ◌++◌, ◌∷◌, [], ◌<◌, OnOk, Some, None, length, map, option_map, slice_get};
+ghost use Rattle.std.specs.Prelude.{◌≡◌, ◌++◌, ◌∷◌, [], ◌<◌, IfOk, OnOk, Some, None, length, map, option_map, slice_get, slice_index_or};
+ghost use Rattle.std.specs.List.{All};
 ghost use Rattle.row_columns.specs.Cells.{texts_view, AreWhole};
 
+use crate::copies::copies;
 use std::alloc::{AllocError, Global};
 
 /// Where a text stands in its buffer, in bytes.
@@ -64,5 +66,25 @@ impl Texts {
             Some(place) => Some(&self.buffer[place.start..place.end]),
             None => None,
         }
+    }
+
+    /// How many texts and nulls there are.
+    pub(crate) fn len(&self) -> usize
+        ensures { result ≡ length (texts_view self.now) }
+    {
+        self.places.len()
+    }
+
+    /// The texts with these numbers. The buffer is copied whole, however few of its texts are among them.
+    pub(crate) fn picked(&self, alloc: Global, numbers: &[usize]) -> Result<Texts, AllocError>
+        requires whole { AreWhole self.now }
+        requires within { All (λ number. number < length (texts_view self.now)) numbers.now }
+        ensures texts { IfOk result (λ made. texts_view made
+            ≡ map (λ number. slice_index_or (texts_view self.now) number None) numbers.now) }
+        ensures whole { IfOk result AreWhole }
+    {
+        let buffer = String::from_str(alloc, self.buffer.as_str())?;
+        let places = copies(alloc, self.places.as_slice(), numbers)?;
+        Ok(Texts { buffer, places })
     }
 }

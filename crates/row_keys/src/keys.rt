@@ -31,7 +31,7 @@ pub enum Keys {
 }
 
 /// Why rows have no keys. Rows count from 0.
-#[derive(Clone, Copy, Debug)]
+#[derive(Clone, Copy)]
 pub enum KeyFault {
     /// The first row whose key has a null.
     Null(usize),

@@ -1,9 +1,13 @@
 pub mod StableLemmas
 pub mod ItemLemmas
+pub mod KeyedLemmas
+pub mod PrefixLemmas
+pub mod TextKeyLemmas
 pub mod NumberLemmas
 pub mod BestLemmas
 pub mod PlainLemmas
 pub mod KeptLemmas
 pub mod KeyLemmas
 pub mod NearLemmas
+pub mod KeyColumnLemmas
 pub mod InTimeLemmas

@@ -7,4 +7,5 @@ pub mod Numbers
 pub mod Keys
 pub mod Best
 pub mod Plain
+pub mod TextKeys
 pub mod InTime

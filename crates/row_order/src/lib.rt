@@ -12,6 +12,7 @@ mod passing;
 mod pieces;
 mod plain;
 mod sorting;
+mod text_keys;
 
 pub use best::best_numbers;
 pub use in_time::{key_column, rows_in_time};

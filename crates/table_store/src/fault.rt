@@ -12,7 +12,7 @@ use std::alloc::{AllocError, Global};
 const METADATA: &str = "csv-metadata.json";
 
 /// Why a folder is refused. `table` is the url of the table; rows and columns count from 0.
-#[derive(Debug, Drop)]
+#[derive(Drop)]
 pub enum LoadFault {
     /// The metadata is refused.
     Meta(MetaFault),

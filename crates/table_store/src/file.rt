@@ -8,7 +8,7 @@ use std::alloc::Global;
 use std::mem;
 
 /// A file of a folder.
-#[derive(Debug, Drop)]
+#[derive(Drop)]
 pub struct NamedFile {
     pub name: String,
     pub bytes: Vec<u8>,

@@ -22,7 +22,7 @@ use typed_columns::{
 };
 
 /// A cell that has no value. Rows and columns count from 0.
-#[derive(Clone, Copy, Debug)]
+#[derive(Clone, Copy)]
 pub struct BadCell {
     pub row: usize,
     pub col: usize,
@@ -30,7 +30,7 @@ pub struct BadCell {
 }
 
 /// Why a table is refused, as [`LoadFault`](crate::LoadFault) has it.
-#[derive(Clone, Copy, Debug)]
+#[derive(Clone, Copy)]
 pub enum TableFault {
     FileMissing,
     FileTooLarge,

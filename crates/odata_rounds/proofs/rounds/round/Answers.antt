@@ -1,4 +1,4 @@
-use Rattle.std.proofs.Common.{◌≡◌, length, ◌∙◌}
+use Rattle.std.proofs.Common.{◌∙◌}
 use Rattle.odata_rounds.proofs.RoundLemmas.{round_more}
 use Rattle.odata_rounds.proofs.rounds.round.Goals as goal
 

@@ -1,11 +1,12 @@
-use Rattle.std.proofs.Common.{◌≡◌, ◌<◌, arith}
+use Rattle.std.proofs.Common.{arith}
 use Rattle.odata_rounds.proofs.VisitLemmas.{read_end, read_lost, read_piece, read_waits}
 use Rattle.odata_rounds.proofs.visits.read_in.Goals as goal
 
 pub returns-in-Ok-eq0 : goal.returns-in-Ok-eq0
 returns-in-Ok-eq0 g c =
     let test = c.in-Ok-eq0.field-0-test in
-    read_end _ _ _ _ _ _ c.in-Ok-eq0.field-0 _ _ (omega arith) c.in-Ok-eq0.ensures.read c.read.ensures.others c.end.ensures c.came_of.ensures
+    let some = c.requires in
+    read_end _ _ _ _ _ _ c.in-Ok-eq0.field-0 _ _ (omega arith) (omega arith) c.in-Ok-eq0.ensures.read c.read.ensures.others c.end.ensures c.came_of.ensures
 
 pub returns-in-Ok : goal.returns-in-Ok
 returns-in-Ok g c =

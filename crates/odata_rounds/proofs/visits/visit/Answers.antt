@@ -1,4 +1,4 @@
-use Rattle.std.proofs.Common.{◌≡◌, ◌<◌, length, arith}
+use Rattle.std.proofs.Common.{arith}
 use Rattle.odata_rounds.proofs.VisitLemmas.{serves_none, serves_output, serves_refused, serves_waiting, nothing_waits, waiting_length}
 use Rattle.odata_rounds.proofs.visits.visit.Goals as goal
 

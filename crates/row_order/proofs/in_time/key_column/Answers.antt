@@ -2,7 +2,7 @@ use Rattle.std.proofs.Common.{◌≡◌, Some, rules}
 use Rattle.std.specs.Prelude.{slice_get}
 use Rattle.block_summary.specs.declared.number.PackedType.TheVariants.{Decimal}
 use Rattle.odata_types.specs.TypedTree.{typed_view}
-use Rattle.row_order.proofs.InTimeLemmas.{decimal_key, first_key}
+use Rattle.row_order.proofs.KeyColumnLemmas.{decimal_key, first_key}
 use Rattle.row_order.proofs.in_time.key_column.Goals as goal
 
 pub returns-in-Decimal : goal.returns-in-Decimal

@@ -4,7 +4,8 @@ use Rattle.block_summary.specs.declared.number.PackedType.TheVariants.{Decimal, 
 use Rattle.cell_types.specs.Value.{decimal, integer}
 use Rattle.row_columns.specs.Cells.{value_or_null}
 use Rattle.row_order.specs.InTime.{HaveKeys}
-use Rattle.row_order.proofs.InTimeLemmas.{as_decimals, as_integers, column_keys, if_some}
+use Rattle.row_order.proofs.KeyColumnLemmas.{as_decimals, as_integers, column_keys}
+use Rattle.row_order.proofs.InTimeLemmas.{if_some}
 use Rattle.row_order.proofs.in_time.keys_of.Goals as goal
 
 pub returns-in-Integer-clause-keys : goal.returns-in-Integer-clause-keys

@@ -3,7 +3,7 @@ use Rattle.std.specs.Prelude.{slice_get}
 use Rattle.odata_query.specs.Query.{order_view}
 use Rattle.query_plan.specs.Plan.{choosing, node_view}
 use Rattle.row_order.specs.InTime.{AreEnoughByKeys}
-use Rattle.query_exec.specs.Lanes.{AreKeysOf}
+use Rattle.block_filter.specs.Lanes.{AreKeysOf}
 use Rattle.query_exec.specs.Run.{places_of}
 use Rattle.query_exec.specs.Taking.{AreOfUse, IsSourceOf}
 use Rattle.query_exec.specs.Useful.{are_plain}

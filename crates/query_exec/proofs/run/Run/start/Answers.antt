@@ -18,7 +18,7 @@ use Rattle.query_exec.specs.Admitted.{admitted_numbers}
 use Rattle.query_exec.specs.Picked.{selected_kinds, selected_rows}
 use Rattle.query_exec.specs.Useful.{useful}
 use Rattle.query_exec.proofs.AdmittedLemmas.{admitted_are}
-use Rattle.query_exec.proofs.ConditionLemmas.{none_pass, selected_none}
+use Rattle.query_exec.proofs.ConditionLemmas.{selected_none}
 use Rattle.query_exec.proofs.FitLemmas.{are_rows, places_within}
 use Rattle.query_exec.proofs.RunLemmas.{names-column_view}
 use Rattle.query_exec.proofs.run.Run.start.Goals as goal
@@ -28,7 +28,7 @@ kept_names-requires c =
     let parts = c.in_ok-conditions.field-0 in
     let columns = c.args.schema.now.columns.items in
     let picked = optional_numbers parts.places in
-    let within = places_within c.nodes_in_turn.ensures (map boxed_truth parts.conditions.items) picked (map node_view parts.steps.items) (schema_view c.args.schema.now)
+    let within = places_within c.nodes_in_turn.ensures c.conditions_in_turn.ensures (map boxed_truth parts.conditions.items) picked (map node_view parts.steps.items) (schema_view c.args.schema.now)
     (plan_view c.args.plan) (sym c.in_ok-conditions.ensures.parts) c.requires in
     subst (λ n. IfSome picked (All (λ place. place < n))) (length-map columns column_view ∙ ap length (sym c.as_slice.ensures.value)) within
 
@@ -37,7 +37,7 @@ kept_columns-requires c =
     let parts = c.in_ok-conditions.field-0 in
     let columns = c.args.schema.now.columns.items in
     let picked = optional_numbers parts.places in
-    let within = places_within c.nodes_in_turn.ensures (map boxed_truth parts.conditions.items) picked (map node_view parts.steps.items) (schema_view c.args.schema.now)
+    let within = places_within c.nodes_in_turn.ensures c.conditions_in_turn.ensures (map boxed_truth parts.conditions.items) picked (map node_view parts.steps.items) (schema_view c.args.schema.now)
     (plan_view c.args.plan) (sym c.in_ok-conditions.ensures.parts) c.requires in
     subst (λ n. IfSome picked (All (λ place. place < n))) (length-map columns column_view ∙ ap length (sym c.as_slice-2.ensures.value)) within
 
@@ -47,7 +47,7 @@ returns-clause-stands c = λ table schema rows summaries.
     let columns = c.args.schema.now.columns.items in
     let es = map boxed_truth parts.conditions.items in
     let picked = optional_numbers parts.places in
-    let within = places_within c.nodes_in_turn.ensures es picked (map node_view parts.steps.items) (schema_view c.args.schema.now) (plan_view c.args.plan)
+    let within = places_within c.nodes_in_turn.ensures c.conditions_in_turn.ensures es picked (map node_view parts.steps.items) (schema_view c.args.schema.now) (plan_view c.args.plan)
     (sym c.in_ok-conditions.ensures.parts) c.requires in
     record {
       plan_is = sym c.in_ok-conditions.ensures.parts;
@@ -72,5 +72,5 @@ returns-clause-stands c = λ table schema rows summaries.
           ∙ ap (λ (s : SchemaOf). selected_kinds picked (kinds_of s.columns)) (sym schema);
       passed =
           ap (option_map (useful (map node_view parts.steps.items)))
-          (ap (λ made. Some made) (c.in_ok-kept.ensures.rows ∙ sym (selected_none picked)) ∙ ap (option_map (selected_rows picked)) (sym (none_pass es)));
+          (ap (λ made. Some made) (c.in_ok-kept.ensures.rows ∙ sym (selected_none picked)) ∙ ap (option_map (selected_rows picked)) (sym (c.conditions_in_turn.ensures.none es)));
     }

@@ -25,7 +25,7 @@ go_on-requires c =
     elim c.match-block.branch [
       | in-Some+in_ok-take_in w ↦
           subst (λ (r : Run). wanted_block r ≡ None → IsReady r) (sym w.self-is)
-          (ready_behind_block c.true_rows_pass.ensures c.best_in_pieces.ensures c.nodes_in_turn.ensures c.scans_read_table_rows.ensures old w.take_in.new.self w.in-Some.block
+          (ready_behind_block c.conditions_in_turn.ensures c.best_in_pieces.ensures c.nodes_in_turn.ensures c.scans_read_table_rows.ensures old w.take_in.new.self w.in-Some.block
           c.requires.0 c.requires.1 c.requires.2 c.requires.3 (sym w.in-Some.is ∙ c.requires.4) w.in_ok-take_in.ensures)
       | in_default w ↦
           subst (λ (r : Run). wanted_block r ≡ None → IsReady r) (sym w.self-is)
@@ -38,7 +38,7 @@ returns-clause-steps c = λ plan table handed stands is.
     let new = c.go_on.new.self in
     elim c.match-block.branch [
       | in-Some+in_ok-take_in w ↦
-          after_block c.true_rows_pass.ensures c.best_in_pieces.ensures old w.take_in.new.self new w.in-Some.block plan table handed c.go_on.result stands (sym w.in-Some.is ∙ is)
+          after_block c.conditions_in_turn.ensures c.best_in_pieces.ensures old w.take_in.new.self new w.in-Some.block plan table handed c.go_on.result stands (sym w.in-Some.is ∙ is)
           w.in_ok-take_in.ensures (subst (λ (r : Run). GoesOn r new c.go_on.result) w.self-is c.go_on.ensures)
       | in_default w ↦
           after_none old new plan table handed c.go_on.result stands (sym w.in_default.is ∙ is)

@@ -1,4 +1,4 @@
-use Rattle.std.proofs.Common.{◌<◌, ◌∙◌, get_or, length, sym, subst}
+use Rattle.std.proofs.Common.{get_or, sym, subst}
 use Rattle.cell_types.specs.Value.{value_view}
 use Rattle.row_columns.specs.Cells.{kind_of}
 use Rattle.row_columns.specs.Kinds.{IsOfKind}

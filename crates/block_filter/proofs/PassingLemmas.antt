@@ -1,0 +1,137 @@
+-- Rows that are marked, and those that pass a step.
+use Rattle.std.proofs.Common.{◌≡◌, ℕ, zero, suc, ◌+◌, ◌<◌, Bool, true, false, ◌&&◌, cond, Some, List, [], ◌∷◌, ◌++◌, length, map, take, drop, replicate, get_or, refl, sym, ap, ◌∙◌, arith}
+use Rattle.std.specs.Prelude.{Box, option_and_then}
+use Rattle.std.specs.List.{All}
+use Rattle.std.proofs.lemmas.List.{append-nil, drop_more, map_push}
+use Rattle.std.proofs.lemmas.List.Elements.{All-push}
+use Rattle.cell_types.specs.Value.{CellValue}
+use Rattle.odata_types.specs.declared.tree.TruthExpr.{TruthExpr}
+use Rattle.odata_types.specs.TypedTree.{boxed_truth, TruthExprOf}
+use Rattle.row_eval.specs.declared.truth.Truth.{Truth}
+use Rattle.row_eval.specs.declared.truth.Truth.TheVariants.{False, Null, True}
+use Rattle.row_eval.specs.Outcome.{both, truth_outcome}
+use Rattle.block_eval.specs.declared.columns.Column.{Column}
+use Rattle.block_eval.specs.Lanes.{truth_lane, AreOutcomesWithin}
+use Rattle.block_summary.specs.Ranges.{RangeOf, AreRangesOf}
+use Rattle.query_plan.specs.Filter.{passing}
+use Rattle.query_plan.specs.Laws.{TrueRowsPass}
+use Rattle.block_filter.specs.Lanes.{AreColumnsOf}
+use Rattle.row_columns.specs.Picked.{numbered}
+use Rattle.block_filter.specs.Conditions.{passing_all}
+use Rattle.block_filter.specs.Marks.{is_true, marked}
+
+-- ---- a filter on the rows that are marked
+
+one_row : (e : TruthExprOf) (row : List CellValue) (truth : Truth) → truth_outcome e row ≡ Some truth → passing e (row ∷ []) ≡ Some (cond (is_true truth) (row ∷ []) [])
+one_row e row True is = rw is refl
+one_row e row False is = rw is refl
+one_row e row Null is = rw is refl
+
+-- a row is marked anew just where it was marked and the condition is true on it
+pub record IsNarrowed (e : TruthExprOf) (row : List CellValue) (was now : Bool) : Type 0 where
+  pub out : was ≡ false → now ≡ false
+  pub stays : was ≡ true → (truth : Truth) × (truth_outcome e row ≡ Some truth) × (now ≡ is_true truth)
+
+head_passes : (e : TruthExprOf) (row : List CellValue) (was now : Bool) → IsNarrowed e row was now
+    → passing e (cond was (row ∷ []) []) ≡ Some (cond now (row ∷ []) [])
+head_passes e row true now is = let h = is.stays refl in one_row e row h.0 h.1 ∙ ap (λ b. Some (cond b (row ∷ []) [])) (sym h.2)
+head_passes e row false now is = ap (λ b. Some (cond b (row ∷ []) [])) (sym (is.out refl))
+
+marked_head : {X : Type 0} (mark : Bool) (marks : List Bool) (x : X) (xs : List X) → marked (mark ∷ marks) (x ∷ xs) ≡ cond mark (x ∷ []) [] ++ marked marks xs
+marked_head true marks x xs = refl
+marked_head false marks x xs = refl
+
+pub passing_marked : TrueRowsPass → (e : TruthExprOf) (rows : List (List CellValue)) (was now : List Bool) → length was ≡ length rows → length now ≡ length rows
+    → ((row : ℕ) → row < length rows → IsNarrowed e (get_or rows row []) (get_or was row false) (get_or now row false)) → passing e (marked was rows) ≡ Some (marked now rows)
+passing_marked law e [] [] [] h g each = refl
+passing_marked law e [] [] (n ∷ now) h g each = absurd (omega arith)
+passing_marked law e [] (w ∷ was) now h g each = absurd (omega arith)
+passing_marked law e (row ∷ rows) [] now h g each = absurd (omega arith)
+passing_marked law e (row ∷ rows) (w ∷ was) [] h g each = absurd (omega arith)
+passing_marked law e (row ∷ rows) (w ∷ was) (n ∷ now) h g each =
+    ap (passing e) (marked_head w was row rows)
+    ∙ law.parts e (cond w (row ∷ []) []) (marked was rows)
+    ∙ ap (λ front. both (λ xs ys. xs ++ ys) front (passing e (marked was rows))) (head_passes e row w n (each 0 (omega arith)))
+    ∙ ap (both (λ xs ys. xs ++ ys) (Some (cond n (row ∷ []) []))) (passing_marked law e rows was now (omega arith) (omega arith) (λ k i. each (suc k) (omega arith)))
+    ∙ ap (λ xs. Some xs) (sym (marked_head n now row rows))
+
+-- what the truths of a block leave of the rows that were wanted
+pub narrowed_by : (e : TruthExprOf) (rows : List (List CellValue)) (ranges : List RangeOf) (columns : List Column) (was now : List Bool) (truths : List Truth) → AreColumnsOf rows columns
+    → AreRangesOf ranges rows → AreOutcomesWithin e ranges columns was truths → length was ≡ length rows → ((row : ℕ) → row < length was → get_or now row false ≡ (get_or was row false && is_true (truth_lane truths row)))
+    → (row : ℕ) → row < length rows → IsNarrowed e (get_or rows row []) (get_or was row false) (get_or now row false)
+narrowed_by e rows ranges columns was now truths are within outcomes long each row h =
+    let inside : row < length was = omega arith in
+    let is = each row inside in
+    record {
+      out = λ unmarked. is ∙ ap (λ b. b && is_true (truth_lane truths row)) unmarked;
+      stays = λ marked_is. (
+        truth_lane truths row,
+        outcomes.each row (get_or rows row []) marked_is (are row h) (record { rows = rows; row = row; are_ranges = within; within = h; cells_are = refl }),
+        is ∙ ap (λ b. b && is_true (truth_lane truths row)) marked_is,
+      );
+    }
+
+pub filter_narrows : TrueRowsPass → (e : TruthExprOf) (rows : List (List CellValue)) (ranges : List RangeOf) (columns : List Column) (was now : List Bool) (truths : List Truth) → AreColumnsOf rows columns
+    → AreRangesOf ranges rows → AreOutcomesWithin e ranges columns was truths → length was ≡ length rows → length now ≡ length was
+    → ((row : ℕ) → row < length was → get_or now row false ≡ (get_or was row false && is_true (truth_lane truths row))) → passing e (marked was rows) ≡ Some (marked now rows)
+filter_narrows law e rows ranges columns was now truths are within outcomes long same each =
+    passing_marked law e rows was now long (same ∙ long) (narrowed_by e rows ranges columns was now truths are within outcomes long each)
+
+-- ---- all rows, and rows by their numbers
+
+pub all_marked : {X : Type 0} (n : ℕ) (xs : List X) → length xs ≡ n → marked (replicate n true) xs ≡ xs
+all_marked zero [] h = refl
+all_marked zero (x ∷ xs) h = absurd (omega arith)
+all_marked (suc n) [] h = absurd (omega arith)
+all_marked (suc n) (x ∷ xs) h = ap (λ ys. x ∷ ys) (all_marked n xs (omega arith))
+
+pub marked_more : {X : Type 0} (marks : List Bool) (xs : List X) (i : ℕ) (d : X) → i < length marks → length xs ≡ length marks
+    → marked (take (i + 1) marks) xs ≡ marked (take i marks) xs ++ cond (get_or marks i false) (get_or xs i d ∷ []) []
+marked_more [] xs i d h long = absurd (omega arith)
+marked_more (m ∷ marks) [] i d h long = absurd (omega arith)
+marked_more (true ∷ marks) (x ∷ xs) zero d h long = refl
+marked_more (false ∷ marks) (x ∷ xs) zero d h long = refl
+marked_more (true ∷ marks) (x ∷ xs) (suc i) d h long =
+    let n : suc i + 1 ≡ suc (i + 1) = omega arith in
+    rw n (ap (λ ys. x ∷ ys) (marked_more marks xs i d (omega arith) (omega arith)))
+marked_more (false ∷ marks) (x ∷ xs) (suc i) d h long =
+    let n : suc i + 1 ≡ suc (i + 1) = omega arith in
+    rw n (marked_more marks xs i d (omega arith) (omega arith))
+
+-- the numbers so far are those of the first marks
+pub record AreNumbers (marks : List Bool) (i : ℕ) (numbers : List ℕ) : Type 0 where
+  pub rows : (rows : List (List CellValue)) → length rows ≡ length marks → numbered numbers rows ≡ marked (take i marks) rows
+  pub within : All (λ n. n < length marks) numbers
+
+pub no_numbers : (marks : List Bool) → AreNumbers marks 0 []
+no_numbers marks = record { rows = λ rows long. refl; within = λ k d h. absurd (omega arith) }
+
+pub marked_row : (marks : List Bool) (i : ℕ) (numbers : List ℕ) → i < length marks → get_or marks i false ≡ true → AreNumbers marks i numbers
+    → AreNumbers marks (i + 1) (numbers ++ i ∷ [])
+marked_row marks i numbers h at so_far = record {
+  rows = λ rows long.
+      map_push (λ n. get_or rows n []) numbers i
+      ∙ ap (λ xs. xs ++ get_or rows i [] ∷ []) (so_far.rows rows long)
+      ∙ ap (λ b. marked (take i marks) rows ++ cond b (get_or rows i [] ∷ []) []) (sym at)
+      ∙ sym (marked_more marks rows i [] h long);
+  within = All-push (λ n. n < length marks) numbers i so_far.within h;
+}
+
+pub unmarked_row : (marks : List Bool) (i : ℕ) (numbers : List ℕ) → i < length marks → get_or marks i false ≡ false → AreNumbers marks i numbers → AreNumbers marks (i + 1) numbers
+unmarked_row marks i numbers h at so_far = record {
+  rows = λ rows long.
+      so_far.rows rows long
+      ∙ sym (append-nil (marked (take i marks) rows))
+      ∙ ap (λ b. marked (take i marks) rows ++ cond b (get_or rows i [] ∷ []) []) (sym at)
+      ∙ sym (marked_more marks rows i [] h long);
+  within = so_far.within;
+}
+
+-- ---- conditions in turn
+
+pub next_condition : {A : Type 0} (conditions : List (Box TruthExpr A)) (i : ℕ) (condition : Box TruthExpr A) (rows : List (List CellValue)) (was now : List Bool)
+    → i < length conditions → condition ≡ get_or conditions i condition → passing (boxed_truth condition) (marked was rows) ≡ Some (marked now rows)
+    → passing_all (map boxed_truth (drop i conditions)) (marked was rows) ≡ passing_all (map boxed_truth (drop (i + 1) conditions)) (marked now rows)
+next_condition conditions i condition rows was now h at is =
+    ap (λ cs. passing_all (map boxed_truth cs) (marked was rows)) (drop_more conditions i condition h ∙ ap (λ c. c ∷ drop (i + 1) conditions) (sym at))
+    ∙ ap (option_and_then (passing_all (map boxed_truth (drop (i + 1) conditions)))) is

@@ -1,0 +1,19 @@
+use Rattle.std.proofs.Common.{◌∙◌, ap, length, map, refl, sym}
+use Rattle.odata_types.specs.TypedTree.{boxed_truth}
+use Rattle.block_filter.proofs.FirstLemmas.{first_marked, first_of_all}
+use Rattle.block_filter.proofs.block.filter_block.Goals as goal
+
+pub returns-in_ok-numbers-in-Ok : goal.returns-in_ok-numbers-in-Ok
+returns-in_ok-numbers-in-Ok c =
+    let rows = c.args.block.now.rows in
+    let wanted = c.in-Ok.wanted.items in
+    first_marked (map boxed_truth c.args.conditions.now) rows c.args.most c.limit_of-limit.result wanted _ c.in-Ok.ensures.rows c.in-Ok.ensures.long
+    (rw c.rows.ensures at c.limit_of-limit.ensures)
+    (rw c.deref.ensures.value at (c.in_ok-numbers-in-Ok.ensures.rows rows (sym (ap length c.deref.ensures.value ∙ c.in-Ok.ensures.long))))
+    (rw c.deref.ensures.value at c.in_ok-numbers-in-Ok.ensures.within)
+    (rw c.deref-in-Ok.ensures.value at c.count_of-count.ensures) refl
+
+pub returns-in_ok-found-in-Err : goal.returns-in_ok-found-in-Err
+returns-in_ok-found-in-Err c =
+    first_of_all (map boxed_truth c.args.conditions.now) c.args.block.now.rows c.args.most c.limit_of-limit.result c.in_ok-found-in-Err.found c.first_of.result
+    c.in_ok-found-in-Err.ensures (rw c.rows.ensures at c.limit_of-limit.ensures) c.first_of.ensures

@@ -1,0 +1,6 @@
+use Rattle.block_filter.proofs.LaneLemmas.{AreOfLanes}
+use Rattle.block_filter.proofs.lanes.Lanes.columns.Given as goal
+
+-- the columns so far are those of the first lanes, or of the texts
+abbrev pub invariant-loop-place : goal.invariant-loop-place
+invariant-loop-place l = AreOfLanes l.self.lanes.items l.texts l.columns.items l.place

@@ -1,0 +1,61 @@
+-- The columns of a block that are read for a condition.
+use Rattle.std.specs.Prelude.{◌≡◌, ◌<◌, ℕ, ℤ, Bool, List, [], MatchOption, Option, Some, Vec, length, map, option_map, slice_get, slice_index_or}
+use Rattle.block_eval.specs.declared.columns.Column.{Column}
+use Rattle.block_eval.specs.Columns.{number_at, IsCell, IsRowAt}
+use Rattle.block_summary.specs.Types.{cell_of}
+use Rattle.block_summary.specs.declared.number.PackedType.{PackedType}
+use Rattle.cell_types.specs.declared.value.Value.{Value}
+use Rattle.cell_types.specs.Value.{CellValue, null, value_view}
+use Rattle.row_order.specs.declared.keys_in_time.KeyColumn.{KeyColumn}
+use Rattle.row_order.specs.declared.keys_in_time.Keys.{Keys}
+use Rattle.block_filter.specs.declared.lanes.Lane.{Lane}
+
+-- a column has the cells of rows at a place
+abbrev pub IsColumnOf : List (List CellValue) → ℕ → Column → Type 0
+IsColumnOf rows place column = (row : ℕ) → row < length rows → IsCell column row (slice_get (slice_index_or rows row []) place)
+
+-- columns have the cells of rows
+abbrev pub AreColumnsOf : List (List CellValue) → List Column → Type 0
+AreColumnsOf rows columns = (row : ℕ) → row < length rows → IsRowAt columns row (slice_index_or rows row [])
+
+-- numbers and marks of nulls stand for the cells of rows at a place
+abbrev pub StandAt : List (List CellValue) → ℕ → PackedType → List ℤ → List Bool → Type 0
+StandAt rows place type numbers nulls = (row : ℕ) → row < length rows → slice_get (slice_index_or rows row []) place ≡ Some (cell_of type (number_at numbers nulls row))
+
+-- what was read of a column, if it was read
+abbrev pub IsLaneOf : List (List CellValue) → ℕ → Lane → Type 0
+IsLaneOf rows place lane = MatchOption lane.packed_type (Unit {0}) (λ type. StandAt rows place type lane.numbers.items lane.nulls.items)
+
+abbrev pub AreLanesOf : List (List CellValue) → List Lane → Type 0
+AreLanesOf rows lanes = (place : ℕ) (lane : Lane) → place < length lanes → IsLaneOf rows place (slice_index_or lanes place lane)
+
+-- the values of a column, if they were read
+abbrev pub AreValuesOf : List (List CellValue) → ℕ → Option (List CellValue) → Type 0
+AreValuesOf rows place values = MatchOption values (Unit {0}) (λ vs. (row : ℕ) → row < length rows → slice_get (slice_index_or rows row []) place ≡ Some (slice_index_or vs row null))
+
+abbrev pub texts_view : {A : Type 0} → Option (Vec Value A) → Option (List CellValue)
+texts_view texts = option_map (λ values. map value_view values.items) texts
+
+-- and of each column
+abbrev pub AreTextsOf : {A : Type 0} → List (List CellValue) → List (Option (Vec Value A)) → Type 0
+AreTextsOf {A} rows texts = (place : ℕ) (default : Option (Vec Value A)) → place < length texts → AreValuesOf rows place (texts_view (slice_index_or texts place default))
+
+-- a column is made of what was read: of numbers and nulls, or of values
+abbrev pub IsMadeOf : Lane → Option (List CellValue) → Column → Type 0
+IsMadeOf lane values column = (rows : List (List CellValue)) (place : ℕ) → IsLaneOf rows place lane → AreValuesOf rows place values → IsColumnOf rows place column
+
+-- the numbers of a column as keys of so many rows
+pub record AreKeysIn (lane : Lane) (column : KeyColumn) (rows : ℕ) (keys : Keys) : Type 0 where
+  pub column_is : keys.column ≡ column
+  pub type : lane.packed_type ≡ Some column.packed_type
+  pub numbers_are : keys.numbers.now ≡ lane.numbers.items
+  pub nulls_are : keys.nulls.now ≡ lane.nulls.items
+  pub long : length keys.numbers.now ≡ rows
+  pub marked : length keys.nulls.now ≡ rows
+
+-- keys stand for the cells of rows at a place
+pub record AreKeysOf (rows : List (List CellValue)) (place : ℕ) (column : KeyColumn) (keys : Keys) : Type 0 where
+  pub column_is : keys.column ≡ column
+  pub long : length keys.numbers.now ≡ length rows
+  pub marked : length keys.nulls.now ≡ length rows
+  pub stand : StandAt rows place column.packed_type keys.numbers.now keys.nulls.now

@@ -1,0 +1,20 @@
+-- Rows that are marked.
+use Rattle.std.specs.Prelude.{Bool, true, false, List, [], ◌∷◌}
+use Rattle.row_eval.specs.declared.truth.Truth.{Truth}
+use Rattle.row_eval.specs.declared.truth.Truth.TheVariants.{True}
+
+-- a condition keeps a row where it is true, not where it is false or null
+abbrev pub is_true : Truth → Bool
+is_true True = true
+is_true _ = false
+
+-- a row is marked
+abbrev pub is_marked : Bool → Bool
+is_marked mark = mark
+
+-- the elements that are marked, in their order
+abbrev pub marked : {X : Type 0} → List Bool → List X → List X
+marked [] xs = []
+marked (mark ∷ marks) [] = []
+marked (true ∷ marks) (x ∷ xs) = x ∷ marked marks xs
+marked (false ∷ marks) (x ∷ xs) = marked marks xs

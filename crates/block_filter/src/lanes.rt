@@ -1,0 +1,176 @@
+//! The columns of a block that are read for conditions, or for an order.
+ghost use Rattle.std.specs.Prelude.{◌≡◌, ◌<◌, List, OnOk, IfOk, IfSome, IsTrue, length, map, option_map};
+ghost use Rattle.cell_types.specs.Value.{CellValue, value_view};
+ghost use Rattle.block_filter.specs.Lanes.{AreColumnsOf, AreKeysIn, AreKeysOf, AreLanesOf, AreTextsOf, IsLaneOf, IsMadeOf};
+
+use crate::texts::texts_at;
+use block_eval::Column;
+use block_summary::{PackedType, packed_type_of};
+use cell_types::Value;
+use row_eval::tables_are_inputs;
+use row_order::{KeyColumn, Keys};
+use std::alloc::{AllocError, Global};
+use table_store::Block;
+
+/// The numbers of a column in a block. The buffers are kept for the next block.
+#[derive(Drop)]
+struct Lane {
+    /// What the numbers stand for; none where the column was not read.
+    packed_type: Option<PackedType>,
+    numbers: Vec<i64>,
+    nulls: Vec<bool>,
+}
+
+impl Lane {
+    /// Makes the buffers as long as the block.
+    fn fit(&mut self, alloc: Global, rows: usize) -> Result<(), AllocError>
+        ensures numbers { OnOk result (length self.new.numbers.items ≡ rows) }
+        ensures nulls { OnOk result (length self.new.nulls.items ≡ rows) }
+    {
+        if self.numbers.len() != rows {
+            self.numbers = Vec::from_elem(alloc, 0, rows)?;
+        }
+        if self.nulls.len() != rows {
+            self.nulls = Vec::from_elem(alloc, false, rows)?;
+        }
+        Ok(())
+    }
+
+    /// Reads the numbers of a column, if it is named and has numbers.
+    fn read(
+        &mut self,
+        alloc: Global,
+        block: &Block<'_>,
+        col: usize,
+        is_named: bool,
+    ) -> Result<(), AllocError>
+        requires { IsTrue is_named → col < length block.now.schema.columns }
+        ensures { OnOk result (IsLaneOf block.now.rows col self.new) }
+    {
+        block.values_fit();
+        tables_are_inputs();
+        self.packed_type = None;
+        if !is_named {
+            return Ok(());
+        }
+        let Some(packed_type) = packed_type_of(&block.schema().columns[col].datatype) else {
+            return Ok(());
+        };
+        self.fit(alloc, block.rows())?;
+        block.numbers(col, self.numbers.as_mut_slice(), self.nulls.as_mut_slice());
+        self.packed_type = Some(packed_type);
+        Ok(())
+    }
+
+    /// The column of these numbers, or else of the texts, or one that was not read.
+    fn column<'a, 't>(&'a self, texts: Option<&'a [Value<'t>]>) -> Column<'a>
+        ensures { IsMadeOf self.now
+            (option_map (λ values. map value_view values.now) texts.entry) result }
+    {
+        match (self.packed_type, texts) {
+            (Some(packed_type), _) => Column::Numbers(packed_type, &self.numbers, &self.nulls),
+            (None, Some(values)) => Column::Values(values),
+            (None, None) => Column::Unread,
+        }
+    }
+
+    /// The numbers of so many rows as keys of a column, if they were read and are of its type.
+    fn keys(&self, column: KeyColumn, rows: usize) -> Option<Keys<'_>>
+        ensures { IfSome result (AreKeysIn self.now column rows) }
+    {
+        if self.numbers.len() != rows || self.nulls.len() != rows {
+            return None;
+        }
+        match (self.packed_type, column.packed_type) {
+            (Some(PackedType::Integer), PackedType::Integer)
+            | (Some(PackedType::Decimal), PackedType::Decimal) => Some(Keys {
+                column,
+                numbers: &self.numbers,
+                nulls: &self.nulls,
+            }),
+            _ => None,
+        }
+    }
+}
+
+fn is_marked(marks: &[bool], place: usize) -> bool
+    ensures { IsTrue result → place < length marks.now }
+{
+    match marks.get(place) {
+        Some(is_marked) => *is_marked,
+        None => false,
+    }
+}
+
+/// The columns of a table, each with what is read of it in a block.
+#[derive(Drop)]
+pub struct Lanes {
+    lanes: Vec<Lane>,
+}
+
+impl Lanes {
+    /// So many columns, none of which was read.
+    pub fn new(alloc: Global, width: usize) -> Result<Lanes, AllocError> {
+        let mut lanes = Vec::with_capacity(alloc, width)?;
+        for _ in 0..width {
+            lanes.push(Lane {
+                packed_type: None,
+                numbers: Vec::new(alloc),
+                nulls: Vec::new(alloc),
+            })?;
+        }
+        Ok(Lanes { lanes })
+    }
+
+    /// Reads the columns of a block that are named, and no others.
+    pub(crate) fn read(
+        &mut self,
+        alloc: Global,
+        block: &Block<'_>,
+        named: &[bool],
+    ) -> Result<(), AllocError>
+        requires { length named.now ≡ length block.now.schema.columns }
+        ensures { OnOk result (AreLanesOf block.now.rows self.new.lanes.items) }
+    {
+        for col in 0..self.lanes.len() {
+            let is_named = is_marked(named, col);
+            self.lanes[col].read(alloc, block, col, is_named)?;
+        }
+        Ok(())
+    }
+
+    /// Reads one column of a block: its numbers as keys, if they are of the type of these.
+    pub fn keys(
+        &mut self,
+        alloc: Global,
+        block: &Block<'_>,
+        col: usize,
+        column: KeyColumn,
+    ) -> Result<Option<Keys<'_>>, AllocError>
+        requires { col < length block.now.schema.columns }
+        ensures { IfOk result (λ made. IfSome made (AreKeysOf block.now.rows col column)) }
+    {
+        let Some(lane) = self.lanes.get_mut(col) else {
+            return Ok(None);
+        };
+        lane.read(alloc, block, col, true)?;
+        Ok(lane.keys(column, block.rows()))
+    }
+
+    /// The columns that were read, as numbers or texts.
+    pub(crate) fn columns<'a, 't>(
+        &'a self,
+        alloc: Global,
+        texts: &'a [Option<Vec<Value<'t>>>],
+    ) -> Result<Vec<Column<'a>>, AllocError>
+        ensures { IfOk result (λ columns. (rows : List (List CellValue))
+            → AreLanesOf rows self.now.lanes.items → AreTextsOf rows texts.now
+            → AreColumnsOf rows columns.items) }
+    {
+        let mut columns = Vec::with_capacity(alloc, self.lanes.len())?;
+        for (place, lane) in self.lanes.iter().enumerate() {
+            columns.push(lane.column(texts_at(texts, place)))?;
+        }
+        Ok(columns)
+    }
+}

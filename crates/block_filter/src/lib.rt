@@ -1,0 +1,15 @@
+//! The rows of a block that pass conditions (OData 4.01 URL Conventions, section 5.1.2). [`filter_block`] takes the conditions a column at a time, and where
+//! that does not go one row after another. Of the columns of a block those alone are read that a condition names, or an order.
+#![tactic(auto)]
+
+mod block;
+mod in_turn;
+mod lanes;
+mod law;
+mod named;
+mod passing;
+mod texts;
+
+pub use block::{Passed, filter_block};
+pub use lanes::Lanes;
+pub use law::conditions_in_turn;

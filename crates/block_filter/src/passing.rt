@@ -1,0 +1,110 @@
+//! The rows of a block that pass the conditions of a plan, found a column at a time.
+ghost use Rattle.std.specs.Prelude.{◌≡◌, ◌<◌, ◌&&◌, ℕ, List, Some, OnOk, IfOk, length, map, slice_index_or, take, false};
+ghost use Rattle.std.specs.List.{All, count_by};
+ghost use Rattle.cell_types.specs.Value.{CellValue};
+ghost use Rattle.block_eval.specs.Lanes.{truth_lane};
+ghost use Rattle.odata_types.specs.TypedTree.{boxed_truth, truth_view};
+ghost use Rattle.query_plan.specs.Filter.{passing};
+ghost use Rattle.row_columns.specs.Picked.{numbered};
+ghost use Rattle.block_filter.specs.Conditions.{passing_all};
+ghost use Rattle.block_filter.specs.Marks.{is_marked, is_true, marked};
+
+use crate::lanes::Lanes;
+use crate::named::mark_truth;
+use crate::texts::texts_of;
+use block_eval::{Fallback, eval_block};
+use odata_types::TruthExpr;
+use query_plan::true_rows_pass;
+use row_eval::Truth;
+use std::alloc::{AllocError, Global};
+use table_store::Block;
+
+/// Leaves those rows wanted whose truth is true.
+fn keep_true(truths: &[Truth], wanted: &mut [bool])
+    requires { length truths.now ≡ length wanted.old }
+    ensures { (row : ℕ) → row < length wanted.old → slice_index_or wanted.new row false
+        ≡ (slice_index_or wanted.old row false && is_true (truth_lane truths.now row)) }
+{
+    for row in 0..wanted.len() {
+        wanted[row] = wanted[row] & (truths[row] == Truth::True);
+    }
+}
+
+/// Leaves those rows of a block wanted on which a condition is true.
+fn narrow_by(
+    alloc: Global,
+    condition: &TruthExpr,
+    block: &Block<'_>,
+    lanes: &mut Lanes,
+    wanted: &mut [bool],
+) -> Result<(), Fallback>
+    requires { length wanted.old ≡ length block.now.rows }
+    ensures { OnOk result (passing (truth_view condition.now) (marked wanted.old block.now.rows)
+        ≡ Some (marked wanted.new block.now.rows)) }
+{
+    true_rows_pass();
+    let mut named = Vec::from_elem(alloc, false, block.schema().columns.len())?;
+    let summary = block.summary();
+    mark_truth(condition, summary, named.as_mut_slice());
+    lanes.read(alloc, block, named.as_slice())?;
+    let texts = texts_of(alloc, block, named.as_slice())?;
+    let columns = lanes.columns(alloc, texts.as_slice())?;
+    let truths = eval_block(alloc, condition, columns.as_slice(), summary, wanted)?;
+    keep_true(truths.as_slice(), wanted);
+    Ok(())
+}
+
+/// The numbers of the first rows that are wanted, no more than so many.
+pub(crate) fn numbers_of(
+    alloc: Global,
+    wanted: &[bool],
+    most: usize,
+) -> Result<Vec<usize>, AllocError>
+    ensures rows { IfOk result (λ numbers. (rows : List (List CellValue))
+        → length rows ≡ length wanted.now
+        → numbered numbers.items rows ≡ take most (marked wanted.now rows)) }
+    ensures within { IfOk result (λ numbers. All (λ n. n < length wanted.now) numbers.items) }
+{
+    let mut numbers = Vec::new(alloc);
+    for (row, is_wanted) in wanted.iter().enumerate() {
+        if numbers.len() >= most {
+            return Ok(numbers);
+        }
+        if *is_wanted {
+            numbers.push(row)?;
+        }
+    }
+    Ok(numbers)
+}
+
+/// How many rows are wanted.
+pub(crate) fn count_of(wanted: &[bool]) -> usize
+    ensures { result ≡ count_by is_marked wanted.now }
+{
+    let mut count = 0;
+    for is_wanted in wanted {
+        if *is_wanted {
+            count += 1;
+        }
+    }
+    count
+}
+
+/// Which rows of a block pass conditions, in turn. Where it falls back, the rows are to be taken one by one: so it is where a condition
+/// divides by zero.
+pub(crate) fn passing_rows(
+    alloc: Global,
+    conditions: &[Box<TruthExpr>],
+    block: &Block<'_>,
+    lanes: &mut Lanes,
+) -> Result<Vec<bool>, Fallback>
+    ensures rows { IfOk result (λ wanted. passing_all (map boxed_truth conditions.now) block.now.rows
+        ≡ Some (marked wanted.items block.now.rows)) }
+    ensures long { IfOk result (λ wanted. length wanted.items ≡ length block.now.rows) }
+{
+    let mut wanted = Vec::from_elem(alloc, true, block.rows())?;
+    for condition in conditions {
+        narrow_by(alloc, condition, block, lanes, wanted.as_mut_slice())?;
+    }
+    Ok(wanted)
+}

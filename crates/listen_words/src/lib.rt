@@ -1,0 +1,6 @@
+//! What the words of the service's command line ask for, as `clap` reads them.
+#![tactic(auto)]
+
+mod words;
+
+pub use words::{ADDRESS, HEAD_SECONDS, IDLE_SECONDS, MOST_PLACES, PLACES, Words, read_words};

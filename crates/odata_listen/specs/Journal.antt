@@ -1,0 +1,29 @@
+-- The lines that the service tells of itself.
+use Rattle.std.specs.Prelude.{ℕ, List, [], ◌∷◌, ◌++◌, codes}
+use Rattle.std.specs.Fmt.{decimal}
+use Rattle.odata_serve.specs.FaultText.{fault_text}
+use Rattle.odata_serve.specs.declared.program.ProgramFault.{ProgramFault}
+use Rattle.odata_listen.specs.declared.journal.Why.{Why}
+use Rattle.odata_listen.specs.declared.journal.Why.TheVariants.{Answered, Lost, Slow, NoMemory}
+
+abbrev pub opened_text : ℕ → List ℕ
+opened_text place = codes "opened " ++ decimal place
+
+-- why a connection ended
+abbrev pub why_text : Why → List ℕ
+why_text Answered = codes "answered"
+why_text Lost = codes "lost"
+why_text Slow = codes "slow"
+why_text NoMemory = codes "out of memory"
+
+abbrev pub ended_text : ℕ → List ℕ → List ℕ
+ended_text place why = (codes "ended " ++ decimal place ++ codes " ") ++ why
+
+-- a text, or where that is empty the one for a device and for want of memory
+abbrev pub or_unknown : List ℕ → List ℕ
+or_unknown [] = codes "not reloaded: a device failed or memory ran out"
+or_unknown (b ∷ text) = b ∷ text
+
+-- a changed folder that was not taken up: the text of its fault
+abbrev pub refused_text : ProgramFault → List ℕ
+refused_text fault = or_unknown (fault_text fault)

@@ -1,0 +1,53 @@
+-- What a round leaves at a place: what waits there is of one reply, and where nothing worked, nothing is left to be done.
+use Rattle.std.specs.Prelude.{◌≡◌, ◌⊎◌, ◌<◌, ⊤, ℕ, true, false, List, [], ◌∷◌, ◌++◌, Option, Some, None}
+use Rattle.std.specs.List.{list_any}
+use Rattle.odata_http.specs.Replies.{last_reply}
+use Rattle.odata_hub.specs.Connections.{ConnOf, works}
+use Rattle.odata_hub.specs.Replies.{IsReplyTo}
+use Rattle.odata_hub.specs.Schedules.{Happening, HubOf, HubRun, conn_at}
+use Rattle.odata_hub.specs.Stands.{StandsFor}
+use Rattle.odata_hub.specs.Streams.{Asked}
+use Rattle.odata_rounds.specs.Rounds.{Rounds, SightOf, is_working}
+use Rattle.odata_rounds.specs.Laws.{AreCalls, waits_at}
+
+-- the whole reply to one head, or to what is left of a stream; an empty rest has none
+abbrev pub IsOneReply : List ℕ → Type 0
+IsOneReply reply = ((a : Asked) × IsReplyTo a reply) ⊎ ((rest : List ℕ) × (reply ≡ last_reply rest))
+
+-- what waits for the socket, and the output behind that, are the back of one reply
+pub record AreOfOneReply (waits output : List ℕ) : Type 0 where
+  pub sent : List ℕ
+  pub reply : List ℕ
+  pub one : IsOneReply reply
+  pub whole : sent ++ (waits ++ output) ≡ reply
+
+-- the output of what a place holds
+abbrev pub output_of : Option ConnOf → List ℕ
+output_of None = []
+output_of (Some c) = c.output
+
+-- no more than one reply waits at a place
+abbrev pub HoldsOneReply : HubOf → SightOf → ℕ → Type 0
+HoldsOneReply h sight place = AreOfOneReply (waits_at sight.seats place) (output_of (conn_at h place))
+
+-- Nothing is left to be done before the socket takes or has bytes: the place is free, or bytes wait for the socket, or there is no output and a turn
+-- finds nothing to do; or memory ran out for the connection.
+abbrev pub IsAtEase : Option ConnOf → List ℕ → Type 0
+IsAtEase None waits = ⊤
+IsAtEase (Some c) (b ∷ waits) = ⊤
+IsAtEase (Some c) [] = (c.output ≡ []) × ((works c ≡ false) ⊎ (c.failed ≡ true))
+
+-- what a round leaves of a hub that stood for one: one that it stands for now, behind calls on its connections
+pub record Leaves (places : ℕ) (old new : SightOf) (h : HubOf) : Type 0 where
+  pub next : HubOf
+  pub events : List Happening
+  pub calls : AreCalls events
+  pub run : HubRun h events next
+  pub stands : StandsFor new.hub next
+  pub one_reply : (place : ℕ) → HoldsOneReply h old place → HoldsOneReply next new place
+  pub at_ease : list_any is_working new.seats ≡ false → (place : ℕ) → place < places
+      → IsAtEase (conn_at next place) (waits_at new.seats place)
+
+-- No more than one reply waits at a place where that was so before the round; and a round in which nothing worked leaves each place at rest.
+abbrev pub RoundLeaves : Type 0
+RoundLeaves = (places : ℕ) (old new : SightOf) (h : HubOf) → Rounds places old new → StandsFor old.hub h → Leaves places old new h

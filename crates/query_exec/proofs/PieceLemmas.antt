@@ -1,0 +1,111 @@
+-- The first rows in the place of all, where the first step is a piece.
+use Rattle.std.proofs.Common.{◌≡◌, ℕ, zero, suc, ◌+◌, ◌-◌, ◌^◌, ◌≤◌, nat_lt, Bool, true, false, cond, Option, Some, None, List, [], ◌∷◌, ◌++◌, drop, length, map, take, refl, sym, ap, ◌∙◌, subst, arith}
+use Rattle.std.specs.Prelude.{slice_get}
+use Rattle.std.proofs.lemmas.List.{drop-take, take-map, take-take}
+use Rattle.cell_types.specs.Value.{CellValue}
+use Rattle.row_columns.specs.Picked.{values_at}
+use Rattle.query_plan.specs.Meaning.{ResultOf, first_rows}
+use Rattle.query_plan.specs.Plan.{SliceOf, node_result, node_view, slicing}
+use Rattle.query_plan.specs.Push.{room_of}
+use Rattle.query_plan.specs.declared.plan.Node.{Node}
+use Rattle.query_exec.specs.declared.run.Run.{Run}
+use Rattle.query_exec.specs.Picked.{selected_rows}
+use Rattle.query_exec.specs.Taking.{room_behind, IsSpare}
+use Rattle.query_exec.specs.Useful.{useful}
+
+take_same : {X : Type 0} (n : ℕ) (xs : List X) → take n (take n xs) ≡ take n xs
+take_same n xs = take-take n n xs (omega arith)
+
+-- ---- a piece of the first rows
+
+sized : (skip top : ℕ) (b : Bool) (rows : List (List CellValue))
+    → take top (drop skip (first_rows (cond b (Some (skip + top)) None) rows)) ≡ take top (drop skip rows)
+sized skip top true rows = ap (take top) (drop-take skip top rows) ∙ take_same top (drop skip rows)
+sized skip top false rows = refl
+
+-- is that of all
+piece_first : (skip : ℕ) (top : Option ℕ) (counts : Bool) (rows : List (List CellValue))
+    → first_rows top (drop skip (first_rows (room_of skip top counts) rows)) ≡ first_rows top (drop skip rows)
+piece_first skip None true rows = refl
+piece_first skip None false rows = refl
+piece_first skip (Some zero) true rows = refl
+piece_first skip (Some zero) false rows = refl
+piece_first skip (Some (suc top)) true rows = refl
+piece_first skip (Some (suc top)) false rows = sized skip (suc top) (nat_lt (skip + suc top) (2 ^ 64)) rows
+
+no_room : (skip : ℕ) (top : Option ℕ) → room_of skip top true ≡ None
+no_room skip None = refl
+no_room skip (Some zero) = refl
+no_room skip (Some (suc top)) = refl
+
+abbrev first_of : SliceOf → List (List CellValue) → List (List CellValue)
+first_of s rows = first_rows (room_of s.skip s.top s.counts) rows
+
+-- a piece of rows of which it has a use for the same
+pub sliced_same : (s : SliceOf) (r : ResultOf) (xs zs : List (List CellValue)) → first_of s xs ≡ first_of s zs
+    → node_result (slicing s) (record r { rows = xs }) ≡ node_result (slicing s) (record r { rows = zs })
+sliced_same s r xs zs e = by_count s.counts refl
+  where
+    rows_are : first_rows s.top (drop s.skip xs) ≡ first_rows s.top (drop s.skip zs)
+    rows_are =
+        sym (piece_first s.skip s.top s.counts xs) ∙ ap (λ rows. first_rows s.top (drop s.skip rows)) e ∙ piece_first s.skip s.top s.counts zs
+
+    all_are : s.counts ≡ true → xs ≡ zs
+    all_are counts =
+        let none : room_of s.skip s.top s.counts ≡ None = ap (room_of s.skip s.top) counts ∙ no_room s.skip s.top in
+        ap (λ room. first_rows room xs) (sym none) ∙ e ∙ ap (λ room. first_rows room zs) none
+
+    by_count : (b : Bool) → s.counts ≡ b → node_result (slicing s) (record r { rows = xs }) ≡ node_result (slicing s) (record r { rows = zs })
+    by_count true is = ap (λ rows. node_result (slicing s) (record r { rows = rows })) (all_are is)
+    by_count false is =
+        ap (λ b. Some (record { names = r.names; rows = first_rows s.top (drop s.skip xs); count = cond b (Some (length xs)) r.count })) is
+        ∙ ap (λ rows. Some (record { names = r.names; rows = rows; count = r.count })) rows_are
+        ∙ ap (λ b. Some (record { names = r.names; rows = first_rows s.top (drop s.skip zs); count = cond b (Some (length zs)) r.count })) (sym is)
+
+-- ---- rows behind others
+
+take_front : {X : Type 0} (n : ℕ) (xs ys : List X) → take n (take n xs ++ ys) ≡ take n (xs ++ ys)
+take_front zero xs ys = refl
+take_front (suc n) [] ys = refl
+take_front (suc n) (x ∷ xs) ys = ap (λ zs. x ∷ zs) (take_front n xs ys)
+
+pub first_front : (room : Option ℕ) (xs ys : List (List CellValue)) → first_rows room (first_rows room xs ++ ys) ≡ first_rows room (xs ++ ys)
+first_front None xs ys = refl
+first_front (Some n) xs ys = take_front n xs ys
+
+take_behind : {X : Type 0} (n k : ℕ) (xs ys : List X) → n ≤ length xs + k → take n (xs ++ take k ys) ≡ take n (xs ++ ys)
+take_behind zero k xs ys h = refl
+take_behind (suc n) k [] ys h = take-take (suc n) k ys (omega (arith, h))
+take_behind (suc n) k (x ∷ xs) ys h = ap (λ zs. x ∷ zs) (take_behind n k xs ys (omega (arith, h)))
+
+first_behind : (room : Option ℕ) (xs ys : List (List CellValue)) → first_rows room (xs ++ first_rows (room_behind room (length xs)) ys) ≡ first_rows room (xs ++ ys)
+first_behind None xs ys = refl
+first_behind (Some n) xs ys = take_behind n (n - length xs) xs ys (omega arith)
+
+same_node : (n node : Node) → Some n ≡ Some node → n ≡ node
+same_node n node e = cc
+
+-- of rows behind those that are kept a piece has a use for so many alone
+pub piece_spare : (run : Run) (node : Node) (s : SliceOf) (most : Option ℕ) → slice_get run.steps.items 0 ≡ Some node → node_view node ≡ slicing s
+    → most ≡ room_behind (room_of s.skip s.top s.counts) (length run.kept.rows) → IsSpare run most
+piece_spare run node s most at is left rows = of_steps run.steps.items at
+  where
+    of_steps : (steps : List Node) → slice_get steps 0 ≡ Some node
+        → useful (map node_view steps) (run.kept.rows ++ first_rows most rows) ≡ useful (map node_view steps) (run.kept.rows ++ rows)
+    of_steps [] at = absurd (cc)
+    of_steps (n ∷ ns) at =
+        let first : node_view n ≡ slicing s = ap node_view (same_node n node at) ∙ is in
+        subst (λ step. useful (step ∷ map node_view ns) (run.kept.rows ++ first_rows most rows) ≡ useful (step ∷ map node_view ns) (run.kept.rows ++ rows)) (sym first)
+        (ap (λ m. first_rows (room_of s.skip s.top s.counts) (run.kept.rows ++ first_rows m rows)) left ∙ first_behind (room_of s.skip s.top s.counts) run.kept.rows rows)
+
+-- any other step may have a use for each
+pub all_spare : (run : Run) → IsSpare run None
+all_spare run rows = refl
+
+-- ---- in the columns that are picked
+
+pub first_selected : (places : Option (List ℕ)) (most : Option ℕ) (rows : List (List CellValue))
+    → selected_rows places (first_rows most rows) ≡ first_rows most (selected_rows places rows)
+first_selected None most rows = refl
+first_selected (Some places) None rows = refl
+first_selected (Some places) (Some n) rows = sym (take-map (values_at places) n rows)

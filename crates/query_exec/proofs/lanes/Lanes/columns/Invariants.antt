@@ -1,6 +1,0 @@
-use Rattle.query_exec.proofs.LaneLemmas.{AreOfLanes}
-use Rattle.query_exec.proofs.lanes.Lanes.columns.Given as goal
-
--- the columns so far are those of the first lanes, or of the texts
-abbrev pub invariant-loop-place : goal.invariant-loop-place
-invariant-loop-place l = AreOfLanes l.self.lanes.items l.texts l.columns.items l.place

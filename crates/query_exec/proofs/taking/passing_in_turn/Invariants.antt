@@ -1,8 +1,0 @@
-use Rattle.std.proofs.Common.{map}
-use Rattle.odata_types.specs.TypedTree.{boxed_truth}
-use Rattle.query_exec.proofs.TakingLemmas.{AreFound}
-use Rattle.query_exec.proofs.taking.passing_in_turn.Given as goal
-
--- the first rows were gone through
-abbrev pub invariant-loop-number : goal.invariant-loop-number
-invariant-loop-number l = AreFound (map boxed_truth l.conditions) l.block.rows l.number l.rows l.numbers.items l.faulted

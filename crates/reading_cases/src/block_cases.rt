@@ -1,0 +1,71 @@
+//! Summaries of blocks, and the tests that they admit.
+ghost use Rattle.std.specs.Prelude.{◌≡◌, IfOk, length};
+
+use block_summary::{Comparison, Summary, Test, admits};
+use cell_types::Value;
+use std::alloc::AllocError;
+use std::process::Abort;
+use std::test::Fail;
+
+/// A comparison of an integer or null with each column of the rows `1 null null`, `5 null 3`, and which of the columns it admits.
+type Case = (Comparison, Option<i64>, [bool; 3]);
+
+const CASES: &[Case] = &[
+    (Comparison::Equal, Some(3), [true, false, true]),
+    (Comparison::Equal, Some(6), [false, false, false]),
+    (Comparison::Equal, None, [false, true, true]),
+    (Comparison::NotEqual, Some(3), [true, true, true]),
+    (Comparison::NotEqual, None, [true, false, true]),
+    (Comparison::GreaterThan, Some(3), [true, false, false]),
+    (Comparison::GreaterThan, Some(5), [false, false, false]),
+    (Comparison::GreaterThan, None, [false, false, false]),
+    (Comparison::GreaterOrEqual, Some(5), [true, false, false]),
+    (Comparison::GreaterOrEqual, None, [false, true, true]),
+    (Comparison::LessThan, Some(1), [false, false, false]),
+    (Comparison::LessThan, Some(3), [true, false, false]),
+    (Comparison::LessThan, None, [false, false, false]),
+    (Comparison::LessOrEqual, Some(1), [true, false, false]),
+    (Comparison::LessOrEqual, Some(3), [true, false, true]),
+    (Comparison::LessOrEqual, None, [false, true, true]),
+];
+
+/// The summary of the two rows.
+fn summary_of(rt: &(impl Abort + AllocGlobal)) -> Result<Summary, AllocError>
+    ensures { IfOk result (λ summary. length summary ≡ 3) }
+{
+    let first = vec![in rt.alloc(); Value::Int(1), Value::Null, Value::Null]?;
+    let second = vec![in rt.alloc(); Value::Int(5), Value::Null, Value::Int(3)]?;
+    let rows = vec![in rt.alloc(); first, second]?;
+    assert!(rt; rows.iter().all(|row| row.len() == 3));
+    Summary::build(rt.alloc(), 3, rows.as_slice())
+}
+
+/// Which columns a test admits.
+fn admitted(summary: &Summary, op: Comparison, literal: Option<i64>) -> [bool; 3]
+    requires { length summary.now ≡ 3 }
+{
+    let test = Test {
+        op,
+        literal: match literal {
+            Some(number) => Value::Int(i128::from(number)),
+            None => Value::Null,
+        },
+    };
+    [
+        admits(summary, 0, &test),
+        admits(summary, 1, &test),
+        admits(summary, 2, &test),
+    ]
+}
+
+#[test]
+fn tests(rt: HostRuntime) -> Result<(), Fail> {
+    let summary = summary_of(&rt)?;
+    for (place, (op, literal, wanted)) in CASES.iter().enumerate() {
+        assert!(rt;
+            admitted(&summary, *op, *literal) == *wanted,
+            "case {place}"
+        );
+    }
+    Ok(())
+}
