@@ -7,7 +7,7 @@ use std::alloc::{AllocError, Global};
 use std::process::Abort;
 use std::rc::Rc;
 use std::test::Fail;
-use table_store::{Catalog, LoadFault, NamedFile};
+use table_store::{Catalog, NamedFile};
 
 const META: &str = r#"{"url":"notes.csv","tableSchema":{"columns":[{"name":"Id"}]}}"#;
 
@@ -68,12 +68,12 @@ fn notes(alloc: Global, bytes: &str) -> Result<Vec<NamedFile>, AllocError> {
     Ok(vec![in alloc; file]?)
 }
 
-/// The tables where that has these bytes.
-fn tables(alloc: Global, bytes: &str) -> Result<Rc<Catalog>, LoadFault> {
-    let files = notes(alloc, bytes).map_err(|_| LoadFault::NoMemory)?;
-    let meta = Vec::from_slice(alloc, META.as_bytes()).map_err(|_| LoadFault::NoMemory)?;
-    let catalog = Catalog::load(alloc, Limits::greatest(), meta, files)?;
-    Rc::new(alloc, catalog).map_err(|_| LoadFault::NoMemory)
+/// The tables where that has these bytes: such a folder is refused for want of memory alone.
+fn tables(alloc: Global, bytes: &str) -> Result<Rc<Catalog>, AllocError> {
+    let files = notes(alloc, bytes)?;
+    let meta = Vec::from_slice(alloc, META.as_bytes())?;
+    let catalog = Catalog::load(alloc, Limits::greatest(), meta, files).map_err(|_| AllocError)?;
+    Rc::new(alloc, catalog).map_err(|_| AllocError)
 }
 
 fn free_seat(alloc: Global) -> Result<Seat, AllocError> {
