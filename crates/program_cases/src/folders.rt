@@ -1,5 +1,5 @@
 //! Folders in memory: the limit of a file, and two files of one name.
-use csvw_meta::Limits;
+use csvw_meta::{Limits, MOST_FILE_BYTES};
 use std::alloc::{AllocError, Global};
 use std::process::Abort;
 use std::test::Fail;
@@ -33,7 +33,7 @@ fn load(
         })?;
     }
     let limits = Limits {
-        file: most,
+        file: most.clamp(1, MOST_FILE_BYTES),
         tables: 1,
         columns: 2,
         transformations: 1,
