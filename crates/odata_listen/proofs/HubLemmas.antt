@@ -4,12 +4,13 @@ use Rattle.std.specs.Prelude.{⊤}
 use Rattle.table_store.specs.Catalog.{CatalogOf}
 use Rattle.odata_hub.specs.declared.hub.Hub.{Hub}
 use Rattle.odata_hub.specs.Connections.{Answer, Done}
-use Rattle.odata_hub.specs.Schedules.{Drop, Event, Happening, HubOf, HubRun, Reload}
+use Rattle.odata_hub.specs.Schedules.{Drop, Event, Happening, HubOf, Reload}
 use Rattle.odata_hub.specs.Stands.{IsHubStep}
 use Rattle.odata_serve.specs.declared.folders.FolderFault.{FolderFault}
 use Rattle.odata_serve.specs.declared.program.ProgramFault.{ProgramFault}
 use Rattle.odata_rounds.specs.declared.answers.Stepped.{Stepped}
 use Rattle.odata_rounds.specs.declared.answers.Stepped.TheVariants.{Free, Rests, Worked, Answered, Lost, Failed}
+use Rattle.odata_rounds.specs.Comes.{MayHappen, ServingRun}
 use Rattle.odata_rounds.specs.Laws.{RoundMoves}
 use Rattle.odata_rounds.specs.Rounds.{Rounds, SightOf}
 use Rattle.odata_listen.specs.Serving.{Frees, MayFree, MayReload, RunsTo, Settles}
@@ -18,15 +19,15 @@ use Rattle.odata_listen.specs.Watch.{HandsOver}
 pub runs_none : (a : Hub) → RunsTo a a
 runs_none a = record { events = []; run = λ h s. (h, refl, s) }
 
-pub runs_step : (a b : Hub) (event : Event) (answer : Answer) → IsHubStep a event answer b → RunsTo a b
-runs_step a b event answer step = record {
+pub runs_step : (a b : Hub) (event : Event) (answer : Answer) → IsHubStep a event answer b → ((h : HubOf) → MayHappen h event) → RunsTo a b
+runs_step a b event answer step may = record {
   events = record { event = event; answer = answer } ∷ [];
-  run = λ h s. let n = step h s in (n.0, (n.0, n.1, refl), n.2);
+  run = λ h s. let n = step h s in (n.0, (n.0, n.1, may h, refl), n.2);
 }
 
-joins : (a b c : HubOf) (xs ys : List Happening) → HubRun a xs b → HubRun b ys c → HubRun a (xs ++ ys) c
+joins : (a b c : HubOf) (xs ys : List Happening) → ServingRun a xs b → ServingRun b ys c → ServingRun a (xs ++ ys) c
 joins a b c [] ys r s = rw (← r) s
-joins a b c (x ∷ xs) ys r s = (r.0, r.1, joins r.0 b c xs ys r.2 s)
+joins a b c (x ∷ xs) ys r s = (r.0, r.1, r.2, joins r.0 b c xs ys r.3 s)
 
 pub runs_on : (a b c : Hub) → RunsTo a b → RunsTo b c → RunsTo a c
 runs_on a b c r s = record {
@@ -45,7 +46,7 @@ runs_same a b e = let P : Hub → Type 0 = λ x. RunsTo a x in subst P (sym e) (
 -- ---- places that are given back
 
 pub runs_free : (place : ℕ) (a b : Hub) → Frees place a b → RunsTo a b
-runs_free place a b f = runs_step a b (Drop place) f.answer f.step
+runs_free place a b f = runs_step a b (Drop place) f.answer f.step (λ h. tt)
 
 pub runs_may_free : (place : ℕ) (a b : Hub) → MayFree place a b → RunsTo a b
 runs_may_free place a b (inl e) = runs_same a b e
@@ -63,7 +64,7 @@ runs_settled Failed place a b f = runs_free place a b f
 
 pub runs_reload : (a b : Hub) → MayReload a b → RunsTo a b
 runs_reload a b (inl e) = runs_same a b e
-runs_reload a b (inr s) = runs_step a b (Reload s.0) Done s.1
+runs_reload a b (inr s) = runs_step a b (Reload s.0) Done s.1 (λ h. tt)
 
 pub may_hand_over : (loaded : Result CatalogOf FolderFault) (a b : Hub) (r : Result ⊤ ProgramFault) → HandsOver loaded a b r → MayReload a b
 may_hand_over (Ok catalog) a b (Ok u) h = inr (catalog, h)

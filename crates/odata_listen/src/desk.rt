@@ -105,7 +105,7 @@ impl Desk {
         clear_seat(&mut self.seats, place);
         if let Some(peer) = self.sockets.close(place, &mut self.room) {
             if lingers {
-                self.partings.hold(place, peer);
+                self.partings.hold(peer, &mut self.room);
             }
         }
         self.hub.drop_conn(Conn(place))
@@ -115,7 +115,7 @@ impl Desk {
     pub fn tend_parting(&mut self, at: u32)
         ensures { self.new.hub ≡ self.old.hub }
     {
-        self.partings.tend(at, &mut self.room);
+        self.partings.tend(at as usize, 1, &mut self.room);
     }
 
     /// How many places there are.

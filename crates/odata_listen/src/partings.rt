@@ -16,11 +16,11 @@ struct Parting {
 }
 
 impl Parting {
-    /// A second later: drops what came. Whether the peer may still send, and is waited for.
-    fn tend(&mut self, room: &mut [u8]) -> bool
+    /// So many seconds later: drops what came. Whether the peer may still send, and is waited for.
+    fn tend(&mut self, seconds: u8, room: &mut [u8]) -> bool
         ensures len { length room.new ≡ length room.old }
     {
-        self.seconds = self.seconds.saturating_sub(1);
+        self.seconds = self.seconds.saturating_sub(seconds);
         self.peer.drop_rest(room) && self.seconds > 0
     }
 }
@@ -41,10 +41,35 @@ impl Partings {
         Ok(Partings { slots })
     }
 
-    /// Holds the socket of a place open. Where there is no room, one that was held is closed.
-    pub fn hold(&mut self, place: u32, peer: Peer) {
-        let free = self.slots.iter().position(|slot| slot.is_none());
-        let at = free.unwrap_or(place as usize);
+    /// Where one more is held: a free slot, or else the one whose time is over first.
+    fn next_slot(&self) -> usize {
+        let mut at = 0;
+        let mut least = MOST_SECONDS;
+        for slot in 0..self.slots.len() {
+            match &self.slots[slot] {
+                None => return slot,
+                Some(parting) => {
+                    if parting.seconds < least {
+                        least = parting.seconds;
+                        at = slot;
+                    }
+                }
+            }
+        }
+        at
+    }
+
+    /// Holds a socket open. Where there is no room, those are closed whose peers have closed too; and where that leaves none, the one whose
+    /// time is over first.
+    pub fn hold(&mut self, peer: Peer, room: &mut [u8])
+        ensures len { length room.new ≡ length room.old }
+    {
+        if self.slots.iter().all(|slot| slot.is_some()) {
+            for at in 0..self.slots.len() {
+                self.tend(at, 0, room);
+            }
+        }
+        let at = self.next_slot();
         if let Some(slot) = self.slots.get_mut(at) {
             *slot = Some(Parting {
                 peer,
@@ -53,13 +78,13 @@ impl Partings {
         }
     }
 
-    /// A second later: drops what came to one of them, and closes it where its peer has closed too, or its time is over.
-    pub fn tend(&mut self, at: u32, room: &mut [u8])
+    /// So many seconds later: drops what came to one of them, and closes it where its peer has closed too, or its time is over.
+    pub fn tend(&mut self, at: usize, seconds: u8, room: &mut [u8])
         ensures len { length room.new ≡ length room.old }
     {
-        if let Some(slot) = self.slots.get_mut(at as usize) {
+        if let Some(slot) = self.slots.get_mut(at) {
             let goes_on = match slot {
-                Some(parting) => parting.tend(room),
+                Some(parting) => parting.tend(seconds, room),
                 None => false,
             };
             if !goes_on {

@@ -6,13 +6,15 @@ use Rattle.odata_hub.specs.declared.answers.HubFault.{HubFault}
 use Rattle.odata_hub.specs.declared.answers.Turned.TheVariants.{Idle}
 use Rattle.odata_hub.specs.Connections.{Answer, Call, ConnOf, End, Gave, Own, Piece, Refused, Step, Take, Turn, Went, taken_of}
 use Rattle.odata_hub.specs.Schedules.{CallsOn, HubOf, HubRun, HubStep, On, StepsAt, conn_at}
+use Rattle.odata_hub.specs.Stands.{StandsFor}
 use Rattle.odata_rounds.specs.declared.answers.Stepped.{Stepped}
 use Rattle.odata_rounds.specs.declared.answers.Stepped.TheVariants.{Free, Rests, Worked, Answered, Lost, Failed}
 use Rattle.odata_rounds.specs.declared.outbox.TheConstants.{TAKE_BYTES}
+use Rattle.odata_rounds.specs.Comes.{is_over_at, is_over_of}
 use Rattle.odata_rounds.specs.Peers.{WireOf}
 use Rattle.odata_rounds.specs.Visits.{AfterIdle, AfterTake, Became, IsAtRest, IsVisit, Last, at_place, came, ends, gives, goes, idles, none, nothing, nowhere, reads, refused, turned, wrote}
 use Rattle.odata_rounds.specs.Rounds.{is_worked}
-use Rattle.odata_rounds.specs.Leaves.{AreOfOneReply, IsAtEase, IsOneReply, output_of}
+use Rattle.odata_rounds.specs.Leaves.{AreOfOneReply, IsAtEase, IsOneReply, MayTellOver, output_of}
 use Rattle.odata_rounds.proofs.CallLemmas.{IsIdle, IsStill, at_same, call_away, call_is, given_end, given_piece, given_turn, idle_turn, one_empty, one_turn, output_end, output_piece, refused_turn, still_end, still_piece, take_never_refused, took_is, took_none}
 
 -- a connection's call is its step
@@ -192,29 +194,29 @@ visit_one place h n [] after sent _ _ (none last os kind) e r k =
           one_whole after (output_of (conn_at n place)) (nil_split sent after (sym t.given ∙ e)) t.one
     ]
 
-rest_wrote : (o : Option ConnOf) (after : List ℕ) → IsAtRest after wrote → IsAtEase o after
-rest_wrote o [] r = absurd (cc r)
-rest_wrote o (x ∷ after) r = ease_waits o x after
+rest_wrote : (o : Option ConnOf) (hub : Hub) (place : ℕ) (after : List ℕ) → IsAtRest hub place after wrote → IsAtEase o after
+rest_wrote o hub place [] r = absurd (cc (r.0))
+rest_wrote o hub place (x ∷ after) r = ease_waits o x after
 
 ease_wrote : (o : Option ConnOf) (place : ℕ) (hub : Hub) (old new : WireOf) (sent after : List ℕ) (stepped : Stepped)
     → Became stepped hub place old new sent after wrote → is_worked stepped ≡ false → IsAtEase o after
 ease_wrote o place hub old new sent after Free b w = absurd (cc b)
-ease_wrote o place hub old new sent after Rests b w = rest_wrote o after b.1
+ease_wrote o place hub old new sent after Rests b w = rest_wrote o hub place after b.1
 ease_wrote o place hub old new sent after Worked b w = absurd (cc w)
 ease_wrote o place hub old new sent after Answered (inl b) w = absurd (cc b)
 ease_wrote o place hub old new sent after Answered (inr b) w = absurd (cc (b.0))
-ease_wrote o place hub old new sent after Lost b w = rest_wrote o after b.1
+ease_wrote o place hub old new sent after Lost b w = rest_wrote o hub place after b.1
 ease_wrote o place hub old new sent after Failed (fault, inl b) w = absurd (cc b)
 ease_wrote o place hub old new sent after Failed (fault, inr b) w = absurd (cc (b.1))
 
 ease_tail : (o : Option ConnOf) (place : ℕ) (hub : Hub) (old new : WireOf) (sent : List ℕ) (last : Last) (os : List Own) (stepped : Stepped)
     → Tail last os o → Became stepped hub place old new sent [] last → is_worked stepped ≡ false → IsAtEase o []
 ease_tail o place hub old new sent last os Free t b w = absurd (t.somewhere b)
-ease_tail o place hub old new sent last os Rests t b w = t.idle b.1
+ease_tail o place hub old new sent last os Rests t b w = t.idle b.1.0
 ease_tail o place hub old new sent last os Worked t b w = absurd (cc w)
 ease_tail o place hub old new sent last os Answered t (inl b) w = t.refused_rest _ b
 ease_tail o place hub old new sent last os Answered t (inr b) w = t.idle b.0
-ease_tail o place hub old new sent last os Lost t b w = t.idle b.1
+ease_tail o place hub old new sent last os Lost t b w = t.idle b.1.0
 ease_tail o place hub old new sent last os Failed t (fault, inl b) w = t.refused_turn fault b
 ease_tail o place hub old new sent last os Failed t (fault, inr b) w = t.refused_rest fault b.1
 
@@ -247,3 +249,36 @@ pub calls_away : (place other : ℕ) (h n : HubOf) (os : List Own) → other ≢
 calls_away place other h n [] away r = ap (λ g. conn_at g other) r
 calls_away place other h n (o ∷ os) away r =
     calls_away place other r.0 n os away r.2 ∙ call_away h r.0 place other o.call o.answer away r.1
+
+-- ---- a place whose connection is over
+
+rests_open : (hub : Hub) (place : ℕ) (h : HubOf) (after : List ℕ) (last : Last) → IsAtRest hub place after last → after ≡ [] → StandsFor hub h
+    → is_over_at h place ≡ true → ⊥
+rests_open hub place h [] last r e s over = let bad : false ≡ true = sym (r.1 h s) ∙ over in absurd (cc bad)
+rests_open hub place h (x ∷ after) last r e s over = absurd (cc e)
+
+free_none : (place : ℕ) (h n : HubOf) (before : List ℕ) (last : Last) (os : List Own) → IsVisit before last os → last ≡ nowhere
+    → HubRun h (at_place place os) n → conn_at n place ≡ None
+free_none place h n (x ∷ before) last os v e r = let bad : nowhere ≡ wrote = sym e ∙ v.0 in absurd (cc bad)
+free_none place h n [] _ _ (refused fault) e r = elim (call_is h r.0 place (Take TAKE_BYTES) (Refused fault) r.1) [
+  | inl x ↦ ap (λ g. conn_at g place) (r.2 ∙ x.2) ∙ x.0
+  | inr x ↦ absurd (take_never_refused x.0 x.1 fault x.3)
+]
+free_none place h n [] _ _ (gives y bytes) e r = absurd (cc e)
+free_none place h n [] _ _ (none _ _ (goes answer)) e r = absurd (cc e)
+free_none place h n [] _ _ (none _ _ (idles _ _ nothing)) e r = absurd (cc e)
+free_none place h n [] _ _ (none _ _ (idles _ _ (reads catalog b bytes answer))) e r = absurd (cc e)
+free_none place h n [] _ _ (none _ _ (idles _ _ (ends answer))) e r = absurd (cc e)
+
+-- a visit tells a place that its connection is over, where nothing is left to be written
+pub visit_over : (place : ℕ) (h n : HubOf) (before after sent : List ℕ) (last : Last) (os : List Own) (stepped : Stepped) (hub : Hub) (old new : WireOf)
+    → IsVisit before last os → HubRun h (at_place place os) n → StandsFor hub n → Became stepped hub place old new sent after last → after ≡ []
+    → is_over_at n place ≡ true → MayTellOver stepped
+visit_over place h n before after sent last os Free hub old new v r s b e over =
+    let none : is_over_at n place ≡ false = ap is_over_of (free_none place h n before last os v b r) in
+    let bad : false ≡ true = sym none ∙ over in absurd (cc bad)
+visit_over place h n before after sent last os Rests hub old new v r s b e over = rests_open hub place n after last b.1 e s over
+visit_over place h n before after sent last os Worked hub old new v r s b e over = tt
+visit_over place h n before after sent last os Answered hub old new v r s b e over = tt
+visit_over place h n before after sent last os Lost hub old new v r s b e over = rests_open hub place n after last b.1 e s over
+visit_over place h n before after sent last os Failed hub old new v r s b e over = tt

@@ -44,13 +44,13 @@ came_became_by answer stepped hub place old new e =
 -- ---- what is read of an idle connection's socket
 
 pub read_end : (place : ℕ) (a b : Hub) (w v : ℕ → WireOf) (buf : List ℕ) (n : ℕ) (answer : Result ⊤ HubFault) (stepped : Stepped)
-    → n ≡ 0 → 0 < length buf → IsRead (w place) (v place) buf (Ok n) → KeepsOthers place w v → IsHubStep a (On place End) (answer_of (λ _. Done) answer) b
-    → stepped ≡ came_to answer → Calls AfterIdle place a b w v stepped
-read_end place a b w v buf zero answer stepped e lt r others step is = record {
+    → n ≡ 0 → 0 < length buf → IsRead (w place) (v place) buf (Ok n) → KeepsOthers place w v → IsOverAt a place false
+    → IsHubStep a (On place End) (answer_of (λ _. Done) answer) b → stepped ≡ came_to answer → Calls AfterIdle place a b w v stepped
+read_end place a b w v buf zero answer stepped e lt r others not_over step is = record {
   os = end (answer_of (λ _. Done) answer) ∷ [];
   last = came (answer_of (λ _. Done) answer);
   kind = ends (answer_of (λ _. Done) answer);
-  run = run_one a b (On place End) (answer_of (λ _. Done) answer) step;
+  run = run_one a b (On place End) (answer_of (λ _. Done) answer) step not_over;
   output = came_output answer;
   taken = r.taken;
   left = r.left.0;
@@ -58,18 +58,18 @@ read_end place a b w v buf zero answer stepped e lt r others step is = record {
   became = came_became_by answer stepped b place (w place) (v place) is;
   others = others;
 }
-read_end place a b w v buf (suc n) answer stepped e lt r others step is = absurd (omega arith)
+read_end place a b w v buf (suc n) answer stepped e lt r others not_over step is = absurd (omega arith)
 
 piece_of_bytes : (place : ℕ) (a b : Hub) (w v : ℕ → WireOf) (bytes : List ℕ) (catalog : CatalogOf) (answer : Result ⊤ HubFault) (stepped : Stepped)
     → 0 < length bytes → Consumes (w place).left (v place).left bytes → (v place).taken ≡ (w place).taken → KeepsOthers place w v
-    → IsHubStep a (On place (Piece catalog bytes)) (answer_of (λ _. Done) answer) b → stepped ≡ came_to answer → Calls AfterIdle place a b w v stepped
-piece_of_bytes place a b w v [] catalog answer stepped lt left taken others step is = absurd (omega arith)
-piece_of_bytes place a b w v (x ∷ bytes) catalog answer stepped lt left taken others step is =
+    → IsOverAt a place false → IsHubStep a (On place (Piece catalog bytes)) (answer_of (λ _. Done) answer) b → stepped ≡ came_to answer → Calls AfterIdle place a b w v stepped
+piece_of_bytes place a b w v [] catalog answer stepped lt left taken others not_over step is = absurd (omega arith)
+piece_of_bytes place a b w v (x ∷ bytes) catalog answer stepped lt left taken others not_over step is =
     let P : List ℕ → Type 0 = λ l. Consumes (w place).left (v place).left l in record {
       os = piece catalog (x ∷ bytes) (answer_of (λ _. Done) answer) ∷ [];
       last = came (answer_of (λ _. Done) answer);
       kind = reads catalog x bytes (answer_of (λ _. Done) answer);
-      run = run_one a b (On place (Piece catalog (x ∷ bytes))) (answer_of (λ _. Done) answer) step;
+      run = run_one a b (On place (Piece catalog (x ∷ bytes))) (answer_of (λ _. Done) answer) step not_over;
       output = came_output answer;
       taken = taken;
       left = subst P (sym (append-nil (x ∷ bytes))) left;
@@ -79,16 +79,16 @@ piece_of_bytes place a b w v (x ∷ bytes) catalog answer stepped lt left taken 
     }
 
 pub read_piece : (place : ℕ) (a b : Hub) (w v : ℕ → WireOf) (buf : List ℕ) (n : ℕ) (catalog : CatalogOf) (answer : Result ⊤ HubFault)
-    (stepped : Stepped) → 0 < n → IsRead (w place) (v place) buf (Ok n) → KeepsOthers place w v
+    (stepped : Stepped) → 0 < n → IsRead (w place) (v place) buf (Ok n) → KeepsOthers place w v → IsOverAt a place false
     → IsHubStep a (On place (Piece catalog (take n buf))) (answer_of (λ _. Done) answer) b → stepped ≡ came_to answer
     → Calls AfterIdle place a b w v stepped
-read_piece place a b w v buf n catalog answer stepped lt r others step is =
+read_piece place a b w v buf n catalog answer stepped lt r others not_over step is =
     let some : length (take n buf) ≡ n = sym r.bound.1 in
-    piece_of_bytes place a b w v (take n buf) catalog answer stepped (omega arith) r.left.0 r.taken others step is
+    piece_of_bytes place a b w v (take n buf) catalog answer stepped (omega arith) r.left.0 r.taken others not_over step is
 
 pub read_waits : (place : ℕ) (a : Hub) (w v : ℕ → WireOf) (buf : List ℕ) → IsRead (w place) (v place) buf (Err Waits) → KeepsOthers place w v
-    → Calls AfterIdle place a a w v Rests
-read_waits place a w v buf r others = record {
+    → IsOverAt a place false → Calls AfterIdle place a a w v Rests
+read_waits place a w v buf r others not_over = record {
   os = [];
   last = turned (Went Idle);
   kind = nothing;
@@ -97,13 +97,13 @@ read_waits place a w v buf r others = record {
   taken = r.taken;
   left = keeps_consumes _ _ r.left;
   ended = λ no. absurd (cc no);
-  became = (r.counts.0, refl);
+  became = (r.counts.0, (refl, not_over));
   others = others;
 }
 
 pub read_lost : (place : ℕ) (a : Hub) (w v : ℕ → WireOf) (buf : List ℕ) → IsRead (w place) (v place) buf (Err PeerLost) → KeepsOthers place w v
-    → Calls AfterIdle place a a w v Lost
-read_lost place a w v buf r others = record {
+    → IsOverAt a place false → Calls AfterIdle place a a w v Lost
+read_lost place a w v buf r others not_over = record {
   os = [];
   last = turned (Went Idle);
   kind = nothing;
@@ -112,11 +112,11 @@ read_lost place a w v buf r others = record {
   taken = r.taken;
   left = keeps_consumes _ _ r.left;
   ended = λ no. absurd (cc no);
-  became = (r.counts.1, refl);
+  became = (r.counts.1, (refl, not_over));
   others = others;
 }
 
-pub idle_over : (place : ℕ) (a : Hub) (w : ℕ → WireOf) → IsOverAt a place → Calls AfterIdle place a a w w Answered
+pub idle_over : (place : ℕ) (a : Hub) (w : ℕ → WireOf) → IsOverAt a place true → Calls AfterIdle place a a w w Answered
 idle_over place a w over = record {
   os = [];
   last = turned (Went Idle);
@@ -126,7 +126,7 @@ idle_over place a w over = record {
   taken = refl;
   left = consumes_none _ _ refl;
   ended = λ no. absurd (cc no);
-  became = inr (refl, over);
+  became = inr (refl, over, refl);
   others = λ other away. refl;
 }
 
@@ -138,7 +138,7 @@ turn_worked place a b w step = record {
   os = went (Went TurnWorked) ∷ [];
   last = turned (Went TurnWorked);
   kind = goes (Went TurnWorked);
-  run = run_one a b (On place Turn) (Went TurnWorked) step;
+  run = run_one a b (On place Turn) (Went TurnWorked) step (λ h stands. tt);
   output = refl;
   taken = refl;
   left = consumes_none _ _ refl;
@@ -153,7 +153,7 @@ turn_refused place a b w fault step = record {
   os = went (Refused fault) ∷ [];
   last = turned (Refused fault);
   kind = goes (Refused fault);
-  run = run_one a b (On place Turn) (Refused fault) step;
+  run = run_one a b (On place Turn) (Refused fault) step (λ h stands. tt);
   output = refl;
   taken = refl;
   left = consumes_none _ _ refl;
@@ -168,7 +168,7 @@ turn_idle place a b c w v stepped step rest = record {
   os = went (Went Idle) ∷ rest.os;
   last = rest.last;
   kind = idles rest.last rest.os rest.kind;
-  run = run_step a b c (On place Turn) (Went Idle) (at_place place rest.os) step rest.run;
+  run = run_step a b c (On place Turn) (Went Idle) (at_place place rest.os) step (λ h stands. tt) rest.run;
   output = rest.output;
   taken = rest.taken;
   left = rest.left;
@@ -195,9 +195,9 @@ writes_some place w v before n lt r others = record {
   others = others;
 }
 
-IsAtRest-some : (xs : List ℕ) (last : Last) → 0 < length xs → IsAtRest xs last
-IsAtRest-some [] last lt = absurd (omega arith)
-IsAtRest-some (x ∷ xs) last lt = tt
+IsAtRest-some : (hub : Hub) (place : ℕ) (xs : List ℕ) (last : Last) → 0 < length xs → IsAtRest hub place xs last
+IsAtRest-some hub place [] last lt = absurd (omega arith)
+IsAtRest-some hub place (x ∷ xs) last lt = tt
 
 pub writes_waits : (place : ℕ) (w v : ℕ → WireOf) (before : List ℕ) → 0 < length before → IsWrite (w place) (v place) before (Err Waits)
     → KeepsOthers place w v → Writes place w v before before Rests
@@ -206,7 +206,7 @@ writes_waits place w v before lt r others = record {
   split = refl;
   taken = keeps_appends _ _ r.taken;
   left = r.left;
-  became = λ hub. (r.counts.0, IsAtRest-some before wrote lt);
+  became = λ hub. (r.counts.0, IsAtRest-some hub place before wrote lt);
   others = others;
 }
 
@@ -217,7 +217,7 @@ writes_lost place w v before lt r others = record {
   split = refl;
   taken = keeps_appends _ _ r.taken;
   left = r.left;
-  became = λ hub. (r.counts.1, IsAtRest-some before wrote lt);
+  became = λ hub. (r.counts.1, IsAtRest-some hub place before wrote lt);
   others = others;
 }
 
@@ -248,7 +248,7 @@ serves_output place a b w v (y ∷ mid) after stepped lt step x = record {
   os = took (Gave (y ∷ mid)) ∷ [];
   last = wrote;
   visit = gives y mid;
-  run = run_one a b (On place (Take TAKE_BYTES)) (Gave (y ∷ mid)) step;
+  run = run_one a b (On place (Take TAKE_BYTES)) (Gave (y ∷ mid)) step (λ h stands. tt);
   moves = record { sent = x.sent; output = append-nil (y ∷ mid) ∙ x.split; taken = x.taken; left = consumes_none _ _ x.left; ended = λ no. absurd (cc no) };
   became = x.became b;
   others = x.others;
@@ -260,7 +260,7 @@ serves_none place a b c w v [] stepped e step x = record {
   os = took (Gave []) ∷ x.os;
   last = x.last;
   visit = none x.last x.os x.kind;
-  run = run_step a b c (On place (Take TAKE_BYTES)) (Gave []) (at_place place x.os) step x.run;
+  run = run_step a b c (On place (Take TAKE_BYTES)) (Gave []) (at_place place x.os) step (λ h stands. tt) x.run;
   moves = record { sent = []; output = x.output; taken = appends_none _ _ x.taken; left = x.left; ended = x.ended };
   became = x.became;
   others = x.others;
@@ -273,7 +273,7 @@ serves_refused place a b w [] fault e step = record {
   os = took (Refused fault) ∷ [];
   last = nowhere;
   visit = refused fault;
-  run = run_one a b (On place (Take TAKE_BYTES)) (Refused fault) step;
+  run = run_one a b (On place (Take TAKE_BYTES)) (Refused fault) step (λ h stands. tt);
   moves = record { sent = []; output = refl; taken = appends_none _ _ refl; left = consumes_none _ _ refl; ended = λ no. absurd (cc no) };
   became = refl;
   others = λ other away. refl;

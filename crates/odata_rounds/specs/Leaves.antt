@@ -1,12 +1,16 @@
 -- What a round leaves at a place: what waits there is of one reply, and where nothing worked, nothing is left to be done.
-use Rattle.std.specs.Prelude.{◌≡◌, ◌⊎◌, ◌<◌, ⊤, ℕ, true, false, List, [], ◌∷◌, ◌++◌, Option, Some, None}
+use Rattle.std.specs.Prelude.{◌≡◌, ◌⊎◌, ◌<◌, ⊤, ℕ, true, false, List, [], ◌∷◌, ◌++◌, Option, Some, None, slice_get}
 use Rattle.std.specs.List.{list_any}
 use Rattle.odata_http.specs.Replies.{last_reply}
 use Rattle.odata_hub.specs.Connections.{ConnOf, works}
 use Rattle.odata_hub.specs.Replies.{IsReplyTo}
-use Rattle.odata_hub.specs.Schedules.{Happening, HubOf, HubRun, conn_at}
+use Rattle.odata_hub.specs.Schedules.{Happening, HubOf, conn_at}
 use Rattle.odata_hub.specs.Stands.{StandsFor}
 use Rattle.odata_hub.specs.Streams.{Asked}
+use Rattle.odata_rounds.specs.declared.answers.Stepped.{Stepped}
+use Rattle.odata_rounds.specs.declared.answers.Stepped.TheVariants.{Free, Rests, Worked, Answered, Lost, Failed}
+use Rattle.odata_rounds.specs.declared.seat.Seat.{Seat}
+use Rattle.odata_rounds.specs.Comes.{ServingRun, is_over_at}
 use Rattle.odata_rounds.specs.Rounds.{Rounds, SightOf, is_working}
 use Rattle.odata_rounds.specs.Laws.{AreCalls, waits_at}
 
@@ -37,17 +41,32 @@ IsAtEase None waits = ⊤
 IsAtEase (Some c) (b ∷ waits) = ⊤
 IsAtEase (Some c) [] = (c.output ≡ []) × ((works c ≡ false) ⊎ (c.failed ≡ true))
 
+-- what a place may be told whose connection is over, where no bytes wait for its socket: so much, or that memory ran out; or the visit worked
+abbrev pub MayTellOver : Stepped → Type 0
+MayTellOver Free = ⊥
+MayTellOver Rests = ⊥
+MayTellOver Worked = ⊤
+MayTellOver Answered = ⊤
+MayTellOver Lost = ⊥
+MayTellOver Failed = ⊤
+
+-- the place is told that its connection is over
+abbrev pub IsToldOver : HubOf → ℕ → Seat → Type 0
+IsToldOver h place seat = seat.waits ≡ [] → is_over_at h place ≡ true → MayTellOver seat.stepped
+
 -- what a round leaves of a hub that stood for one: one that it stands for now, behind calls on its connections
 pub record Leaves (places : ℕ) (old new : SightOf) (h : HubOf) : Type 0 where
   pub next : HubOf
   pub events : List Happening
   pub calls : AreCalls events
-  pub run : HubRun h events next
+  pub run : ServingRun h events next
   pub stands : StandsFor new.hub next
   pub one_reply : (place : ℕ) → HoldsOneReply h old place → HoldsOneReply next new place
   pub at_ease : list_any is_working new.seats ≡ false → (place : ℕ) → place < places
       → IsAtEase (conn_at next place) (waits_at new.seats place)
+  pub over : (place : ℕ) (seat : Seat) → place < places → slice_get new.seats place ≡ Some seat → IsToldOver next place seat
 
--- No more than one reply waits at a place where that was so before the round; and a round in which nothing worked leaves each place at rest.
+-- No more than one reply waits at a place where that was so before the round; a round in which nothing worked leaves each place at rest; and a place
+-- whose connection is over is told so.
 abbrev pub RoundLeaves : Type 0
 RoundLeaves = (places : ℕ) (old new : SightOf) (h : HubOf) → Rounds places old new → StandsFor old.hub h → Leaves places old new h

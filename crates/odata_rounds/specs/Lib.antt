@@ -1,4 +1,5 @@
 pub mod Peers
+pub mod Comes
 pub mod Visits
 pub mod Rounds
 pub mod Laws

@@ -1,5 +1,5 @@
 -- What one visit does at a place: the calls on its connection, and what became of its socket and of the bytes that wait for that.
-use Rattle.std.specs.Prelude.{◌≡◌, ◌≢◌, ◌⊎◌, ⊤, ℕ, true, List, [], ◌∷◌, ◌++◌, map, Option, Some, None, Result, Ok, Err}
+use Rattle.std.specs.Prelude.{◌≡◌, ◌≢◌, ◌⊎◌, ⊤, ℕ, Bool, true, false, List, [], ◌∷◌, ◌++◌, map, Option, Some, None, Result, Ok, Err}
 use Rattle.std.specs.Io.KnownBytes.{Appends, Consumes}
 use Rattle.table_store.specs.Catalog.{CatalogOf}
 use Rattle.odata_http.specs.Device.{Counts}
@@ -8,16 +8,17 @@ use Rattle.odata_hub.specs.declared.answers.HubFault.{HubFault}
 use Rattle.odata_hub.specs.declared.answers.HubFault.TheVariants as refusal
 use Rattle.odata_hub.specs.declared.answers.Turned.TheVariants.{Idle, Worked as TurnWorked}
 use Rattle.odata_hub.specs.Connections.{Answer, Call, Done, End, Gave, Own, Piece, Refused, Take, Turn, Went, has_ended, taken_of}
-use Rattle.odata_hub.specs.Schedules.{Happening, HubOf, HubRun, On, conn_at}
-use Rattle.odata_hub.specs.Stands.{StandsFor, TellsOver}
+use Rattle.odata_hub.specs.Schedules.{Happening, HubOf, On}
+use Rattle.odata_hub.specs.Stands.{StandsFor}
 use Rattle.odata_rounds.specs.declared.answers.Stepped.{Stepped}
 use Rattle.odata_rounds.specs.declared.answers.Stepped.TheVariants.{Free, Rests, Worked, Answered, Lost, Failed}
 use Rattle.odata_rounds.specs.declared.outbox.TheConstants.{TAKE_BYTES}
+use Rattle.odata_rounds.specs.Comes.{ServingRun, is_over_at}
 use Rattle.odata_rounds.specs.Peers.{KeepsOthers, WireOf}
 
--- a schedule of calls leads from one hub to the other
+-- a schedule of calls leads from one hub to the other, in which nothing more of its stream comes to a connection that is over
 abbrev pub IsHubRun : Hub → List Happening → Hub → Type 0
-IsHubRun old events new = (h : HubOf) → StandsFor old h → (n : HubOf) × HubRun h events n × StandsFor new n
+IsHubRun old events new = (h : HubOf) → StandsFor old h → (n : HubOf) × ServingRun h events n × StandsFor new n
 
 -- the calls on the connection at a place, as happenings of the hub
 abbrev pub at_place : ℕ → List Own → List Happening
@@ -91,14 +92,19 @@ pub record Moves (old new : WireOf) (before after : List ℕ) (os : List Own) : 
   pub left : Consumes old.left new.left (pieces_of os)
   pub ended : has_ended os ≡ true → IsReadOut old.left new.left
 
--- the connection at the place is over: a closing head was cut off, and all replies were taken
-abbrev pub IsOverAt : Hub → ℕ → Type 0
-IsOverAt hub place = (h : HubOf) → StandsFor hub h → TellsOver (conn_at h place) (Ok true)
+-- whether the connection at the place is over
+abbrev pub IsOverAt : Hub → ℕ → Bool → Type 0
+IsOverAt hub place over = (h : HubOf) → StandsFor hub h → is_over_at h place ≡ over
 
--- bytes wait, or the connection has nothing to do
-abbrev pub IsAtRest : List ℕ → Last → Type 0
-IsAtRest [] last = last ≡ turned (Went Idle)
-IsAtRest (b ∷ waits) last = ⊤
+-- bytes wait, or the connection has nothing to do and is not over
+abbrev pub IsAtRest : Hub → ℕ → List ℕ → Last → Type 0
+IsAtRest hub place [] last = (last ≡ turned (Went Idle)) × IsOverAt hub place false
+IsAtRest hub place (b ∷ waits) last = ⊤
+
+-- the end came to a stream that had ended; or the connection has nothing to do and is over, and nothing was asked of its socket
+abbrev pub IsAnswered : Hub → ℕ → WireOf → WireOf → Last → Type 0
+IsAnswered hub place old new last =
+    (last ≡ came (Refused refusal.Ended)) ⊎ ((last ≡ turned (Went Idle)) × IsOverAt hub place true × (new ≡ old))
 
 -- the socket took bytes, or the last call did something
 abbrev pub IsWork : List ℕ → Last → Type 0
@@ -112,10 +118,10 @@ IsFailure last = (fault : HubFault) × ((last ≡ turned (Refused fault)) ⊎ ((
 -- Why a place became so: by its socket before and after, the bytes that this took and those that wait for it, and what the visit came to.
 abbrev pub Became : Stepped → Hub → ℕ → WireOf → WireOf → List ℕ → List ℕ → Last → Type 0
 Became Free hub place old new sent after last = last ≡ nowhere
-Became Rests hub place old new sent after last = Counts old.waits new.waits × IsAtRest after last
+Became Rests hub place old new sent after last = Counts old.waits new.waits × IsAtRest hub place after last
 Became Worked hub place old new sent after last = IsWork sent last
-Became Answered hub place old new sent after last = (last ≡ came (Refused refusal.Ended)) ⊎ ((last ≡ turned (Went Idle)) × IsOverAt hub place)
-Became Lost hub place old new sent after last = Counts old.losses new.losses × IsAtRest after last
+Became Answered hub place old new sent after last = IsAnswered hub place old new last
+Became Lost hub place old new sent after last = Counts old.losses new.losses × IsAtRest hub place after last
 Became Failed hub place old new sent after last = IsFailure last
 
 -- the calls of a visit that writes nothing are of a kind, and this is what they came to

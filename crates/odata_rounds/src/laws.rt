@@ -1,4 +1,5 @@
 //! What holds of a connection whatever rounds there are. The functions here are theorems, and do nothing.
+ghost use Rattle.odata_rounds.specs.Comes.{AreSchedules};
 ghost use Rattle.odata_rounds.specs.Laws.{MovesJoin, RoundMoves, RunsJoin, ServesSocket};
 ghost use Rattle.odata_rounds.specs.Leaves.{RoundLeaves};
 
@@ -6,6 +7,11 @@ ghost use Rattle.odata_rounds.specs.Leaves.{RoundLeaves};
 /// for what still waits, and what was read came as pieces, each byte once.
 pub fn round_moves()
     ensures { RoundMoves }
+{}
+
+/// What rounds do with a hub is a schedule of its calls: what holds of a connection in every schedule holds there.
+pub fn are_schedules()
+    ensures { AreSchedules }
 {}
 
 /// One run of a hub behind another is a run: so is the life of a service, which opens and frees places, reloads and goes round.
@@ -25,8 +31,8 @@ pub fn serves_socket()
     odata_hub::laws::gives_replies();
 }
 
-/// No more than one reply waits at a place, for its socket and in the output behind that; and a round of which nothing says that it worked leaves each
-/// place with nothing to do before its socket takes or has bytes.
+/// No more than one reply waits at a place, for its socket and in the output behind that; a round of which nothing says that it worked leaves each
+/// place with nothing to do before its socket takes or has bytes; and a place whose connection is over, with nothing left to be written, is told so.
 pub fn round_leaves()
     ensures { RoundLeaves }
 {}

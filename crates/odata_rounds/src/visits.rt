@@ -1,7 +1,7 @@
 //! One visit at a place: what waits for its socket is written; else output is taken and written; else the connection has one turn; else, where
 //! that was idle, one piece is read, or the end told.
-ghost use Rattle.std.specs.Prelude.{◌≡◌, ◌<◌, [], length};
-ghost use Rattle.odata_rounds.specs.Visits.{AfterIdle, AfterTake, Calls, Serves, Writes, came_to};
+ghost use Rattle.std.specs.Prelude.{◌≡◌, ◌<◌, [], false, length};
+ghost use Rattle.odata_rounds.specs.Visits.{AfterIdle, AfterTake, Calls, IsOverAt, Serves, Writes, came_to};
 
 use crate::answers::{PeerFault, Stepped};
 use crate::outbox::Outbox;
@@ -34,9 +34,20 @@ fn came_of(answer: Result<(), HubFault>) -> Stepped
     }
 }
 
-/// Reads one piece of an idle connection, or tells it the end of its stream.
+/// Whether the connection at a place is over.
+fn is_over(hub: &Hub, place: u32) -> bool
+    ensures { IsOverAt hub.now place result }
+{
+    match hub.closed(Conn(place)) {
+        Ok(over) => over,
+        Err(_) => false,
+    }
+}
+
+/// Reads one piece of an idle connection that is not over, or tells it the end of its stream.
 fn read_in<P: Peers>(hub: &mut Hub, peers: &mut P, place: u32, room: &mut [u8]) -> Stepped
-    requires { 0 < length room.old }
+    requires room { 0 < length room.old }
+    requires not_over { IsOverAt hub.old place false }
     ensures { Calls AfterIdle place hub.old hub.new
         (P.wires peers.old) (P.wires peers.new) result }
 {
@@ -54,9 +65,10 @@ fn read_unless_over<P: Peers>(hub: &mut Hub, peers: &mut P, place: u32, room: &m
     ensures { Calls AfterIdle place hub.old hub.new
         (P.wires peers.old) (P.wires peers.new) result }
 {
-    match hub.closed(Conn(place)) {
-        Ok(true) => Stepped::Answered,
-        _ => read_in(hub, peers, place, room),
+    if is_over(hub, place) {
+        Stepped::Answered
+    } else {
+        read_in(hub, peers, place, room)
     }
 }
 
