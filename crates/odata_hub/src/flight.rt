@@ -43,6 +43,7 @@ pub(crate) struct Flight {
 
 impl Model for Flight {
     ghost use Rattle.std.specs.Coded.{codes};
+    ghost use Rattle.indexmap.specs.Layout.{hash_set_code};
     ghost use Rattle.odata_types.specs.contracts.tree.DecimalExpr as decimals;
     ghost use Rattle.odata_types.specs.contracts.tree.IntegerExpr as integers;
     ghost use Rattle.odata_types.specs.contracts.tree.TextExpr as texts;
@@ -52,7 +53,7 @@ impl Model for Flight {
 
     ghost Value = { FlightHeld };
 
-    ghost coded = { Prim.hlevel (codes, texts.the_row.coded, integers.the_row.coded, decimals.the_row.coded, truths.the_row.coded) };
+    ghost coded = { Prim.hlevel (codes, hash_set_code, texts.the_row.coded, integers.the_row.coded, decimals.the_row.coded, truths.the_row.coded) };
 
     ghost view = { λ flight. record { catalog = flight.catalog.value; exchange = flight.exchange } };
 

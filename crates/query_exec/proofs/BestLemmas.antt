@@ -20,7 +20,7 @@ use Rattle.query_plan.specs.Push.{room_of}
 use Rattle.query_plan.specs.declared.plan.Node.{Node}
 use Rattle.query_exec.specs.declared.run.Run.{Run}
 use Rattle.query_exec.specs.Run.{rows_so_far, steps_of}
-use Rattle.query_exec.specs.Taking.{HasCut, HasTaken, HasTakenIn}
+use Rattle.query_exec.specs.Taking.{HasCut, HasTaken}
 use Rattle.query_exec.specs.Useful.{are_plain, useful}
 use Rattle.query_exec.specs.Underway.{AreAll}
 use Rattle.block_filter.specs.Conditions.{joined}
@@ -193,25 +193,24 @@ kept_alike : (steps : List NodeOf) (b : Bool) (xs zs : List (List CellValue)) �
 kept_alike steps true xs zs e = refl
 kept_alike steps false xs zs e = ap (λ rows. Some rows) e
 
-pub taken_and_cut : (old taken less new : Run) (rows : List (List CellValue)) → HasTaken old taken rows → HasCut taken less → new.left.items ≡ drop 1 less.left.items
-    → new ≡ record less { left = new.left } → HasTakenIn old new rows
-taken_and_cut old taken less new rows has cut left is =
+pub taken_and_cut : (old taken less : Run) (rows : List (List CellValue)) → HasTaken old taken rows → HasCut taken less → HasTaken old less rows
+taken_and_cut old taken less rows has cut =
     let steps_are : steps_of taken ≡ steps_of old = ap (λ ns. map node_view ns.items) has.same.steps in
     let useful_are = subst (λ steps. useful steps less.kept.rows ≡ useful steps taken.kept.rows) steps_are cut.useful_are in
     record {
       same = record {
-        conditions = ap (λ (r : Run). r.conditions) is ∙ cut.same.conditions ∙ has.same.conditions;
-        places = ap (λ (r : Run). r.places) is ∙ cut.same.places ∙ has.same.places;
-        steps = ap (λ (r : Run). r.steps) is ∙ cut.same.steps ∙ has.same.steps;
-        names = ap (λ (r : Run). r.names) is ∙ cut.same.names ∙ has.same.names;
-        stage = ap (λ (r : Run). r.stage) is ∙ cut.same.stage ∙ has.same.stage;
-        kinds = ap (λ (r : Run). r.kept.kinds) is ∙ cut.same.kinds ∙ has.same.kinds;
+        conditions = cut.same.conditions ∙ has.same.conditions;
+        places = cut.same.places ∙ has.same.places;
+        steps = cut.same.steps ∙ has.same.steps;
+        names = cut.same.names ∙ has.same.names;
+        stage = cut.same.stage ∙ has.same.stage;
+        gathering = cut.same.gathering ∙ has.same.gathering;
+        kinds = cut.same.kinds ∙ has.same.kinds;
       };
-      left_are = left ∙ ap (λ (q : _). drop 1 q.items) (cut.left_is ∙ has.left_is);
-      looks_on = ap (λ (r : Run). r.room) is ∙ cut.room_is ∙ has.looks_on;
+      left_is = cut.left_is ∙ has.left_is;
+      looks_on = cut.room_is ∙ has.looks_on;
       passed =
-          ap (λ (r : Run). option_map (useful (steps_of old)) (rows_so_far r)) is
-          ∙ ap (λ b. option_map (useful (steps_of old)) (cond b None (Some less.kept.rows))) cut.faulted_is
+          ap (λ b. option_map (useful (steps_of old)) (cond b None (Some less.kept.rows))) cut.faulted_is
           ∙ kept_alike (steps_of old) taken.faulted less.kept.rows taken.kept.rows useful_are
           ∙ has.passed;
     }

@@ -79,7 +79,7 @@ parts_give es picked steps r rows =
     ap (λ ns. nodes_result ns (record r { rows = rows })) (append_assoc (condition_nodes es) (select_nodes picked) steps)
     ∙ steps_behind es (select_nodes picked ++ steps) r rows ∙ selected_of picked steps r (passing_all es rows)
 
-some_selected : (picked : Option (List ℕ)) (passed : Option (List (List CellValue))) (kept : List (List CellValue)) → option_map (selected_rows picked) passed ≡ Some kept
+pub some_selected : (picked : Option (List ℕ)) (passed : Option (List (List CellValue))) (kept : List (List CellValue)) → option_map (selected_rows picked) passed ≡ Some kept
     → (rows : List (List CellValue)) × (passed ≡ Some rows) × (selected_rows picked rows ≡ kept)
 some_selected picked None kept is = absurd (cc)
 some_selected picked (Some rows) kept is = (rows, refl, cc)

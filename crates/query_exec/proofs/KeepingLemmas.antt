@@ -39,6 +39,7 @@ taken_some old mid new most rows found is room spare are now was none kept = rec
     steps = kept.same.steps ∙ ap (λ (r : Run). r.steps) is;
     names = kept.same.names ∙ ap (λ (r : Run). r.names) is;
     stage = kept.same.stage ∙ ap (λ (r : Run). r.stage) is;
+    gathering = kept.same.gathering ∙ ap (λ (r : Run). r.gathering) is;
     kinds = kept.same.kinds ∙ ap (λ (r : Run). r.kept.kinds) is;
   };
   left_is = kept.left_is ∙ ap (λ (r : Run). r.left) is;
@@ -83,7 +84,7 @@ pub taken_none : (old : Run) (lanes : Lanes) (room most : Option ℕ) (rows : Li
     → ArePassing (conditions_of old) most rows found → (old.faulted || found.faulted) ≡ true
     → HasTaken old (record old { lanes = lanes; room = room; faulted = old.faulted || found.faulted }) rows
 taken_none old lanes room most rows found is are faults = record {
-  same = record { conditions = refl; places = refl; steps = refl; names = refl; stage = refl; kinds = refl };
+  same = record { conditions = refl; places = refl; steps = refl; names = refl; stage = refl; gathering = refl; kinds = refl };
   left_is = refl;
   looks_on = is ∙ ap (room_behind old.room) are.count;
   passed =

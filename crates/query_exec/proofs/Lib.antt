@@ -8,5 +8,7 @@ pub mod NeededLemmas
 pub mod PartsLemmas
 pub mod AdmittedLemmas
 pub mod BestLemmas
+pub mod GatherLemmas
+pub mod MadeLemmas
 pub mod RunLemmas
 pub mod StepLemmas

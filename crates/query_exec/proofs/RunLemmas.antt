@@ -30,10 +30,12 @@ use Rattle.query_exec.specs.Conditions.{condition_nodes}
 use Rattle.query_exec.specs.Rows.{RowsOf}
 use Rattle.query_exec.specs.Picked.{selected_kinds, selected_rows}
 use Rattle.query_exec.specs.Run.{conditions_of, handed_block, handed_rows, kept_answer, kept_result, next_block, places_of, rows_so_far, run_length, steps_of, wanted_block, GoesOn, IsReady, StandsFor, StepsTo}
-use Rattle.query_exec.specs.Taking.{room_behind, HasTakenIn}
+use Rattle.query_exec.specs.Gathers.{behind, GathersFor, IsGathered, MayGather}
+use Rattle.query_exec.specs.Taking.{passed_rows, room_behind, taken_rows, HasTakenIn}
 use Rattle.query_exec.specs.Useful.{useful}
 use Rattle.query_exec.proofs.NeededLemmas.{all_rows, drop_one, first_left, is_block, is_no_block, more_rows, needed_behind, none_behind, wanted_is_first}
 use Rattle.query_exec.proofs.BestLemmas.{alike_answer, alike_fit, alike_joined, Alike}
+use Rattle.query_exec.proofs.GatherLemmas.{behind_joined, few_pass, handed_are_rows, may_join, same_of}
 use Rattle.query_exec.proofs.ConditionLemmas.{parts_fit, parts_give, selected_joined, selected_result}
 
 -- the names of a table's columns
@@ -54,7 +56,9 @@ pub record HasRead (run : Run) (plan : PlanOf) (table : TableOf) (blocks : ℕ) 
   pub within : IfSome (places_of run) (All (λ place. place < length table.schema.columns))
   pub names_are : map string_bytes run.names.items ≡ selected_names (places_of run) (table_names table.schema)
   pub kinds_are : run.kept.kinds ≡ selected_kinds (places_of run) (kinds_of table.schema.columns)
-  pub passed : Alike (steps_of run) (rows_so_far run) (option_map (selected_rows (places_of run)) (passing_all (conditions_of run) (handed_rows plan table blocks)))
+  pub gone : List (List CellValue)
+  pub gathered : IsGathered (steps_of run) run gone
+  pub passed : Alike (steps_of run) (behind gone (rows_so_far run)) (option_map (selected_rows (places_of run)) (passing_all (conditions_of run) (handed_rows plan table blocks)))
 
 pub no_block_read : (run : Run) (plan : PlanOf) (table : TableOf) (handed : ℕ) → StandsFor run plan table handed → HasRead run plan table handed
 no_block_read run plan table handed stands = record {
@@ -67,6 +71,8 @@ no_block_read run plan table handed stands = record {
   within = stands.within;
   names_are = stands.names_are;
   kinds_are = stands.kinds_are;
+  gone = stands.gone;
+  gathered = stands.gathered;
   passed = stands.passed;
 }
 
@@ -96,8 +102,9 @@ block_read law pieces old new plan table handed number stands next taken =
     let es_are : conditions_of old ≡ conditions_of new = ap (λ cs. map boxed_truth cs.items) (sym same.conditions) in
     let picked_are : places_of old ≡ places_of new = ap optional_numbers (sym same.places) in
     let steps_are : steps_of old ≡ steps_of new = ap (λ ns. map node_view ns.items) (sym same.steps) in
+    let after = taken.passed stands.gone stands.gathered.gathers in
     let kept = one_block_more law pieces (steps_of old) (conditions_of old) (places_of old) (handed_rows plan table handed) (block_of table number).rows
-    (handed_rows plan table (handed + 1)) (rows_so_far old) (rows_so_far new) (more_rows plan table handed number next) stands.passed taken.passed in
+    (handed_rows plan table (handed + 1)) (behind stands.gone (rows_so_far old)) (behind after.0 (rows_so_far new)) (more_rows plan table handed number next) stands.passed after.2 in
     let first : slice_get (up_to old.room (conditions_of old) rows old.left.items) 0 ≡ Some number =
     ap (λ numbers. slice_get numbers 0) stands.left_are ∙ first_left (needed plan rows) handed ∙ next in
     record {
@@ -115,8 +122,10 @@ block_read law pieces old new plan table handed number stands next taken =
       within = rw same.places stands.within;
       names_are = rw (same.places, same.names) stands.names_are;
       kinds_are = rw same.places (same.kinds ∙ stands.kinds_are);
+      gone = after.0;
+      gathered = record { gathers = subst (λ ns. GathersFor ns new.gathering after.0) steps_are after.1; keeps_none = taken.keeps_none };
       passed =
-          subst (λ steps. Alike steps (rows_so_far new) (option_map (selected_rows (places_of new)) (passing_all (conditions_of new) (handed_rows plan table (handed + 1))))) steps_are
+          subst (λ steps. Alike steps (behind after.0 (rows_so_far new)) (option_map (selected_rows (places_of new)) (passing_all (conditions_of new) (handed_rows plan table (handed + 1))))) steps_are
           (kept ∙ ap (λ es. option_map (useful (steps_of old)) (option_map (selected_rows (places_of old)) (passing_all es (handed_rows plan table (handed + 1))))) es_are
           ∙ ap (λ picked. option_map (useful (steps_of old)) (option_map (selected_rows picked) (passing_all (conditions_of new) (handed_rows plan table (handed + 1))))) picked_are);
     }
@@ -126,15 +135,15 @@ abbrev read_rows : PlanOf → TableOf → List (List CellValue)
 read_rows plan table = rows_of_blocks table.rows (needed plan table.rows)
 
 -- what the conditions make of these
-whole_read : (run : Run) (plan : PlanOf) (table : TableOf) (blocks : ℕ) → HasRead run plan table blocks → next_block plan table blocks ≡ None
-    → Alike (steps_of run) (rows_so_far run) (option_map (selected_rows (places_of run)) (passing_all (conditions_of run) (read_rows plan table)))
+whole_read : (run : Run) (plan : PlanOf) (table : TableOf) (blocks : ℕ) (has : HasRead run plan table blocks) → next_block plan table blocks ≡ None
+    → Alike (steps_of run) (behind has.gone (rows_so_far run)) (option_map (selected_rows (places_of run)) (passing_all (conditions_of run) (read_rows plan table)))
 whole_read run plan table blocks has beyond =
     has.passed
     ∙ ap (λ rows. option_map (useful (steps_of run)) (option_map (selected_rows (places_of run)) (passing_all (conditions_of run) rows))) (all_rows plan table blocks beyond)
 
 -- the rows that passed may go through the steps
-fits_behind : NodesInTurn → ScansReadTableRows → (run : Run) (plan : PlanOf) (table : TableOf) (blocks : ℕ) → HasRead run plan table blocks → next_block plan table blocks ≡ None
-    → (rows : List (List CellValue)) → rows_so_far run ≡ Some rows → NodesFit (steps_of run) (record (kept_result run) { rows = rows })
+fits_behind : NodesInTurn → ScansReadTableRows → (run : Run) (plan : PlanOf) (table : TableOf) (blocks : ℕ) (has : HasRead run plan table blocks) → next_block plan table blocks ≡ None
+    → (rows : List (List CellValue)) → behind has.gone (rows_so_far run) ≡ Some rows → NodesFit (steps_of run) (record (kept_result run) { rows = rows })
 fits_behind law scans run plan table blocks has beyond rows is =
     let es = conditions_of run in
     let all = read_rows plan table in
@@ -153,19 +162,26 @@ kinds_long None kinds names same = same
 kinds_long (Some places) kinds names same =
     length-map places (λ place. get_or kinds place any) ∙ sym (length-map places (λ place. get_or names place []))
 
+-- there is a column for each name
+as_many : (run : Run) (plan : PlanOf) (table : TableOf) → map string_bytes run.names.items ≡ selected_names (places_of run) (table_names table.schema)
+    → run.kept.kinds ≡ selected_kinds (places_of run) (kinds_of table.schema.columns) → length run.kept.kinds ≡ length run.names.items
+as_many run plan table names_are kinds_are =
+    ap length kinds_are
+    ∙ kinds_long (places_of run) (kinds_of table.schema.columns) (table_names table.schema)
+    (length-map table.schema.columns _ ∙ sym (length-map table.schema.columns _))
+    ∙ ap length (sym names_are) ∙ length-map run.names.items string_bytes
+
 pub is_ready : NodesInTurn → ScansReadTableRows → (run : Run) (plan : PlanOf) (table : TableOf) (blocks : ℕ) → HasRead run plan table blocks → wanted_block run ≡ None → IsReady run
 is_ready law scans run plan table blocks has beyond = record {
-  width =
-      ap length has.kinds_are
-      ∙ kinds_long (places_of run) (kinds_of table.schema.columns) (table_names table.schema)
-      (length-map table.schema.columns _ ∙ sym (length-map table.schema.columns _))
-      ∙ ap length (sym has.names_are) ∙ length-map run.names.items string_bytes;
+  width = as_many run plan table has.names_are has.kinds_are;
+  gone = has.gone;
+  gathered = has.gathered;
   fits = fits_behind law scans run plan table blocks has (sym (wanted_is_next run plan table blocks has) ∙ beyond);
 }
 
 -- what the run gives then is the answer of the plan
-answer_is : (run : Run) (plan : PlanOf) (table : TableOf) (blocks : ℕ) → HasRead run plan table blocks → next_block plan table blocks ≡ None
-    → plan_answer plan table ≡ kept_answer run
+answer_is : (run : Run) (plan : PlanOf) (table : TableOf) (blocks : ℕ) (has : HasRead run plan table blocks) → next_block plan table blocks ≡ None
+    → plan_answer plan table ≡ kept_answer run has.gone
 answer_is run plan table blocks has beyond =
     let es = conditions_of run in
     let picked = places_of run in
@@ -175,7 +191,7 @@ answer_is run plan table blocks has beyond =
     ap (λ ns. nodes_result ns r) (sym has.plan_is)
     ∙ parts_give es picked (steps_of run) r all
     ∙ ap (λ names. option_and_then (kept names) (option_map (selected_rows picked) (passing_all es all))) (sym has.names_are)
-    ∙ sym (alike_answer (steps_of run) (kept_result run) (rows_so_far run) (option_map (selected_rows picked) (passing_all es all))
+    ∙ sym (alike_answer (steps_of run) (kept_result run) (behind has.gone (rows_so_far run)) (option_map (selected_rows picked) (passing_all es all))
     (whole_read run plan table blocks has beyond))
 
 -- ---- calls
@@ -224,16 +240,18 @@ answers run new plan table handed blocks (Ok None) has more last goes =
         within = has.within;
         names_are = has.names_are;
         kinds_are = has.kinds_are;
-        passed = subst (λ k. Alike (steps_of run) (rows_so_far run) (option_map (selected_rows (places_of run)) (passing_all (conditions_of run) (handed_rows plan table k)))) one
+        gone = has.gone;
+        gathered = has.gathered;
+        passed = subst (λ k. Alike (steps_of run) (behind has.gone (rows_so_far run)) (option_map (selected_rows (places_of run)) (passing_all (conditions_of run) (handed_rows plan table k)))) one
             has.passed;
       }),
     )
 answers run new plan table handed blocks (Ok (Some rows)) has more last goes =
     let beyond = sym (wanted_is_next run plan table blocks has) ∙ goes.0 in
-    (last beyond, answer_is run plan table blocks has beyond ∙ goes.1)
+    (last beyond, answer_is run plan table blocks has beyond ∙ goes.1 has.gone has.gathered)
 answers run new plan table handed blocks (Err DivisionByZero) has more last goes =
     let beyond = sym (wanted_is_next run plan table blocks has) ∙ goes.0 in
-    (last beyond, answer_is run plan table blocks has beyond ∙ goes.1)
+    (last beyond, answer_is run plan table blocks has beyond ∙ goes.1 has.gone has.gathered)
 answers run new plan table handed blocks (Err NoMemory) has more last goes = goes
 answers run new plan table handed blocks (Err Failed) has more last goes = goes
 
@@ -265,3 +283,38 @@ ready_behind_block law pieces turn scans old new block plan table handed stands 
 pub ready_behind_none : NodesInTurn → ScansReadTableRows → (run : Run) (plan : PlanOf) (table : TableOf) (handed : ℕ) → StandsFor run plan table handed → wanted_block run ≡ None
     → IsReady run
 ready_behind_none turn scans run plan table handed stands beyond = is_ready turn scans run plan table handed (no_block_read run plan table handed stands) beyond
+
+-- ---- before a block is taken in
+
+-- what passes of it may be gathered
+pub block_may_be_gathered : ConditionsInTurn → BestInPieces → NodesInTurn → ScansReadTableRows → (run : Run) (block : TableOf) (plan : PlanOf) (table : TableOf) (handed : ℕ)
+    → StandsFor run plan table handed → Some block ≡ handed_block plan table handed → MayGather (steps_of run) run (taken_rows run block.rows)
+block_may_be_gathered law pieces turn scans run block plan table handed stands is = record {
+  gone = stands.gone;
+  gathers = stands.gathered.gathers;
+  joins = λ g kept gathering kept_is.
+      let steps = steps_of run in
+      let es = conditions_of run in
+      let picked = places_of run in
+      let gone = stands.gone in
+      let front = handed_rows plan table handed in
+      let whole = handed_rows plan table (handed + 1) in
+      let at = is_block plan table handed block is in
+      let gathers : GathersFor steps (Some g) gone = subst (λ gs. GathersFor steps gs gone) gathering stands.gathered.gathers in
+      let whole_is : whole ≡ front ++ block.rows = more_rows plan table handed at.0 at.1 ∙ ap (λ (b : TableOf). front ++ b.rows) (sym at.2) in
+      let before = behind gone (rows_so_far run) in
+      let after = joined before (passed_rows run block.rows) in
+      let alike = one_block_more law pieces steps es picked front block.rows whole before after whole_is stands.passed refl in
+      let passed : option_map (selected_rows picked) (passing_all es whole) ≡ Some (gone ++ kept) =
+      sym (same_of steps g gone gathers after (option_map (selected_rows picked) (passing_all es whole)) alike)
+      ∙ sym (behind_joined gone (rows_so_far run) (passed_rows run block.rows)) ∙ ap (behind gone) kept_is in
+      let are = handed_are_rows scans plan table (handed + 1) stands.are_rows in
+      let r = table_result table.schema whole in
+      let fit : NodesFit (condition_nodes es ++ select_nodes picked ++ steps) r = subst (λ ns. NodesFit ns r) (sym stands.plan_is) (stands.fits whole are) in
+      let few = few_pass es picked whole (gone ++ kept) passed in
+      let count = are.count in
+      let named : length (selected_names picked (table_names table.schema)) ≡ length run.kept.kinds =
+      ap length (sym stands.names_are) ∙ length-map run.names.items string_bytes ∙ sym (as_many run plan table stands.names_are stands.kinds_are) in
+      may_join steps g gone kept (selected_result picked r) (length run.kept.kinds) gathers named (omega (arith, few, count))
+      (parts_fit turn es picked steps r whole (gone ++ kept) fit passed);
+}

@@ -1,22 +1,23 @@
 -- Steps on the rows of columns by their numbers.
-use Rattle.std.proofs.Common.{◌≡◌, inl, inr, ℕ, ◌+◌, ◌<◌, ◌≤◌, Some, None, List, [], ◌∷◌, ◌++◌, length, map, drop, get_or, refl, sym, ap, ◌∙◌, subst, arith, replicate}
-use Rattle.std.specs.Prelude.{Err, string_bytes}
+use Rattle.std.proofs.Common.{◌≡◌, inl, inr, ℕ, ◌+◌, ◌<◌, ◌≤◌, ◌^◌, Some, None, List, [], ◌∷◌, ◌++◌, length, map, drop, get_or, refl, sym, ap, ◌∙◌, subst, arith}
+use Rattle.std.specs.Prelude.{Err, slice_index_or, string_bytes}
 use Rattle.std.specs.List.{All}
 use Rattle.std.proofs.lemmas.Bool.{cases_eq}
-use Rattle.std.proofs.lemmas.List.{drop_all, drop_more, ext_get_or, get_or_append_left, get_or_default, get_or_push, length-append, length-map, length-replicate, length_push}
+use Rattle.std.proofs.lemmas.List.{drop_all, drop_more, ext_get_or, get_or_append_left, get_or_default, get_or_push, length-append, length-map, length_push}
 use Rattle.std.proofs.Math.ListN.{get_or-map}
 use Rattle.cell_types.specs.Value.{CellValue}
 use Rattle.row_eval.specs.declared.fault.EvalFault.{EvalFault}
 use Rattle.row_eval.specs.declared.fault.EvalFault.TheVariants.{DivisionByZero, NoMemory}
+use Rattle.odata_query.specs.declared.aggregate.Aggregate.{Aggregate}
+use Rattle.odata_query.specs.declared.aggregate.Aggregate.TheVariants.{Count, SumOfIntegers, SumOfDecimals, Min, Max, CountDistinct}
 use Rattle.odata_query.specs.Aggregate.{NamedAggregateOf}
 use Rattle.query_plan.specs.Apply.{names_at}
 use Rattle.query_plan.specs.Fitting.{AggregateFits, IsFitNode, NodesFit}
 use Rattle.query_plan.specs.Meaning.{ResultOf}
 use Rattle.query_plan.specs.Plan.{node_result, node_view, nodes_result}
 use Rattle.query_plan.specs.declared.plan.Node.{Node}
-use Rattle.row_columns.specs.Kinds.{KindOf, any}
-use Rattle.row_columns.specs.Picked.{kinds_at, numbered}
-use Rattle.row_groups.specs.Fits.{AggregatesFit}
+use Rattle.row_columns.specs.Picked.{numbered}
+use Rattle.row_groups.specs.Tallies.{FitsAll}
 use Rattle.query_exec.specs.Underway.{underway_view, AreAll, GivesUnderway, IsUnderway, Makes}
 use Rattle.query_exec.specs.declared.underway.Underway.{Underway}
 
@@ -112,21 +113,34 @@ with_rows u rows = record { names = map string_bytes u.names.items; rows = rows;
 pub whole_is : (u : Underway) → AreAll u.numbers.items (length u.columns.rows) → underway_view u ≡ with_rows u u.columns.rows
 whole_is u all = ap (with_rows u) (all_numbered u.numbers.items u.columns.rows all)
 
-pub aggregates_fit : (u : Underway) (aggregates : List NamedAggregateOf) → IsUnderway u → All (λ a. AggregateFits (underway_view u) a.aggregate) aggregates
-    → AggregatesFit u.columns u.numbers.items aggregates
-aggregates_fit u aggregates is fits = record {
-  result = underway_view u;
-  names = length-map u.names.items string_bytes ∙ sym is.width;
-  rows = refl;
-  each = fits;
-}
+pub aggregate_fits : (r : ResultOf) (width : ℕ) → length r.names ≡ width → length r.rows < 2 ^ 64 → (a : Aggregate) → AggregateFits r a → FitsAll width r.rows a
+aggregate_fits r width long few Count fit = few
+aggregate_fits r width long few (SumOfIntegers place) fit = (subst (λ n. place < n) long fit.0, fit.1)
+aggregate_fits r width long few (SumOfDecimals place) fit = (subst (λ n. place < n) long fit.0, fit.1)
+aggregate_fits r width long few (Min place) fit = subst (λ n. place < n) long fit
+aggregate_fits r width long few (Max place) fit = subst (λ n. place < n) long fit
+aggregate_fits r width long few (CountDistinct place) fit = subst (λ n. place < n) long fit
+
+module _ (u : Underway) (is : IsUnderway u) where
+  few : length (numbered u.numbers.items u.columns.rows) < 2 ^ 64
+  few =
+      let long = length-map u.numbers.items (λ n. slice_index_or u.columns.rows n []) in
+      omega (arith, long, u.numbers.ok.0, u.numbers.ok.1, u.numbers.small)
+
+  pub aggregates_fit : (aggregates : List NamedAggregateOf) → All (λ a. AggregateFits (underway_view u) a.aggregate) aggregates
+      → All (λ a. FitsAll (length u.columns.kinds) (numbered u.numbers.items u.columns.rows) a.aggregate) aggregates
+  aggregates_fit aggregates fits = λ k d h.
+      aggregate_fits (underway_view u) (length u.columns.kinds) (length-map u.names.items string_bytes ∙ sym is.width) few _ (fits k d h)
 
 -- a column for each value of a group, and for each aggregate
-pub group_width : {S : Type 0} (view : S → List ℕ) (new : List S) (middle back names : List (List ℕ)) (places : List ℕ) (kinds made : List KindOf)
-    → made ≡ kinds_at places kinds ++ replicate (length back) any → map view new ≡ middle ++ back → middle ≡ names_at places names → length made ≡ length new
-group_width view new middle back names places kinds made kinds_are names_are middle_is =
-    ap length kinds_are ∙ length-append (kinds_at places kinds) (replicate (length back) any)
-    ∙ ap (λ n. n + length (replicate (length back) any)) (length-map places (λ place. get_or kinds place any))
-    ∙ ap (λ n. length places + n) (length-replicate (length back) any)
-    ∙ ap (λ n. n + length back) (sym (ap length middle_is ∙ length-map places (λ place. get_or names place [])))
-    ∙ sym (length-append middle back) ∙ sym (ap length names_are) ∙ length-map new view
+pub group_width : {S : Type 0} (view : S → List ℕ) (new : List S) (middle names : List (List ℕ)) (places : List ℕ) (aggregates : List NamedAggregateOf)
+    → map view new ≡ middle ++ map (λ a. a.alias) aggregates → middle ≡ names_at places names → length places + length aggregates ≡ length new
+group_width view new middle names places aggregates names_are middle_is =
+    ap (λ n. n + length aggregates) (sym (ap length middle_is ∙ length-map places (λ place. get_or names place [])))
+    ∙ ap (λ n. length middle + n) (sym (length-map aggregates (λ (a : NamedAggregateOf). a.alias)))
+    ∙ sym (length-append middle (map (λ (a : NamedAggregateOf). a.alias) aggregates)) ∙ sym (ap length names_are) ∙ length-map new view
+
+pub aggregate_width : {S : Type 0} (view : S → List ℕ) (new : List S) (aggregates : List NamedAggregateOf) → map view new ≡ map (λ a. a.alias) aggregates
+    → length aggregates ≡ length new
+aggregate_width view new aggregates names_are =
+    sym (length-map aggregates (λ (a : NamedAggregateOf). a.alias)) ∙ sym (ap length names_are) ∙ length-map new view

@@ -13,6 +13,7 @@ pub mod Conditions
 pub mod Picked
 pub mod Useful
 pub mod Underway
+pub mod Gathers
 pub mod Run
 pub mod Taking
 pub mod Admitted

@@ -20,6 +20,7 @@ use Rattle.query_exec.specs.declared.run.Step.TheVariants.{More, Done}
 use Rattle.query_exec.specs.Answer.{plan_answer}
 use Rattle.block_filter.specs.Conditions.{passing_all}
 use Rattle.query_exec.specs.Conditions.{condition_nodes}
+use Rattle.query_exec.specs.Gathers.{behind, IsGathered}
 use Rattle.query_exec.specs.Picked.{selected_kinds, selected_rows}
 use Rattle.query_exec.specs.Rows.{RowsOf}
 use Rattle.query_exec.specs.Useful.{useful}
@@ -58,8 +59,8 @@ rows_so_far run = if run.faulted then None else Some run.kept.rows
 abbrev pub kept_result : Run → ResultOf
 kept_result run = record { names = map string_bytes run.names.items; rows = run.kept.rows; count = None }
 
--- The run stands for the plan on the table, of which it was handed so many of the blocks that are needed: what it has is of the same use as what the
--- conditions make of their rows, in the columns that are picked; and up to its stop it is left with the other blocks that are needed.
+-- The run stands for the plan on the table, of which it was handed so many of the blocks that are needed: what it gathered and what it kept is of the same
+-- use as what the conditions make of their rows, in the columns that are picked; and up to its stop it is left with the other blocks that are needed.
 pub record StandsFor (run : Run) (plan : PlanOf) (table : TableOf) (handed : ℕ) : Type 0 where
   pub plan_is : condition_nodes (conditions_of run) ++ select_nodes (places_of run) ++ steps_of run ≡ plan.nodes
   pub conditions_are : leading plan.nodes ≡ conditions_of run
@@ -71,7 +72,9 @@ pub record StandsFor (run : Run) (plan : PlanOf) (table : TableOf) (handed : ℕ
   pub within : IfSome (places_of run) (All (λ place. place < length table.schema.columns))
   pub names_are : map string_bytes run.names.items ≡ selected_names (places_of run) (table_names table.schema)
   pub kinds_are : run.kept.kinds ≡ selected_kinds (places_of run) (kinds_of table.schema.columns)
-  pub passed : option_map (useful (steps_of run)) (rows_so_far run)
+  pub gone : List (List CellValue)
+  pub gathered : IsGathered (steps_of run) run gone
+  pub passed : option_map (useful (steps_of run)) (behind gone (rows_so_far run))
       ≡ option_map (useful (steps_of run)) (option_map (selected_rows (places_of run)) (passing_all (conditions_of run) (handed_rows plan table handed)))
 
 -- the run is done, and gives this
@@ -116,13 +119,18 @@ StepsTo plan table handed run (Err NoMemory) = ⊤
 StepsTo plan table handed run (Err Failed) = ⊥
 
 -- what the steps behind the conditions make of the rows that passed these
-abbrev pub kept_answer : Run → Option RowsOf
-kept_answer run = option_and_then (λ rows. nodes_result (steps_of run) (record (kept_result run) { rows = rows })) (rows_so_far run)
+abbrev pub kept_answer : Run → List (List CellValue) → Option RowsOf
+kept_answer run gone = option_and_then (λ rows. nodes_result (steps_of run) (record (kept_result run) { rows = rows })) (behind gone (rows_so_far run))
+
+abbrev pub IsKeptAnswer : Run → Option RowsOf → Type 0
+IsKeptAnswer run answer = (gone : List (List CellValue)) → IsGathered (steps_of run) run gone → kept_answer run gone ≡ answer
 
 -- the rows that passed may go through the steps
 pub record IsReady (run : Run) : Type 0 where
   pub width : length run.kept.kinds ≡ length run.names.items
-  pub fits : (rows : List (List CellValue)) → rows_so_far run ≡ Some rows → NodesFit (steps_of run) (record (kept_result run) { rows = rows })
+  pub gone : List (List CellValue)
+  pub gathered : IsGathered (steps_of run) run gone
+  pub fits : (rows : List (List CellValue)) → behind gone (rows_so_far run) ≡ Some rows → NodesFit (steps_of run) (record (kept_result run) { rows = rows })
 
 -- the next of the blocks that are left, where the stop looks for rows behind those before it
 abbrev pub wanted : Option ℕ → Option ℕ → Option ℕ
@@ -135,7 +143,7 @@ wanted_block run = wanted run.room (slice_get run.left.items 0)
 -- what a run makes of the blocks that were handed in: nothing yet where others are to come
 abbrev pub GoesOn : Run → Run → Result (Option RowsOf) ExecFault → Type 0
 GoesOn old new (Ok None) = (is_some (wanted_block old) ≡ true) × (new ≡ old)
-GoesOn old new (Ok (Some rows)) = (wanted_block old ≡ None) × (kept_answer old ≡ Some rows)
-GoesOn old new (Err DivisionByZero) = (wanted_block old ≡ None) × (kept_answer old ≡ None)
+GoesOn old new (Ok (Some rows)) = (wanted_block old ≡ None) × IsKeptAnswer old (Some rows)
+GoesOn old new (Err DivisionByZero) = (wanted_block old ≡ None) × IsKeptAnswer old None
 GoesOn old new (Err NoMemory) = ⊤
 GoesOn old new (Err Failed) = ⊥

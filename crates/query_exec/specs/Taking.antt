@@ -1,5 +1,5 @@
 -- How a run takes in rows.
-use Rattle.std.specs.Prelude.{◌≡◌, ◌<◌, ◌-◌, ◌++◌, ℕ, IfSome, Option, Some, None, List, count_by, drop, length, option_map, slice_get}
+use Rattle.std.specs.Prelude.{◌≡◌, ◌<◌, ◌-◌, ◌++◌, ℕ, false, IfSome, Option, Some, None, List, count_by, drop, length, option_map, slice_get}
 use Rattle.std.specs.List.{All}
 use Rattle.cell_types.specs.Value.{CellValue}
 use Rattle.row_columns.specs.Kinds.{kinds_of}
@@ -9,9 +9,17 @@ use Rattle.query_plan.specs.Meaning.{first_rows}
 use Rattle.query_plan.specs.Scan.{passes_each}
 use Rattle.query_exec.specs.declared.run.Run.{Run}
 use Rattle.block_filter.specs.Conditions.{joined, passing_all}
+use Rattle.query_exec.specs.Gathers.{behind, GathersFor, KeepsNone}
 use Rattle.query_exec.specs.Picked.{selected_kinds, selected_rows}
 use Rattle.query_exec.specs.Run.{conditions_of, places_of, rows_so_far, steps_of}
 use Rattle.query_exec.specs.Useful.{useful}
+
+-- what passes of rows, in the columns that are picked, behind what a run kept
+abbrev pub passed_rows : Run → List (List CellValue) → Option (List (List CellValue))
+passed_rows run rows = option_map (selected_rows (places_of run)) (passing_all (conditions_of run) rows)
+
+abbrev pub taken_rows : Run → List (List CellValue) → Option (List (List CellValue))
+taken_rows run rows = joined (rows_so_far run) (passed_rows run rows)
 
 -- how many rows a stop looks for behind so many
 abbrev pub room_behind : Option ℕ → ℕ → Option ℕ
@@ -27,13 +35,23 @@ pub record MayTake (run : Run) (block : TableOf) : Type 0 where
 abbrev pub IsSpare : Run → Option ℕ → Type 0
 IsSpare run most = (rows : List (List CellValue)) → useful (steps_of run) (run.kept.rows ++ first_rows most rows) ≡ useful (steps_of run) (run.kept.rows ++ rows)
 
--- nothing is another but the blocks that are left, the stop, and what is kept
+-- nothing is another but the blocks that are left, the stop, what is kept and what was gathered
+pub record IsAsBefore (old new : Run) : Type 0 where
+  pub conditions : new.conditions ≡ old.conditions
+  pub places : new.places ≡ old.places
+  pub steps : new.steps ≡ old.steps
+  pub names : new.names ≡ old.names
+  pub stage : new.stage ≡ old.stage
+  pub kinds : new.kept.kinds ≡ old.kept.kinds
+
+-- nor is what was gathered
 pub record IsSameRun (old new : Run) : Type 0 where
   pub conditions : new.conditions ≡ old.conditions
   pub places : new.places ≡ old.places
   pub steps : new.steps ≡ old.steps
   pub names : new.names ≡ old.names
   pub stage : new.stage ≡ old.stage
+  pub gathering : new.gathering ≡ old.gathering
   pub kinds : new.kept.kinds ≡ old.kept.kinds
 
 -- the column of a block whose values are kept in a place
@@ -75,10 +93,22 @@ pub record HasCut (old new : Run) : Type 0 where
   pub faulted_is : new.faulted ≡ old.faulted
   pub useful_are : useful (steps_of old) new.kept.rows ≡ useful (steps_of old) old.kept.rows
 
--- a run took in the rows of the first of the blocks that are left, as `HasTaken`
+-- the rows that a run kept are gathered, where rows are
+pub record HasGathered (old new : Run) : Type 0 where
+  pub same : IsAsBefore old new
+  pub left_is : new.left ≡ old.left
+  pub room_is : new.room ≡ old.room
+  pub keeps_none : new.faulted ≡ false → KeepsNone new.gathering new.kept.rows
+  pub passed : (gone : List (List CellValue)) → GathersFor (steps_of old) old.gathering gone → (more : List (List CellValue))
+      × GathersFor (steps_of old) new.gathering more × (behind more (rows_so_far new) ≡ behind gone (rows_so_far old))
+
+-- a run took in the rows of the first of the blocks that are left, as `HasTaken`: of the rows that it has so, some were gathered
 pub record HasTakenIn (old new : Run) (rows : List (List CellValue)) : Type 0 where
-  pub same : IsSameRun old new
+  pub same : IsAsBefore old new
   pub left_are : new.left.items ≡ drop 1 old.left.items
   pub looks_on : LooksOn old new rows
-  pub passed : option_map (useful (steps_of old)) (rows_so_far new)
-      ≡ option_map (useful (steps_of old)) (joined (rows_so_far old) (option_map (selected_rows (places_of old)) (passing_all (conditions_of old) rows)))
+  pub keeps_none : new.faulted ≡ false → KeepsNone new.gathering new.kept.rows
+  pub passed : (gone : List (List CellValue)) → GathersFor (steps_of old) old.gathering gone → (more : List (List CellValue))
+      × GathersFor (steps_of old) new.gathering more
+      × (option_map (useful (steps_of old)) (behind more (rows_so_far new))
+      ≡ option_map (useful (steps_of old)) (joined (behind gone (rows_so_far old)) (option_map (selected_rows (places_of old)) (passing_all (conditions_of old) rows))))

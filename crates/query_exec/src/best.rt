@@ -4,8 +4,9 @@ ghost use Rattle.std.specs.List.{All};
 ghost use Rattle.odata_query.specs.Query.{order_view};
 ghost use Rattle.query_plan.specs.Order.{rows_cmp, sorted};
 ghost use Rattle.block_filter.specs.Conditions.{ConditionsFit};
-ghost use Rattle.query_exec.specs.Run.{conditions_of};
-ghost use Rattle.query_exec.specs.Taking.{HasCut, HasTakenIn, MayTake};
+ghost use Rattle.query_exec.specs.Gathers.{MayGather};
+ghost use Rattle.query_exec.specs.Run.{conditions_of, steps_of};
+ghost use Rattle.query_exec.specs.Taking.{taken_rows, HasCut, HasTakenIn, MayTake};
 ghost use Rattle.query_exec.specs.Useful.{are_plain};
 
 use crate::run::Run;
@@ -57,11 +58,14 @@ impl Run {
     /// Takes in the rows of the next block.
     pub(crate) fn take_in(&mut self, alloc: Global, block: &Block<'_>) -> Result<(), AllocError>
         requires block { MayTake self.old block.now }
+        requires gathers { MayGather (steps_of self.old) self.old
+            (taken_rows self.old block.now.rows) }
         requires fits { All (ConditionsFit (conditions_of self.old)) block.now.rows }
         ensures { OnOk result (HasTakenIn self.old self.new block.now.rows) }
     {
         self.take_block(alloc, block)?;
         self.cut(alloc)?;
+        self.gather(alloc)?;
         let _number = self.left.pop_front();
         Ok(())
     }

@@ -5,6 +5,7 @@
 mod admitted;
 mod best;
 mod fault;
+mod gathers;
 mod in_time;
 mod names;
 mod parts;

@@ -13,16 +13,16 @@ ghost use Rattle.query_exec.specs.Run.{handed_block, next_block, AdvancesTo, Giv
 
 use crate::admitted::admitted;
 use crate::fault::ExecFault;
+use crate::gathers::{gathering_of, made_of};
 use crate::parts::{Parts, kept_columns, kept_names, split};
 use crate::rows::Rows;
-use crate::steps::apply_all;
-use crate::underway::Underway;
 use block_filter::{Lanes, conditions_in_turn};
 use block_summary::{Summary, one_range};
 use csvw_meta::Schema;
 use odata_types::TruthExpr;
 use query_plan::{Node, Plan, nodes_in_turn, scans_read_table_rows};
 use row_columns::Columns;
+use row_groups::Gathering;
 use row_order::best_in_pieces;
 use std::alloc::{AllocError, Global};
 use std::collections::VecDeque;
@@ -63,6 +63,8 @@ pub struct Run {
     pub(crate) lanes: Lanes,
     /// The rows that passed the conditions.
     pub(crate) kept: Columns,
+    /// What gathers them, where the first step makes aggregates or groups of them: then none is kept behind a block.
+    pub(crate) gathering: Option<Gathering>,
     /// Whether a condition divided by zero on a row.
     pub(crate) faulted: bool,
     stage: Stage,
@@ -93,8 +95,8 @@ impl Run {
         }
         let names = mem::replace(&mut self.names, Vec::new(alloc));
         let kept = mem::replace(&mut self.kept, Columns::none(alloc));
-        let underway = Underway::whole(alloc, names, kept, None)?;
-        let made = apply_all(alloc, &self.steps, underway)?;
+        let gathering = self.gathering.take();
+        let made = made_of(alloc, &self.steps, names, kept, gathering)?;
         Ok(Some(made.into_rows(alloc)?))
     }
 
@@ -142,6 +144,7 @@ impl Run {
         let names = kept_names(alloc, schema.columns.as_slice(), &places)?;
         let lanes = Lanes::new(alloc, schema.columns.len())?;
         let kept = kept_columns(alloc, schema.columns.as_slice(), &places)?;
+        let gathering = gathering_of(alloc, &steps)?;
         Ok(Run {
             conditions,
             places,
@@ -151,6 +154,7 @@ impl Run {
             names,
             lanes,
             kept,
+            gathering,
             faulted: false,
             stage: Stage::Reading,
         })

@@ -12,7 +12,7 @@ use crate::underway::Underway;
 use odata_query::{NamedAggregate, OrderBy};
 use query_plan::{Node, Slice};
 use row_eval::EvalFault;
-use row_groups::{aggregated, grouped};
+use row_groups::gathered;
 use row_order::{best_numbers, passing_numbers, piece, sorted_numbers};
 use std::alloc::{AllocError, Global};
 use std::mem;
@@ -46,10 +46,11 @@ fn aggregate(
     ensures { IfOk result (Makes (node_result (aggregating (map named_view aggregates.now))
         (underway_view underway.now))) }
 {
-    let columns = aggregated(
+    let columns = gathered(
         alloc,
         &underway.columns,
         underway.numbers.as_slice(),
+        None,
         aggregates,
     )?;
     let mut names = Vec::new(alloc);
@@ -70,11 +71,11 @@ fn group(
     ensures { IfOk result (Makes (node_result (grouping places.now (map named_view aggregates.now))
         (underway_view underway.now))) }
 {
-    let columns = grouped(
+    let columns = gathered(
         alloc,
         &underway.columns,
         underway.numbers.as_slice(),
-        places,
+        Some(places),
         aggregates,
     )?;
     let mut names = picked_names(alloc, underway.names.as_slice(), places)?;

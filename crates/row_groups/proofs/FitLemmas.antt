@@ -1,35 +1,25 @@
--- Aggregates that fit some rows, and columns of any.
-use Rattle.std.proofs.Common.{◌≡◌, ◌<◌, ◌≤◌, ℕ, ℤ, suc, Bool, true, false, cond, Option, Some, None, List, [], ◌∷◌, length, map, filter, replicate, refl, sym, ap, subst, ◌∙◌, inl, inr, arith}
+-- Aggregates that can be computed of some rows can be of some of them.
+use Rattle.std.proofs.Common.{◌≤◌, ℕ, ℤ, suc, Bool, true, false, cond, Option, Some, None, List, [], ◌∷◌, ◌++◌, length, filter, replicate, subst, inl, inr, arith}
 use Rattle.std.specs.Prelude.{unsigned_abs}
-use Rattle.std.specs.List.{All, AllByRecursion, cons_option, filter_map}
+use Rattle.std.specs.List.{AllByRecursion, cons_option, filter_map}
 use Rattle.std.proofs.Math.Nat.{mul-le-mul_left}
 use Rattle.std.proofs.lemmas.Bool.{cases_Bool}
-use Rattle.std.proofs.lemmas.List.{length-map}
+use Rattle.std.proofs.lemmas.List.{length-append}
 use Rattle.std.proofs.lemmas.List.Elements.{All-from_recursion, recursion_from_All}
 use Rattle.cell_types.specs.Value.{CellValue}
 use Rattle.row_eval.specs.Row.{cell, decimal_in, integer_in}
 use Rattle.odata_query.specs.declared.aggregate.Aggregate.{Aggregate}
 use Rattle.odata_query.specs.declared.aggregate.Aggregate.TheVariants.{Count, SumOfIntegers, SumOfDecimals, Min, Max, CountDistinct}
-use Rattle.odata_query.specs.Aggregate.{NamedAggregateOf}
-use Rattle.query_plan.specs.Apply.{computed_value, computed_values}
-use Rattle.query_plan.specs.Fitting.{AggregateFits, AreSummable}
-use Rattle.row_columns.specs.Columns.{ColumnsOf}
+use Rattle.query_plan.specs.Fitting.{AreSummable}
 use Rattle.row_columns.specs.Kinds.{AreOfKinds, any}
-use Rattle.row_columns.specs.Picked.{numbered}
-use Rattle.row_groups.specs.Fits.{AggregatesFit, FitsRows}
+use Rattle.row_groups.specs.Tallies.{FitsAll}
+use Rattle.row_groups.proofs.ListLemmas.{all_behind, all_by_each, all_front, filter_map_append}
 
 -- ---- columns of any take all values
 
-of_any : (values : List CellValue) → AreOfKinds (replicate (length values) any) values
+pub of_any : (values : List CellValue) → AreOfKinds (replicate (length values) any) values
 of_any [] = tt
 of_any (v ∷ vs) = (tt, of_any vs)
-
-pub row_of_any : {X : Type 0} (view : X → NamedAggregateOf) (aggregates : List X) (rows : List (List CellValue)) (values : List CellValue)
-    → values ≡ computed_values (map view aggregates) rows → AreOfKinds (replicate (length aggregates) any) values
-row_of_any view aggregates rows values are =
-    let len : length values ≡ length aggregates =
-    ap length are ∙ length-map (map view aggregates) (λ a. computed_value rows a.aggregate) ∙ length-map aggregates view in
-    subst (λ n. AreOfKinds (replicate n any) values) len (of_any values)
 
 -- ---- sums of some of the rows fit
 
@@ -57,51 +47,69 @@ fewer_kept keeps (x ∷ xs) = by (keeps x) (fewer_kept keeps xs)
     by true h = omega arith
     by false h = omega arith
 
-summable_kept : {X : Type 0} (f : X → Option ℤ) (keeps : X → Bool) (xs : List X) → AreSummable (filter_map f xs) (length xs)
-    → AreSummable (filter_map f (filter keeps xs)) (length (filter keeps xs))
-summable_kept f keeps xs fit =
-    let less = fewer_kept keeps xs in
+-- fewer numbers of fewer rows
+fewer_fit : {X : Type 0} (f : X → Option ℤ) (xs zs : List X) → length zs ≤ length xs
+    → ((P : ℤ → Type 0) → AllByRecursion P (filter_map f xs) → AllByRecursion P (filter_map f zs))
+    → AreSummable (filter_map f xs) (length xs) → AreSummable (filter_map f zs) (length zs)
+fewer_fit f xs zs less some fit =
     let most = mul-le-mul_left fit.bound less in
     let small = fit.small in
     record {
       bound = fit.bound;
-      each = All-from_recursion (λ n. unsigned_abs n ≤ fit.bound) (filter_map f (filter keeps xs))
-          (all_kept f keeps (λ n. unsigned_abs n ≤ fit.bound) xs (recursion_from_All (λ n. unsigned_abs n ≤ fit.bound) (filter_map f xs) fit.each));
+      each = All-from_recursion (λ n. unsigned_abs n ≤ fit.bound) (filter_map f zs)
+          (some (λ n. unsigned_abs n ≤ fit.bound) (recursion_from_All (λ n. unsigned_abs n ≤ fit.bound) (filter_map f xs) fit.each));
       small = omega arith;
     }
 
--- ---- aggregates fit some of the rows
+kept_fit : {X : Type 0} (f : X → Option ℤ) (keeps : X → Bool) (xs : List X) → AreSummable (filter_map f xs) (length xs)
+    → AreSummable (filter_map f (filter keeps xs)) (length (filter keeps xs))
+kept_fit f keeps xs = fewer_fit f xs (filter keeps xs) (fewer_kept keeps xs) (λ P. all_kept f keeps P xs)
 
-module _ (columns : ColumnsOf) (numbers : List ℕ) (aggregates : List NamedAggregateOf) (fit : AggregatesFit columns numbers aggregates) where
-  there : (place : ℕ) → place < length fit.result.names → place < length columns.kinds
-  there place h = let e = fit.names in omega arith
+front_fit : {X : Type 0} (f : X → Option ℤ) (xs ys : List X) → AreSummable (filter_map f (xs ++ ys)) (length (xs ++ ys)) → AreSummable (filter_map f xs) (length xs)
+front_fit f xs ys =
+    fewer_fit f (xs ++ ys) xs (let e = length-append xs ys in omega arith)
+    (λ P a. all_front P (filter_map f xs) (filter_map f ys) (subst (AllByRecursion P) (filter_map_append f xs ys) a))
 
-  sums : (members : List ℕ) (keeps : List CellValue → Bool) (f : List CellValue → Option ℤ) → numbered members columns.rows ≡ filter keeps (numbered numbers columns.rows)
-      → AreSummable (filter_map f fit.result.rows) (length fit.result.rows) → AreSummable (filter_map f (numbered members columns.rows)) (length members)
-  sums members keeps f are summable =
-      let same : AreSummable (filter_map f (numbered numbers columns.rows)) (length (numbered numbers columns.rows)) = subst (λ rs. AreSummable (filter_map f rs) (length rs)) fit.rows summable in
-      let kept = summable_kept f keeps (numbered numbers columns.rows) same in
-      let some : AreSummable (filter_map f (numbered members columns.rows)) (length (numbered members columns.rows)) = subst (λ rs. AreSummable (filter_map f rs) (length rs)) (sym are) kept in
-      subst (AreSummable (filter_map f (numbered members columns.rows))) (length-map members _) some
+pub rest_fit : {X : Type 0} (f : X → Option ℤ) (xs ys : List X) → AreSummable (filter_map f (xs ++ ys)) (length (xs ++ ys)) → AreSummable (filter_map f ys) (length ys)
+rest_fit f xs ys =
+    fewer_fit f (xs ++ ys) ys (let e = length-append xs ys in omega arith)
+    (λ P a. all_behind P (filter_map f xs) (filter_map f ys) (subst (AllByRecursion P) (filter_map_append f xs ys) a))
 
-  fits_one : (members : List ℕ) (keeps : List CellValue → Bool) → numbered members columns.rows ≡ filter keeps (numbered numbers columns.rows)
-      → (a : Aggregate) → AggregateFits fit.result a → FitsRows columns members a
-  fits_one members keeps are Count h = tt
-  fits_one members keeps are (SumOfIntegers place) h = (there place h.0, sums members keeps (λ row. cell integer_in row place) are h.1)
-  fits_one members keeps are (SumOfDecimals place) h = (there place h.0, sums members keeps (λ row. cell decimal_in row place) are h.1)
-  fits_one members keeps are (Min place) h = there place h
-  fits_one members keeps are (Max place) h = there place h
-  fits_one members keeps are (CountDistinct place) h = there place h
+-- ---- so can each aggregate be
 
-  -- those that a test keeps
-  pub fits_kept : (members : List ℕ) (keeps : List CellValue → Bool) → numbered members columns.rows ≡ filter keeps (numbered numbers columns.rows)
-      → All (λ (a : NamedAggregateOf). FitsRows columns members a.aggregate) aggregates
-  fits_kept members keeps are k d within = fits_one members keeps are _ (fit.each k d within)
+module _ (width : ℕ) where
+  pub fits_kept : (keeps : List CellValue → Bool) (rows : List (List CellValue)) (a : Aggregate) → FitsAll width rows a → FitsAll width (filter keeps rows) a
+  fits_kept keeps rows Count fit = let less = fewer_kept keeps rows in omega (arith, fit, less)
+  fits_kept keeps rows (SumOfIntegers place) fit = (fit.0, kept_fit (λ row. cell integer_in row place) keeps rows fit.1)
+  fits_kept keeps rows (SumOfDecimals place) fit = (fit.0, kept_fit (λ row. cell decimal_in row place) keeps rows fit.1)
+  fits_kept keeps rows (Min place) fit = fit
+  fits_kept keeps rows (Max place) fit = fit
+  fits_kept keeps rows (CountDistinct place) fit = fit
 
-  all_stay : (rows : List (List CellValue)) → rows ≡ filter (λ row. true) rows
-  all_stay [] = refl
-  all_stay (row ∷ rows) = ap (λ rs. row ∷ rs) (all_stay rows)
+  pub fits_front : (rows more : List (List CellValue)) (a : Aggregate) → FitsAll width (rows ++ more) a → FitsAll width rows a
+  fits_front rows more Count fit = let long = length-append rows more in omega (arith, fit, long)
+  fits_front rows more (SumOfIntegers place) fit = (fit.0, front_fit (λ row. cell integer_in row place) rows more fit.1)
+  fits_front rows more (SumOfDecimals place) fit = (fit.0, front_fit (λ row. cell decimal_in row place) rows more fit.1)
+  fits_front rows more (Min place) fit = fit
+  fits_front rows more (Max place) fit = fit
+  fits_front rows more (CountDistinct place) fit = fit
 
-  -- all of them
-  pub fits_all : All (λ (a : NamedAggregateOf). FitsRows columns numbers a.aggregate) aggregates
-  fits_all = fits_kept numbers (λ row. true) (all_stay (numbered numbers columns.rows))
+  pub all_fit_kept : (keeps : List CellValue → Bool) (rows : List (List CellValue)) (aggregates : List Aggregate) → AllByRecursion (FitsAll width rows) aggregates
+      → AllByRecursion (FitsAll width (filter keeps rows)) aggregates
+  all_fit_kept keeps rows aggregates = all_by_each (FitsAll width rows) (FitsAll width (filter keeps rows)) (fits_kept keeps rows) aggregates
+
+  pub all_fit_front : (rows more : List (List CellValue)) (aggregates : List Aggregate) → AllByRecursion (FitsAll width (rows ++ more)) aggregates
+      → AllByRecursion (FitsAll width rows) aggregates
+  all_fit_front rows more aggregates = all_by_each (FitsAll width (rows ++ more)) (FitsAll width rows) (fits_front rows more) aggregates
+
+  fits_rest : (rows more : List (List CellValue)) (a : Aggregate) → FitsAll width (rows ++ more) a → FitsAll width more a
+  fits_rest rows more Count fit = let long = length-append rows more in omega (arith, fit, long)
+  fits_rest rows more (SumOfIntegers place) fit = (fit.0, rest_fit (λ row. cell integer_in row place) rows more fit.1)
+  fits_rest rows more (SumOfDecimals place) fit = (fit.0, rest_fit (λ row. cell decimal_in row place) rows more fit.1)
+  fits_rest rows more (Min place) fit = fit
+  fits_rest rows more (Max place) fit = fit
+  fits_rest rows more (CountDistinct place) fit = fit
+
+  pub all_fit_rest : (rows more : List (List CellValue)) (aggregates : List Aggregate) → AllByRecursion (FitsAll width (rows ++ more)) aggregates
+      → AllByRecursion (FitsAll width more) aggregates
+  all_fit_rest rows more aggregates = all_by_each (FitsAll width (rows ++ more)) (FitsAll width more) (fits_rest rows more) aggregates

@@ -1,8 +1,10 @@
+pub mod ListLemmas
+pub mod ExtremeLemmas
 pub mod RowLemmas
 pub mod ValueLemmas
 pub mod SumLemmas
 pub mod FitLemmas
 pub mod KeyLemmas
 pub mod GroupLemmas
-pub mod GroupedLemmas
+pub mod GatheredLemmas
 pub mod CellLemmas

@@ -1,5 +1,5 @@
 -- Sums of numbers, where one more comes before them, and that they fit.
-use Rattle.std.proofs.Common.{◌≡◌, ℕ, ℤ, pos, zero, suc, ◌-◌, ◌+◌, ◌*◌, ◌<◌, ◌≤◌, ◌+ℤ◌, Option, Some, None, List, [], ◌∷◌, length, drop, get_or, FitsSigned, refl, sym, ap, subst, ◌∙◌, arith}
+use Rattle.std.proofs.Common.{◌≡◌, ℕ, ℤ, pos, zero, suc, ◌-◌, ◌+◌, ◌*◌, ◌<◌, ◌≤◌, ◌+ℤ◌, Option, Some, None, List, [], ◌∷◌, ◌++◌, length, drop, get_or, FitsSigned, refl, sym, ap, subst, ◌∙◌, arith}
 use Rattle.std.specs.Prelude.{slice_index_or, unsigned_abs}
 use Rattle.std.specs.Int.{w128}
 use Rattle.std.specs.List.{AllByRecursion, cons_option, filter_map}
@@ -15,7 +15,8 @@ use Rattle.row_columns.specs.Picked.{numbered}
 use Rattle.row_groups.proofs.RowLemmas.{cells_before, numbered_drop}
 use Rattle.query_plan.specs.Apply.{integer_sum, sum_value}
 use Rattle.query_plan.specs.Fitting.{AreSummable}
-use Rattle.row_groups.specs.Sums.{sum_of}
+use Rattle.row_groups.specs.Sums.{sum_of, sums_joined, FitSums}
+use Rattle.row_groups.proofs.ListLemmas.{append_none, filter_map_append}
 
 pub sum_or_zero : (ns : List ℤ) → unwrap_or (sum_of ns) (pos 0) ≡ integer_sum ns
 sum_or_zero [] = refl
@@ -130,3 +131,34 @@ module _ {X : Type 0} (f : X → Option ℤ) (xs : List X) (i : ℕ) (d : X) (so
       let before = filter_map f (drop (i - 1) xs) in
       let total : number +ℤ unwrap_or sum (pos 0) ≡ integer_sum before = ap (λ o. unwrap_or o (pos 0)) (one_added sum number is e) ∙ sum_or_zero before in
       subst (FitsSigned w128) (sym total) (sum_fits f xs (i - 1) (length xs) (omega arith) fit)
+
+-- ---- the sum of some numbers and of more
+
+sums_add : (a b c : ℤ) → a +ℤ (b +ℤ c) ≡ (a +ℤ b) +ℤ c
+sums_add a b c = omega (arith, ints)
+
+no_more : (a : ℤ) → a ≡ pos 0 +ℤ a
+no_more a = omega (arith, ints)
+
+sum_append : (ns ms : List ℤ) → integer_sum (ns ++ ms) ≡ integer_sum ns +ℤ integer_sum ms
+sum_append [] ms = no_more (integer_sum ms)
+sum_append (n ∷ ns) ms = ap (λ k. n +ℤ k) (sum_append ns ms) ∙ sums_add n (integer_sum ns) (integer_sum ms)
+
+some_append : (ns ms : List ℤ) → sum_of (ns ++ ms) ≡ sums_joined (sum_of ns) (sum_of ms)
+some_append [] ms = refl
+some_append (n ∷ ns) [] = ap sum_of (append_none (n ∷ ns))
+some_append (n ∷ ns) (m ∷ ms) = ap Some (sum_append (n ∷ ns) (m ∷ ms))
+
+fit_append : (ns ms : List ℤ) → FitsSigned w128 (integer_sum (ns ++ ms)) → FitSums (sum_of ns) (sum_of ms)
+fit_append [] ms fit = tt
+fit_append (n ∷ ns) [] fit = tt
+fit_append (n ∷ ns) (m ∷ ms) fit = subst (FitsSigned w128) (sum_append (n ∷ ns) (m ∷ ms)) fit
+
+module _ {X : Type 0} (f : X → Option ℤ) (xs ys : List X) where
+  pub sums_join : sum_of (filter_map f (xs ++ ys)) ≡ sums_joined (sum_of (filter_map f xs)) (sum_of (filter_map f ys))
+  sums_join = ap sum_of (filter_map_append f xs ys) ∙ some_append (filter_map f xs) (filter_map f ys)
+
+  pub sums_fit : AreSummable (filter_map f (xs ++ ys)) (length (xs ++ ys)) → FitSums (sum_of (filter_map f xs)) (sum_of (filter_map f ys))
+  sums_fit fit =
+      fit_append (filter_map f xs) (filter_map f ys)
+      (subst (λ ns. FitsSigned w128 (integer_sum ns)) (filter_map_append f xs ys) (sum_fits f (xs ++ ys) 0 (length (xs ++ ys)) (omega arith) fit))

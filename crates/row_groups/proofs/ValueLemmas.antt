@@ -1,15 +1,20 @@
--- The least and the greatest of values, and how many there are, where one more comes before them.
-use Rattle.std.proofs.Common.{◌≡◌, ◌↔◌, Bool, true, false, not, cond, ◌||◌, IsTrue, List, [], ◌∷◌, ◌++◌, length, map, filter, inl, inr, refl, sym, ap, subst, ◌∙◌, arith}
+-- The least and the greatest of values, and how many there are, where more come.
+use Rattle.std.proofs.Common.{◌≡◌, ◌↔◌, ℕ, suc, ◌+◌, Bool, true, false, not, cond, ◌||◌, IsTrue, List, [], ◌∷◌, ◌++◌, length, map, filter, inl, inr, refl, sym, ap, ◌∙◌, arith}
+use Rattle.std.specs.Cmp.{IsTotalOrder}
 use Rattle.std.specs.List.{AllByRecursion, list_any}
 use Rattle.std.specs.Ordering.{is_lt}
 use Rattle.std.specs.Set.{distinct_count}
 use Rattle.std.proofs.lemmas.Bool.{cases_Bool}
 use Rattle.std.proofs.lemmas.List.{length-append, map-append}
+use Rattle.std.proofs.lemmas.List.Elements.{filter-append}
 use Rattle.std.proofs.lemmas.List.Folds.{list_any-append}
-use Rattle.indexmap.specs.IndexSet.{insert_key}
 use Rattle.cell_types.specs.Value.{CellValue, value_cmp, value_eq}
-use Rattle.query_plan.specs.Apply.{is_value, least_value, greatest_value}
+use Rattle.odata_query.specs.declared.aggregate.Aggregate.TheVariants.{Max, Min}
+use Rattle.query_plan.specs.Apply.{computed_value, is_value, least_value, greatest_value, value_at, values_in}
 use Rattle.row_groups.specs.Computed.{greater_value, lesser_value}
+use Rattle.row_groups.specs.Tallies.{HasDistinct}
+use Rattle.row_groups.proofs.ExtremeLemmas.{below_trans, not_below, pick, picked}
+use Rattle.row_groups.proofs.ListLemmas.{all_append, count_behind, there_already}
 
 all_values : (vs : List CellValue) → AllByRecursion (λ v. is_value v ≡ true) (filter is_value vs)
 all_values [] = tt
@@ -53,81 +58,118 @@ greatest_before v vs = elim (cases_Bool (is_value v)) [
   | inr e ↦ rw e refl
 ]
 
--- ---- different values
+-- ---- the least and the greatest of values and of more
 
--- values have each of some others once
-pub record HasDistinct (keys values : List CellValue) : Type 0 where
-  pub count : length keys ≡ distinct_count value_eq values
-  pub same : (v : CellValue) → list_any (value_eq v) keys ≡ list_any (value_eq v) values
+-- one of two values, where a test tells which: null is none
+abbrev choose : (CellValue → CellValue → Bool) → CellValue → CellValue → CellValue
+choose wins v w = cond (is_value v) (cond (is_value w) (pick wins v w) v) w
+
+module _ (wins : CellValue → CellValue → Bool) (trans : (u v w : CellValue) → wins w v ≡ true → wins v u ≡ true → wins w u ≡ true)
+    (lost : (u v w : CellValue) → wins w v ≡ false → wins v u ≡ false → wins w u ≡ false) where
+  value_picked : (v w : CellValue) → is_value v ≡ true → is_value w ≡ true → is_value (pick wins v w) ≡ true
+  value_picked v w a b = elim (cases_Bool (wins w v)) [ inl e ↦ rw e b | inr e ↦ rw e a ]
+
+  of_both : (v w : CellValue) → is_value v ≡ true → is_value w ≡ true → choose wins v w ≡ pick wins v w
+  of_both v w a b = rw (a, b) refl
+
+  of_none : (v w : CellValue) → is_value v ≡ false → choose wins v w ≡ w
+  of_none v w a = rw a refl
+
+  of_first : (v w : CellValue) → is_value v ≡ true → is_value w ≡ false → choose wins v w ≡ v
+  of_first v w a b = rw (a, b) refl
+
+  chosen : (u v w : CellValue) → choose wins u (choose wins v w) ≡ choose wins (choose wins u v) w
+  chosen u v w = elim (cases_Bool (is_value u)) [
+    | inr a ↦ of_none u (choose wins v w) a ∙ sym (ap (λ z. choose wins z w) (of_none u v a))
+    | inl a ↦ elim (cases_Bool (is_value v)) [
+      | inr b ↦ ap (choose wins u) (of_none v w b) ∙ sym (ap (λ z. choose wins z w) (of_first u v a b))
+      | inl b ↦ elim (cases_Bool (is_value w)) [
+        | inr c ↦ ap (choose wins u) (of_first v w b c) ∙ of_both u v a b
+            ∙ sym (ap (λ z. choose wins z w) (of_both u v a b) ∙ of_first (pick wins u v) w (value_picked u v a b) c)
+        | inl c ↦ ap (choose wins u) (of_both v w b c) ∙ of_both u (pick wins v w) a (value_picked v w b c) ∙ picked wins trans lost u v w
+            ∙ sym (ap (λ z. choose wins z w) (of_both u v a b) ∙ of_both (pick wins u v) w (value_picked u v a b) c)
+      ]
+    ]
+  ]
+
+pub values_append : (place : ℕ) (rows more : List (List CellValue)) → values_in place (rows ++ more) ≡ values_in place rows ++ values_in place more
+values_append place rows more =
+    ap (filter is_value) (map-append (λ row. value_at row place) rows more)
+    ∙ filter-append is_value (map (λ row. value_at row place) rows) (map (λ row. value_at row place) more)
+
+module _ (total : IsTotalOrder value_cmp) where
+  lesser_chosen : (u v w : CellValue) → lesser_value u (lesser_value v w) ≡ lesser_value (lesser_value u v) w
+  lesser_chosen u v w = chosen (λ x y. is_lt (value_cmp x y)) (λ x y z e f. below_trans value_cmp total z y x e f) (λ x y z e f. not_below value_cmp total z y x e f) u v w
+
+  greater_chosen : (u v w : CellValue) → greater_value u (greater_value v w) ≡ greater_value (greater_value u v) w
+  greater_chosen u v w = chosen (λ x y. is_lt (value_cmp y x)) (λ x y z e f. below_trans value_cmp total x y z f e) (λ x y z e f. not_below value_cmp total x y z f e) u v w
+
+  least_append : (vs ws : List CellValue) → AllByRecursion (λ v. is_value v ≡ true) vs → AllByRecursion (λ v. is_value v ≡ true) ws
+      → least_value (vs ++ ws) ≡ lesser_value (least_value vs) (least_value ws)
+  least_append [] ws a b = refl
+  least_append (v ∷ vs) ws a b =
+      least_of v (vs ++ ws) (all_append (λ v. is_value v ≡ true) vs ws a.1 b) a.0
+      ∙ ap (lesser_value v) (least_append vs ws a.1 b) ∙ lesser_chosen v (least_value vs) (least_value ws)
+      ∙ ap (λ z. lesser_value z (least_value ws)) (sym (least_of v vs a.1 a.0))
+
+  greatest_append : (vs ws : List CellValue) → AllByRecursion (λ v. is_value v ≡ true) vs → AllByRecursion (λ v. is_value v ≡ true) ws
+      → greatest_value (vs ++ ws) ≡ greater_value (greatest_value vs) (greatest_value ws)
+  greatest_append [] ws a b = refl
+  greatest_append (v ∷ vs) ws a b =
+      greatest_of v (vs ++ ws) (all_append (λ v. is_value v ≡ true) vs ws a.1 b) a.0
+      ∙ ap (greater_value v) (greatest_append vs ws a.1 b) ∙ greater_chosen v (greatest_value vs) (greatest_value ws)
+      ∙ ap (λ z. greater_value z (greatest_value ws)) (sym (greatest_of v vs a.1 a.0))
+
+  pub least_joined : (place : ℕ) (rows more : List (List CellValue))
+      → computed_value (rows ++ more) (Min place) ≡ lesser_value (computed_value rows (Min place)) (computed_value more (Min place))
+  least_joined place rows more =
+      ap least_value (values_append place rows more) ∙ least_append (values_in place rows) (values_in place more) (all_values (map (λ row. value_at row place) rows))
+      (all_values (map (λ row. value_at row place) more))
+
+  pub greatest_joined : (place : ℕ) (rows more : List (List CellValue))
+      → computed_value (rows ++ more) (Max place) ≡ greater_value (computed_value rows (Max place)) (computed_value more (Max place))
+  greatest_joined place rows more =
+      ap greatest_value (values_append place rows more) ∙ greatest_append (values_in place rows) (values_in place more) (all_values (map (λ row. value_at row place) rows))
+      (all_values (map (λ row. value_at row place) more))
+
+-- ---- different values
 
 pub none_distinct : HasDistinct [] []
 none_distinct = record { count = refl; same = λ v. refl }
 
-true_or : (b : Bool) → (true || b) ≡ true
-true_or b = refl
-
-or_false : (b : Bool) → (b || false) ≡ b
-or_false true = refl
-or_false false = refl
-
-or_or : (a b : Bool) → (a || b) ≡ (b || a)
-or_or true true = refl
-or_or true false = refl
-or_or false true = refl
-or_or false false = refl
-
-any_view : {V : Type 0} (view : V → CellValue) (eq : V → V → Bool) → ((v w : V) → eq v w ≡ value_eq (view v) (view w)) → (v : V) (keys : List V)
+pub any_view : {V : Type 0} (view : V → CellValue) (eq : V → V → Bool) → ((v w : V) → eq v w ≡ value_eq (view v) (view w)) → (v : V) (keys : List V)
     → list_any (eq v) keys ≡ list_any (value_eq (view v)) (map view keys)
 any_view view eq is v [] = refl
 any_view view eq is v (k ∷ ks) = rw (is v k, any_view view eq is v ks) refl
 
-map_if : {V : Type 0} (view : V → CellValue) (b : Bool) (keys : List V) (v : V) → map view (cond b keys (keys ++ v ∷ [])) ≡ cond b (map view keys) (map view keys ++ view v ∷ [])
-map_if view true keys v = refl
-map_if view false keys v = map-append view keys (v ∷ [])
-
-map_insert : {V : Type 0} (view : V → CellValue) (eq : V → V → Bool) → ((v w : V) → eq v w ≡ value_eq (view v) (view w)) → (v : V) (keys : List V)
-    → map view (insert_key eq keys v) ≡ insert_key value_eq (map view keys) (view v)
-map_insert view eq is v keys =
-    map_if view (list_any (eq v) keys) keys v ∙ ap (λ b. cond b (map view keys) (map view keys ++ view v ∷ [])) (any_view view eq is v keys)
+pub was_value : (b : Bool) → not b ≡ false → b ≡ true
+was_value true h = refl
+was_value false h = absurd (let k : true ≡ false = h in cc)
 
 module _ (equal : (a b : CellValue) → IsTrue (value_eq a b) ↔ (a ≡ b)) where
-  -- a value that is there already adds nothing
-  seen : (v w : CellValue) (vs : List CellValue) → list_any (value_eq v) vs ≡ true → list_any (value_eq w) (v ∷ vs) ≡ list_any (value_eq w) vs
-  seen v w vs there = elim (cases_Bool (value_eq w v)) [
-    | inl e ↦ let same : w ≡ v = (equal w v).0 e in rw (e, same) (sym there)
-    | inr e ↦ rw e refl
-  ]
+  is : (a b : CellValue) → value_eq a b ≡ true → a ≡ b
+  is a b e = (equal a b).0 e
 
-  new_keys : (v : CellValue) (keys values : List CellValue) → HasDistinct keys values → (b : Bool) → list_any (value_eq v) keys ≡ b
-      → HasDistinct (cond b keys (keys ++ v ∷ [])) (v ∷ values)
-  new_keys v keys values has true e =
-      let there : list_any (value_eq v) values ≡ true = sym (has.same v) ∙ e in record {
-        count = rw there has.count;
-        same = λ w. has.same w ∙ sym (seen v w values there);
-      }
-  new_keys v keys values has false e =
-      let absent : list_any (value_eq v) values ≡ false = sym (has.same v) ∙ e in record {
-        count = rw absent (let p = length-append keys (v ∷ []) in let q = has.count in omega arith);
-        same = λ w. list_any-append (value_eq w) keys (v ∷ []) ∙ ap (λ b. list_any (value_eq w) keys || b) (or_false (value_eq w v))
-            ∙ or_or (list_any (value_eq w) keys) (value_eq w v) ∙ ap (λ b. value_eq w v || b) (has.same w);
+  self : (a : CellValue) → value_eq a a ≡ true
+  self a = (equal a a).1 refl
+
+  -- a value that is there already
+  pub seen_again : (keys values : List CellValue) (v : CellValue) → HasDistinct keys values → list_any (value_eq v) keys ≡ true → HasDistinct keys (values ++ v ∷ [])
+  seen_again keys values v has there =
+      let among : list_any (value_eq v) values ≡ true = sym (has.same v) ∙ there in record {
+        count = has.count ∙ sym (count_behind value_eq is self values v ∙ ap (λ b. cond b (distinct_count value_eq values) (suc (distinct_count value_eq values))) among);
+        same = λ w. has.same w ∙ sym (there_already value_eq is self values v w among);
       }
 
-  -- one value more before them
-  pub value_before : {V : Type 0} (view : V → CellValue) (eq : V → V → Bool) → ((v w : V) → eq v w ≡ value_eq (view v) (view w)) → (v : V) (keys : List V) (values : List CellValue)
-      → HasDistinct (map view keys) values → HasDistinct (map view (insert_key eq keys v)) (view v ∷ values)
-  value_before view eq is v keys values has =
-      subst (λ ks. HasDistinct ks (view v ∷ values)) (sym (map_insert view eq is v keys)) (new_keys (view v) (map view keys) values has (list_any (value_eq (view v)) (map view keys)) refl)
-
-was_value : (v : CellValue) (b : Bool) → is_value v ≡ b → not b ≡ false → b ≡ true
-was_value v true e h = refl
-was_value v false e h = absurd (let k : true ≡ false = h in cc)
-
-was_null : (v : CellValue) (b : Bool) → is_value v ≡ b → not b ≡ true → b ≡ false
-was_null v true e h = absurd (let k : false ≡ true = h in cc)
-was_null v false e h = refl
-
-pub value_kept : (v : CellValue) (vs : List CellValue) → not (is_value v) ≡ false → filter is_value (v ∷ vs) ≡ v ∷ filter is_value vs
-value_kept v vs h = let e : is_value v ≡ true = was_value v (is_value v) refl h in rw e refl
-
-pub value_passed : (v : CellValue) (vs : List CellValue) → not (is_value v) ≡ true → filter is_value (v ∷ vs) ≡ filter is_value vs
-value_passed v vs h = let e : is_value v ≡ false = was_null v (is_value v) refl h in rw e refl
+  -- a value that is new
+  pub seen_first : (keys values : List CellValue) (v : CellValue) → HasDistinct keys values → list_any (value_eq v) keys ≡ false
+      → HasDistinct (keys ++ v ∷ []) (values ++ v ∷ [])
+  seen_first keys values v has absent =
+      let none : list_any (value_eq v) values ≡ false = sym (has.same v) ∙ absent in record {
+        count = length-append keys (v ∷ []) ∙ one_longer (length keys) ∙ ap suc has.count
+            ∙ sym (count_behind value_eq is self values v ∙ ap (λ b. cond b (distinct_count value_eq values) (suc (distinct_count value_eq values))) none);
+        same = λ w. list_any-append (value_eq w) keys (v ∷ []) ∙ ap (λ b. b || list_any (value_eq w) (v ∷ [])) (has.same w) ∙ sym (list_any-append (value_eq w) values (v ∷ []));
+      }
+    where
+      one_longer : (n : ℕ) → n + 1 ≡ suc n
+      one_longer n = omega arith

@@ -6,6 +6,7 @@ pub use Rattle.row_columns.specs.Columns
 pub use Rattle.row_columns.specs.Kinds
 pub use Rattle.row_columns.specs.Picked
 pub mod Computed
-pub mod Fits
+pub mod Gathered
 pub mod Groups
 pub mod Sums
+pub mod Tallies

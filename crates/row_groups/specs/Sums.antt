@@ -1,9 +1,11 @@
 -- Sums of the numbers that rows have in a column (OData Data Aggregation 4.0, section 3.1.3.1).
-use Rattle.std.specs.Prelude.{ℕ, ℤ, List, [], ◌∷◌, Option, Some, None}
+use Rattle.std.specs.Prelude.{ℕ, ℤ, ◌+ℤ◌, ◌≡◌, ◌++◌, length, List, [], ◌∷◌, Option, Some, None, FitsSigned}
+use Rattle.std.specs.Int.{w128}
 use Rattle.std.specs.List.{filter_map}
 use Rattle.cell_types.specs.Value.{CellValue, decimal, integer}
 use Rattle.row_eval.specs.Row.{cell, decimal_in, integer_in}
 use Rattle.query_plan.specs.Apply.{integer_sum}
+use Rattle.query_plan.specs.Fitting.{AreSummable}
 use Rattle.row_groups.specs.declared.sums.Summed.{Summed}
 use Rattle.row_groups.specs.declared.sums.Summed.TheVariants.{Integers, Decimals}
 
@@ -24,3 +26,19 @@ numbers_in summed place rows = filter_map (λ row. cell (read_of summed) row pla
 abbrev pub sum_of : List ℤ → Option ℤ
 sum_of [] = None
 sum_of (n ∷ ns) = Some (integer_sum (n ∷ ns))
+
+-- the sum of two sums, each of which there may be none
+abbrev pub sums_joined : Option ℤ → Option ℤ → Option ℤ
+sums_joined None more = more
+sums_joined (Some n) None = Some n
+sums_joined (Some n) (Some m) = Some (n +ℤ m)
+
+abbrev pub FitSums : Option ℤ → Option ℤ → Type 0
+FitSums (Some n) (Some m) = FitsSigned w128 (n +ℤ m)
+FitSums _ _ = Unit {0}
+
+-- more rows may join those of which that is the sum: the sum of all fits
+pub record MaySum (summed : Summed) (place : ℕ) (sum : Option ℤ) (more : List (List CellValue)) : Type 0 where
+  pub rows : List (List CellValue)
+  pub sum_is : sum ≡ sum_of (numbers_in summed place rows)
+  pub fits : AreSummable (numbers_in summed place (rows ++ more)) (length (rows ++ more))

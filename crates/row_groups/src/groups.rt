@@ -1,136 +1,150 @@
-//! The groups of rows: which rows have the same values in some columns.
-ghost use Rattle.std.specs.Prelude.{◌≡◌, ◌++◌, ◌∷◌, [], ◌<◌, IfOk, OnOk, List, length, map, slice_index_or, slice_set};
-ghost use Rattle.std.specs.List.{All};
+//! Groups of rows, by their values in some columns, while rows come.
+ghost use Rattle.std.specs.Prelude.{◌≡◌, ◌<◌, ◌+◌, ◌^◌, ◌∷◌, [], ℕ, IfOk, List, None, OnOk, Option, Some, length, map, replicate, slice_index_or};
+ghost use Rattle.std.specs.List.{All, AllByRecursion};
 ghost use Rattle.cell_types.specs.Value.{CellValue, value_view};
+ghost use Rattle.odata_query.specs.declared.aggregate.Aggregate.{Aggregate};
 ghost use Rattle.query_plan.specs.Apply.{values_at};
-ghost use Rattle.row_groups.specs.Groups.{members_of, AreGroups};
+ghost use Rattle.row_columns.specs.Kinds.{any};
+ghost use Rattle.row_columns.specs.Picked.{numbered};
+ghost use Rattle.row_groups.specs.Gathered.{key_width, rows_gathered, HasGroups, JoinsGroups, JoinsRow, MayJoinGroups, MayJoinRow};
 
+use crate::tallies::{join_each, row_of, tallies_of_none};
+use crate::tally::{Tally, owned};
 use cell_types::Value;
 use indexmap::IndexSet;
+use odata_query::Aggregate;
 use row_columns::Columns;
 use std::alloc::{AllocError, Global};
 
-/// Groups, by the numbers of their rows, in the order of their first rows.
+/// Groups in the order of their first rows.
 #[derive(Drop)]
 pub(crate) struct Groups {
-    /// The first row of each group.
-    pub(crate) first_rows: Vec<usize>,
-    /// All rows of each group, in their order.
-    pub(crate) members: Vec<Vec<usize>>,
+    /// The values of each group.
+    pub(crate) keys: IndexSet<Vec<Value<'static>>>,
+    /// What is computed of its rows.
+    pub(crate) tallies: Vec<Vec<Tally>>,
 }
 
 impl Groups {
     /// No groups.
-    fn none(alloc: Global) -> Groups
-        ensures first { result.first_rows.items ≡ [] }
-        ensures members { result.members.items ≡ [] }
+    pub(crate) fn none(alloc: Global) -> Groups
+        ensures groups { (places : List ℕ) (aggregates : List Aggregate)
+            → HasGroups (Some places) aggregates result [] }
+        ensures keys { result.keys.keys ≡ [] }
+        ensures tallies { result.tallies.items ≡ [] }
     {
         Groups {
-            first_rows: Vec::new(alloc),
-            members: Vec::new(alloc),
+            keys: IndexSet::new(alloc),
+            tallies: Vec::new(alloc),
         }
     }
 
-    /// The groups of the rows with these numbers, by their values in the columns with these places.
-    pub(crate) fn of(
-        alloc: Global,
-        columns: &Columns,
-        numbers: &[usize],
-        places: &[usize],
-    ) -> Result<Groups, AllocError>
-        requires within { All (λ number. number < length columns.now.rows) numbers.now }
-        requires places { All (λ place. place < length columns.now.kinds) places.now }
-        ensures { IfOk result (AreGroups columns.now.rows places.now numbers.now) }
+    /// All rows as one group, of which there are none.
+    pub(crate) fn whole(alloc: Global, aggregates: &[Aggregate]) -> Result<Groups, AllocError>
+        ensures { IfOk result (λ groups. HasGroups None aggregates.now groups []) }
     {
-        if places.len() == 1 {
-            Groups::of_value(alloc, columns, numbers, places[0])
-        } else {
-            Groups::of_values(alloc, columns, numbers, places)
-        }
-    }
-
-    /// The same, by their values in one column.
-    fn of_value(
-        alloc: Global,
-        columns: &Columns,
-        numbers: &[usize],
-        place: usize,
-    ) -> Result<Groups, AllocError>
-        requires within { All (λ number. number < length columns.now.rows) numbers.now }
-        requires place { place < length columns.now.kinds }
-        ensures { IfOk result (AreGroups columns.now.rows (place ∷ []) numbers.now) }
-    {
-        cell_types::values_are_ordered();
-        cell_types::values_compare_as_their_views();
-        query_plan::rows_are_in_groups();
-        let mut keys: IndexSet<Value<'_>> = IndexSet::new(alloc);
         let mut groups = Groups::none(alloc);
-        for number in numbers {
-            let (group, is_new) = keys.insert_full(columns.value(*number, place))?;
-            if is_new {
-                groups.begin(alloc, *number)?;
-            } else {
-                groups.join(group, *number)?;
-            }
-        }
+        groups.keys.insert(Vec::new(alloc))?;
+        groups.tallies.push(tallies_of_none(alloc, aggregates)?)?;
         Ok(groups)
     }
 
-    /// The same, by their values in any columns.
-    fn of_values(
+    /// The rows with these numbers join the one group of all rows.
+    pub(crate) fn join_whole(
+        &mut self,
+        alloc: Global,
+        columns: &Columns,
+        numbers: &[usize],
+        aggregates: &[Aggregate],
+    ) -> Result<(), AllocError>
+        requires within { All (λ number. number < length columns.now.rows) numbers.now }
+        requires joins { MayJoinGroups None aggregates.now (length columns.now.kinds) self.old
+            (numbered numbers.now columns.now.rows) }
+        ensures { OnOk result (JoinsGroups None aggregates.now self.old self.new
+            (numbered numbers.now columns.now.rows)) }
+    {
+        join_each(alloc, &mut self.tallies[0], columns, numbers, aggregates)
+    }
+
+    /// The rows with these numbers join the groups of their values in the columns with these places.
+    pub(crate) fn join_rows(
+        &mut self,
         alloc: Global,
         columns: &Columns,
         numbers: &[usize],
         places: &[usize],
-    ) -> Result<Groups, AllocError>
+        aggregates: &[Aggregate],
+    ) -> Result<(), AllocError>
         requires within { All (λ number. number < length columns.now.rows) numbers.now }
         requires places { All (λ place. place < length columns.now.kinds) places.now }
-        ensures { IfOk result (AreGroups columns.now.rows places.now numbers.now) }
+        requires joins { MayJoinGroups (Some places.now) aggregates.now (length columns.now.kinds)
+            self.old (numbered numbers.now columns.now.rows) }
+        ensures { OnOk result (JoinsGroups (Some places.now) aggregates.now self.old self.new
+            (numbered numbers.now columns.now.rows)) }
     {
-        cell_types::values_are_ordered();
-        cell_types::values_compare_as_their_views();
-        query_plan::rows_are_in_groups();
-        let mut keys: IndexSet<Vec<Value<'_>>> = IndexSet::new(alloc);
-        let mut groups = Groups::none(alloc);
         let mut key = Vec::with_capacity(alloc, places.len())?;
         for number in numbers {
             read_key(&mut key, columns, *number, places)?;
-            match keys.get_index_of(key.as_slice()) {
-                Some(group) => groups.join(group, *number)?,
-                None => {
-                    keys.insert(key)?;
-                    groups.begin(alloc, *number)?;
-                    key = Vec::with_capacity(alloc, places.len())?;
-                }
+            self.join_row(alloc, columns, *number, key.as_slice(), aggregates)?;
+        }
+        Ok(())
+    }
+
+    /// A row with these values joins their group. The key is looked up before it is copied.
+    fn join_row(
+        &mut self,
+        alloc: Global,
+        columns: &Columns,
+        number: usize,
+        key: &[Value<'_>],
+        aggregates: &[Aggregate],
+    ) -> Result<(), AllocError>
+        requires row { number < length columns.now.rows }
+        requires joins { MayJoinRow aggregates.now (length columns.now.kinds) self.old
+            (map value_view key.now) (slice_index_or columns.now.rows number []) }
+        ensures { OnOk result (JoinsRow aggregates.now self.old self.new
+            (map value_view key.now) (slice_index_or columns.now.rows number [])) }
+    {
+        cell_types::values_are_ordered();
+        cell_types::values_compare_as_their_views();
+        query_plan::rows_are_in_groups();
+        let row = [number];
+        match self.keys.get_index_of(key) {
+            Some(group) => join_each(alloc, &mut self.tallies[group], columns, &row, aggregates)?,
+            None => {
+                let mut tallies = tallies_of_none(alloc, aggregates)?;
+                join_each(alloc, &mut tallies, columns, &row, aggregates)?;
+                self.keys.insert(owned_key(alloc, key)?)?;
+                self.tallies.push(tallies)?;
             }
         }
-        Ok(groups)
-    }
-
-    /// A row more of a group.
-    fn join(&mut self, group: usize, number: usize) -> Result<(), AllocError>
-        requires { group < length self.old.members.items }
-        ensures first { OnOk result (self.new.first_rows.items ≡ self.old.first_rows.items) }
-        ensures members { OnOk result (members_of self.new
-            ≡ slice_set (members_of self.old) group
-            (slice_index_or (members_of self.old) group [] ++ number ∷ [])) }
-    {
-        self.members[group].push(number)?;
         Ok(())
     }
 
-    /// A group more, of one row so far.
-    fn begin(&mut self, alloc: Global, number: usize) -> Result<(), AllocError>
-        ensures first { OnOk result
-            (self.new.first_rows.items ≡ self.old.first_rows.items ++ number ∷ []) }
-        ensures members { OnOk result
-            (members_of self.new ≡ members_of self.old ++ (number ∷ []) ∷ []) }
+    /// A row for each group: its values, so many, and what is computed of its rows.
+    pub(crate) fn rows(
+        &self,
+        alloc: Global,
+        width: usize,
+        aggregates: &[Aggregate],
+    ) -> Result<Columns, AllocError>
+        requires columns { width + length aggregates.now < 2 ^ 64 }
+        requires gathered { (places : Option (List ℕ)) × (rows : List (List CellValue))
+            × HasGroups places aggregates.now self.now rows
+            × (key_width places ≡ width) }
+        ensures kinds { IfOk result (λ made.
+            made.kinds ≡ replicate (width + length aggregates.now) any) }
+        ensures rows { IfOk result (λ made. (places : Option (List ℕ)) (rows : List (List CellValue))
+            → HasGroups places aggregates.now self.now rows
+            → made.rows ≡ rows_gathered places aggregates.now rows) }
     {
-        let mut members = Vec::new(alloc);
-        members.push(number)?;
-        self.first_rows.push(number)?;
-        self.members.push(members)?;
-        Ok(())
+        let mut made = Columns::of_any(alloc, width + aggregates.len())?;
+        let keys = self.keys.as_slice();
+        for i in 0..keys.len() {
+            let row = row_of(alloc, keys[i].as_slice(), &self.tallies[i], aggregates)?;
+            made.push(alloc, &row)?;
+        }
+        Ok(made)
     }
 }
 
@@ -151,4 +165,15 @@ fn read_key<'a>(
         key.push(columns.value(number, *place))?;
     }
     Ok(())
+}
+
+/// A copy of a key that lives on its own.
+fn owned_key(alloc: Global, key: &[Value<'_>]) -> Result<Vec<Value<'static>>, AllocError>
+    ensures { IfOk result (λ copy. map value_view copy.items ≡ map value_view key.now) }
+{
+    let mut copy = Vec::with_capacity(alloc, key.len())?;
+    for value in key {
+        copy.push(owned(alloc, value)?)?;
+    }
+    Ok(copy)
 }

@@ -1,12 +1,13 @@
-//! Aggregates of rows in columns, of all of them or of each group (OData Data Aggregation 4.0, section 3). [`aggregated`] gives the one row of
-//! `aggregate`, [`grouped`] the rows of `groupby`: both are what the definitions compute of the list of rows.
+//! Aggregates of rows in columns, of all of them or of each group (OData Data Aggregation 4.0, section 3). A [`Gathering`] is given the rows piece by
+//! piece and keeps of each group its values and what is computed of it so far; it gives the one row of `aggregate` or the rows of `groupby`:
+//! what the definitions compute of the list of all rows.
 #![tactic(auto)]
 
-mod aggregate;
 mod computed;
-mod group;
+mod gathering;
 mod groups;
 mod sums;
+mod tallies;
+mod tally;
 
-pub use aggregate::aggregated;
-pub use group::grouped;
+pub use gathering::{Gathering, gathered};

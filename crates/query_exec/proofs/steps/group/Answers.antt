@@ -1,25 +1,22 @@
-use Rattle.std.proofs.Common.{◌≡◌, ◌++◌, ◌∙◌, length, map, replicate, string_bytes, ap, subst, sym, rules}
-use Rattle.std.proofs.lemmas.List.{length-map}
+use Rattle.std.proofs.Common.{◌≡◌, ◌++◌, ◌∙◌, length, map, string_bytes, subst, sym, rules}
+use Rattle.std.specs.List.{All}
 use Rattle.odata_query.specs.Aggregate.{named_view, NamedAggregateOf}
-use Rattle.row_columns.specs.Kinds.{any}
-use Rattle.row_columns.specs.Picked.{kinds_at}
-use Rattle.row_groups.specs.Fits.{AggregatesFit}
+use Rattle.row_columns.specs.Picked.{numbered}
+use Rattle.row_groups.specs.Tallies.{FitsAll}
 use Rattle.query_exec.proofs.StepLemmas.{aggregates_fit, group_width}
 use Rattle.query_exec.proofs.steps.group.Goals as goal
 
-pub grouped-requires-clause-fits : goal.grouped-requires-clause-fits
-grouped-requires-clause-fits c =
-    subst (λ ns. AggregatesFit c.args.underway.now.columns ns (map named_view c.args.aggregates.now)) (sym c.as_slice.ensures.value)
-    (aggregates_fit c.args.underway.now (map named_view c.args.aggregates.now) c.requires.underway c.requires.fits.1)
+pub gathered-requires-clause-fits : goal.gathered-requires-clause-fits
+gathered-requires-clause-fits c =
+    let columns = c.args.underway.now.columns in
+    let aggregates = map named_view c.args.aggregates.now in
+    subst (λ ns. All (λ (a : NamedAggregateOf). FitsAll (length columns.kinds) (numbered ns columns.rows) a.aggregate) aggregates) (sym c.as_slice.ensures.value)
+    (aggregates_fit c.args.underway.now c.requires.underway aggregates c.requires.fits.1)
 
 pub whole-requires : goal.whole-requires
 whole-requires c =
-    let aliases = map (λ (a : NamedAggregateOf). a.alias) (map named_view c.args.aggregates.now) in
-    let count : length aliases ≡ length c.args.aggregates.now =
-    length-map (map named_view c.args.aggregates.now) (λ (a : NamedAggregateOf). a.alias) ∙ length-map c.args.aggregates.now named_view in
-    let kinds : c.in_ok-columns.columns.kinds ≡ kinds_at c.args.places.now c.args.underway.now.columns.kinds ++ replicate (length aliases) any =
-    c.in_ok-columns.ensures.kinds ∙ ap (λ n. kinds_at c.args.places.now c.args.underway.now.columns.kinds ++ replicate n any) (sym count) in
-    let names : map string_bytes c.push_aliases.new.names.items ≡ map string_bytes c.in_ok-names.names.items ++ aliases = search rules in
-    group_width string_bytes c.push_aliases.new.names.items (map string_bytes c.in_ok-names.names.items) aliases
-    (map string_bytes c.as_slice-2.result.now) c.args.places.now c.args.underway.now.columns.kinds c.in_ok-columns.columns.kinds
-    kinds names c.in_ok-names.ensures
+    let aggregates = map named_view c.args.aggregates.now in
+    let names : map string_bytes c.push_aliases.new.names.items ≡ map string_bytes c.in_ok-names.names.items ++ map (λ (a : NamedAggregateOf). a.alias) aggregates = search rules in
+    c.in_ok-columns.ensures.width
+    ∙ group_width string_bytes c.push_aliases.new.names.items (map string_bytes c.in_ok-names.names.items) (map string_bytes c.as_slice-2.result.now) c.args.places.now aggregates names
+    c.in_ok-names.ensures

@@ -25,6 +25,7 @@ returns c =
         steps = refl;
         names = refl;
         stage = refl;
+        gathering = refl;
         kinds = c.in_ok-self.ensures.kinds;
       };
       left_is = refl;

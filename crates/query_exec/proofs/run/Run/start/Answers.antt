@@ -1,4 +1,4 @@
-use Rattle.std.proofs.Common.{◌∙◌, ◌<◌, ap, arith, length, map, refl, string_bytes, subst, sym}
+use Rattle.std.proofs.Common.{[], ◌∙◌, ◌<◌, ap, arith, length, map, refl, string_bytes, subst, sym}
 use Rattle.std.specs.Prelude.{IfSome, Some, option_map}
 use Rattle.std.specs.List.{All}
 use Rattle.std.proofs.Math.Nat.{le-max_left}
@@ -15,6 +15,7 @@ use Rattle.query_plan.specs.Plan.{leading, needed, node_view, plan_view}
 use Rattle.query_plan.specs.Scan.{up_to}
 use Rattle.query_plan.specs.Scan.{test_view}
 use Rattle.query_exec.specs.Admitted.{admitted_numbers}
+use Rattle.query_exec.specs.Gathers.{GathersFor}
 use Rattle.query_exec.specs.Picked.{selected_kinds, selected_rows}
 use Rattle.query_exec.specs.Useful.{useful}
 use Rattle.query_exec.proofs.AdmittedLemmas.{admitted_are}
@@ -70,6 +71,11 @@ returns-clause-stands c = λ table schema rows summaries.
           c.in_ok-kept.ensures.kinds
           ∙ ap (λ cs. selected_kinds picked (kinds_of (map column_view cs))) c.as_slice-2.ensures.value
           ∙ ap (λ (s : SchemaOf). selected_kinds picked (kinds_of s.columns)) (sym schema);
+      gone = [];
+      gathered = record {
+        gathers = subst (λ ns. GathersFor (map node_view ns) c.in_ok-gathering.gathering []) c.deref-2.ensures.value c.in_ok-gathering.ensures;
+        keeps_none = λ works g at. c.in_ok-kept.ensures.rows;
+      };
       passed =
           ap (option_map (useful (map node_view parts.steps.items)))
           (ap (λ made. Some made) (c.in_ok-kept.ensures.rows ∙ sym (selected_none picked)) ∙ ap (option_map (selected_rows picked)) (sym (c.conditions_in_turn.ensures.none es)));

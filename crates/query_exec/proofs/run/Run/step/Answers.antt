@@ -4,7 +4,7 @@ use Rattle.query_exec.specs.declared.run.Run.{Run}
 use Rattle.query_exec.specs.Run.{wanted_block, GoesOn, IsReady}
 use Rattle.query_exec.proofs.FitLemmas.{block_fits, block_may_be_taken}
 use Rattle.query_exec.proofs.NeededLemmas.{is_block}
-use Rattle.query_exec.proofs.RunLemmas.{after_block, after_none, ready_behind_block, ready_behind_none}
+use Rattle.query_exec.proofs.RunLemmas.{after_block, after_none, block_may_be_gathered, ready_behind_block, ready_behind_none}
 use Rattle.query_exec.proofs.run.Run.step.Goals as goal
 use Rattle.query_exec.proofs.run.Run.step.Goals.{in-Some+in_ok-take_in, in_default}
 
@@ -18,6 +18,11 @@ pub take_in-requires-clause-block : goal.take_in-requires-clause-block
 take_in-requires-clause-block c =
     let at = is_block c.requires.0 c.requires.1 c.requires.2 c.in-Some.block (sym c.in-Some.is ∙ c.requires.4) in
     block_may_be_taken c.args.self.now c.requires.0 c.requires.1 c.requires.2 c.in-Some.block c.requires.3 (ap (λ (b : TableOf). b.schema) at.2)
+
+pub take_in-requires-clause-gathers : goal.take_in-requires-clause-gathers
+take_in-requires-clause-gathers c =
+    block_may_be_gathered c.conditions_in_turn.ensures c.best_in_pieces.ensures c.nodes_in_turn.ensures c.scans_read_table_rows.ensures c.args.self.now c.in-Some.block
+    c.requires.0 c.requires.1 c.requires.2 c.requires.3 (sym c.in-Some.is ∙ c.requires.4)
 
 pub go_on-requires : goal.go_on-requires
 go_on-requires c =

@@ -1,0 +1,123 @@
+//! Rows that the first step makes aggregates or groups of: they are gathered block by block, and none is kept.
+ghost use Rattle.std.specs.Prelude.{◌≡◌, ◌+◌, ◌++◌, ◌∷◌, [], IfOk, List, OnOk, Some, length, map, string_bytes};
+ghost use Rattle.cell_types.specs.Value.{CellValue};
+ghost use Rattle.odata_query.specs.Aggregate.{named_view};
+ghost use Rattle.query_plan.specs.Plan.{node_result, node_view, nodes_result};
+ghost use Rattle.query_exec.specs.Gathers.{uncounted, GathersFor, IsMade, KeepsNone, MayBeFirst, MayBeMade, MayGather};
+ghost use Rattle.query_exec.specs.Run.{rows_so_far, steps_of};
+ghost use Rattle.query_exec.specs.Taking.{HasGathered};
+ghost use Rattle.query_exec.specs.Underway.{GivesUnderway, Makes};
+
+use crate::names::{picked_names, push_aliases};
+use crate::run::Run;
+use crate::steps::apply_all;
+use crate::underway::{Underway, all_numbers};
+use odata_query::NamedAggregate;
+use query_plan::Node;
+use row_columns::Columns;
+use row_eval::EvalFault;
+use row_groups::Gathering;
+use std::alloc::{AllocError, Global};
+
+/// What gathers the rows that pass, where the first of the steps makes aggregates or groups of them.
+pub(crate) fn gathering_of(alloc: Global, steps: &[Node]) -> Result<Option<Gathering>, AllocError>
+    ensures { IfOk result (λ made. GathersFor (map node_view steps.now) made []) }
+{
+    match steps.first() {
+        Some(Node::Aggregate(aggregates)) => {
+            Ok(Some(Gathering::new(alloc, None, aggregates.as_slice())?))
+        }
+        Some(Node::Group(places, aggregates)) => {
+            let places = places.as_slice();
+            Ok(Some(Gathering::new(alloc, Some(places), aggregates.as_slice())?))
+        }
+        _ => Ok(None),
+    }
+}
+
+/// Rows of aggregates under their names, which stand behind others.
+fn under_aliases(
+    alloc: Global,
+    names: Vec<String>,
+    aggregates: &[NamedAggregate],
+    columns: Columns,
+) -> Result<Underway, AllocError>
+    requires { length columns.kinds ≡ length names.items + length aggregates.now }
+    ensures { IfOk result (IsMade (map string_bytes names.items
+        ++ map (λ a. a.alias) (map named_view aggregates.now)) columns.rows) }
+{
+    let mut names = names;
+    push_aliases(&mut names, aggregates)?;
+    Underway::whole(alloc, names, columns, None)
+}
+
+/// What the first step makes of the rows that were gathered for it.
+fn first_result(
+    alloc: Global,
+    first: &Node,
+    names: &[String],
+    gathering: Gathering,
+) -> Result<Underway, AllocError>
+    requires { MayBeFirst (node_view first.now) (map string_bytes names.now) gathering }
+    ensures { IfOk result (λ made. (rows : List (List CellValue))
+        → GathersFor (node_view first.now ∷ []) (Some gathering) rows
+        → Makes (node_result (node_view first.now) (uncounted (map string_bytes names.now) rows)) made) }
+{
+    let columns = gathering.finish(alloc)?;
+    match first {
+        Node::Aggregate(aggregates) => {
+            under_aliases(alloc, Vec::new(alloc), aggregates.as_slice(), columns)
+        }
+        Node::Group(places, aggregates) => {
+            let names = picked_names(alloc, names, places)?;
+            under_aliases(alloc, names, aggregates.as_slice(), columns)
+        }
+        _ => unreachable!(),
+    }
+}
+
+/// What the steps make of the rows that were gathered for the first of them, or else of those that are kept.
+pub(crate) fn made_of(
+    alloc: Global,
+    steps: &[Node],
+    names: Vec<String>,
+    kept: Columns,
+    gathering: Option<Gathering>,
+) -> Result<Underway, EvalFault>
+    requires width { length kept.kinds ≡ length names.items }
+    requires none { KeepsNone gathering kept.rows }
+    requires fits { MayBeMade (map node_view steps.now) (map string_bytes names.items) gathering kept.rows }
+    ensures { (gone : List (List CellValue)) → GathersFor (map node_view steps.now) gathering gone
+        → GivesUnderway (nodes_result (map node_view steps.now)
+        (uncounted (map string_bytes names.items) (gone ++ kept.rows))) result }
+{
+    let Some(gathering) = gathering else {
+        return apply_all(alloc, steps, Underway::whole(alloc, names, kept, None)?);
+    };
+    match steps {
+        [first, others @ ..] => {
+            let made = first_result(alloc, first, names.as_slice(), gathering)?;
+            apply_all(alloc, others, made)
+        }
+        [] => unreachable!(),
+    }
+}
+
+impl Run {
+    /// The rows that are kept join those that were gathered, where rows are.
+    pub(crate) fn gather(&mut self, alloc: Global) -> Result<(), AllocError>
+        requires { MayGather (steps_of self.old) self.old (rows_so_far self.old) }
+        ensures { OnOk result (HasGathered self.old self.new) }
+    {
+        if self.faulted {
+            return Ok(());
+        }
+        let Some(gathering) = &mut self.gathering else {
+            return Ok(());
+        };
+        let numbers = all_numbers(alloc, self.kept.len())?;
+        gathering.join(alloc, &self.kept, &numbers)?;
+        self.kept = self.kept.in_order(alloc, &[])?;
+        Ok(())
+    }
+}

@@ -1,0 +1,258 @@
+-- Groups and what is computed of their rows, where rows join.
+use Rattle.std.proofs.Common.{◌≡◌, ◌↔◌, ℕ, ◌<◌, ◌+◌, Bool, true, false, cond, not, IsTrue, Option, Some, None, List, [], ◌∷◌, ◌++◌, Vec, Global, length, map, filter, take, drop, get_or, position, replicate, refl, sym, ap, subst, ◌∙◌, append_assoc, arith}
+use Rattle.std.specs.Prelude.{slice_index_or, slice_set}
+use Rattle.std.specs.List.{AllByRecursion, AllZip, IsDistinct, list_any}
+use Rattle.std.proofs.lemmas.List.{get_or-map, length-append, length-map, map-append, take_more}
+use Rattle.std.proofs.lemmas.List.Elements.{recursion_from_All}
+use Rattle.std.proofs.lemmas.List.Folds.{list_any_at}
+use Rattle.std.proofs.lemmas.List.Quantifiers.{position-Some}
+use Rattle.cell_types.specs.Value.{CellValue, value_eq, value_view}
+use Rattle.cell_types.specs.declared.value.Value.{Value}
+use Rattle.odata_query.specs.declared.aggregate.Aggregate.{Aggregate}
+use Rattle.odata_query.specs.Aggregate.{NamedAggregateOf}
+use Rattle.odata_query.specs.FirstSeen.{first_seen}
+use Rattle.odata_query.specs.Query.{optional_numbers}
+use Rattle.query_plan.specs.Apply.{computed_value, computed_values, group_values, rows_of_group, is_value, same_values, value_at, values_at, values_in}
+use Rattle.row_columns.specs.Kinds.{AreOfKinds, KindOf, any}
+use Rattle.row_columns.specs.Picked.{numbered}
+use Rattle.row_groups.specs.declared.gathering.Gathering.{Gathering}
+use Rattle.row_groups.specs.declared.groups.Groups.{Groups}
+use Rattle.row_groups.specs.declared.tally.Tally.{Tally}
+use Rattle.row_groups.specs.Gathered.{gathered_rows, key_width, keys_of, part_of, rows_gathered, HasGroups, Joins, JoinsGroups, MayJoin, MayJoinGroups}
+use Rattle.row_groups.specs.Tallies.{AreTallies, FitsAll, MayTallyEach}
+use Rattle.row_groups.proofs.FitLemmas.{all_fit_front, all_fit_kept, of_any}
+use Rattle.row_groups.proofs.GroupLemmas.{found_zip, joins, new_values, new_zip, old_values, same_is, same_self}
+use Rattle.row_groups.proofs.ListLemmas.{all_at, in_two, zip_at, zip_long}
+use Rattle.row_groups.proofs.ValueLemmas.{values_append}
+
+-- the tallies of a group
+abbrev pub OfPart : List Aggregate → List (List CellValue) → Vec Tally Global → Type 0
+OfPart aggregates part tallies = AreTallies aggregates part tallies.items
+
+-- the values of keys
+abbrev pub views : List (Vec Value Global) → List (List CellValue)
+views keys = map (λ key. map value_view key.items) keys
+
+abbrev pub AreOneType : Type 0
+AreOneType = (a b : CellValue) → IsTrue (value_eq a b) ↔ (a ≡ b)
+
+module _ (equal : AreOneType) (places : List ℕ) (aggregates : List Aggregate) (some : List (List CellValue)) (row : List CellValue) (old : Groups)
+    (has : HasGroups (Some places) aggregates old some) where
+  -- the group of a row's values
+  module _ (g : ℕ) (found : position (same_values (values_at places row)) (views old.keys.keys) ≡ Some g) where
+    at : (g < length (group_values places some)) × (same_values (values_at places row) (get_or (group_values places some) g []) ≡ true)
+    at =
+        let there = position-Some (same_values (values_at places row)) (views old.keys.keys) g [] found in (
+          subst (λ ks. g < length ks) has.keys_are there.0,
+          subst (λ ks. same_values (values_at places row) (get_or ks g []) ≡ true) has.keys_are there.1,
+        )
+
+    is : values_at places row ≡ get_or (group_values places some) g []
+    is = same_is equal places (values_at places row) (get_or (group_values places some) g []) at.1
+
+    pub inside : g < length old.tallies.items
+    inside =
+        let long = zip_long (OfPart aggregates) (map (rows_of_group places some) (group_values places some)) old.tallies.items has.tallies_are in
+        let count = length-map (group_values places some) (rows_of_group places some) in
+        let here = at.0 in
+        omega arith
+
+    pub tallies_there : (tallies : Vec Tally Global) → tallies ≡ get_or old.tallies.items g tallies → AreTallies aggregates (rows_of_group places some (values_at places row)) tallies.items
+    tallies_there tallies there =
+        let part = get_or-map (rows_of_group places some) (group_values places some) g [] [] at.0 in
+        let its = zip_at (OfPart aggregates) (map (rows_of_group places some) (group_values places some)) old.tallies.items g [] tallies has.tallies_are inside in
+        subst (λ (ts : Vec Tally Global). AreTallies aggregates (rows_of_group places some (values_at places row)) ts.items) (sym there)
+        (subst (λ p. OfPart aggregates p (get_or old.tallies.items g tallies)) (part ∙ ap (rows_of_group places some) (sym is)) its)
+
+    pub may_join : (width : ℕ) (tallies : Vec Tally Global) → tallies ≡ get_or old.tallies.items g tallies → AllByRecursion (FitsAll width (some ++ row ∷ [])) aggregates
+        → MayTallyEach aggregates width tallies.items (row ∷ [])
+    may_join width tallies there fits = record {
+      rows = rows_of_group places some (values_at places row);
+      tallies = tallies_there tallies there;
+      fits = subst (λ rs. AllByRecursion (FitsAll width rs) aggregates) (joins equal places some row (values_at places row) (same_self equal places (values_at places row)))
+          (all_fit_kept width (λ r. same_values (values_at places row) (values_at places r)) (some ++ row ∷ []) aggregates fits);
+    }
+
+    pub row_found : (new : Groups) (tallies made : Vec Tally Global) → IsDistinct same_values (group_values places some) → tallies ≡ get_or old.tallies.items g tallies
+        → ((rows : List (List CellValue)) → AreTallies aggregates rows tallies.items → AreTallies aggregates (rows ++ row ∷ []) made.items)
+        → new.keys.keys ≡ old.keys.keys → new.tallies.items ≡ slice_set old.tallies.items g made → HasGroups (Some places) aggregates new (some ++ row ∷ [])
+    row_found new tallies made distinct there joined keys put =
+        let among : list_any (same_values (values_at places row)) (group_values places some) ≡ true =
+        list_any_at (same_values (values_at places row)) (group_values places some) g [] at.0 at.1 in
+        let stay = old_values equal places some row among in
+        record {
+          keys_are = ap views keys ∙ has.keys_are ∙ sym stay;
+          tallies_are =
+              subst (λ ts. AllZip (OfPart aggregates) (map (rows_of_group places (some ++ row ∷ [])) (group_values places (some ++ row ∷ []))) ts) (sym put)
+              (subst (λ ks. AllZip (OfPart aggregates) (map (rows_of_group places (some ++ row ∷ [])) ks) (slice_set old.tallies.items g made)) (sym stay)
+              (found_zip equal places some row (OfPart aggregates) (group_values places some) old.tallies.items g made has.tallies_are distinct at.0 (sym is)
+              (joined (rows_of_group places some (values_at places row)) (tallies_there tallies there))));
+        }
+
+  pub row_begins : (new : Groups) (made : Vec Tally Global) (key : Vec Value Global) → list_any (same_values (values_at places row)) (views old.keys.keys) ≡ false
+      → map value_view key.items ≡ values_at places row → AreTallies aggregates (row ∷ []) made.items
+      → new.keys.keys ≡ old.keys.keys ++ key ∷ [] → new.tallies.items ≡ old.tallies.items ++ made ∷ [] → HasGroups (Some places) aggregates new (some ++ row ∷ [])
+  row_begins new made key lacks key_is tallies keys put =
+      let none : list_any (same_values (values_at places row)) (group_values places some) ≡ false = subst (λ ks. list_any (same_values (values_at places row)) ks ≡ false) has.keys_are lacks in
+      let more = new_values equal places some row none in
+      record {
+        keys_are = ap views keys ∙ map-append (λ k. map value_view k.items) old.keys.keys (key ∷ []) ∙ ap (λ ks. ks ++ map value_view key.items ∷ []) has.keys_are
+            ∙ ap (λ k. group_values places some ++ k ∷ []) key_is ∙ sym more;
+        tallies_are =
+            subst (λ ts. AllZip (OfPart aggregates) (map (rows_of_group places (some ++ row ∷ [])) (group_values places (some ++ row ∷ []))) ts) (sym put)
+            (subst (λ ks. AllZip (OfPart aggregates) (map (rows_of_group places (some ++ row ∷ [])) ks) (old.tallies.items ++ made ∷ [])) (sym more)
+            (new_zip equal places some row (OfPart aggregates) old.tallies.items made has.tallies_are none tallies));
+      }
+
+-- ---- rows one after another
+
+pub one_row_more : (before rows : List (List CellValue)) (numbers : List ℕ) (i : ℕ) → i < length numbers
+    → before ++ numbered (take (i + 1) numbers) rows ≡ (before ++ numbered (take i numbers) rows) ++ slice_index_or rows (get_or numbers i 0) [] ∷ []
+one_row_more before rows numbers i h =
+    ap (λ ns. before ++ numbered ns rows) (take_more numbers i 0 h)
+    ∙ ap (λ rs. before ++ rs) (map-append (λ n. slice_index_or rows n []) (take i numbers) (get_or numbers i 0 ∷ []))
+    ∙ sym (append_assoc before (numbered (take i numbers) rows) (slice_index_or rows (get_or numbers i 0) [] ∷ []))
+
+-- the values of these in a column
+pub values_more : (place : ℕ) (before rows : List (List CellValue)) (numbers : List ℕ) (i : ℕ) (value : CellValue) → i < length numbers
+    → value_at (slice_index_or rows (get_or numbers i 0) []) place ≡ value
+    → values_in place (before ++ numbered (take (i + 1) numbers) rows) ≡ values_in place (before ++ numbered (take i numbers) rows) ++ filter is_value (value ∷ [])
+values_more place before rows numbers i value h at =
+    ap (values_in place) (one_row_more before rows numbers i h)
+    ∙ values_append place (before ++ numbered (take i numbers) rows) (slice_index_or rows (get_or numbers i 0) [] ∷ [])
+    ∙ ap (λ v. values_in place (before ++ numbered (take i numbers) rows) ++ filter is_value (v ∷ [])) at
+
+-- the first rows of those that join
+pub rows_front : (before rows : List (List CellValue)) (numbers : List ℕ) (k : ℕ)
+    → before ++ numbered numbers rows ≡ (before ++ numbered (take k numbers) rows) ++ numbered (drop k numbers) rows
+rows_front before rows numbers k =
+    ap (λ ns. before ++ numbered ns rows) (in_two numbers k)
+    ∙ ap (λ rs. before ++ rs) (map-append (λ n. slice_index_or rows n []) (take k numbers) (drop k numbers))
+    ∙ sym (append_assoc before (numbered (take k numbers) rows) (numbered (drop k numbers) rows))
+
+pub one_row_fits : (width : ℕ) (before rows : List (List CellValue)) (numbers : List ℕ) (i : ℕ) (aggregates : List Aggregate) → i < length numbers
+    → AllByRecursion (FitsAll width (before ++ numbered numbers rows)) aggregates
+    → AllByRecursion (FitsAll width ((before ++ numbered (take i numbers) rows) ++ slice_index_or rows (get_or numbers i 0) [] ∷ [])) aggregates
+one_row_fits width before rows numbers i aggregates h fits =
+    subst (λ rs. AllByRecursion (FitsAll width rs) aggregates) (one_row_more before rows numbers i h)
+    (all_fit_front width (before ++ numbered (take (i + 1) numbers) rows) (numbered (drop (i + 1) numbers) rows) aggregates
+    (subst (λ rs. AllByRecursion (FitsAll width rs) aggregates) (rows_front before rows numbers (i + 1)) fits))
+
+-- ---- the rows that are given
+
+group_of : (places : List ℕ) (n : ℕ) → n ≡ length places → (row : List CellValue) → length (values_at places row) ≡ n
+group_of places n e row = length-map places (value_at row) ∙ sym e
+
+kept_wide : (n : ℕ) (keeps : List CellValue → Bool) (vs : List (List CellValue)) → AllByRecursion (λ v. length v ≡ n) vs → AllByRecursion (λ v. length v ≡ n) (filter keeps vs)
+kept_wide n keeps [] a = tt
+kept_wide n keeps (v ∷ vs) a = by (keeps v) (kept_wide n keeps vs a.1)
+  where
+    by : (b : Bool) → AllByRecursion (λ v. length v ≡ n) (filter keeps vs) → AllByRecursion (λ v. length v ≡ n) (cond b (v ∷ filter keeps vs) (filter keeps vs))
+    by true h = (a.0, h)
+    by false h = h
+
+seen_wide : (n : ℕ) (vs : List (List CellValue)) → AllByRecursion (λ v. length v ≡ n) vs → AllByRecursion (λ v. length v ≡ n) (first_seen same_values vs)
+seen_wide n [] a = tt
+seen_wide n (v ∷ vs) a = (a.0, kept_wide n (λ w. not (same_values v w)) (first_seen same_values vs) (seen_wide n vs a.1))
+
+rows_wide : (places : List ℕ) (rows : List (List CellValue)) → AllByRecursion (λ v. length v ≡ length places) (map (values_at places) rows)
+rows_wide places [] = tt
+rows_wide places (row ∷ rows) = (length-map places (value_at row), rows_wide places rows)
+
+pub keys_wide : (places : Option (List ℕ)) (rows : List (List CellValue)) → AllByRecursion (λ v. length v ≡ key_width places) (keys_of places rows)
+keys_wide None rows = (refl, tt)
+keys_wide (Some places) rows = seen_wide (length places) (map (values_at places) rows) (rows_wide places rows)
+
+-- what is computed of rows, by aggregates without their names
+computed_plain : (aggregates : List NamedAggregateOf) (rows : List (List CellValue)) → map (computed_value rows) (map (λ a. a.aggregate) aggregates) ≡ computed_values aggregates rows
+computed_plain [] rows = refl
+computed_plain (a ∷ others) rows = ap (λ vs. computed_value rows a.aggregate ∷ vs) (computed_plain others rows)
+
+each_row : (aggregates : List NamedAggregateOf) (part : List CellValue → List (List CellValue)) (keys : List (List CellValue))
+    → map (λ key. key ++ map (computed_value (part key)) (map (λ a. a.aggregate) aggregates)) keys ≡ map (λ key. key ++ computed_values aggregates (part key)) keys
+each_row aggregates part [] = refl
+each_row aggregates part (key ∷ keys) = rw (computed_plain aggregates (part key), each_row aggregates part keys) refl
+
+pub plain_rows : (places : Option (List ℕ)) (aggregates : List NamedAggregateOf) (rows : List (List CellValue))
+    → rows_gathered places (map (λ a. a.aggregate) aggregates) rows ≡ gathered_rows places aggregates rows
+plain_rows None aggregates rows = ap (λ r. r ∷ []) (computed_plain aggregates rows)
+plain_rows (Some places) aggregates rows = each_row aggregates (rows_of_group places rows) (group_values places rows)
+
+-- as many tallies as keys
+module _ (places : Option (List ℕ)) (aggregates : List Aggregate) (groups : Groups) (rows : List (List CellValue)) (has : HasGroups places aggregates groups rows) where
+  pub as_many : length groups.tallies.items ≡ length (keys_of places rows)
+  as_many =
+      sym (zip_long (OfPart aggregates) (map (part_of places rows) (keys_of places rows)) groups.tallies.items has.tallies_are)
+      ∙ length-map (keys_of places rows) (part_of places rows)
+
+  pub as_many_keys : length groups.tallies.items ≡ length groups.keys.keys
+  as_many_keys = as_many ∙ sym (ap length has.keys_are) ∙ length-map groups.keys.keys (λ key. map value_view key.items)
+
+  pub tallies_at : (i : ℕ) (d : Vec Tally Global) → i < length groups.tallies.items
+      → AreTallies aggregates (part_of places rows (get_or (keys_of places rows) i [])) (get_or groups.tallies.items i d).items
+  tallies_at i d h =
+      let many = as_many in
+      subst (λ p. OfPart aggregates p (get_or groups.tallies.items i d)) (get_or-map (part_of places rows) (keys_of places rows) i [] [] (omega arith))
+      (zip_at (OfPart aggregates) (map (part_of places rows) (keys_of places rows)) groups.tallies.items i [] d has.tallies_are h)
+
+  pub key_at : (i : ℕ) (d : Vec Value Global) → i < length groups.tallies.items → map value_view (get_or groups.keys.keys i d).items ≡ get_or (keys_of places rows) i []
+  key_at i d h =
+      let many = as_many_keys in
+      sym (get_or-map (λ key. map value_view key.items) groups.keys.keys i d [] (omega arith)) ∙ ap (λ ks. get_or ks i []) has.keys_are
+
+  pub row_more : (i : ℕ) (row : List CellValue) → i < length groups.tallies.items
+      → row ≡ get_or (keys_of places rows) i [] ++ map (computed_value (part_of places rows (get_or (keys_of places rows) i []))) aggregates
+      → take (i + 1) (rows_gathered places aggregates rows) ≡ take i (rows_gathered places aggregates rows) ++ row ∷ []
+  row_more i row h is =
+      let many = as_many in
+      let long = length-map (keys_of places rows) (λ key. key ++ map (computed_value (part_of places rows key)) aggregates) in
+      take_more (rows_gathered places aggregates rows) i [] (omega arith)
+      ∙ ap (λ r. take i (rows_gathered places aggregates rows) ++ r ∷ [])
+      (get_or-map (λ key. key ++ map (computed_value (part_of places rows key)) aggregates) (keys_of places rows) i [] [] (omega arith) ∙ sym is)
+
+  pub row_kinds : (i width : ℕ) (kinds : List KindOf) (row : List CellValue) → i < length groups.tallies.items → key_width places ≡ width
+      → kinds ≡ replicate (width + length aggregates) any
+      → row ≡ get_or (keys_of places rows) i [] ++ map (computed_value (part_of places rows (get_or (keys_of places rows) i []))) aggregates → AreOfKinds kinds row
+  row_kinds i width kinds row h wide kinds_are is =
+      let many = as_many in
+      let key = get_or (keys_of places rows) i [] in
+      let computed = map (computed_value (part_of places rows key)) aggregates in
+      let long : length row ≡ width + length aggregates =
+      ap length is ∙ length-append key computed
+      ∙ ap (λ n. n + length computed) (all_at (λ v. length v ≡ key_width places) (keys_of places rows) i [] (keys_wide places rows) (omega arith) ∙ wide)
+      ∙ ap (λ n. width + n) (length-map aggregates (computed_value (part_of places rows key))) in
+      subst (λ ks. AreOfKinds ks row) (sym kinds_are) (subst (λ n. AreOfKinds (replicate n any) row) long (of_any row))
+
+-- ---- rows join
+
+plain_fit : (P : Aggregate → Type 0) (aggregates : List NamedAggregateOf) → AllByRecursion (λ (a : NamedAggregateOf). P a.aggregate) aggregates
+    → AllByRecursion P (map (λ a. a.aggregate) aggregates)
+plain_fit P [] a = tt
+plain_fit P (n ∷ aggregates) a = (a.0, plain_fit P aggregates a.1)
+
+pub groups_may_join : (gathering : Gathering) (width : ℕ) (more : List (List CellValue)) (may : MayJoin gathering width more) (places : Option (List ℕ)) (aggregates : List Aggregate)
+    → optional_numbers gathering.places ≡ places → aggregates ≡ gathering.aggregates.items → MayJoinGroups places aggregates width gathering.groups more
+groups_may_join gathering width more may places aggregates places_are aggregates_are = record {
+  rows = may.rows;
+  has = subst (λ ps. HasGroups ps aggregates gathering.groups may.rows) (sym may.gathers.places_are ∙ places_are)
+      (subst (λ plain. HasGroups may.places plain gathering.groups may.rows) (sym aggregates_are) may.gathers.groups_are);
+  fits = subst (AllByRecursion (FitsAll width (may.rows ++ more))) (sym (aggregates_are ∙ may.gathers.aggregates_are))
+      (plain_fit (FitsAll width (may.rows ++ more)) may.aggregates
+      (recursion_from_All (λ (a : NamedAggregateOf). FitsAll width (may.rows ++ more) a.aggregate) may.aggregates may.fits));
+}
+
+pub groups_join : (old new : Gathering) (more : List (List CellValue)) (places : Option (List ℕ)) (aggregates : List Aggregate) → new.places ≡ old.places
+    → new.aggregates ≡ old.aggregates → optional_numbers old.places ≡ places → aggregates ≡ old.aggregates.items → JoinsGroups places aggregates old.groups new.groups more
+    → Joins old new more
+groups_join old new more places aggregates same_places same_aggregates places_are aggregates_are joins = λ wanted named rows g.
+    let is : places ≡ wanted = sym places_are ∙ g.places_are in
+    let plain : aggregates ≡ new.aggregates.items = aggregates_are ∙ sym (ap (λ (v : Vec Aggregate Global). v.items) same_aggregates) in
+    record {
+      places_are = ap optional_numbers same_places ∙ g.places_are;
+      aggregates_are = ap (λ (v : Vec Aggregate Global). v.items) same_aggregates ∙ g.aggregates_are;
+      groups_are =
+          subst (λ ps. HasGroups ps new.aggregates.items new.groups (rows ++ more)) is
+          (subst (λ as_plain. HasGroups places as_plain new.groups (rows ++ more)) plain
+          (joins rows
+          (subst (λ ps. HasGroups ps aggregates old.groups rows) (sym is) (subst (λ as_plain. HasGroups wanted as_plain old.groups rows) (sym aggregates_are) g.groups_are))));
+    }

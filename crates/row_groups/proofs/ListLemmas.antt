@@ -1,0 +1,188 @@
+-- Lists, and how many different elements they have, where one more comes behind them.
+use Rattle.std.proofs.Common.{◌≡◌, ℕ, zero, suc, ◌+◌, ◌<◌, ◌≤◌, Bool, true, false, cond, ◌||◌, Option, Some, None, List, [], ◌∷◌, ◌++◌, length, take, drop, get_or, inl, inr, refl, sym, ap, subst, ◌∙◌, arith}
+use Rattle.std.specs.Prelude.{Result, Ok, Err, IfOk, OnOk, slice_set}
+use Rattle.std.specs.List.{AllByRecursion, AllZip, cons_option, filter_map, list_any}
+use Rattle.std.specs.Set.{distinct_count, unique_keys}
+use Rattle.std.proofs.lemmas.Bool.{cases_Bool, false≢true}
+use Rattle.std.proofs.lemmas.List.Folds.{list_any-append}
+
+pub append_none : {X : Type 0} (xs : List X) → xs ++ [] ≡ xs
+append_none [] = refl
+append_none (x ∷ xs) = ap (λ ys. x ∷ ys) (append_none xs)
+
+pub in_two : {X : Type 0} (xs : List X) (k : ℕ) → xs ≡ take k xs ++ drop k xs
+in_two xs zero = refl
+in_two [] (suc k) = refl
+in_two (x ∷ xs) (suc k) = ap (λ ys. x ∷ ys) (in_two xs k)
+
+pub filter_map_append : {X Y : Type 0} (f : X → Option Y) (xs ys : List X) → filter_map f (xs ++ ys) ≡ filter_map f xs ++ filter_map f ys
+filter_map_append f [] ys = refl
+filter_map_append {X} {Y} f (x ∷ xs) ys = by (f x) (filter_map_append f xs ys)
+  where
+    by : (o : Option Y) → filter_map f (xs ++ ys) ≡ filter_map f xs ++ filter_map f ys → cons_option o (filter_map f (xs ++ ys)) ≡ cons_option o (filter_map f xs) ++ filter_map f ys
+    by None h = h
+    by (Some y) h = ap (λ zs. y ∷ zs) h
+
+module _ {X : Type 0} (P : X → Type 0) where
+  pub all_append : (xs ys : List X) → AllByRecursion P xs → AllByRecursion P ys → AllByRecursion P (xs ++ ys)
+  all_append [] ys a b = b
+  all_append (x ∷ xs) ys a b = (a.0, all_append xs ys a.1 b)
+
+  pub all_front : (xs ys : List X) → AllByRecursion P (xs ++ ys) → AllByRecursion P xs
+  all_front [] ys a = tt
+  all_front (x ∷ xs) ys a = (a.0, all_front xs ys a.1)
+
+  pub all_behind : (xs ys : List X) → AllByRecursion P (xs ++ ys) → AllByRecursion P ys
+  all_behind [] ys a = a
+  all_behind (x ∷ xs) ys a = all_behind xs ys a.1
+
+  pub all_at : (xs : List X) (i : ℕ) (d : X) → AllByRecursion P xs → i < length xs → P (get_or xs i d)
+  all_at [] i d a h = absurd (omega arith)
+  all_at (x ∷ xs) zero d a h = a.0
+  all_at (x ∷ xs) (suc i) d a h = all_at xs i d a.1 (omega arith)
+
+pub all_by_each : {X : Type 0} (P Q : X → Type 0) → ((x : X) → P x → Q x) → (xs : List X) → AllByRecursion P xs → AllByRecursion Q xs
+all_by_each P Q f [] a = tt
+all_by_each P Q f (x ∷ xs) a = (f x a.0, all_by_each P Q f xs a.1)
+
+pub on_ok : {X E : Type 0} (P Q : Type 0) → (P → Q) → (r : Result X E) → OnOk r P → OnOk r Q
+on_ok P Q f (Ok x) h = f h
+on_ok P Q f (Err e) h = h
+
+pub if_ok : {X E : Type 0} (P Q : X → Type 0) → ((x : X) → P x → Q x) → (r : Result X E) → IfOk r P → IfOk r Q
+if_ok P Q f (Ok x) h = f x h
+if_ok P Q f (Err e) h = h
+
+or_false : (b : Bool) → (b || false) ≡ b
+or_false true = refl
+or_false false = refl
+
+or_true : (b : Bool) → (b || true) ≡ true
+or_true true = refl
+or_true false = refl
+
+module _ {X : Type 0} (eq : X → X → Bool) (is : (a b : X) → eq a b ≡ true → a ≡ b) (self : (a : X) → eq a a ≡ true) where
+  member_more : (xs : List X) (y v : X) → list_any (eq v) (xs ++ y ∷ []) ≡ (list_any (eq v) xs || eq v y)
+  member_more xs y v = list_any-append (eq v) xs (y ∷ []) ∙ ap (λ b. list_any (eq v) xs || b) (or_false (eq v y))
+
+  -- one that is there already adds nothing
+  pub there_already : (xs : List X) (y v : X) → list_any (eq y) xs ≡ true → list_any (eq v) (xs ++ y ∷ []) ≡ list_any (eq v) xs
+  there_already xs y v there = member_more xs y v ∙ elim (cases_Bool (eq v y)) as (λ _. (list_any (eq v) xs || eq v y) ≡ list_any (eq v) xs) [
+    | inl e ↦ let same : list_any (eq v) xs ≡ true = subst (λ z. list_any (eq z) xs ≡ true) (sym (is v y e)) there in rw same refl
+    | inr e ↦ rw e (or_false (list_any (eq v) xs))
+  ]
+
+  turned : (a b : X) → eq a b ≡ false → eq b a ≡ false
+  turned a b e = elim (cases_Bool (eq b a)) [
+    | inl t ↦ (let same : b ≡ a = is b a t in absurd (false≢true (sym e ∙ subst (λ z. eq z b ≡ true) same (self b))))
+    | inr f ↦ f
+  ]
+
+  count_cons : (x : X) (xs : List X) → distinct_count eq (x ∷ xs) ≡ cond (list_any (eq x) xs) (distinct_count eq xs) (suc (distinct_count eq xs))
+  count_cons x xs = by (list_any (eq x) xs)
+    where
+      by : (b : Bool) → length (cond b (unique_keys eq xs) (x ∷ unique_keys eq xs)) ≡ cond b (distinct_count eq xs) (suc (distinct_count eq xs))
+      by true = refl
+      by false = refl
+
+  -- or it is one more
+  pub count_behind : (xs : List X) (y : X) → distinct_count eq (xs ++ y ∷ []) ≡ cond (list_any (eq y) xs) (distinct_count eq xs) (suc (distinct_count eq xs))
+  count_behind [] y = refl
+  count_behind (x ∷ xs) y =
+      count_cons x (xs ++ y ∷ [])
+      ∙ ap (λ b. cond b (distinct_count eq (xs ++ y ∷ [])) (suc (distinct_count eq (xs ++ y ∷ [])))) (member_more xs y x)
+      ∙ ap (λ n. cond (list_any (eq x) xs || eq x y) n (suc n)) (count_behind xs y)
+      ∙ cases
+      ∙ sym (ap (λ n. cond (eq y x || list_any (eq y) xs) n (suc n)) (count_cons x xs))
+    where
+      on : (a b c : Bool) (k : ℕ) → (c ≡ true → a ≡ b) → cond (a || c) (cond b k (suc k)) (suc (cond b k (suc k))) ≡ cond (c || b) (cond a k (suc k)) (suc (cond a k (suc k)))
+      on true true true k h = refl
+      on true true false k h = refl
+      on true false true k h = absurd (false≢true (sym (h refl)))
+      on true false false k h = refl
+      on false true true k h = absurd (false≢true (h refl))
+      on false true false k h = refl
+      on false false true k h = refl
+      on false false false k h = refl
+
+      same_sides : eq x y ≡ eq y x
+      same_sides = elim (cases_Bool (eq x y)) [
+        | inl t ↦ let e : x ≡ y = is x y t in t ∙ sym (subst (λ z. eq y z ≡ true) (sym e) (self y))
+        | inr f ↦ f ∙ sym (turned x y f)
+      ]
+
+      cases : cond (list_any (eq x) xs || eq x y) (cond (list_any (eq y) xs) (distinct_count eq xs) (suc (distinct_count eq xs))) (suc (cond (list_any (eq y) xs) (distinct_count eq xs) (suc (distinct_count eq xs))))
+          ≡ cond (eq y x || list_any (eq y) xs) (cond (list_any (eq x) xs) (distinct_count eq xs) (suc (distinct_count eq xs))) (suc (cond (list_any (eq x) xs) (distinct_count eq xs) (suc (distinct_count eq xs))))
+      cases =
+          on (list_any (eq x) xs) (list_any (eq y) xs) (eq x y) (distinct_count eq xs) (λ t. ap (λ z. list_any (eq z) xs) (is x y t))
+          ∙ ap (λ c. cond (c || list_any (eq y) xs) (cond (list_any (eq x) xs) (distinct_count eq xs) (suc (distinct_count eq xs))) (suc (cond (list_any (eq x) xs) (distinct_count eq xs) (suc (distinct_count eq xs))))) same_sides
+
+-- ---- a list beside another
+
+module _ {A B : Type 0} (R : A → B → Type 0) where
+  pub zip_long : (xs : List A) (ys : List B) → AllZip R xs ys → length xs ≡ length ys
+  zip_long [] [] z = refl
+  zip_long [] (y ∷ ys) z = absurd z
+  zip_long (x ∷ xs) [] z = absurd z
+  zip_long (x ∷ xs) (y ∷ ys) z = ap suc (zip_long xs ys z.1)
+
+  pub zip_at : (xs : List A) (ys : List B) (i : ℕ) (d : A) (e : B) → AllZip R xs ys → i < length ys → R (get_or xs i d) (get_or ys i e)
+  zip_at [] [] i d e z h = absurd (omega arith)
+  zip_at [] (y ∷ ys) i d e z h = absurd z
+  zip_at (x ∷ xs) [] i d e z h = absurd z
+  zip_at (x ∷ xs) (y ∷ ys) zero d e z h = z.0
+  zip_at (x ∷ xs) (y ∷ ys) (suc i) d e z h = zip_at xs ys i d e z.1 (omega arith)
+
+  pub zip_push : (xs : List A) (ys : List B) (x : A) (y : B) → AllZip R xs ys → R x y → AllZip R (xs ++ x ∷ []) (ys ++ y ∷ [])
+  zip_push [] [] x y z r = (r, tt)
+  zip_push [] (b ∷ ys) x y z r = absurd z
+  zip_push (a ∷ xs) [] x y z r = absurd z
+  zip_push (a ∷ xs) (b ∷ ys) x y z r = (z.0, zip_push xs ys x y z.1 r)
+
+-- the first so many by one relation, the others by another
+abbrev pub ZipFrom : {A B : Type 0} → (A → B → Type 0) → (A → B → Type 0) → ℕ → List A → List B → Type 0
+ZipFrom R S zero xs ys = AllZip S xs ys
+ZipFrom R S (suc i) [] [] = Unit {0}
+ZipFrom R S (suc i) [] (y ∷ ys) = ⊥
+ZipFrom R S (suc i) (x ∷ xs) [] = ⊥
+ZipFrom R S (suc i) (x ∷ xs) (y ∷ ys) = R x y × ZipFrom R S i xs ys
+
+module _ {A B : Type 0} (R S : A → B → Type 0) where
+  pub next_by : (xs : List A) (ys : List B) (i : ℕ) (d : A) (e : B) → ZipFrom R S i xs ys → i < length xs → S (get_or xs i d) (get_or ys i e)
+  next_by [] ys i d e z h = absurd (omega arith)
+  next_by (x ∷ xs) [] zero d e z h = absurd z
+  next_by (x ∷ xs) [] (suc i) d e z h = absurd z
+  next_by (x ∷ xs) (y ∷ ys) zero d e z h = z.0
+  next_by (x ∷ xs) (y ∷ ys) (suc i) d e z h = next_by xs ys i d e z.1 (omega arith)
+
+  one_more : (xs : List A) (ys : List B) (i : ℕ) (d : A) (y : B) → ZipFrom R S i xs ys → i < length xs → R (get_or xs i d) y → ZipFrom R S (suc i) xs (slice_set ys i y)
+  one_more [] ys i d y z h r = absurd (omega arith)
+  one_more (x ∷ xs) [] zero d y z h r = absurd z
+  one_more (x ∷ xs) [] (suc i) d y z h r = absurd z
+  one_more (x ∷ xs) (b ∷ ys) zero d y z h r = (r, z.1)
+  one_more (x ∷ xs) (b ∷ ys) (suc i) d y z h r = (z.0, one_more xs ys i d y z.1 (omega arith) r)
+
+  pub one_more_by : (xs : List A) (ys : List B) (i : ℕ) (d : A) (y : B) → ZipFrom R S i xs ys → i < length xs → R (get_or xs i d) y → ZipFrom R S (i + 1) xs (slice_set ys i y)
+  one_more_by xs ys i d y z h r = let e : suc i ≡ i + 1 = omega arith in subst (λ k. ZipFrom R S k xs (slice_set ys i y)) e (one_more xs ys i d y z h r)
+
+  pub all_by : (xs : List A) (ys : List B) (i : ℕ) → ZipFrom R S i xs ys → length xs ≤ i → AllZip R xs ys
+  all_by [] [] i z h = tt
+  all_by [] (y ∷ ys) zero z h = absurd z
+  all_by [] (y ∷ ys) (suc i) z h = absurd z
+  all_by (x ∷ xs) ys zero z h = absurd (omega arith)
+  all_by (x ∷ xs) [] (suc i) z h = absurd z
+  all_by (x ∷ xs) (y ∷ ys) (suc i) z h = (z.0, all_by xs ys i z.1 (omega arith))
+
+  pub from_long : (xs : List A) (ys : List B) (i : ℕ) → ZipFrom R S i xs ys → length xs ≡ length ys
+  from_long xs ys zero z = zip_long S xs ys z
+  from_long [] [] (suc i) z = refl
+  from_long [] (y ∷ ys) (suc i) z = absurd z
+  from_long (x ∷ xs) [] (suc i) z = absurd z
+  from_long (x ∷ xs) (y ∷ ys) (suc i) z = ap suc (from_long xs ys i z.1)
+
+pub zip_set : {A B : Type 0} (R : A → B → Type 0) (xs : List A) (ys : List B) (i : ℕ) (x : A) (y : B) → AllZip R xs ys → R x y → AllZip R (slice_set xs i x) (slice_set ys i y)
+zip_set R [] [] i x y z r = tt
+zip_set R [] (b ∷ ys) i x y z r = absurd z
+zip_set R (a ∷ xs) [] i x y z r = absurd z
+zip_set R (a ∷ xs) (b ∷ ys) zero x y z r = (r, z.1)
+zip_set R (a ∷ xs) (b ∷ ys) (suc i) x y z r = (z.0, zip_set R xs ys i x y z.1 r)

@@ -1,8 +1,0 @@
-use Rattle.std.proofs.Common.{map, take}
-use Rattle.cell_types.specs.Value.{value_view}
-use Rattle.row_groups.proofs.GroupLemmas.{IsGrouped}
-use Rattle.row_groups.proofs.groups.Groups.of_values.Given as goal
-
--- the groups of the rows so far
-abbrev pub invariant-loop-number : goal.invariant-loop-number
-invariant-loop-number l = IsGrouped l.columns.rows l.places (take l.number-index l.numbers) (map (λ key. map value_view key.items) l.keys.keys) l.groups

@@ -1,0 +1,25 @@
+use Rattle.std.proofs.Common.{◌++◌, get_or, map, sym, subst, take}
+use Rattle.std.proofs.lemmas.List.{take_all}
+use Rattle.cell_types.specs.Value.{value_view}
+use Rattle.query_plan.specs.Apply.{values_in}
+use Rattle.row_columns.specs.Picked.{numbered}
+use Rattle.row_groups.specs.Tallies.{HasDistinct}
+use Rattle.row_groups.proofs.GatheredLemmas.{values_more}
+use Rattle.row_groups.proofs.RowLemmas.{value_there}
+use Rattle.row_groups.proofs.tally.join_values.Goals as goal
+
+pub loop-number-preserved : goal.loop-number-preserved
+loop-number-preserved c = λ rows is.
+    let numbers = c.args.numbers.now in
+    let others = c.args.columns.now.rows in
+    let place = c.args.place in
+    let i = c.loop-number.number-index in
+    let v = value_view c.value.result in
+    subst (HasDistinct (map value_view c.join_value.new.values.keys))
+    (sym (values_more place rows others numbers i v c.loop-number-test.true (value_there others (get_or numbers i 0) place v c.value.ensures)))
+    (c.in_ok-join_value.ensures (values_in place (rows ++ numbered (take i numbers) others)) (c.loop-number.invariant rows is))
+
+pub returns : goal.returns
+returns c = λ rows is.
+    subst (λ ns. HasDistinct (map value_view c.loop-number.values.keys) (values_in c.args.place (rows ++ numbered ns c.args.columns.now.rows)))
+    (take_all c.loop-number.number-index c.args.numbers.now c.loop-number-test.false) (c.loop-number.invariant rows is)

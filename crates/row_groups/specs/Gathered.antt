@@ -1,0 +1,86 @@
+-- The rows of `aggregate` and of `groupby` (OData Data Aggregation 4.0, sections 3.2.1 and 3.2.3), gathered while the rows come of which they are computed.
+use Rattle.std.specs.Prelude.{◌≡◌, ◌<◌, ◌+◌, ◌++◌, ℕ, List, [], ◌∷◌, Option, Some, None, IfSome, length, map}
+use Rattle.std.specs.List.{All, AllByRecursion, AllZip}
+use Rattle.cell_types.specs.Value.{CellValue, value_view}
+use Rattle.odata_query.specs.declared.aggregate.Aggregate.{Aggregate}
+use Rattle.odata_query.specs.Aggregate.{NamedAggregateOf}
+use Rattle.odata_query.specs.Query.{optional_numbers}
+use Rattle.query_plan.specs.Apply.{computed_value, computed_values, group_values, rows_of_group, values_at}
+use Rattle.row_groups.specs.declared.gathering.Gathering.{Gathering}
+use Rattle.row_groups.specs.declared.groups.Groups.{Groups}
+use Rattle.row_groups.specs.Groups.{grouped_rows}
+use Rattle.row_groups.specs.Tallies.{AreTallies, FitsAll}
+
+-- one row of aggregates of all rows, or a row for each group of those with the same values in some columns
+abbrev pub gathered_rows : Option (List ℕ) → List NamedAggregateOf → List (List CellValue) → List (List CellValue)
+gathered_rows None aggregates rows = computed_values aggregates rows ∷ []
+gathered_rows (Some places) aggregates rows = grouped_rows places aggregates rows
+
+-- how many columns these have
+abbrev pub gathered_width : Option (List ℕ) → List NamedAggregateOf → ℕ
+gathered_width None aggregates = length aggregates
+gathered_width (Some places) aggregates = length places + length aggregates
+
+-- the values of each group, and the rows of one: all rows are one group of no values
+abbrev pub keys_of : Option (List ℕ) → List (List CellValue) → List (List CellValue)
+keys_of None rows = [] ∷ []
+keys_of (Some places) rows = group_values places rows
+
+abbrev pub part_of : Option (List ℕ) → List (List CellValue) → List CellValue → List (List CellValue)
+part_of None rows key = rows
+part_of (Some places) rows key = rows_of_group places rows key
+
+-- those are the groups of the rows: their values, and what is kept of the rows of each
+pub record HasGroups (places : Option (List ℕ)) (aggregates : List Aggregate) (groups : Groups) (rows : List (List CellValue)) : Type 0 where
+  pub keys_are : map (λ key. map value_view key.items) groups.keys.keys ≡ keys_of places rows
+  pub tallies_are : AllZip (λ part tallies. AreTallies aggregates part tallies.items) (map (part_of places rows) (keys_of places rows)) groups.tallies.items
+
+-- The rows joined, one after another: for these aggregates, of all of them or of the groups by their values in some columns.
+pub record Gathers (gathering : Gathering) (places : Option (List ℕ)) (aggregates : List NamedAggregateOf) (rows : List (List CellValue)) : Type 0 where
+  pub places_are : optional_numbers gathering.places ≡ places
+  pub aggregates_are : gathering.aggregates.items ≡ map (λ a. a.aggregate) aggregates
+  pub groups_are : HasGroups places gathering.aggregates.items gathering.groups rows
+
+-- more rows, of so many columns, may join: some did, and the aggregates can be computed of all of them
+pub record MayJoin (gathering : Gathering) (width : ℕ) (more : List (List CellValue)) : Type 0 where
+  pub places : Option (List ℕ)
+  pub aggregates : List NamedAggregateOf
+  pub rows : List (List CellValue)
+  pub gathers : Gathers gathering places aggregates rows
+  pub within : IfSome places (All (λ place. place < width))
+  pub fits : All (λ a. FitsAll width (rows ++ more) a.aggregate) aggregates
+
+-- these joined behind those that did
+abbrev pub Joins : Gathering → Gathering → List (List CellValue) → Type 0
+Joins old new more = (places : Option (List ℕ)) (aggregates : List NamedAggregateOf) (rows : List (List CellValue)) → Gathers old places aggregates rows
+    → Gathers new places aggregates (rows ++ more)
+
+-- ---- inside
+
+pub record MayJoinGroups (places : Option (List ℕ)) (aggregates : List Aggregate) (width : ℕ) (old : Groups) (more : List (List CellValue)) : Type 0 where
+  pub rows : List (List CellValue)
+  pub has : HasGroups places aggregates old rows
+  pub fits : AllByRecursion (FitsAll width (rows ++ more)) aggregates
+
+abbrev pub JoinsGroups : Option (List ℕ) → List Aggregate → Groups → Groups → List (List CellValue) → Type 0
+JoinsGroups places aggregates old new more = (rows : List (List CellValue)) → HasGroups places aggregates old rows → HasGroups places aggregates new (rows ++ more)
+
+-- a row with these values joins their group
+pub record MayJoinRow (aggregates : List Aggregate) (width : ℕ) (old : Groups) (key row : List CellValue) : Type 0 where
+  pub places : List ℕ
+  pub rows : List (List CellValue)
+  pub key_is : key ≡ values_at places row
+  pub has : HasGroups (Some places) aggregates old rows
+  pub fits : AllByRecursion (FitsAll width (rows ++ row ∷ [])) aggregates
+
+abbrev pub JoinsRow : List Aggregate → Groups → Groups → List CellValue → List CellValue → Type 0
+JoinsRow aggregates old new key row = (places : List ℕ) (rows : List (List CellValue)) → key ≡ values_at places row → HasGroups (Some places) aggregates old rows
+    → HasGroups (Some places) aggregates new (rows ++ row ∷ [])
+
+-- how many values make a group, and for each group these and what is computed of its rows
+abbrev pub key_width : Option (List ℕ) → ℕ
+key_width None = 0
+key_width (Some places) = length places
+
+abbrev pub rows_gathered : Option (List ℕ) → List Aggregate → List (List CellValue) → List (List CellValue)
+rows_gathered places aggregates rows = map (λ key. key ++ map (computed_value (part_of places rows key)) aggregates) (keys_of places rows)

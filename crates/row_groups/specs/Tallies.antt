@@ -1,0 +1,60 @@
+-- What is kept of rows while they come, for each aggregate (OData Data Aggregation 4.0, section 3.1.3).
+use Rattle.std.specs.Prelude.{◌≡◌, ◌<◌, ◌++◌, ◌^◌, ℕ, List, length, map}
+use Rattle.std.specs.List.{AllByRecursion, AllZip, list_any}
+use Rattle.std.specs.Set.{distinct_count}
+use Rattle.cell_types.specs.Value.{CellValue, value_eq, value_view}
+use Rattle.odata_query.specs.declared.aggregate.Aggregate.{Aggregate}
+use Rattle.odata_query.specs.declared.aggregate.Aggregate.TheVariants.{Count, SumOfIntegers, SumOfDecimals, Min, Max, CountDistinct}
+use Rattle.query_plan.specs.Apply.{computed_value, values_in}
+use Rattle.query_plan.specs.Fitting.{AreSummable}
+use Rattle.row_groups.specs.declared.tally.Tally.{Tally}
+use Rattle.row_groups.specs.declared.tally.Tally.TheVariants as tally
+use Rattle.row_groups.specs.Computed.{decimals_in, integers_in}
+use Rattle.row_groups.specs.Sums.{sum_of}
+
+-- values have each of some others once
+pub record HasDistinct (keys values : List CellValue) : Type 0 where
+  pub count : length keys ≡ distinct_count value_eq values
+  pub same : (v : CellValue) → list_any (value_eq v) keys ≡ list_any (value_eq v) values
+
+-- how many rows there were; the sum of their numbers; the least or the greatest of their values; each of their values
+abbrev pub IsTally : Aggregate → List (List CellValue) → Tally → Type 0
+IsTally Count rows (tally.Count count) = count ≡ length rows
+IsTally (SumOfIntegers place) rows (tally.Sum sum) = sum ≡ sum_of (integers_in place rows)
+IsTally (SumOfDecimals place) rows (tally.Sum sum) = sum ≡ sum_of (decimals_in place rows)
+IsTally (Min place) rows (tally.Extreme value) = value_view value ≡ computed_value rows (Min place)
+IsTally (Max place) rows (tally.Extreme value) = value_view value ≡ computed_value rows (Max place)
+IsTally (CountDistinct place) rows (tally.Distinct values) = HasDistinct (map value_view values.keys) (values_in place rows)
+IsTally _ _ _ = ⊥
+
+-- of each aggregate
+abbrev pub AreTallies : List Aggregate → List (List CellValue) → List Tally → Type 0
+AreTallies aggregates rows tallies = AllZip (λ a t. IsTally a rows t) aggregates tallies
+
+-- an aggregate can be computed of rows of so many columns: its column is there, the number of the rows fits 64 bits, and each sum fits 128
+abbrev pub FitsAll : ℕ → List (List CellValue) → Aggregate → Type 0
+FitsAll width rows Count = length rows < 2 ^ 64
+FitsAll width rows (SumOfIntegers place) = (place < width) × AreSummable (integers_in place rows) (length rows)
+FitsAll width rows (SumOfDecimals place) = (place < width) × AreSummable (decimals_in place rows) (length rows)
+FitsAll width rows (Min place) = place < width
+FitsAll width rows (Max place) = place < width
+FitsAll width rows (CountDistinct place) = place < width
+
+-- more rows may join those of a tally: it is that of some, and the aggregate can be computed of all of them
+pub record MayTally (aggregate : Aggregate) (width : ℕ) (old : Tally) (more : List (List CellValue)) : Type 0 where
+  pub rows : List (List CellValue)
+  pub tally : IsTally aggregate rows old
+  pub fits : FitsAll width (rows ++ more) aggregate
+
+-- more rows joined them
+abbrev pub Tallies : Aggregate → Tally → Tally → List (List CellValue) → Type 0
+Tallies aggregate old new more = (rows : List (List CellValue)) → IsTally aggregate rows old → IsTally aggregate (rows ++ more) new
+
+-- the same of each aggregate
+pub record MayTallyEach (aggregates : List Aggregate) (width : ℕ) (old : List Tally) (more : List (List CellValue)) : Type 0 where
+  pub rows : List (List CellValue)
+  pub tallies : AreTallies aggregates rows old
+  pub fits : AllByRecursion (FitsAll width (rows ++ more)) aggregates
+
+abbrev pub TalliesEach : List Aggregate → List Tally → List Tally → List (List CellValue) → Type 0
+TalliesEach aggregates old new more = (rows : List (List CellValue)) → AreTallies aggregates rows old → AreTallies aggregates (rows ++ more) new

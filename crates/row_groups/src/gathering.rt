@@ -1,0 +1,131 @@
+//! Rows of `aggregate` and of `groupby` (OData Data Aggregation 4.0, sections 3.2.1 and 3.2.3), gathered while the rows come of which they
+//! are computed.
+ghost use Rattle.std.specs.Prelude.{◌≡◌, ◌<◌, ℕ, [], IfOk, IfSome, List, OnOk, Option, length, map, option_map};
+ghost use Rattle.std.specs.List.{All};
+ghost use Rattle.cell_types.specs.Value.{CellValue};
+ghost use Rattle.odata_query.specs.Aggregate.{named_view, NamedAggregateOf};
+ghost use Rattle.row_columns.specs.Picked.{numbered};
+ghost use Rattle.row_groups.specs.Gathered.{gathered_rows, gathered_width, Gathers, Joins, MayJoin};
+ghost use Rattle.row_groups.specs.Tallies.{FitsAll};
+
+use crate::groups::Groups;
+use odata_query::{Aggregate, NamedAggregate};
+use row_columns::Columns;
+use std::alloc::{AllocError, Global};
+
+/// What rows come to, of which more may come: it keeps no row.
+#[derive(Drop)]
+pub struct Gathering {
+    /// The columns by whose values rows are grouped; without them all rows are one group.
+    pub(crate) places: Option<Vec<usize>>,
+    pub(crate) aggregates: Vec<Aggregate>,
+    pub(crate) groups: Groups,
+}
+
+impl Gathering {
+    /// Of no rows.
+    pub fn new(
+        alloc: Global,
+        places: Option<&[usize]>,
+        aggregates: &[NamedAggregate],
+    ) -> Result<Gathering, AllocError>
+        ensures { IfOk result (λ made. Gathers made (option_map (λ places. places.now) places.entry)
+            (map named_view aggregates.now) []) }
+    {
+        let aggregates = aggregates_of(alloc, aggregates)?;
+        match places {
+            None => {
+                let groups = Groups::whole(alloc, &aggregates)?;
+                Ok(Gathering {
+                    places: None,
+                    aggregates,
+                    groups,
+                })
+            }
+            Some(places) => Ok(Gathering {
+                places: Some(Vec::from_slice(alloc, places)?),
+                aggregates,
+                groups: Groups::none(alloc),
+            }),
+        }
+    }
+
+    /// The rows with these numbers join, behind those that did before. Where memory ran out, it is not known which did.
+    pub fn join(
+        &mut self,
+        alloc: Global,
+        columns: &Columns,
+        numbers: &[usize],
+    ) -> Result<(), AllocError>
+        requires within { All (λ number. number < length columns.now.rows) numbers.now }
+        requires joins { MayJoin self.old (length columns.now.kinds)
+            (numbered numbers.now columns.now.rows) }
+        ensures { OnOk result (Joins self.old self.new (numbered numbers.now columns.now.rows)) }
+    {
+        match &self.places {
+            None => self
+                .groups
+                .join_whole(alloc, columns, numbers, &self.aggregates),
+            Some(places) => {
+                self.groups
+                    .join_rows(alloc, columns, numbers, places, &self.aggregates)
+            }
+        }
+    }
+
+    /// The one row of `aggregate`, or the rows of `groupby`, of all rows that joined, in columns of any. Groups are in the order of their first rows.
+    pub fn finish(self, alloc: Global) -> Result<Columns, AllocError>
+        requires { (places : Option (List ℕ)) × (aggregates : List NamedAggregateOf)
+            × (rows : List (List CellValue)) × Gathers self places aggregates rows }
+        ensures width { IfOk result (λ made. (places : Option (List ℕ))
+            (aggregates : List NamedAggregateOf) (rows : List (List CellValue))
+            → Gathers self places aggregates rows
+            → length made.kinds ≡ gathered_width places aggregates) }
+        ensures rows { IfOk result (λ made. (places : Option (List ℕ))
+            (aggregates : List NamedAggregateOf) (rows : List (List CellValue))
+            → Gathers self places aggregates rows
+            → made.rows ≡ gathered_rows places aggregates rows) }
+    {
+        let width = match &self.places {
+            None => 0,
+            Some(places) => places.len(),
+        };
+        self.groups.rows(alloc, width, &self.aggregates)
+    }
+}
+
+/// What the aggregates compute of the rows with these numbers, or of their groups by their values in columns.
+pub fn gathered(
+    alloc: Global,
+    columns: &Columns,
+    numbers: &[usize],
+    places: Option<&[usize]>,
+    aggregates: &[NamedAggregate],
+) -> Result<Columns, AllocError>
+    requires within { All (λ number. number < length columns.now.rows) numbers.now }
+    requires places { IfSome places
+        (λ places. All (λ place. place < length columns.now.kinds) places.now) }
+    requires fits { All (λ a. FitsAll (length columns.now.kinds)
+        (numbered numbers.now columns.now.rows) a.aggregate) (map named_view aggregates.now) }
+    ensures width { IfOk result (λ made. length made.kinds
+        ≡ gathered_width (option_map (λ places. places.now) places.entry) (map named_view aggregates.now)) }
+    ensures rows { IfOk result (λ made. made.rows
+        ≡ gathered_rows (option_map (λ places. places.now) places.entry) (map named_view aggregates.now)
+        (numbered numbers.now columns.now.rows)) }
+{
+    let mut gathering = Gathering::new(alloc, places, aggregates)?;
+    gathering.join(alloc, columns, numbers)?;
+    gathering.finish(alloc)
+}
+
+/// The aggregates without their names.
+fn aggregates_of(alloc: Global, aggregates: &[NamedAggregate]) -> Result<Vec<Aggregate>, AllocError>
+    ensures { IfOk result (λ made. made.items
+        ≡ map (λ a. a.aggregate) (map named_view aggregates.now)) }
+{
+    let mut made = Vec::with_capacity(alloc, aggregates.len())?;
+    for named in aggregates {
+        made.push(named.aggregate)?;
+    }
+    Ok(made)
+}

@@ -1,0 +1,69 @@
+//! What is computed of some rows, for each of some aggregates.
+ghost use Rattle.std.specs.Prelude.{◌≡◌, ◌<◌, ◌++◌, [], IfOk, List, OnOk, length, map};
+ghost use Rattle.std.specs.List.{All};
+ghost use Rattle.cell_types.specs.Value.{CellValue, value_view};
+ghost use Rattle.query_plan.specs.Apply.{computed_value};
+ghost use Rattle.row_columns.specs.Picked.{numbered};
+ghost use Rattle.row_groups.specs.Tallies.{AreTallies, MayTallyEach, TalliesEach};
+
+use crate::tally::{Tally, lent};
+use cell_types::Value;
+use odata_query::Aggregate;
+use row_columns::Columns;
+use std::alloc::{AllocError, Global};
+
+/// Of no rows.
+pub(crate) fn tallies_of_none(
+    alloc: Global,
+    aggregates: &[Aggregate],
+) -> Result<Vec<Tally>, AllocError>
+    ensures { IfOk result (λ tallies. AreTallies aggregates.now [] tallies.items) }
+{
+    let mut tallies = Vec::with_capacity(alloc, aggregates.len())?;
+    for aggregate in aggregates {
+        tallies.push(Tally::none(alloc, *aggregate))?;
+    }
+    Ok(tallies)
+}
+
+/// The rows with these numbers join.
+pub(crate) fn join_each(
+    alloc: Global,
+    tallies: &mut Vec<Tally>,
+    columns: &Columns,
+    numbers: &[usize],
+    aggregates: &[Aggregate],
+) -> Result<(), AllocError>
+    requires within { All (λ number. number < length columns.now.rows) numbers.now }
+    requires joins { MayTallyEach aggregates.now (length columns.now.kinds) tallies.old.items
+        (numbered numbers.now columns.now.rows) }
+    ensures { OnOk result (TalliesEach aggregates.now tallies.old.items tallies.new.items
+        (numbered numbers.now columns.now.rows)) }
+{
+    for i in 0..aggregates.len() {
+        tallies[i].join(alloc, columns, numbers, aggregates[i])?;
+    }
+    Ok(())
+}
+
+/// The values of a key, and behind them what is computed.
+pub(crate) fn row_of<'a>(
+    alloc: Global,
+    key: &'a [Value<'static>],
+    tallies: &'a Vec<Tally>,
+    aggregates: &[Aggregate],
+) -> Result<Vec<Value<'a>>, AllocError>
+    requires { (rows : List (List CellValue)) × AreTallies aggregates.now rows tallies.now.items }
+    ensures { IfOk result (λ row. (rows : List (List CellValue))
+        → AreTallies aggregates.now rows tallies.now.items
+        → map value_view row.items ≡ map value_view key.now ++ map (computed_value rows) aggregates.now) }
+{
+    let mut row = Vec::with_capacity(alloc, key.len())?;
+    for value in key {
+        row.push(lent(value))?;
+    }
+    for i in 0..aggregates.len() {
+        row.push(tallies[i].value(aggregates[i]))?;
+    }
+    Ok(row)
+}

@@ -1,0 +1,276 @@
+//! What is computed of a column of some rows, to which more may join (OData Data Aggregation 4.0, section 3.1.3): nulls are passed over.
+ghost use Rattle.std.specs.Prelude.{◌≡◌, ◌<◌, ◌++◌, ◌∷◌, [], IfOk, filter, List, OnOk, if◌then◌else◌, length, map};
+ghost use Rattle.std.specs.List.{All};
+ghost use Rattle.cell_types.specs.Value.{CellValue, value_view};
+ghost use Rattle.odata_query.specs.declared.aggregate.Aggregate.TheVariants.{Max, Min};
+ghost use Rattle.query_plan.specs.Apply.{computed_value, is_value, values_in};
+ghost use Rattle.row_columns.specs.Picked.{numbered};
+ghost use Rattle.row_groups.specs.Computed.{greater_value, lesser_value};
+ghost use Rattle.row_groups.specs.Sums.{numbers_in, sum_of, sums_joined, FitSums, MaySum};
+ghost use Rattle.row_groups.specs.Tallies.{HasDistinct, IsTally, MayTally, Tallies};
+
+use crate::computed::{greatest, is_null, least};
+use crate::sums::{Summed, sum_of};
+use cell_types::Value;
+use indexmap::IndexSet;
+use odata_query::Aggregate;
+use row_columns::Columns;
+use std::alloc::{AllocError, Global};
+use std::borrow::CowStr;
+
+/// What is computed of some rows, as far as more rows need it.
+#[derive(Drop)]
+pub(crate) enum Tally {
+    /// The number of the rows.
+    Count(u64),
+    /// The sum of their numbers, where they have any.
+    Sum(Option<i128>),
+    /// The least or the greatest of their values; null where they have none.
+    Extreme(Value<'static>),
+    /// Their values, each once.
+    Distinct(IndexSet<Value<'static>>),
+}
+
+impl Tally {
+    /// Of no rows.
+    pub(crate) fn none(alloc: Global, aggregate: Aggregate) -> Tally
+        ensures { IsTally aggregate [] result }
+    {
+        match aggregate {
+            Aggregate::Count => Tally::Count(0),
+            Aggregate::SumOfIntegers(_) | Aggregate::SumOfDecimals(_) => Tally::Sum(None),
+            Aggregate::Min(_) | Aggregate::Max(_) => Tally::Extreme(Value::Null),
+            Aggregate::CountDistinct(_) => Tally::Distinct(IndexSet::new(alloc)),
+        }
+    }
+
+    /// The rows with these numbers join.
+    pub(crate) fn join(
+        &mut self,
+        alloc: Global,
+        columns: &Columns,
+        numbers: &[usize],
+        aggregate: Aggregate,
+    ) -> Result<(), AllocError>
+        requires within { All (λ number. number < length columns.now.rows) numbers.now }
+        requires joins { MayTally aggregate (length columns.now.kinds) self.old
+            (numbered numbers.now columns.now.rows) }
+        ensures { OnOk result (Tallies aggregate self.old self.new
+            (numbered numbers.now columns.now.rows)) }
+    {
+        match (&mut *self, aggregate) {
+            (Tally::Count(count), Aggregate::Count) => {
+                *count += numbers.len() as u64;
+            }
+            (Tally::Sum(sum), Aggregate::SumOfIntegers(place)) => {
+                *sum = sum_behind(*sum, columns, numbers, place, Summed::Integers);
+            }
+            (Tally::Sum(sum), Aggregate::SumOfDecimals(place)) => {
+                *sum = sum_behind(*sum, columns, numbers, place, Summed::Decimals);
+            }
+            (Tally::Extreme(value), Aggregate::Min(place)) => {
+                join_least(value, alloc, columns, numbers, place)?;
+            }
+            (Tally::Extreme(value), Aggregate::Max(place)) => {
+                join_greatest(value, alloc, columns, numbers, place)?;
+            }
+            (Tally::Distinct(values), Aggregate::CountDistinct(place)) => {
+                join_values(values, alloc, columns, numbers, place)?;
+            }
+            _ => unreachable!(),
+        }
+        Ok(())
+    }
+
+    /// What the aggregate computes of the rows.
+    pub(crate) fn value(&self, aggregate: Aggregate) -> Value<'_>
+        requires { (rows : List (List CellValue)) × IsTally aggregate rows self.now }
+        ensures { (rows : List (List CellValue)) → IsTally aggregate rows self.now
+            → value_view result ≡ computed_value rows aggregate }
+    {
+        match (self, aggregate) {
+            (Tally::Count(count), Aggregate::Count) => Value::Int((*count).into()),
+            (Tally::Sum(None), Aggregate::SumOfIntegers(_)) => Value::Null,
+            (Tally::Sum(Some(sum)), Aggregate::SumOfIntegers(_)) => Value::Int(*sum),
+            (Tally::Sum(None), Aggregate::SumOfDecimals(_)) => Value::Null,
+            (Tally::Sum(Some(sum)), Aggregate::SumOfDecimals(_)) => Value::Decimal(*sum),
+            (Tally::Extreme(value), Aggregate::Min(_)) => lent(value),
+            (Tally::Extreme(value), Aggregate::Max(_)) => lent(value),
+            (Tally::Distinct(values), Aggregate::CountDistinct(_)) => {
+                Value::Int(values.len() as i128)
+            }
+            _ => unreachable!(),
+        }
+    }
+}
+
+/// The sum of two sums, each of which there may be none.
+fn joined_sum(sum: Option<i128>, more: Option<i128>) -> Option<i128>
+    requires { FitSums sum more }
+    ensures { result ≡ sums_joined sum more }
+{
+    match (sum, more) {
+        (None, more) => more,
+        (Some(sum), None) => Some(sum),
+        (Some(sum), Some(more)) => Some(sum + more),
+    }
+}
+
+/// The sum of the numbers that some rows and then the rows with these numbers have in a column.
+fn sum_behind(
+    sum: Option<i128>,
+    columns: &Columns,
+    numbers: &[usize],
+    place: usize,
+    summed: Summed,
+) -> Option<i128>
+    requires within { All (λ number. number < length columns.now.rows) numbers.now }
+    requires place { place < length columns.now.kinds }
+    requires joins { MaySum summed place sum (numbered numbers.now columns.now.rows) }
+    ensures { (rows : List (List CellValue)) → sum ≡ sum_of (numbers_in summed place rows)
+        → result ≡ sum_of (numbers_in summed place (rows ++ numbered numbers.now columns.now.rows)) }
+{
+    joined_sum(sum, sum_of(columns, numbers, place, summed))
+}
+
+/// The least value that some rows and then the rows with these numbers have in a column.
+fn join_least(
+    value: &mut Value<'static>,
+    alloc: Global,
+    columns: &Columns,
+    numbers: &[usize],
+    place: usize,
+) -> Result<(), AllocError>
+    requires within { All (λ number. number < length columns.now.rows) numbers.now }
+    requires place { place < length columns.now.kinds }
+    ensures { OnOk result ((rows : List (List CellValue))
+        → value_view value.old ≡ computed_value rows (Min place)
+        → value_view value.new
+        ≡ computed_value (rows ++ numbered numbers.now columns.now.rows) (Min place)) }
+{
+    cell_types::values_are_ordered();
+    let other = least(columns, numbers, place);
+    if is_less(&other, value) {
+        *value = owned(alloc, &other)?;
+    }
+    Ok(())
+}
+
+/// The greatest value that some rows and then the rows with these numbers have in a column.
+fn join_greatest(
+    value: &mut Value<'static>,
+    alloc: Global,
+    columns: &Columns,
+    numbers: &[usize],
+    place: usize,
+) -> Result<(), AllocError>
+    requires within { All (λ number. number < length columns.now.rows) numbers.now }
+    requires place { place < length columns.now.kinds }
+    ensures { OnOk result ((rows : List (List CellValue))
+        → value_view value.old ≡ computed_value rows (Max place)
+        → value_view value.new
+        ≡ computed_value (rows ++ numbered numbers.now columns.now.rows) (Max place)) }
+{
+    cell_types::values_are_ordered();
+    let other = greatest(columns, numbers, place);
+    if is_more(&other, value) {
+        *value = owned(alloc, &other)?;
+    }
+    Ok(())
+}
+
+/// Whether a value is less than another; null is none.
+fn is_less(value: &Value<'_>, other: &Value<'_>) -> bool
+    ensures { (if result then value_view value.now else value_view other.now)
+        ≡ lesser_value (value_view other.now) (value_view value.now) }
+{
+    cell_types::values_compare_as_their_views();
+    if is_null(value) {
+        return false;
+    }
+    is_null(other) || value.cmp(other).is_lt()
+}
+
+/// Whether a value is greater than another; null is none.
+fn is_more(value: &Value<'_>, other: &Value<'_>) -> bool
+    ensures { (if result then value_view value.now else value_view other.now)
+        ≡ greater_value (value_view other.now) (value_view value.now) }
+{
+    cell_types::values_compare_as_their_views();
+    if is_null(value) {
+        return false;
+    }
+    is_null(other) || other.cmp(value).is_lt()
+}
+
+/// The values that rows have in a column join those of other rows. A value is looked up before it is copied.
+fn join_values(
+    values: &mut IndexSet<Value<'static>>,
+    alloc: Global,
+    columns: &Columns,
+    numbers: &[usize],
+    place: usize,
+) -> Result<(), AllocError>
+    requires within { All (λ number. number < length columns.now.rows) numbers.now }
+    requires place { place < length columns.now.kinds }
+    ensures { OnOk result ((rows : List (List CellValue))
+        → HasDistinct (map value_view values.old.keys) (values_in place rows)
+        → HasDistinct (map value_view values.new.keys)
+        (values_in place (rows ++ numbered numbers.now columns.now.rows))) }
+{
+    for number in numbers {
+        join_value(values, alloc, columns.value(*number, place))?;
+    }
+    Ok(())
+}
+
+/// A value joins others; null is none. It is looked up before it is copied.
+fn join_value(
+    values: &mut IndexSet<Value<'static>>,
+    alloc: Global,
+    value: Value<'_>,
+) -> Result<(), AllocError>
+    ensures { OnOk result ((seen : List CellValue)
+        → HasDistinct (map value_view values.old.keys) seen
+        → HasDistinct (map value_view values.new.keys)
+        (seen ++ filter is_value (value_view value.entry ∷ []))) }
+{
+    cell_types::values_are_ordered();
+    cell_types::values_compare_as_their_views();
+    if is_null(&value) {
+        return Ok(());
+    }
+    if values.contains(&value) {
+        return Ok(());
+    }
+    values.insert(owned(alloc, &value)?)?;
+    Ok(())
+}
+
+/// The value, whose text is lent.
+pub(crate) fn lent<'a>(value: &'a Value<'static>) -> Value<'a>
+    ensures { value_view result ≡ value_view value.now }
+{
+    match value {
+        Value::Null => Value::Null,
+        Value::Int(number) => Value::Int(*number),
+        Value::Text(text) => Value::Text(CowStr::Borrowed(text.as_str())),
+        Value::Bool(truth) => Value::Bool(*truth),
+        Value::Date(date) => Value::Date(*date),
+        Value::Decimal(millionths) => Value::Decimal(*millionths),
+    }
+}
+
+/// A copy of a value that lives on its own.
+pub(crate) fn owned(alloc: Global, value: &Value<'_>) -> Result<Value<'static>, AllocError>
+    ensures { IfOk result (λ copy. value_view copy ≡ value_view value.now) }
+{
+    Ok(match value {
+        Value::Null => Value::Null,
+        Value::Int(number) => Value::Int(*number),
+        Value::Text(text) => Value::Text(CowStr::Owned(String::from_str(alloc, text.as_str())?)),
+        Value::Bool(truth) => Value::Bool(*truth),
+        Value::Date(date) => Value::Date(*date),
+        Value::Decimal(millionths) => Value::Decimal(*millionths),
+    })
+}
