@@ -1,35 +1,68 @@
--- Sums, differences and products of numbers on the rows that are wanted.
-use Rattle.std.proofs.Common.{◌≡◌, ℕ, Bool, Option, None, Some, List, refl, subst, ap, ◌∙◌}
+-- Numbers that are joined, on the rows that are wanted.
+use Rattle.std.proofs.Common.{◌≡◌, Bool, Option, None, Some, List, refl, sym, subst, ap, ◌∙◌, arith}
 use Rattle.std.specs.Prelude.{ℤ, pos, neg_ℤ, ◌+ℤ◌, ◌-ℤ◌, ◌*ℤ◌, option_and_then, option_map}
+use Rattle.std.proofs.lemmas.Int.{ints}
 use Rattle.cell_types.specs.Value.{CellValue}
 use Rattle.odata_parse.specs.declared.tree.ArithmeticOperator.{ArithmeticOperator}
 use Rattle.odata_parse.specs.declared.tree.ArithmeticOperator.TheVariants as operators
 use Rattle.odata_types.specs.TypedTree.{arithmetic, decimal_difference, decimal_negated, decimal_sum, negated, scaled, DecimalExprOf, IntegerExprOf}
 use Rattle.odata_types.specs.declared.types.TheConstants.{MILLIONTHS}
 use Rattle.row_eval.specs.Outcome.{both, computed, decimal_outcome, integer_outcome, joined}
+use Rattle.block_eval.specs.declared.bounded.Bounded.{Bounded}
 use Rattle.block_eval.specs.declared.columns.Column.{Column}
-use Rattle.block_lanes.specs.declared.numbers.Numbers.{Numbers}
-use Rattle.block_lanes.specs.Arithmetic.{AreMapped}
-use Rattle.block_eval.specs.Lanes.{number_lane, AreComputed, AreDecimals, AreIntegers, GivesNumbers}
+use Rattle.block_eval.specs.Bounded.{AreJoined, GivesBounded, IsSame}
+use Rattle.block_eval.specs.Bounds.{IsWithinKnown}
+use Rattle.block_eval.specs.Lanes.{number_lane}
+
+-- what two functions make of rows
+abbrev pub computed_of : ArithmeticOperator → (List CellValue → Option (Option ℤ)) → (List CellValue → Option (Option ℤ)) → List CellValue → Option (Option ℤ)
+computed_of o f g cells = option_and_then (λ x. option_and_then (λ y. computed o x y) (g cells)) (f cells)
 
 -- numbers that are joined are there on each wanted row where those are that they are joined of
-pub computed-gives : (o : ArithmeticOperator) (f g : List CellValue → Option (Option ℤ)) (columns : List Column) (wanted : List Bool) (l r v : Numbers)
-    → GivesNumbers f columns wanted l → GivesNumbers g columns wanted r → AreComputed o l r wanted v
-    → GivesNumbers (λ cells. option_and_then (λ x. option_and_then (λ y. computed o x y) (g cells)) (f cells)) columns wanted v
-computed-gives o f g columns wanted l r v left right is = record {
-  each = λ row cells h at.
-      ap (option_and_then (λ x. option_and_then (λ y. computed o x y) (g cells))) (left.each row cells h at)
-      ∙ ap (option_and_then (λ y. computed o (number_lane l row) y)) (right.each row cells h at)
-      ∙ is.each row h;
-  long = is.long;
+joined-gives : (o : ArithmeticOperator) (f g : List CellValue → Option (Option ℤ)) (columns : List Column) (wanted : List Bool) (l r v : Bounded)
+    → GivesBounded f columns wanted l → GivesBounded g columns wanted r → AreJoined o l r wanted v → GivesBounded (computed_of o f g) columns wanted v
+joined-gives o f g columns wanted l r v left right is = record {
+  numbers = record {
+    each = λ row cells h at.
+        ap (option_and_then (λ x. option_and_then (λ y. computed o x y) (g cells))) (left.numbers.each row cells h at)
+        ∙ ap (option_and_then (λ y. computed o (number_lane l.numbers row) y)) (right.numbers.each row cells h at)
+        ∙ is.each row h (left.within row cells h at) (right.within row cells h at);
+    long = is.long;
+  };
+  within = λ row cells h at. is.within row h (left.within row cells h at) (right.within row cells h at);
 }
 
+-- the same number on each row
+pub same-gives : (lane : Option ℤ) (columns : List Column) (wanted : List Bool) (v : Bounded) → IsSame lane v → GivesBounded (λ cells. Some lane) columns wanted v
+same-gives lane columns wanted v is = record {
+  numbers = record { each = λ row cells h at. ap (λ n. Some n) (sym (is.each row)); long = is.long _ };
+  within = λ row cells h at. subst (IsWithinKnown v.bounds) (sym (is.each row)) is.within;
+}
+
+-- functions that make the same of each row
+gives-as : (f g : List CellValue → Option (Option ℤ)) (columns : List Column) (wanted : List Bool) (v : Bounded) → ((cells : List CellValue) → g cells ≡ f cells)
+    → GivesBounded f columns wanted v → GivesBounded g columns wanted v
+gives-as f g columns wanted v same is = record {
+  numbers = record { each = λ row cells h at. same cells ∙ is.numbers.each row cells h at; long = is.numbers.long };
+  within = is.within;
+}
+
+-- expressions that have one value on all rows
+pub integer-same : (lane : Option ℤ) (e t : IntegerExprOf) (columns : List Column) (wanted : List Bool) (v : Bounded) → e ≡ t → ((cells : List CellValue) → integer_outcome e cells ≡ Some lane)
+    → IsSame lane v → GivesBounded (integer_outcome t) columns wanted v
+integer-same lane e t columns wanted v tree each is =
+    subst (λ x. GivesBounded (integer_outcome x) columns wanted v) tree (gives-as (λ cells. Some lane) (integer_outcome e) columns wanted v each (same-gives lane columns wanted v is))
+
+pub decimal-same : (lane : Option ℤ) (e t : DecimalExprOf) (columns : List Column) (wanted : List Bool) (v : Bounded) → e ≡ t → ((cells : List CellValue) → decimal_outcome e cells ≡ Some lane)
+    → IsSame lane v → GivesBounded (decimal_outcome t) columns wanted v
+decimal-same lane e t columns wanted v tree each is =
+    subst (λ x. GivesBounded (decimal_outcome x) columns wanted v) tree (gives-as (λ cells. Some lane) (decimal_outcome e) columns wanted v each (same-gives lane columns wanted v is))
+
 -- the outcome of an operator on integers
-pub arithmetic-is : (o p : ArithmeticOperator) (l r t : IntegerExprOf) (columns : List Column) (wanted : List Bool) (a b v : Numbers) → p ≡ o → arithmetic o l r ≡ t
-    → AreIntegers l columns wanted a → AreIntegers r columns wanted b → AreComputed p a b wanted v → AreIntegers t columns wanted v
-arithmetic-is o p l r t columns wanted a b v is tree left right has =
-    let of : AreComputed o a b wanted v = subst (λ q. AreComputed q a b wanted v) is has in
-    subst (λ x. AreIntegers x columns wanted v) tree (computed-gives o (integer_outcome l) (integer_outcome r) columns wanted a b v left right of)
+pub arithmetic-is : (o : ArithmeticOperator) (l r t : IntegerExprOf) (columns : List Column) (wanted : List Bool) (a b v : Bounded) → arithmetic o l r ≡ t
+    → GivesBounded (integer_outcome l) columns wanted a → GivesBounded (integer_outcome r) columns wanted b → AreJoined o a b wanted v → GivesBounded (integer_outcome t) columns wanted v
+arithmetic-is o l r t columns wanted a b v tree left right is =
+    subst (λ x. GivesBounded (integer_outcome x) columns wanted v) tree (joined-gives o (integer_outcome l) (integer_outcome r) columns wanted a b v left right is)
 
 sum-computed : (x y : Option ℤ) → Some (joined (λ a b. a +ℤ b) x y) ≡ computed operators.Add x y
 sum-computed None None = refl
@@ -50,41 +83,61 @@ both-computed o j same (Some x) None = refl
 both-computed o j same (Some x) (Some y) = same x y
 
 -- the outcomes of a sum and of a difference of decimals
-pub sum-is : (l r t : DecimalExprOf) (columns : List Column) (wanted : List Bool) (a b v : Numbers) → decimal_sum l r ≡ t
-    → AreDecimals l columns wanted a → AreDecimals r columns wanted b → AreComputed operators.Add a b wanted v → AreDecimals t columns wanted v
-sum-is l r t columns wanted a b v tree left right has =
-    let gives = computed-gives operators.Add (decimal_outcome l) (decimal_outcome r) columns wanted a b v left right has in
-    let of : AreDecimals (decimal_sum l r) columns wanted v = record {
-      each = λ row cells h at. both-computed operators.Add (λ a b. a +ℤ b) sum-computed (decimal_outcome l cells) (decimal_outcome r cells) ∙ gives.each row cells h at;
-      long = gives.long;
-    } in
-    subst (λ x. AreDecimals x columns wanted v) tree of
+pub sum-is : (l r t : DecimalExprOf) (columns : List Column) (wanted : List Bool) (a b v : Bounded) → decimal_sum l r ≡ t
+    → GivesBounded (decimal_outcome l) columns wanted a → GivesBounded (decimal_outcome r) columns wanted b → AreJoined operators.Add a b wanted v → GivesBounded (decimal_outcome t) columns wanted v
+sum-is l r t columns wanted a b v tree left right is =
+    let f = decimal_outcome l in
+    let g = decimal_outcome r in
+    subst (λ x. GivesBounded (decimal_outcome x) columns wanted v) tree
+    (gives-as (computed_of operators.Add f g) (decimal_outcome (decimal_sum l r)) columns wanted v (λ cells. both-computed operators.Add (λ a b. a +ℤ b) sum-computed (f cells) (g cells))
+    (joined-gives operators.Add f g columns wanted a b v left right is))
 
-pub difference-is : (l r t : DecimalExprOf) (columns : List Column) (wanted : List Bool) (a b v : Numbers) → decimal_difference l r ≡ t
-    → AreDecimals l columns wanted a → AreDecimals r columns wanted b → AreComputed operators.Sub a b wanted v → AreDecimals t columns wanted v
-difference-is l r t columns wanted a b v tree left right has =
-    let gives = computed-gives operators.Sub (decimal_outcome l) (decimal_outcome r) columns wanted a b v left right has in
-    let of : AreDecimals (decimal_difference l r) columns wanted v = record {
-      each = λ row cells h at. both-computed operators.Sub (λ a b. a -ℤ b) difference-computed (decimal_outcome l cells) (decimal_outcome r cells) ∙ gives.each row cells h at;
-      long = gives.long;
-    } in
-    subst (λ x. AreDecimals x columns wanted v) tree of
+pub difference-is : (l r t : DecimalExprOf) (columns : List Column) (wanted : List Bool) (a b v : Bounded) → decimal_difference l r ≡ t
+    → GivesBounded (decimal_outcome l) columns wanted a → GivesBounded (decimal_outcome r) columns wanted b → AreJoined operators.Sub a b wanted v → GivesBounded (decimal_outcome t) columns wanted v
+difference-is l r t columns wanted a b v tree left right is =
+    let f = decimal_outcome l in
+    let g = decimal_outcome r in
+    subst (λ x. GivesBounded (decimal_outcome x) columns wanted v) tree
+    (gives-as (computed_of operators.Sub f g) (decimal_outcome (decimal_difference l r)) columns wanted v (λ cells. both-computed operators.Sub (λ a b. a -ℤ b) difference-computed (f cells) (g cells))
+    (joined-gives operators.Sub f g columns wanted a b v left right is))
 
 -- ---- numbers that are made of one other
-pub mapped-gives : (m : ℤ → ℤ) (f : List CellValue → Option (Option ℤ)) (columns : List Column) (wanted : List Bool) (a v : Numbers) → GivesNumbers f columns wanted a → AreMapped m a wanted v
-    → GivesNumbers (λ cells. option_map (option_map m) (f cells)) columns wanted v
-mapped-gives m f columns wanted a v gives is = record {
-  each = λ row cells h at. ap (option_map (option_map m)) (gives.each row cells h at) ∙ ap (λ n. Some n) (is.each row h);
-  long = is.long;
-}
+zero_less : (n : ℤ) → neg_ℤ n ≡ pos 0 -ℤ n
+zero_less n = omega (arith, ints)
 
-pub integer-negated : (e t : IntegerExprOf) (columns : List Column) (wanted : List Bool) (a v : Numbers) → negated e ≡ t → AreIntegers e columns wanted a → AreMapped neg_ℤ a wanted v → AreIntegers t columns wanted v
-integer-negated e t columns wanted a v tree gives is = subst (λ x. AreIntegers x columns wanted v) tree (mapped-gives neg_ℤ (integer_outcome e) columns wanted a v gives is)
+negated-computed : (x : Option (Option ℤ)) → option_map (option_map neg_ℤ) x ≡ option_and_then (λ y. computed operators.Sub (Some (pos 0)) y) x
+negated-computed None = refl
+negated-computed (Some None) = refl
+negated-computed (Some (Some n)) = ap (λ z. Some (Some z)) (zero_less n)
 
-pub decimal-negated : (e t : DecimalExprOf) (columns : List Column) (wanted : List Bool) (a v : Numbers) → decimal_negated e ≡ t → AreDecimals e columns wanted a → AreMapped neg_ℤ a wanted v → AreDecimals t columns wanted v
-decimal-negated e t columns wanted a v tree gives is = subst (λ x. AreDecimals x columns wanted v) tree (mapped-gives neg_ℤ (decimal_outcome e) columns wanted a v gives is)
+scaled-computed : (m : ℤ) (x : Option (Option ℤ)) → option_map (option_map (λ n. n *ℤ m)) x ≡ option_and_then (λ y. computed operators.Mul y (Some m)) x
+scaled-computed m None = refl
+scaled-computed m (Some None) = refl
+scaled-computed m (Some (Some n)) = refl
 
-pub decimal-scaled : (e : IntegerExprOf) (t : DecimalExprOf) (columns : List Column) (wanted : List Bool) (a v : Numbers) → scaled e ≡ t → AreIntegers e columns wanted a
-    → AreMapped (λ n. n *ℤ pos MILLIONTHS) a wanted v → AreDecimals t columns wanted v
-decimal-scaled e t columns wanted a v tree gives is =
-    subst (λ x. AreDecimals x columns wanted v) tree (mapped-gives (λ n. n *ℤ pos MILLIONTHS) (integer_outcome e) columns wanted a v gives is)
+-- the numbers with the other sign
+opposite-gives : (f : List CellValue → Option (Option ℤ)) (columns : List Column) (wanted : List Bool) (zero a v : Bounded) → IsSame (Some (pos 0)) zero → GivesBounded f columns wanted a
+    → AreJoined operators.Sub zero a wanted v → GivesBounded (λ cells. option_map (option_map neg_ℤ) (f cells)) columns wanted v
+opposite-gives f columns wanted zero a v same gives is =
+    gives-as (computed_of operators.Sub (λ cells. Some (Some (pos 0))) f) (λ cells. option_map (option_map neg_ℤ) (f cells)) columns wanted v (λ cells. negated-computed (f cells))
+    (joined-gives operators.Sub (λ cells. Some (Some (pos 0))) f columns wanted zero a v (same-gives (Some (pos 0)) columns wanted zero same) gives is)
+
+pub integer-negated : (e t : IntegerExprOf) (columns : List Column) (wanted : List Bool) (zero a v : Bounded) → negated e ≡ t → IsSame (Some (pos 0)) zero
+    → GivesBounded (integer_outcome e) columns wanted a → AreJoined operators.Sub zero a wanted v → GivesBounded (integer_outcome t) columns wanted v
+integer-negated e t columns wanted zero a v tree same gives is =
+    subst (λ x. GivesBounded (integer_outcome x) columns wanted v) tree (opposite-gives (integer_outcome e) columns wanted zero a v same gives is)
+
+pub decimal-negated : (e t : DecimalExprOf) (columns : List Column) (wanted : List Bool) (zero a v : Bounded) → decimal_negated e ≡ t → IsSame (Some (pos 0)) zero
+    → GivesBounded (decimal_outcome e) columns wanted a → AreJoined operators.Sub zero a wanted v → GivesBounded (decimal_outcome t) columns wanted v
+decimal-negated e t columns wanted zero a v tree same gives is =
+    subst (λ x. GivesBounded (decimal_outcome x) columns wanted v) tree (opposite-gives (decimal_outcome e) columns wanted zero a v same gives is)
+
+-- integers as decimals, in millionths
+pub decimal-scaled : (e : IntegerExprOf) (t : DecimalExprOf) (columns : List Column) (wanted : List Bool) (millionths a v : Bounded) → scaled e ≡ t → IsSame (Some (pos MILLIONTHS)) millionths
+    → GivesBounded (integer_outcome e) columns wanted a → AreJoined operators.Mul a millionths wanted v → GivesBounded (decimal_outcome t) columns wanted v
+decimal-scaled e t columns wanted millionths a v tree same gives is =
+    let f = integer_outcome e in
+    let m = pos MILLIONTHS in
+    subst (λ x. GivesBounded (decimal_outcome x) columns wanted v) tree
+    (gives-as (computed_of operators.Mul f (λ cells. Some (Some m))) (decimal_outcome (scaled e)) columns wanted v (λ cells. scaled-computed m (f cells))
+    (joined-gives operators.Mul f (λ cells. Some (Some m)) columns wanted a millionths v gives (same-gives (Some m) columns wanted millionths same) is))

@@ -13,6 +13,7 @@ use Rattle.jiff.specs.Words.{days_in_month}
 use Rattle.cell_types.specs.Value.{CellValue}
 use Rattle.odata_parse.specs.declared.tree.ComparisonOperator.{ComparisonOperator}
 use Rattle.odata_types.specs.TypedTree.{DayOf}
+use Rattle.block_summary.specs.declared.bounds.Bounds.{Bounds}
 use Rattle.block_summary.specs.declared.number.PackedType.TheVariants.{Date}
 use Rattle.block_summary.specs.Types.{cell_of, day_number, place_in_year}
 use Rattle.row_eval.specs.declared.truth.Truth.{Truth}
@@ -116,10 +117,10 @@ day-cell : (n : Option ℤ) → day_in (cell_of Date n) ≡ option_map day_of n
 day-cell None = refl
 day-cell (Some n) = refl
 
-pub column-gives : (cs : List Column) (place : ℕ) (values : Bor (List ℤ)) (nulls : Bor (List Bool)) (wanted : List Bool) (v : vector.Numbers)
-    → slice_get cs place ≡ Some (columns.Numbers Date values nulls) → v ≡ Cells values nulls → AreLong (length wanted) v → GivesDays (λ cells. cell day_in cells place) cs wanted v
-column-gives cs place values nulls wanted v e is long = record {
+pub column-gives : (cs : List Column) (place : ℕ) (values : Bor (List ℤ)) (nulls : Bor (List Bool)) (bounds : Bounds) (wanted : List Bool) (v : vector.Numbers)
+    → slice_get cs place ≡ Some (columns.Numbers Date values nulls bounds) → v ≡ Cells values nulls → AreLong (length wanted) v → GivesDays (λ cells. cell day_in cells place) cs wanted v
+column-gives cs place values nulls bounds wanted v e is long = record {
   each = λ row cells h at.
-      read-numbers day_in cs place row Date values nulls cells e at ∙ day-cell (number_at values.now nulls.now row) ∙ ap (λ x. option_map day_of (number_lane x row)) (sym is);
+      read-numbers day_in cs place row Date values nulls bounds cells e at ∙ day-cell (number_at values.now nulls.now row) ∙ ap (λ x. option_map day_of (number_lane x row)) (sym is);
   long = long;
 }

@@ -5,3 +5,4 @@ pub mod DateLemmas
 pub mod ListLemmas
 pub mod TruthLemmas
 pub mod ArithmeticLemmas
+pub mod BoundLemmas

@@ -11,7 +11,7 @@ use Rattle.odata_types.specs.TypedTree.{TruthExprOf}
 use Rattle.row_eval.specs.Outcome.{truth_outcome}
 use Rattle.block_eval.specs.declared.columns.Column.{Column}
 use Rattle.block_eval.specs.Columns.{IsRowAt}
-use Rattle.summary_eval.specs.Known.{IsKnown, IsRowWithin}
+use Rattle.summary_eval.specs.Known.{IsKnown}
 use Rattle.block_eval.specs.Lanes.{truth_lane, AreAsked, AreOutcomes, AreOutcomesWithin, GivesTruths, GivesTruthsWithin, HasTruths, IsWanted}
 use Rattle.block_summary.specs.Ranges.{RangeOf}
 

@@ -1,12 +1,13 @@
 -- The numbers of a column, and comparisons between numbers, on the rows that are wanted.
-use Rattle.std.proofs.Common.{◌≡◌, ◌<◌, ℕ, Bool, true, false, Option, None, Some, List, length, get_or, slice_get, refl, sym, ap, ◌∙◌, arith}
+use Rattle.std.proofs.Common.{◌≡◌, ◌<◌, ℕ, Bool, true, false, Option, None, Some, List, length, get_or, slice_get, refl, sym, subst, ap, ◌∙◌, arith}
 use Rattle.std.specs.Prelude.{ℤ, pos, option_and_then}
 use Rattle.std.proofs.lemmas.Option.{slice_get-get_or}
 use denote.Ref.{Bor}
 use Rattle.cell_types.specs.Value.{CellValue}
+use Rattle.block_summary.specs.declared.bounds.Bounds.{Bounds}
 use Rattle.block_summary.specs.declared.number.PackedType.{PackedType}
 use Rattle.block_summary.specs.declared.number.PackedType.TheVariants.{Boolean, Decimal, Integer}
-use Rattle.block_summary.specs.Types.{cell_of}
+use Rattle.block_summary.specs.Types.{cell_of, number_of}
 use Rattle.odata_parse.specs.declared.tree.ComparisonOperator.{ComparisonOperator}
 use Rattle.row_eval.specs.declared.truth.Truth.{Truth}
 use Rattle.row_eval.specs.Logic.{truth_of_option}
@@ -18,6 +19,9 @@ use Rattle.block_lanes.specs.declared.numbers.Numbers as vector
 use Rattle.block_lanes.specs.declared.numbers.Numbers.TheVariants.{Cells}
 use Rattle.block_eval.specs.Columns.{number_at, unless_null, IsRowAt}
 use Rattle.block_eval.specs.Lanes.{comparison, number_lane, truth_in, AreLong, GivesNumbers, GivesTruths, HasTruths}
+use Rattle.block_eval.specs.declared.bounded.Bounded.{Bounded}
+use Rattle.block_eval.specs.Bounded.{GivesBounded, IsLaneWithin}
+use Rattle.block_eval.specs.Bounds.{IsWithin, IsWithinKnown}
 use Rattle.block_eval.proofs.LogicLemmas.{all-gives, wanted_within}
 
 -- the column that is found at a place
@@ -25,10 +29,20 @@ pub found-column : (columns : List Column) (place : ℕ) (found column : Column)
 found-column columns place found column within e is = slice_get-get_or columns place found within ∙ ap (λ c. Some c) (sym e ∙ is)
 
 -- what is read in a column of numbers
-pub read-numbers : {X : Type 0} (read : CellValue → Option X) (columns : List Column) (place row : ℕ) (type : PackedType) (values : Bor (List ℤ)) (nulls : Bor (List Bool)) (cells : List CellValue)
-    → slice_get columns place ≡ Some (Numbers type values nulls) → IsRowAt columns row cells
+pub read-numbers : {X : Type 0} (read : CellValue → Option X) (columns : List Column) (place row : ℕ) (type : PackedType) (values : Bor (List ℤ)) (nulls : Bor (List Bool)) (bounds : Bounds) (cells : List CellValue)
+    → slice_get columns place ≡ Some (Numbers type values nulls bounds) → IsRowAt columns row cells
     → cell read cells place ≡ read (cell_of type (number_at values.now nulls.now row))
-read-numbers read columns place row type values nulls cells e at = ap (option_and_then read) (at.each place (Numbers type values nulls) e)
+read-numbers read columns place row type values nulls bounds cells e at =
+    let is = at.each place (Numbers type values nulls bounds) e in
+    ap (option_and_then read) is.0
+
+-- and it lies between the bounds of the column
+number-within : (columns : List Column) (place row : ℕ) (type : PackedType) (values : Bor (List ℤ)) (nulls : Bor (List Bool)) (bounds : Bounds) (cells : List CellValue)
+    → slice_get columns place ≡ Some (Numbers type values nulls bounds) → IsRowAt columns row cells
+    → IsWithin bounds (number_of (cell_of type (number_at values.now nulls.now row)))
+number-within columns place row type values nulls bounds cells e at =
+    let is = at.each place (Numbers type values nulls bounds) e in
+    is.1
 
 integer-cell : (n : Option ℤ) → integer_in (cell_of Integer n) ≡ n
 integer-cell None = refl
@@ -38,38 +52,62 @@ decimal-cell : (n : Option ℤ) → decimal_in (cell_of Decimal n) ≡ n
 decimal-cell None = refl
 decimal-cell (Some n) = refl
 
+integer-number : (n : Option ℤ) → number_of (cell_of Integer n) ≡ n
+integer-number None = refl
+integer-number (Some n) = refl
+
+decimal-number : (n : Option ℤ) → number_of (cell_of Decimal n) ≡ n
+decimal-number None = refl
+decimal-number (Some n) = refl
+
 truth-cell : (null : Bool) (n : ℤ) → truth_of_option (boolean_in (cell_of Boolean (unless_null null n))) ≡ truth_in null n
 truth-cell true n = refl
 truth-cell false n = refl
 
+bounds-within : (bounds : Bounds) (v : Bounded) (numbers : vector.Numbers) (row : ℕ) → v.numbers ≡ numbers → v.bounds ≡ Some bounds → IsWithin bounds (number_lane numbers row) → IsLaneWithin v row
+bounds-within bounds v numbers row is within h =
+    subst (λ k. IsWithinKnown k (number_lane v.numbers row)) (sym within) (subst (λ x. IsWithin bounds (number_lane x row)) (sym is) h)
+
 -- the integers of a column
-pub integers-give : (columns : List Column) (place : ℕ) (values : Bor (List ℤ)) (nulls : Bor (List Bool)) (wanted : List Bool) (v : vector.Numbers)
-    → slice_get columns place ≡ Some (Numbers Integer values nulls) → v ≡ Cells values nulls → AreLong (length wanted) v → GivesNumbers (λ cells. Some (cell integer_in cells place)) columns wanted v
-integers-give columns place values nulls wanted v e is long = record {
-  each = λ row cells h at.
-      ap (λ n. Some n) (read-numbers integer_in columns place row Integer values nulls cells e at ∙ integer-cell (number_at values.now nulls.now row))
-      ∙ ap (λ x. Some (number_lane x row)) (sym is);
-  long = long;
+pub integers-give : (columns : List Column) (place : ℕ) (values : Bor (List ℤ)) (nulls : Bor (List Bool)) (bounds : Bounds) (wanted : List Bool) (v : Bounded)
+    → slice_get columns place ≡ Some (Numbers Integer values nulls bounds) → v.numbers ≡ Cells values nulls → v.bounds ≡ Some bounds → AreLong (length wanted) v.numbers
+    → GivesBounded (λ cells. Some (cell integer_in cells place)) columns wanted v
+integers-give columns place values nulls bounds wanted v e is within long = record {
+  numbers = record {
+    each = λ row cells h at.
+        ap (λ n. Some n) (read-numbers integer_in columns place row Integer values nulls bounds cells e at ∙ integer-cell (number_at values.now nulls.now row))
+        ∙ ap (λ x. Some (number_lane x row)) (sym is);
+    long = long;
+  };
+  within = λ row cells h at.
+      let lies = subst (IsWithin bounds) (integer-number (number_at values.now nulls.now row)) (number-within columns place row Integer values nulls bounds cells e at) in
+      bounds-within bounds v (Cells values nulls) row is within lies;
 }
 
 -- the decimals of a column
-pub decimals-give : (columns : List Column) (place : ℕ) (values : Bor (List ℤ)) (nulls : Bor (List Bool)) (wanted : List Bool) (v : vector.Numbers)
-    → slice_get columns place ≡ Some (Numbers Decimal values nulls) → v ≡ Cells values nulls → AreLong (length wanted) v → GivesNumbers (λ cells. Some (cell decimal_in cells place)) columns wanted v
-decimals-give columns place values nulls wanted v e is long = record {
-  each = λ row cells h at.
-      ap (λ n. Some n) (read-numbers decimal_in columns place row Decimal values nulls cells e at ∙ decimal-cell (number_at values.now nulls.now row))
-      ∙ ap (λ x. Some (number_lane x row)) (sym is);
-  long = long;
+pub decimals-give : (columns : List Column) (place : ℕ) (values : Bor (List ℤ)) (nulls : Bor (List Bool)) (bounds : Bounds) (wanted : List Bool) (v : Bounded)
+    → slice_get columns place ≡ Some (Numbers Decimal values nulls bounds) → v.numbers ≡ Cells values nulls → v.bounds ≡ Some bounds → AreLong (length wanted) v.numbers
+    → GivesBounded (λ cells. Some (cell decimal_in cells place)) columns wanted v
+decimals-give columns place values nulls bounds wanted v e is within long = record {
+  numbers = record {
+    each = λ row cells h at.
+        ap (λ n. Some n) (read-numbers decimal_in columns place row Decimal values nulls bounds cells e at ∙ decimal-cell (number_at values.now nulls.now row))
+        ∙ ap (λ x. Some (number_lane x row)) (sym is);
+    long = long;
+  };
+  within = λ row cells h at.
+      let lies = subst (IsWithin bounds) (decimal-number (number_at values.now nulls.now row)) (number-within columns place row Decimal values nulls bounds cells e at) in
+      bounds-within bounds v (Cells values nulls) row is within lies;
 }
 
 -- the truths of a column
-pub truths-give : (columns : List Column) (place : ℕ) (values : Bor (List ℤ)) (nulls : Bor (List Bool)) (wanted : List Bool) (ts : List Truth) → slice_get columns place ≡ Some (Numbers Boolean values nulls)
+pub truths-give : (columns : List Column) (place : ℕ) (values : Bor (List ℤ)) (nulls : Bor (List Bool)) (bounds : Bounds) (wanted : List Bool) (ts : List Truth) → slice_get columns place ≡ Some (Numbers Boolean values nulls bounds)
     → length values.now ≡ length wanted → HasTruths (length values.now) (λ row. truth_in (get_or nulls.now row true) (get_or values.now row (pos 0))) ts
     → GivesTruths (λ cells. Some (truth_of_option (cell boolean_in cells place))) columns wanted ts
-truths-give columns place values nulls wanted ts e size has = record {
+truths-give columns place values nulls bounds wanted ts e size has = record {
   each = λ row cells h at.
       let within : row < length values.now = omega (arith, wanted_within wanted row h, size) in
-      ap (λ t. Some t) (ap truth_of_option (read-numbers boolean_in columns place row Boolean values nulls cells e at) ∙ truth-cell (get_or nulls.now row true) (get_or values.now row (pos 0))
+      ap (λ t. Some t) (ap truth_of_option (read-numbers boolean_in columns place row Boolean values nulls bounds cells e at) ∙ truth-cell (get_or nulls.now row true) (get_or values.now row (pos 0))
       ∙ sym (has.each row within));
   long = has.long ∙ size;
 }

@@ -6,13 +6,13 @@ use Rattle.block_summary.specs.Ranges.{RangeOf}
 use Rattle.cell_types.specs.Value.{CellValue}
 use Rattle.odata_parse.specs.declared.tree.ComparisonOperator.{ComparisonOperator}
 use Rattle.row_eval.specs.declared.truth.Truth.{Truth}
-use Rattle.row_eval.specs.Comparison.{compared, holds, is_among}
+use Rattle.row_eval.specs.Comparison.{holds, is_among}
 use Rattle.row_eval.specs.Logic.{option_of_truth, truth_of}
 use Rattle.row_eval.specs.Outcome.{both}
 use Rattle.block_eval.specs.declared.columns.Column.{Column}
 use Rattle.block_lanes.specs.declared.numbers.Numbers.{Numbers}
 use Rattle.block_eval.specs.Lanes.{comparison, number_lane, truth_lane, GivesTruthsWithin, HasTruths}
-use Rattle.block_eval.specs.Truths.{number_of_truth, AreTruthNumbers}
+use Rattle.block_eval.specs.Truths.{number_of_truth, truth_comparison, AreTruthNumbers}
 use Rattle.block_eval.proofs.ListLemmas.{among-map, compared-map}
 use Rattle.block_eval.proofs.LogicLemmas.{wanted_within}
 
@@ -21,9 +21,6 @@ truth-order true true = refl
 truth-order true false = refl
 truth-order false true = refl
 truth-order false false = refl
-
-abbrev pub truth_comparison : ComparisonOperator → Truth → Truth → Truth
-truth_comparison o x y = truth_of (holds o (compared bool_cmp (option_of_truth x) (option_of_truth y)))
 
 abbrev pub truth_among : List (Option Bool) → Truth → Truth
 truth_among items x = truth_of (is_among bool_cmp (option_of_truth x) items)

@@ -1,9 +1,10 @@
 -- The rows of a block, from its columns.
 pub use Rattle.block_lanes.specs.Lanes.{number_at, unless_null}
-use Rattle.std.specs.Prelude.{◌≡◌, ℕ, ℤ, pos, Bool, true, false, Option, None, Some, List, map, slice_get, slice_index_or}
+use Rattle.std.specs.Prelude.{◌≡◌, ℕ, Option, None, Some, List, map, slice_get, slice_index_or}
 use denote.Ref.{Bor}
 use Rattle.cell_types.specs.Value.{CellValue, null, text, value_view}
-use Rattle.block_summary.specs.Types.{cell_of}
+use Rattle.block_summary.specs.Types.{cell_of, number_of}
+use Rattle.block_eval.specs.Bounds.{IsWithin}
 use Rattle.block_eval.specs.declared.columns.Column.{Column}
 use Rattle.block_eval.specs.declared.columns.Column.TheVariants.{Nulls, Numbers, Texts, Unread, Values}
 
@@ -15,13 +16,14 @@ text_cell (Some t) = text t.now
 abbrev pub cell_at : Column → ℕ → CellValue
 cell_at Unread row = null
 cell_at Nulls row = null
-cell_at (Numbers type values nulls) row = cell_of type (number_at values.now nulls.now row)
+cell_at (Numbers type values nulls bounds) row = cell_of type (number_at values.now nulls.now row)
 cell_at (Texts texts) row = text_cell (slice_index_or texts.now row None)
 cell_at (Values values) row = slice_index_or (map value_view values.now) row null
 
--- what stands in a row at the place of a column: any cell, where the column was not read
+-- what stands in a row at the place of a column: any cell, where the column was not read; a number is between the bounds of its column
 abbrev pub IsCell : Column → ℕ → Option CellValue → Type 0
 IsCell Unread row cell = Unit {0}
+IsCell (Numbers type values nulls bounds) row cell = (cell ≡ Some (cell_at (Numbers type values nulls bounds) row)) × IsWithin bounds (number_of (cell_at (Numbers type values nulls bounds) row))
 IsCell column row cell = cell ≡ Some (cell_at column row)
 
 -- cells that are those of a row, in each column that was read

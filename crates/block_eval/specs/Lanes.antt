@@ -1,19 +1,13 @@
 -- What an expression is on the rows of a block that are wanted: a lane for each row.
 pub use Rattle.block_lanes.specs.Lanes.{comparison, number_lane, truth_in, truth_lane, AreAsked, AreComputed, AreLong, HasTruths, IsWanted}
-use Rattle.std.specs.Prelude.{◌≡◌, ◌≢◌, ◌<◌, ℕ, ℤ, pos, Bool, true, false, Option, None, Some, List, length, slice_index_or, IsTrue}
-use Rattle.std.specs.Ordering.{int_cmp, int_eq}
+use Rattle.std.specs.Prelude.{◌≡◌, ℕ, ℤ, Bool, Option, Some, List, length}
 use Rattle.cell_types.specs.Value.{CellValue}
-use Rattle.odata_parse.specs.declared.tree.ArithmeticOperator.{ArithmeticOperator}
-use Rattle.odata_parse.specs.declared.tree.ComparisonOperator.{ComparisonOperator}
 use Rattle.row_eval.specs.declared.truth.Truth.{Truth}
-use Rattle.row_eval.specs.declared.truth.Truth.TheVariants.{False, Null as NullTruth}
-use Rattle.row_eval.specs.Logic.{truth_of}
-use Rattle.row_eval.specs.Comparison.{compared, holds}
 use Rattle.odata_types.specs.TypedTree.{DecimalExprOf, IntegerExprOf, TruthExprOf}
-use Rattle.row_eval.specs.Outcome.{computed, decimal_outcome, integer_outcome, truth_outcome}
+use Rattle.row_eval.specs.Outcome.{decimal_outcome, integer_outcome, truth_outcome}
 use Rattle.block_eval.specs.declared.columns.Column.{Column}
 use Rattle.block_lanes.specs.declared.numbers.Numbers.{Numbers}
-use Rattle.block_eval.specs.Columns.{number_at, IsRowAt}
+use Rattle.block_eval.specs.Columns.{IsRowAt}
 use Rattle.summary_eval.specs.Known.{IsRowWithin}
 use Rattle.block_summary.specs.Ranges.{RangeOf}
 

@@ -4,8 +4,10 @@ pub use Rattle.row_eval.specs.Comparison
 pub use Rattle.row_eval.specs.Logic
 pub use Rattle.row_eval.specs.Outcome
 pub use Rattle.summary_eval.specs.Known
+pub mod Bounds
 pub mod Columns
 pub mod Lanes
+pub mod Bounded
 pub mod Texts
 pub mod Dates
 pub mod Truths

@@ -1,13 +1,20 @@
 -- Truths of a block by their numbers: false is 0, and true 1.
 use Rattle.std.specs.Prelude.{◌≡◌, ◌<◌, ℕ, ℤ, pos, Bool, true, false, List, length, option_map}
 use Rattle.row_eval.specs.declared.truth.Truth.{Truth}
-use Rattle.row_eval.specs.Logic.{option_of_truth}
+use Rattle.std.specs.Ordering.{bool_cmp}
+use Rattle.odata_parse.specs.declared.tree.ComparisonOperator.{ComparisonOperator}
+use Rattle.row_eval.specs.Comparison.{compared, holds}
+use Rattle.row_eval.specs.Logic.{option_of_truth, truth_of}
 use Rattle.block_lanes.specs.declared.numbers.Numbers.{Numbers}
 use Rattle.block_eval.specs.Lanes.{number_lane, truth_lane, AreLong}
 
 abbrev pub number_of_truth : Bool → ℤ
 number_of_truth true = pos 1
 number_of_truth false = pos 0
+
+-- what a comparison says of two truths
+abbrev pub truth_comparison : ComparisonOperator → Truth → Truth → Truth
+truth_comparison o x y = truth_of (holds o (compared bool_cmp (option_of_truth x) (option_of_truth y)))
 
 -- the lanes are the numbers of truths, and null where these are null
 pub record AreTruthNumbers (truths : List Truth) (v : Numbers) : Type 0 where

@@ -1,6 +1,6 @@
 //! The columns of a block.
 
-use block_summary::PackedType;
+use block_summary::{Bounds, PackedType};
 use cell_types::Value;
 
 /// The cells of a column, one for each row of the block.
@@ -10,8 +10,9 @@ pub enum Column<'a> {
     Unread,
     /// Each cell is null.
     Nulls,
-    /// The numbers that stand for the cells of a type, and which cells are null. At a null the number may be any.
-    Numbers(PackedType, &'a [i64], &'a [bool]),
+    /// The numbers that stand for the cells of a type, which cells are null, and two numbers between which the others lie. At a null the number
+    /// may be any.
+    Numbers(PackedType, &'a [i64], &'a [bool], Bounds),
     /// The texts, and none for null.
     Texts(&'a [Option<&'a str>]),
     /// The cells themselves, of any types. The texts of such a column are read, and what names it otherwise falls back.

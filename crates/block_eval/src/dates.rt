@@ -31,7 +31,7 @@ fn days_in<'a>(
     ensures { IfOk result (GivesDays (λ cells. cell day_in cells place) columns.now wanted.now) }
 {
     match columns.get(place) {
-        Some(Column::Numbers(PackedType::Date, values, nulls)) => {
+        Some(Column::Numbers(PackedType::Date, values, nulls, _)) => {
             let numbers = cells(values, nulls, wanted.len())?;
             Ok(numbers)
         }

@@ -3,6 +3,8 @@
 #![tactic(auto)]
 
 mod block;
+mod bounded;
+mod bounds;
 mod columns;
 mod comparison;
 mod dates;

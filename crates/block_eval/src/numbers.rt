@@ -2,14 +2,17 @@
 
 ghost use Rattle.std.specs.Prelude.{◌≡◌, Some, IfOk};
 ghost use Rattle.odata_types.specs.TypedTree.{decimal_view, integer_view};
+ghost use Rattle.row_eval.specs.Outcome.{decimal_outcome, integer_outcome};
 ghost use Rattle.row_eval.specs.Row.{cell, decimal_in, integer_in};
-ghost use Rattle.block_eval.specs.Lanes.{AreDecimals, AreIntegers, GivesNumbers};
+ghost use Rattle.block_eval.specs.Bounded.{GivesBounded};
+ghost use Rattle.block_eval.specs.Lanes.{AreDecimals, AreIntegers};
 
+use crate::bounded::{Bounded, constant, join_bounded, nulls, same};
 use crate::columns::Column;
-use block_lanes::{Fallback, Numbers, cells, join, negate, scale};
+use block_lanes::{Fallback, Numbers, cells};
 use block_summary::PackedType;
 use odata_parse::tree::ArithmeticOperator;
-use odata_types::{DecimalExpr, IntegerExpr};
+use odata_types::{DecimalExpr, IntegerExpr, MILLIONTHS};
 use std::alloc::Global;
 
 /// The integers of a column.
@@ -17,14 +20,17 @@ fn integers_in<'a>(
     columns: &[Column<'a>],
     place: usize,
     wanted: &[bool],
-) -> Result<Numbers<'a>, Fallback>
+) -> Result<Bounded<'a>, Fallback>
     ensures { IfOk result
-        (GivesNumbers (λ cells. Some (cell integer_in cells place)) columns.now wanted.now) }
+        (GivesBounded (λ cells. Some (cell integer_in cells place)) columns.now wanted.now) }
 {
     match columns.get(place) {
-        Some(Column::Numbers(PackedType::Integer, values, nulls)) => {
-            let numbers = cells(values, nulls, wanted.len())?;
-            Ok(numbers)
+        Some(Column::Numbers(PackedType::Integer, values, marks, bounds)) => {
+            let numbers = cells(values, marks, wanted.len())?;
+            Ok(Bounded {
+                numbers,
+                bounds: Some(*bounds),
+            })
         }
         _ => Err(Fallback),
     }
@@ -35,26 +41,96 @@ fn decimals_in<'a>(
     columns: &[Column<'a>],
     place: usize,
     wanted: &[bool],
-) -> Result<Numbers<'a>, Fallback>
+) -> Result<Bounded<'a>, Fallback>
     ensures { IfOk result
-        (GivesNumbers (λ cells. Some (cell decimal_in cells place)) columns.now wanted.now) }
+        (GivesBounded (λ cells. Some (cell decimal_in cells place)) columns.now wanted.now) }
 {
     match columns.get(place) {
-        Some(Column::Numbers(PackedType::Decimal, values, nulls)) => {
-            let numbers = cells(values, nulls, wanted.len())?;
+        Some(Column::Numbers(PackedType::Decimal, values, marks, bounds)) => {
+            let numbers = cells(values, marks, wanted.len())?;
+            Ok(Bounded {
+                numbers,
+                bounds: Some(*bounds),
+            })
+        }
+        _ => Err(Fallback),
+    }
+}
+
+/// The integers of an expression on the wanted rows of a block, with their bounds.
+fn bounded_integers<'a>(
+    alloc: Global,
+    expr: &IntegerExpr,
+    columns: &[Column<'a>],
+    wanted: &[bool],
+) -> Result<Bounded<'a>, Fallback>
+    ensures { IfOk result
+        (GivesBounded (integer_outcome (integer_view expr.now)) columns.now wanted.now) }
+{
+    match expr {
+        IntegerExpr::Null => Ok(nulls()),
+        IntegerExpr::Column(place) => integers_in(columns, *place, wanted),
+        IntegerExpr::Literal(number) => {
+            let numbers = same(*number)?;
+            Ok(numbers)
+        }
+        IntegerExpr::Negate(operand) => {
+            let numbers = bounded_integers(alloc, operand, columns, wanted)?;
+            let zero = constant(0);
+            let negated = join_bounded(alloc, ArithmeticOperator::Sub, &zero, &numbers, wanted)?;
+            Ok(negated)
+        }
+        IntegerExpr::Arithmetic(operator, left, right) => {
+            let left = bounded_integers(alloc, left, columns, wanted)?;
+            let right = bounded_integers(alloc, right, columns, wanted)?;
+            let numbers = join_bounded(alloc, *operator, &left, &right, wanted)?;
             Ok(numbers)
         }
         _ => Err(Fallback),
     }
 }
 
-/// The same number on each row, where it fits.
-fn same<'a>(number: i128) -> Result<Numbers<'a>, Fallback>
-    ensures { IfOk result (λ v. v ≡ Numbers.Same number) }
+/// The decimals of an expression on the wanted rows of a block, in millionths, with their bounds.
+fn bounded_decimals<'a>(
+    alloc: Global,
+    expr: &DecimalExpr,
+    columns: &[Column<'a>],
+    wanted: &[bool],
+) -> Result<Bounded<'a>, Fallback>
+    ensures { IfOk result
+        (GivesBounded (decimal_outcome (decimal_view expr.now)) columns.now wanted.now) }
 {
-    match i64::try_from(number) {
-        Ok(number) => Ok(Numbers::Same(number)),
-        Err(_) => Err(Fallback),
+    match expr {
+        DecimalExpr::Null => Ok(nulls()),
+        DecimalExpr::Column(place) => decimals_in(columns, *place, wanted),
+        DecimalExpr::Literal(number) => {
+            let numbers = same(*number)?;
+            Ok(numbers)
+        }
+        DecimalExpr::Add(left, right) => {
+            let left = bounded_decimals(alloc, left, columns, wanted)?;
+            let right = bounded_decimals(alloc, right, columns, wanted)?;
+            let sums = join_bounded(alloc, ArithmeticOperator::Add, &left, &right, wanted)?;
+            Ok(sums)
+        }
+        DecimalExpr::Sub(left, right) => {
+            let left = bounded_decimals(alloc, left, columns, wanted)?;
+            let right = bounded_decimals(alloc, right, columns, wanted)?;
+            let differences = join_bounded(alloc, ArithmeticOperator::Sub, &left, &right, wanted)?;
+            Ok(differences)
+        }
+        DecimalExpr::Negate(operand) => {
+            let numbers = bounded_decimals(alloc, operand, columns, wanted)?;
+            let zero = constant(0);
+            let negated = join_bounded(alloc, ArithmeticOperator::Sub, &zero, &numbers, wanted)?;
+            Ok(negated)
+        }
+        DecimalExpr::Scaled(operand) => {
+            let numbers = bounded_integers(alloc, operand, columns, wanted)?;
+            let unit = constant(MILLIONTHS as i64);
+            let scaled = join_bounded(alloc, ArithmeticOperator::Mul, &numbers, &unit, wanted)?;
+            Ok(scaled)
+        }
     }
 }
 
@@ -67,29 +143,8 @@ pub fn eval_integers<'a>(
 ) -> Result<Numbers<'a>, Fallback>
     ensures { IfOk result (AreIntegers (integer_view expr.now) columns.now wanted.now) }
 {
-    match expr {
-        IntegerExpr::Null => Ok(Numbers::Null),
-        IntegerExpr::Column(place) => {
-            let numbers = integers_in(columns, *place, wanted)?;
-            Ok(numbers)
-        }
-        IntegerExpr::Literal(number) => {
-            let numbers = same(*number)?;
-            Ok(numbers)
-        }
-        IntegerExpr::Negate(operand) => {
-            let numbers = eval_integers(alloc, operand, columns, wanted)?;
-            let negated = negate(alloc, &numbers, wanted)?;
-            Ok(negated)
-        }
-        IntegerExpr::Arithmetic(operator, left, right) => {
-            let left = eval_integers(alloc, left, columns, wanted)?;
-            let right = eval_integers(alloc, right, columns, wanted)?;
-            let numbers = join(alloc, *operator, &left, &right, wanted)?;
-            Ok(numbers)
-        }
-        _ => Err(Fallback),
-    }
+    let Bounded { numbers, .. } = bounded_integers(alloc, expr, columns, wanted)?;
+    Ok(numbers)
 }
 
 /// The decimals of an expression on the wanted rows of a block, in millionths.
@@ -101,34 +156,6 @@ pub fn eval_decimals<'a>(
 ) -> Result<Numbers<'a>, Fallback>
     ensures { IfOk result (AreDecimals (decimal_view expr.now) columns.now wanted.now) }
 {
-    match expr {
-        DecimalExpr::Null => Ok(Numbers::Null),
-        DecimalExpr::Column(place) => decimals_in(columns, *place, wanted),
-        DecimalExpr::Literal(number) => {
-            let numbers = same(*number)?;
-            Ok(numbers)
-        }
-        DecimalExpr::Add(left, right) => {
-            let left = eval_decimals(alloc, left, columns, wanted)?;
-            let right = eval_decimals(alloc, right, columns, wanted)?;
-            let numbers = join(alloc, ArithmeticOperator::Add, &left, &right, wanted)?;
-            Ok(numbers)
-        }
-        DecimalExpr::Sub(left, right) => {
-            let left = eval_decimals(alloc, left, columns, wanted)?;
-            let right = eval_decimals(alloc, right, columns, wanted)?;
-            let numbers = join(alloc, ArithmeticOperator::Sub, &left, &right, wanted)?;
-            Ok(numbers)
-        }
-        DecimalExpr::Negate(operand) => {
-            let numbers = eval_decimals(alloc, operand, columns, wanted)?;
-            let negated = negate(alloc, &numbers, wanted)?;
-            Ok(negated)
-        }
-        DecimalExpr::Scaled(operand) => {
-            let numbers = eval_integers(alloc, operand, columns, wanted)?;
-            let scaled = scale(alloc, &numbers, wanted)?;
-            Ok(scaled)
-        }
-    }
+    let Bounded { numbers, .. } = bounded_decimals(alloc, expr, columns, wanted)?;
+    Ok(numbers)
 }

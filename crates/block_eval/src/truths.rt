@@ -2,12 +2,12 @@
 
 ghost use Rattle.std.specs.Prelude.{◌≡◌, ◌<◌, ℕ, pos, true, Some, IfOk, length, map, option_map, slice_index_or};
 ghost use Rattle.std.specs.Ordering.{bool_cmp};
-ghost use Rattle.row_eval.specs.Comparison.{compared, holds, is_among};
+ghost use Rattle.row_eval.specs.Comparison.{is_among};
 ghost use Rattle.row_eval.specs.Logic.{option_of_truth, truth_of, truth_of_option};
 ghost use Rattle.row_eval.specs.Row.{boolean_in, cell};
 ghost use Rattle.block_eval.specs.Columns.{number_at};
 ghost use Rattle.block_eval.specs.Lanes.{truth_lane, GivesTruths, HasTruths};
-ghost use Rattle.block_eval.specs.Truths.{number_of_truth, AreTruthNumbers};
+ghost use Rattle.block_eval.specs.Truths.{number_of_truth, truth_comparison, AreTruthNumbers};
 
 use crate::columns::Column;
 use crate::lists::among;
@@ -80,8 +80,7 @@ pub fn compare_truths(
 ) -> Result<Vec<Truth>, Fallback>
     requires { length left.now ≡ length right.now }
     ensures { IfOk result (λ truths. HasTruths (length right.now)
-        (λ row. truth_of (holds operator (compared bool_cmp (option_of_truth
-        (truth_lane left.now row)) (option_of_truth (truth_lane right.now row)))))
+        (λ row. truth_comparison operator (truth_lane left.now row) (truth_lane right.now row))
         truths.items) }
 {
     let rows = right.len();
@@ -119,7 +118,7 @@ pub fn truths_in(
         truths.items) }
 {
     match columns.get(place) {
-        Some(Column::Numbers(PackedType::Boolean, values, nulls)) => {
+        Some(Column::Numbers(PackedType::Boolean, values, nulls, _)) => {
             if values.len() != wanted.len() || nulls.len() != wanted.len() {
                 return Err(Fallback);
             }

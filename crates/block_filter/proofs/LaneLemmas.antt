@@ -6,10 +6,14 @@ use Rattle.std.proofs.lemmas.Bool.{cases_eq}
 use Rattle.std.proofs.lemmas.List.{get_or_push, get_or_append_left, get_or-map, get_or-set_other, get_or-set_same, length-map, length_push, length-set}
 use Rattle.std.proofs.lemmas.Option.{slice_get-get_or}
 use Rattle.block_eval.specs.declared.columns.Column.{Column}
-use Rattle.block_eval.specs.Columns.{unless_null, IsCell}
+use Rattle.block_eval.specs.declared.columns.Column.TheVariants.{Numbers}
+use Rattle.block_eval.specs.Bounds.{IsWithin}
+use Rattle.block_eval.specs.Columns.{number_at, unless_null, IsCell}
+use Rattle.block_summary.specs.declared.bounds.Bounds.{Bounds}
+use denote.Ref.{Bor}
 use Rattle.block_summary.specs.declared.number.PackedType.{PackedType}
 use Rattle.block_summary.specs.declared.number.PackedType.TheVariants.{Date}
-use Rattle.block_summary.specs.Cells.{AreUnpacked}
+use Rattle.block_summary.specs.Cells.{AreBetween, AreBounds, AreUnpacked}
 use Rattle.block_summary.specs.Ranges.{column_of, is_null}
 use Rattle.block_summary.specs.Reading.{packed_type_of}
 use Rattle.block_summary.specs.Types.{cell_of, day_number, number_of, numbers_of, place_in_year, typed_cell}
@@ -27,7 +31,7 @@ use Rattle.table_store.specs.Fits as fits
 use Rattle.table_store.specs.Fits.{HasTableRows, IsTableRow}
 use Rattle.table_store.specs.Table.{TableOf}
 use Rattle.block_filter.specs.declared.lanes.Lane.{Lane}
-use Rattle.block_filter.specs.Lanes.{texts_view, AreColumnsOf, AreLanesOf, AreTextsOf, AreValuesOf, IsColumnOf, IsLaneOf, StandAt}
+use Rattle.block_filter.specs.Lanes.{texts_view, AreColumnsOf, AreLanesOf, AreTextsOf, AreValuesOf, IsColumnOf, IsLaneOf, IsMadeOf, LieBetween, StandAt}
 
 -- ---- the cell that a number stands for
 
@@ -134,6 +138,40 @@ column_stands law block col column type numbers nulls fit at p unpacked marks ro
     ∙ ap (λ v. Some v) (sym (cell_stands column type (cell values) (get_or numbers row (pos 0)) (get_or nulls row true) typed.fits typed.type p mark
     (λ n e. unpacked row n (number ∙ e))))
 
+-- ---- bounds
+
+pub bounds_lie : (rows : List (List CellValue)) (col : ℕ) (cells : List CellValue) (b : Bounds) → cells ≡ column_of rows col → AreBounds b.least b.greatest (numbers_of cells) → LieBetween rows col b
+bounds_lie rows col cells b is are = subst (λ cs. AreBetween b.least b.greatest (numbers_of cs)) is are.between
+
+got : {X : Type 0} (xs : List X) (i : ℕ) (x : X) → slice_get xs i ≡ Some x → (i < length xs) × (get_or xs i x ≡ x)
+got [] i x e = absurd (cc)
+got (y ∷ xs) zero x e = (omega arith, cc)
+got (y ∷ xs) (suc i) x e = let is = got xs i x e in (omega (arith, is.0), is.1)
+
+cell_within : (rows : List (List CellValue)) (place row : ℕ) (bounds : Bounds) (v : CellValue) (m : Option ℤ) → m ≡ number_of v → row < length rows → LieBetween rows place bounds
+    → slice_get (get_or rows row []) place ≡ Some v → IsWithin bounds m
+cell_within rows place row bounds v None e h lie is = tt
+cell_within rows place row bounds v (Some n) e h lie is =
+    let values = get_or rows row [] in
+    let cell : List CellValue → CellValue = λ vs. get_or vs place null in
+    let long = length-map rows cell in
+    let there = got values place v is in
+    let value : get_or (column_of rows place) row null ≡ cell values = get_or-map cell rows row [] null h in
+    let number : get_or (numbers_of (column_of rows place)) row None ≡ number_of (cell values) =
+    get_or-map number_of (column_of rows place) row null None (omega (arith, h, long)) ∙ ap number_of value in
+    let some : Some (cell values) ≡ Some v = sym (slice_get-get_or values place null there.0) ∙ is in
+    let same : cell values ≡ v = cc in
+    lie row n (number ∙ ap number_of same ∙ sym e)
+
+-- a column of numbers is made of a lane
+pub numbers_made : (lane : Lane) (values : Option (List CellValue)) (type : PackedType) (numbers : Bor (List ℤ)) (nulls : Bor (List Bool)) → lane.packed_type ≡ Some type
+    → numbers.now ≡ lane.numbers.items → nulls.now ≡ lane.nulls.items → IsMadeOf lane values (Numbers type numbers nulls lane.bounds)
+numbers_made lane values type numbers nulls p ns ms rows place is those row h =
+    let at = with_type lane.packed_type type (λ t. StandAt rows place t lane.numbers.items lane.nulls.items × LieBetween rows place lane.bounds) p is in
+    let stands : slice_get (get_or rows row []) place ≡ Some (cell_of type (number_at numbers.now nulls.now row)) =
+    at.0 row h ∙ ap (λ xs. Some (cell_of type (number_at xs lane.nulls.items row))) (sym ns) ∙ ap (λ ys. Some (cell_of type (number_at numbers.now ys row))) (sym ms) in
+    (stands, cell_within rows place row lane.bounds (cell_of type (number_at numbers.now nulls.now row)) _ refl h at.1 stands)
+
 -- ---- the columns of a block
 
 -- the first columns were read
@@ -174,11 +212,6 @@ one_of_lanes lanes texts columns i lane values column h at read is so_far = reco
         subst (IsColumnOf rows place) (sym (get_or_append_left columns (column ∷ []) d place inside)) (so_far.each rows are those place d (omega arith))
   ];
 }
-
-got : {X : Type 0} (xs : List X) (i : ℕ) (x : X) → slice_get xs i ≡ Some x → (i < length xs) × (get_or xs i x ≡ x)
-got [] i x e = absurd (cc)
-got (y ∷ xs) zero x e = (omega arith, cc)
-got (y ∷ xs) (suc i) x e = let is = got xs i x e in (omega (arith, is.0), is.1)
 
 pub columns_are : {A : Type 0} (rows : List (List CellValue)) (lanes : List Lane) (texts : List (Option (Vec Value A))) (columns : List Column) (i : ℕ) → AreOfLanes lanes texts columns i
     → AreLanesOf rows lanes → AreTextsOf rows texts → AreColumnsOf rows columns

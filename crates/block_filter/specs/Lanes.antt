@@ -2,7 +2,10 @@
 use Rattle.std.specs.Prelude.{◌≡◌, ◌<◌, ℕ, ℤ, Bool, List, [], MatchOption, Option, Some, Vec, length, map, option_map, slice_get, slice_index_or}
 use Rattle.block_eval.specs.declared.columns.Column.{Column}
 use Rattle.block_eval.specs.Columns.{number_at, IsCell, IsRowAt}
-use Rattle.block_summary.specs.Types.{cell_of}
+use Rattle.block_summary.specs.Cells.{AreBetween}
+use Rattle.block_summary.specs.Ranges.{column_of}
+use Rattle.block_summary.specs.Types.{cell_of, numbers_of}
+use Rattle.block_summary.specs.declared.bounds.Bounds.{Bounds}
 use Rattle.block_summary.specs.declared.number.PackedType.{PackedType}
 use Rattle.cell_types.specs.declared.value.Value.{Value}
 use Rattle.cell_types.specs.Value.{CellValue, null, value_view}
@@ -22,9 +25,14 @@ AreColumnsOf rows columns = (row : ℕ) → row < length rows → IsRowAt column
 abbrev pub StandAt : List (List CellValue) → ℕ → PackedType → List ℤ → List Bool → Type 0
 StandAt rows place type numbers nulls = (row : ℕ) → row < length rows → slice_get (slice_index_or rows row []) place ≡ Some (cell_of type (number_at numbers nulls row))
 
+-- the numbers of the cells of rows at a place lie between bounds
+abbrev pub LieBetween : List (List CellValue) → ℕ → Bounds → Type 0
+LieBetween rows place bounds = AreBetween bounds.least bounds.greatest (numbers_of (column_of rows place))
+
 -- what was read of a column, if it was read
 abbrev pub IsLaneOf : List (List CellValue) → ℕ → Lane → Type 0
-IsLaneOf rows place lane = MatchOption lane.packed_type (Unit {0}) (λ type. StandAt rows place type lane.numbers.items lane.nulls.items)
+IsLaneOf rows place lane =
+    MatchOption lane.packed_type (Unit {0}) (λ type. StandAt rows place type lane.numbers.items lane.nulls.items × LieBetween rows place lane.bounds)
 
 abbrev pub AreLanesOf : List (List CellValue) → List Lane → Type 0
 AreLanesOf rows lanes = (place : ℕ) (lane : Lane) → place < length lanes → IsLaneOf rows place (slice_index_or lanes place lane)

@@ -64,7 +64,8 @@ pub fn filter_block(
     ensures { IfOk result (ArePassing (map boxed_truth conditions.now) most block.now.rows) }
 {
     let limit = limit_of(most, block.rows());
-    match passing_rows(alloc, conditions, block, lanes) {
+    let all = Vec::from_elem(alloc, true, block.rows())?;
+    match passing_rows(alloc, conditions, block, lanes, all) {
         Ok(wanted) => {
             let numbers = numbers_of(alloc, &wanted, limit)?;
             let count = count_of(&wanted);

@@ -1,11 +1,12 @@
 //! The columns of a block that are read for conditions, or for an order.
 ghost use Rattle.std.specs.Prelude.{◌≡◌, ◌<◌, List, OnOk, IfOk, IfSome, IsTrue, length, map, option_map};
 ghost use Rattle.cell_types.specs.Value.{CellValue, value_view};
-ghost use Rattle.block_filter.specs.Lanes.{AreColumnsOf, AreKeysIn, AreKeysOf, AreLanesOf, AreTextsOf, IsLaneOf, IsMadeOf};
+ghost use Rattle.table_store.specs.Block.{HasNumbers};
+ghost use Rattle.block_filter.specs.Lanes.{AreColumnsOf, AreKeysIn, AreKeysOf, AreLanesOf, AreTextsOf, IsLaneOf, IsMadeOf, LieBetween};
 
 use crate::texts::texts_at;
 use block_eval::Column;
-use block_summary::{PackedType, packed_type_of};
+use block_summary::{Bounds, PackedType, packed_type_of};
 use cell_types::Value;
 use row_eval::tables_are_inputs;
 use row_order::{KeyColumn, Keys};
@@ -19,6 +20,29 @@ struct Lane {
     packed_type: Option<PackedType>,
     numbers: Vec<i64>,
     nulls: Vec<bool>,
+    /// Two numbers between which those lie that are not null.
+    bounds: Bounds,
+}
+
+/// No bounds, of no numbers.
+const NO_BOUNDS: Bounds = Bounds {
+    least: 0,
+    greatest: 0,
+};
+
+/// The bounds of the numbers of a column that has numbers.
+fn bounds_of(block: &Block<'_>, col: usize) -> Bounds
+    requires col { col < length block.now.schema.columns }
+    requires numbers { HasNumbers block.now col }
+    ensures { LieBetween block.now.rows col result }
+{
+    let Some(column) = block.packed(col) else {
+        unreachable!();
+    };
+    match column.bounds() {
+        Some(bounds) => bounds,
+        None => NO_BOUNDS,
+    }
 }
 
 impl Lane {
@@ -58,6 +82,7 @@ impl Lane {
         };
         self.fit(alloc, block.rows())?;
         block.numbers(col, self.numbers.as_mut_slice(), self.nulls.as_mut_slice());
+        self.bounds = bounds_of(block, col);
         self.packed_type = Some(packed_type);
         Ok(())
     }
@@ -68,7 +93,9 @@ impl Lane {
             (option_map (λ values. map value_view values.now) texts.entry) result }
     {
         match (self.packed_type, texts) {
-            (Some(packed_type), _) => Column::Numbers(packed_type, &self.numbers, &self.nulls),
+            (Some(packed_type), _) => {
+                Column::Numbers(packed_type, &self.numbers, &self.nulls, self.bounds)
+            }
             (None, Some(values)) => Column::Values(values),
             (None, None) => Column::Unread,
         }
@@ -117,6 +144,7 @@ impl Lanes {
                 packed_type: None,
                 numbers: Vec::new(alloc),
                 nulls: Vec::new(alloc),
+                bounds: NO_BOUNDS,
             })?;
         }
         Ok(Lanes { lanes })

@@ -1,5 +1,5 @@
 //! The rows of a block that pass the conditions of a plan, found a column at a time.
-ghost use Rattle.std.specs.Prelude.{◌≡◌, ◌<◌, ◌&&◌, ℕ, List, Some, OnOk, IfOk, length, map, slice_index_or, take, false};
+ghost use Rattle.std.specs.Prelude.{◌≡◌, ◌<◌, ◌&&◌, ℕ, List, Some, OnOk, IfOk, length, map, replicate, slice_index_or, take, false, true};
 ghost use Rattle.std.specs.List.{All, count_by};
 ghost use Rattle.cell_types.specs.Value.{CellValue};
 ghost use Rattle.block_eval.specs.Lanes.{truth_lane};
@@ -90,19 +90,20 @@ pub(crate) fn count_of(wanted: &[bool]) -> usize
     count
 }
 
-/// Which rows of a block pass conditions, in turn. Where it falls back, the rows are to be taken one by one: so it is where a condition
+/// Which rows of a block pass conditions, in turn, of all that are marked. Where it falls back, the rows are to be taken one by one: so it is where a condition
 /// divides by zero.
 pub(crate) fn passing_rows(
     alloc: Global,
     conditions: &[Box<TruthExpr>],
     block: &Block<'_>,
     lanes: &mut Lanes,
+    mut wanted: Vec<bool>,
 ) -> Result<Vec<bool>, Fallback>
+    requires { wanted.items ≡ replicate (length block.now.rows) true }
     ensures rows { IfOk result (λ wanted. passing_all (map boxed_truth conditions.now) block.now.rows
         ≡ Some (marked wanted.items block.now.rows)) }
     ensures long { IfOk result (λ wanted. length wanted.items ≡ length block.now.rows) }
 {
-    let mut wanted = Vec::from_elem(alloc, true, block.rows())?;
     for condition in conditions {
         narrow_by(alloc, condition, block, lanes, wanted.as_mut_slice())?;
     }

@@ -1,6 +1,7 @@
 -- One more row of a loop.
-use Rattle.std.proofs.Common.{◌≡◌, ◌<◌, ℕ, Bool, List, length, ap, ◌∙◌, arith}
-use Rattle.std.specs.Prelude.{ℤ}
+use Rattle.std.proofs.Common.{◌≡◌, ◌<◌, ℕ, Bool, List, length, ap, ◌∙◌, subst, sym, arith}
+use Rattle.std.specs.Prelude.{ℤ, FitsSigned}
+use Rattle.std.specs.Int.{w64}
 use Rattle.std.proofs.lemmas.List.{get_or_past}
 use Rattle.std.proofs.lemmas.Bool.{false≢true}
 use Rattle.block_lanes.specs.declared.arithmetic.ExactOperator.{ExactOperator}
@@ -24,8 +25,11 @@ compared-more o l r i ln rn lv rv h t eln elv ern erv eh et =
     ∙ ap (λ n. holds o (compared int_cmp (operand_lane l i) (unless_null n rv))) ern
     ∙ ap (λ v. holds o (compared int_cmp (operand_lane l i) (unless_null (null_at r i) v))) erv)
 
-pub exact-more : (o : ExactOperator) (l r : Operand) (i : ℕ) (lv rv v : ℤ) → lv ≡ value_at l i → rv ≡ value_at r i → v ≡ exact o lv rv → v ≡ exact o (value_at l i) (value_at r i)
-exact-more o l r i lv rv v elv erv e = e ∙ ap (λ x. exact o x rv) elv ∙ ap (exact o (value_at l i)) erv
+pub exact-more : (o : ExactOperator) (l r : Operand) (i : ℕ) (lv rv v : ℤ) → lv ≡ value_at l i → rv ≡ value_at r i → (FitsSigned w64 (exact o lv rv) → v ≡ exact o lv rv)
+    → FitsSigned w64 (exact o (value_at l i) (value_at r i)) → v ≡ exact o (value_at l i) (value_at r i)
+exact-more o l r i lv rv v elv erv e fits =
+    let same : exact o lv rv ≡ exact o (value_at l i) (value_at r i) = ap (λ x. exact o x rv) elv ∙ ap (exact o (value_at l i)) erv in
+    e (subst (FitsSigned w64) (sym same) fits) ∙ same
 
 -- a wanted row is a row
 pub wanted_within : (wanted : List Bool) (row : ℕ) → IsWanted wanted row → row < length wanted

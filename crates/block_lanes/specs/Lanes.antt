@@ -1,5 +1,6 @@
 -- What vectors have for the rows of a block: a lane for each row.
-use Rattle.std.specs.Prelude.{◌≡◌, ◌≢◌, ◌<◌, ℕ, ℤ, pos, Bool, true, false, Option, None, Some, List, length, slice_index_or, IsTrue}
+use Rattle.std.specs.Prelude.{◌≡◌, ◌≢◌, ◌<◌, ℕ, ℤ, pos, Bool, true, false, Option, None, Some, List, length, slice_index_or, FitsSigned, IfSome, IsTrue}
+use Rattle.std.specs.Int.{w64}
 use Rattle.std.specs.Ordering.{int_cmp, int_eq}
 use Rattle.odata_parse.specs.declared.tree.ArithmeticOperator.{ArithmeticOperator}
 use Rattle.odata_parse.specs.declared.tree.ComparisonOperator.{ComparisonOperator}
@@ -7,7 +8,7 @@ use Rattle.row_eval.specs.declared.truth.Truth.{Truth}
 use Rattle.row_eval.specs.declared.truth.Truth.TheVariants.{False, Null as NullTruth}
 use Rattle.row_eval.specs.Logic.{truth_of}
 use Rattle.row_eval.specs.Comparison.{compared, holds}
-use Rattle.row_eval.specs.Outcome.{computed}
+use Rattle.row_eval.specs.Outcome.{computed, operation}
 use Rattle.block_lanes.specs.declared.numbers.Numbers.{Numbers}
 use Rattle.block_lanes.specs.declared.numbers.Numbers.TheVariants.{Null, Same, Cells, Computed}
 
@@ -44,6 +45,17 @@ pub record AreComputed (o : ArithmeticOperator) (left right : Numbers) (wanted :
   pub each : (row : ℕ) → IsWanted wanted row → computed o (number_lane left row) (number_lane right row) ≡ Some (number_lane v row)
   pub long : AreLong (length wanted) v
 
+-- what an operator makes of two lanes fits 64 bits, where it makes a number of them
+abbrev pub LanesFit : ArithmeticOperator → Option ℤ → Option ℤ → Type 0
+LanesFit o (Some a) (Some b) = IfSome (operation o a b) (FitsSigned w64)
+LanesFit o _ _ = Unit {0}
+
+-- on each wanted row where that fits the lane is what the operator makes of those of two vectors, which is no fault
+pub record AreComputedFitting (o : ArithmeticOperator) (left right : Numbers) (wanted : List Bool) (v : Numbers) : Type 0 where
+  pub each : (row : ℕ) → IsWanted wanted row → LanesFit o (number_lane left row) (number_lane right row)
+      → computed o (number_lane left row) (number_lane right row) ≡ Some (number_lane v row)
+  pub long : AreLong (length wanted) v
+
 -- ---- truths
 
 -- what a comparison says of two numbers, none for null
@@ -63,7 +75,8 @@ pub record HasTruths (rows : ℕ) (f : ℕ → Truth) (truths : List Truth) : Ty
   pub each : (row : ℕ) → row < rows → truth_lane truths row ≡ f row
   pub long : length truths ≡ rows
 
--- each wanted row whose truth is another than this one is asked
+-- each wanted row whose truth is another than this one is asked, and no other row is
 pub record AreAsked (wanted : List Bool) (truths : List Truth) (closed : Truth) (asked : List Bool) : Type 0 where
   pub each : (row : ℕ) → IsWanted wanted row → truth_lane truths row ≢ closed → IsWanted asked row
+  pub alone : (row : ℕ) → IsWanted asked row → IsWanted wanted row × (truth_lane truths row ≢ closed)
   pub long : length asked ≡ length wanted

@@ -1,16 +1,15 @@
-//! Sums, differences and products on the rows of a block (OData 4.01 URL Conventions, section 5.1.1.2). One pass tells whether all numbers
-//! are small; the loop that joins them then cannot leave 64 bits.
+//! Sums, differences and products on the rows of a block (OData 4.01 URL Conventions, section 5.1.1.2). Where it is not known that they fit
+//! 64 bits, one pass tells whether all numbers are small; the loop that joins them then cannot leave 64 bits.
 
-ghost use Rattle.std.specs.Prelude.{◌≡◌, ◌<◌, ◌||◌, ◌*ℤ◌, ℕ, neg_ℤ, pos, true, IfOk, IsTrue, OnOk, FitsSigned, length, slice_index_or, unsigned_abs};
+ghost use Rattle.std.specs.Prelude.{◌≡◌, ◌<◌, ◌||◌, ℕ, true, IfOk, IsTrue, FitsSigned, length, slice_index_or, unsigned_abs};
 ghost use Rattle.std.specs.Int.{w64};
-ghost use Rattle.block_lanes.specs.Arithmetic.{exact as exact_of, operator_of, AreMapped, HasNulls, HasValues};
-ghost use Rattle.block_lanes.specs.Lanes.{AreComputed, AreLong};
+ghost use Rattle.block_lanes.specs.Arithmetic.{exact as exact_of, operator_of, AllFit, AreExact, HasNulls, HasValues};
+ghost use Rattle.block_lanes.specs.Lanes.{AreComputed, AreComputedFitting, AreLong};
 ghost use Rattle.block_lanes.specs.Operands.{null_at, value_at, IsLong};
 
 use crate::fallback::Fallback;
 use crate::numbers::Numbers;
 use crate::operand::Operand;
-use odata_types::MILLIONTHS;
 use std::alloc::Global;
 
 /// Sums and differences of numbers whose sizes are below this fit 64 bits.
@@ -27,15 +26,16 @@ pub enum ExactOperator {
     Mul,
 }
 
+/// A sum, difference or product; where it does not fit, any number.
 #[inline(always)]
 fn exact(operator: ExactOperator, left: i64, right: i64) -> i64
-    requires { FitsSigned w64 (exact_of operator left right) }
-    ensures { result ≡ exact_of operator left right }
+    ensures { FitsSigned w64 (exact_of operator left right)
+        → result ≡ exact_of operator left right }
 {
     match operator {
-        ExactOperator::Add => left + right,
-        ExactOperator::Sub => left - right,
-        ExactOperator::Mul => left * right,
+        ExactOperator::Add => left.wrapping_add(right),
+        ExactOperator::Sub => left.wrapping_sub(right),
+        ExactOperator::Mul => left.wrapping_mul(right),
     }
 }
 
@@ -67,10 +67,7 @@ fn are_below(operand: Operand<'_>, rows: usize, limit: u64) -> bool
 fn compute_each(operator: ExactOperator, left: Operand<'_>, right: Operand<'_>, out: &mut [i64])
     requires left { IsLong (length out.old) left }
     requires right { IsLong (length out.old) right }
-    requires fits { (i : ℕ) → i < length out.old
-        → FitsSigned w64 (exact_of operator (value_at left i) (value_at right i)) }
-    ensures { (i : ℕ) → i < length out.new → slice_index_or out.new i (pos 0)
-        ≡ exact_of operator (value_at left.entry i) (value_at right.entry i) }
+    ensures { AreExact operator left.entry right.entry out.new }
 {
     for i in 0..out.len() {
         let left_value = left.value(i);
@@ -84,10 +81,7 @@ fn compute_each(operator: ExactOperator, left: Operand<'_>, right: Operand<'_>, 
 fn compute_shaped(operator: ExactOperator, left: Operand<'_>, right: Operand<'_>, out: &mut [i64])
     requires left { IsLong (length out.old) left }
     requires right { IsLong (length out.old) right }
-    requires fits { (i : ℕ) → i < length out.old
-        → FitsSigned w64 (exact_of operator (value_at left i) (value_at right i)) }
-    ensures { (i : ℕ) → i < length out.new → slice_index_or out.new i (pos 0)
-        ≡ exact_of operator (value_at left.entry i) (value_at right.entry i) }
+    ensures { AreExact operator left.entry right.entry out.new }
 {
     match (left, right) {
         (Operand::Each(a, a_nulls), Operand::Each(b, b_nulls)) => {
@@ -142,31 +136,30 @@ fn either_null_shaped(left: Operand<'_>, right: Operand<'_>, out: &mut [bool])
     }
 }
 
-/// Sums, differences or products, unless one may not fit.
-fn exact_each(
-    operator: ExactOperator,
-    left: Operand<'_>,
-    right: Operand<'_>,
-    out: &mut [i64],
-) -> Result<(), Fallback>
+/// Sums, differences or products; of what does not fit, any number.
+fn exact_each(operator: ExactOperator, left: Operand<'_>, right: Operand<'_>, out: &mut [i64])
     requires left { IsLong (length out.old) left }
     requires right { IsLong (length out.old) right }
-    ensures { OnOk result ((i : ℕ) → i < length out.new → slice_index_or out.new i (pos 0)
-        ≡ exact_of operator (value_at left.entry i) (value_at right.entry i)) }
+    ensures { AreExact operator left.entry right.entry out.new }
 {
-    let limit = match operator {
-        ExactOperator::Add | ExactOperator::Sub => SUM_LIMIT,
-        ExactOperator::Mul => PRODUCT_LIMIT,
-    };
-    if !are_below(left, out.len(), limit) || !are_below(right, out.len(), limit) {
-        return Err(Fallback);
-    }
     match operator {
         ExactOperator::Add => compute_shaped(ExactOperator::Add, left, right, out),
         ExactOperator::Sub => compute_shaped(ExactOperator::Sub, left, right, out),
         ExactOperator::Mul => compute_shaped(ExactOperator::Mul, left, right, out),
     }
-    Ok(())
+}
+
+/// Whether the numbers of each row are so small that their sum, difference or product fits.
+fn are_small(operator: ExactOperator, left: Operand<'_>, right: Operand<'_>, rows: usize) -> bool
+    requires left { IsLong rows left }
+    requires right { IsLong rows right }
+    ensures { IsTrue result → AllFit rows operator left.entry right.entry }
+{
+    let limit = match operator {
+        ExactOperator::Add | ExactOperator::Sub => SUM_LIMIT,
+        ExactOperator::Mul => PRODUCT_LIMIT,
+    };
+    are_below(left, rows, limit) && are_below(right, rows, limit)
 }
 
 /// Which rows have a null on a side.
@@ -185,7 +178,7 @@ pub fn nulls_of(
     Ok(nulls)
 }
 
-/// Sums, differences or products.
+/// Sums, differences or products; of what does not fit, any number.
 fn exact_values(
     alloc: Global,
     operator: ExactOperator,
@@ -198,11 +191,31 @@ fn exact_values(
     ensures { IfOk result (λ values. HasValues rows operator left.entry right.entry values.items) }
 {
     let mut values = Vec::from_elem(alloc, 0i64, rows)?;
-    exact_each(operator, left, right, values.as_mut_slice())?;
+    exact_each(operator, left, right, values.as_mut_slice());
     Ok(values)
 }
 
-/// The sums, differences or products of numbers on the wanted rows; null beside a null.
+/// The sums, differences or products of numbers on the wanted rows, where they fit; null beside a null. None is checked.
+pub fn compute_fitting<'a>(
+    alloc: Global,
+    operator: ExactOperator,
+    left: &Numbers<'_>,
+    right: &Numbers<'_>,
+    wanted: &[bool],
+) -> Result<Numbers<'a>, Fallback>
+    requires left { AreLong (length wanted.now) left.now }
+    requires right { AreLong (length wanted.now) right.now }
+    ensures { IfOk result
+        (AreComputedFitting (operator_of operator) left.now right.now wanted.now) }
+{
+    let left = left.operand();
+    let right = right.operand();
+    let nulls = nulls_of(alloc, left, right, wanted.len())?;
+    let values = exact_values(alloc, operator, left, right, wanted.len())?;
+    Ok(Numbers::Computed(values, nulls))
+}
+
+/// The sums, differences or products of numbers on the wanted rows; null beside a null. Where one may not fit, it falls back.
 pub fn compute<'a>(
     alloc: Global,
     operator: ExactOperator,
@@ -214,42 +227,9 @@ pub fn compute<'a>(
     requires right { AreLong (length wanted.now) right.now }
     ensures { IfOk result (AreComputed (operator_of operator) left.now right.now wanted.now) }
 {
-    let left = left.operand();
-    let right = right.operand();
-    let nulls = nulls_of(alloc, left, right, wanted.len())?;
-    let values = exact_values(alloc, operator, left, right, wanted.len())?;
-    Ok(Numbers::Computed(values, nulls))
-}
-
-/// The numbers with the other sign on the wanted rows.
-pub fn negate<'a>(
-    alloc: Global,
-    numbers: &Numbers<'_>,
-    wanted: &[bool],
-) -> Result<Numbers<'a>, Fallback>
-    requires { AreLong (length wanted.now) numbers.now }
-    ensures { IfOk result (AreMapped neg_ℤ numbers.now wanted.now) }
-{
-    let negated = compute(
-        alloc,
-        ExactOperator::Sub,
-        &Numbers::Same(0),
-        numbers,
-        wanted,
-    )?;
-    Ok(negated)
-}
-
-/// Integers as decimals, in millionths, on the wanted rows.
-pub fn scale<'a>(
-    alloc: Global,
-    numbers: &Numbers<'_>,
-    wanted: &[bool],
-) -> Result<Numbers<'a>, Fallback>
-    requires { AreLong (length wanted.now) numbers.now }
-    ensures { IfOk result (AreMapped (λ n. n *ℤ pos MILLIONTHS) numbers.now wanted.now) }
-{
-    let millionths = Numbers::Same(MILLIONTHS as i64);
-    let scaled = compute(alloc, ExactOperator::Mul, numbers, &millionths, wanted)?;
-    Ok(scaled)
+    if !are_small(operator, left.operand(), right.operand(), wanted.len()) {
+        return Err(Fallback);
+    }
+    let numbers = compute_fitting(alloc, operator, left, right, wanted)?;
+    Ok(numbers)
 }

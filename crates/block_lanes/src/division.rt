@@ -1,11 +1,11 @@
 //! Quotients and remainders on the rows of a block (OData 4.01 URL Conventions, section 5.1.1.2): `div` truncates towards zero, and `mod` has
 //! the sign of the left number. Of rows that are not wanted, and of those with a null on a side, nothing is computed.
 
-ghost use Rattle.std.specs.Prelude.{◌≡◌, ◌<◌, ℕ, pos, true, false, Some, IfOk, IfSome, IsTrue, OnOk, length, slice_index_or};
+ghost use Rattle.std.specs.Prelude.{◌≡◌, Some, IfOk, IfSome, IsTrue, OnOk, length};
 ghost use Rattle.row_eval.specs.Outcome.{operation};
-ghost use Rattle.block_lanes.specs.Arithmetic.{operator_of_quotient, HasQuotients};
-ghost use Rattle.block_lanes.specs.Lanes.{AreComputed, AreLong, IsWanted};
-ghost use Rattle.block_lanes.specs.Operands.{value_at, IsLong};
+ghost use Rattle.block_lanes.specs.Arithmetic.{operator_of_quotient, AreQuotients, HasQuotients};
+ghost use Rattle.block_lanes.specs.Lanes.{AreComputed, AreLong};
+ghost use Rattle.block_lanes.specs.Operands.{IsLong};
 
 use crate::arithmetic::nulls_of;
 use crate::fallback::Fallback;
@@ -55,10 +55,8 @@ fn divide_each(
     requires right { IsLong (length out.old) right }
     requires wanted { length wanted.now ≡ length out.old }
     requires nulls { length nulls.now ≡ length out.old }
-    ensures { OnOk result ((i : ℕ) → i < length out.new → IsWanted wanted.now i
-        → slice_index_or nulls.now i true ≡ false
-        → operation (operator_of_quotient operator) (value_at left.entry i) (value_at right.entry i)
-        ≡ Some (slice_index_or out.new i (pos 0))) }
+    ensures { OnOk result
+        (AreQuotients operator left.entry right.entry wanted.now nulls.now out.new) }
 {
     for i in 0..out.len() {
         let left_value = left.value(i);

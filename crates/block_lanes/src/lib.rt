@@ -11,8 +11,7 @@ mod logic;
 mod numbers;
 mod operand;
 
-pub use arithmetic::{negate, scale};
 pub use comparison::compare;
 pub use fallback::Fallback;
 pub use logic::{conjunction, disjunction, negation, open_rows, same_truth, truths_of};
-pub use numbers::{Numbers, cells, join};
+pub use numbers::{Numbers, cells, join, join_fitting};

@@ -43,8 +43,10 @@ fn opposite_each(truths: &mut [Truth])
 /// Takes out of the wanted rows those whose truth is this one.
 fn close_each(wanted: &mut [bool], truths: &[Truth], closed: Truth)
     requires { length wanted.old ≡ length truths.now }
-    ensures { (i : ℕ) → IsTrue (slice_index_or wanted.old i false)
+    ensures open { (i : ℕ) → IsTrue (slice_index_or wanted.old i false)
         → truth_lane truths.now i ≢ closed → IsTrue (slice_index_or wanted.new i false) }
+    ensures alone { (i : ℕ) → IsTrue (slice_index_or wanted.new i false)
+        → IsTrue (slice_index_or wanted.old i false) × (truth_lane truths.now i ≢ closed) }
 {
     for i in 0..wanted.len() {
         wanted[i] = wanted[i] & (truths[i] != closed);

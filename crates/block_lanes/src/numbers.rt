@@ -1,10 +1,10 @@
 //! Numbers on the rows of a block.
 
-ghost use Rattle.std.specs.Prelude.{◌≡◌, IfOk, length};
-ghost use Rattle.block_lanes.specs.Lanes.{AreComputed, AreLong};
+ghost use Rattle.std.specs.Prelude.{◌≡◌, IfOk, IsOk, length};
+ghost use Rattle.block_lanes.specs.Lanes.{AreComputed, AreComputedFitting, AreLong};
 ghost use Rattle.block_lanes.specs.Operands.{IsOperandOf};
 
-use crate::arithmetic::{ExactOperator, compute};
+use crate::arithmetic::{ExactOperator, compute, compute_fitting};
 use crate::division::{QuotientOperator, divide};
 use crate::fallback::Fallback;
 use crate::operand::Operand;
@@ -42,6 +42,7 @@ impl<'a> Numbers<'a> {
 pub fn cells<'a>(values: &'a [i64], nulls: &'a [bool], rows: usize) -> Result<Numbers<'a>, Fallback>
     ensures value { IfOk result (λ v. v ≡ Numbers.Cells values.entry nulls.entry) }
     ensures long { IfOk result (AreLong rows) }
+    ensures is_ok { AreLong rows (Numbers.Cells values.entry nulls.entry) → IsOk result }
 {
     if values.len() != rows || nulls.len() != rows {
         return Err(Fallback);
@@ -67,5 +68,28 @@ pub fn join<'a>(
         ArithmeticOperator::Mul => compute(alloc, ExactOperator::Mul, left, right, wanted),
         ArithmeticOperator::Div => divide(alloc, QuotientOperator::Div, left, right, wanted),
         ArithmeticOperator::Mod => divide(alloc, QuotientOperator::Mod, left, right, wanted),
+    }
+}
+
+/// Two vectors joined by an operator, on the wanted rows where what it makes of them fits 64 bits. No sum, difference or product is checked.
+pub fn join_fitting<'a>(
+    alloc: Global,
+    operator: ArithmeticOperator,
+    left: &Numbers<'_>,
+    right: &Numbers<'_>,
+    wanted: &[bool],
+) -> Result<Numbers<'a>, Fallback>
+    requires left { AreLong (length wanted.now) left.now }
+    requires right { AreLong (length wanted.now) right.now }
+    ensures { IfOk result (AreComputedFitting operator left.now right.now wanted.now) }
+{
+    match operator {
+        ArithmeticOperator::Add => compute_fitting(alloc, ExactOperator::Add, left, right, wanted),
+        ArithmeticOperator::Sub => compute_fitting(alloc, ExactOperator::Sub, left, right, wanted),
+        ArithmeticOperator::Mul => compute_fitting(alloc, ExactOperator::Mul, left, right, wanted),
+        ArithmeticOperator::Div | ArithmeticOperator::Mod => {
+            let numbers = join(alloc, operator, left, right, wanted)?;
+            Ok(numbers)
+        }
     }
 }

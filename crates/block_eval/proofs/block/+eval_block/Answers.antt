@@ -5,8 +5,9 @@ use Rattle.odata_types.specs.TypedTree.{compare_truths, conjunction, disjunction
 use Rattle.row_eval.specs.Outcome.{truth_outcome}
 use Rattle.block_eval.specs.Lanes.{truth_lane, AreAsked, AreOutcomesWithin, HasTruths}
 use Rattle.block_eval.specs.declared.columns.Column.{Column}
+use Rattle.block_eval.specs.Truths.{truth_comparison}
 use Rattle.block_eval.proofs.LogicLemmas.{both-gives, either-gives, ok-gives, opposite-gives, some-gives}
-use Rattle.block_eval.proofs.TruthLemmas.{compared-gives, truth_comparison}
+use Rattle.block_eval.proofs.TruthLemmas.{compared-gives}
 use Rattle.block_eval.proofs.block.+eval_block.Goals as goal
 
 pub returns-in_ok-right-in-And : goal.returns-in_ok-right-in-And

@@ -1,4 +1,4 @@
-use Rattle.std.proofs.Common.{◌∙◌, ap, length, map, refl, sym}
+use Rattle.std.proofs.Common.{◌∙◌, ap, length, map, refl, replicate, sym, true}
 use Rattle.odata_types.specs.TypedTree.{boxed_truth}
 use Rattle.block_filter.proofs.FirstLemmas.{first_marked, first_of_all}
 use Rattle.block_filter.proofs.block.filter_block.Goals as goal
@@ -17,3 +17,6 @@ pub returns-in_ok-found-in-Err : goal.returns-in_ok-found-in-Err
 returns-in_ok-found-in-Err c =
     first_of_all (map boxed_truth c.args.conditions.now) c.args.block.now.rows c.args.most c.limit_of-limit.result c.in_ok-found-in-Err.found c.first_of.result
     c.in_ok-found-in-Err.ensures (rw c.rows.ensures at c.limit_of-limit.ensures) c.first_of.ensures
+
+pub passing_rows-requires : goal.passing_rows-requires
+passing_rows-requires c = c.in_ok-all.ensures.items_if_clones_equal (λ y e. e) ∙ ap (λ n. replicate n true) c.rows-2.ensures

@@ -9,7 +9,7 @@ use Rattle.block_filter.proofs.passing.passing_rows.Goals as goal
 pub loop-condition-init : goal.loop-condition-init
 loop-condition-init c =
     let rows = c.args.block.now.rows in
-    let all : c.in_ok-wanted.wanted.items ≡ replicate (length rows) true = c.in_ok-wanted.ensures.items_if_clones_equal (λ y e. e) ∙ ap (λ n. replicate n true) c.rows.ensures in (
+    let all : c.args.wanted.items ≡ replicate (length rows) true = c.requires in (
       ap length all ∙ length-replicate (length rows) true,
       ap (passing_all (map boxed_truth c.args.conditions.now)) (sym (ap (λ marks. marked marks rows) all ∙ all_marked (length rows) rows refl)),
     )

@@ -1,21 +1,14 @@
-use Rattle.std.proofs.Common.{length, refl}
-use Rattle.block_lanes.proofs.OperandLemmas.{operands-computed}
+use Rattle.std.proofs.Common.{length}
+use Rattle.block_lanes.proofs.OperandLemmas.{all-computed}
 use Rattle.block_lanes.proofs.arithmetic.compute.Goals as goal
 
-pub nulls_of-requires-clause-left : goal.nulls_of-requires-clause-left
-nulls_of-requires-clause-left c = c.operand-left.ensures.long (length c.args.wanted.now) c.requires.left
+pub are_small-requires-clause-left : goal.are_small-requires-clause-left
+are_small-requires-clause-left c = c.operand.ensures.long (length c.args.wanted.now) c.requires.left
 
-pub nulls_of-requires-clause-right : goal.nulls_of-requires-clause-right
-nulls_of-requires-clause-right c = c.operand-right.ensures.long (length c.args.wanted.now) c.requires.right
-
-pub exact_values-requires-clause-left : goal.exact_values-requires-clause-left
-exact_values-requires-clause-left c = c.operand-left.ensures.long (length c.args.wanted.now) c.requires.left
-
-pub exact_values-requires-clause-right : goal.exact_values-requires-clause-right
-exact_values-requires-clause-right c = c.operand-right.ensures.long (length c.args.wanted.now) c.requires.right
+pub are_small-requires-clause-right : goal.are_small-requires-clause-right
+are_small-requires-clause-right c = c.operand-2.ensures.long (length c.args.wanted.now) c.requires.right
 
 pub returns : goal.returns
 returns c =
-    operands-computed c.args.operator c.args.wanted.now c.args.left.now c.args.right.now _ c.operand-left.result c.operand-right.result
-    c.in_ok-nulls.nulls.items c.in_ok-values.values.items c.operand-left.ensures c.operand-right.ensures c.in_ok-nulls.ensures c.in_ok-values.ensures
-    (c.in_ok-values.ensures.long, c.in_ok-nulls.ensures.long) (λ row. refl)
+    all-computed c.args.operator c.args.wanted.now c.args.left.now c.args.right.now c.in_ok-numbers.numbers c.operand.result c.operand-2.result
+    c.operand.ensures c.operand-2.ensures (c.are_small.ensures c.if-not-are_small.false) c.in_ok-numbers.ensures

@@ -12,5 +12,5 @@ loop-i-preserved c =
     below_more _ _
     (λ k h. let ne : k ≢ c.loop-i.i = omega arith in rw get_or-set_other (c.loop-i.invariant k h))
     (let lt : c.loop-i.i < length c.loop-i.out = omega arith in
-    rw get_or-set_same (to_z-of_z w64 c.exact.result fits
-    ∙ exact-more c.args.operator c.args.left c.args.right c.loop-i.i c.value-left_value.result c.value-right_value.result c.exact.result c.value-left_value.ensures c.value-right_value.ensures (rw (to_z-of_z w64 _ lf, to_z-of_z w64 _ rf) at c.exact.ensures)))
+    rw get_or-set_same (λ fit. to_z-of_z w64 c.exact.result fits
+    ∙ exact-more c.args.operator c.args.left c.args.right c.loop-i.i c.value-left_value.result c.value-right_value.result c.exact.result c.value-left_value.ensures c.value-right_value.ensures (rw (to_z-of_z w64 _ lf, to_z-of_z w64 _ rf) at c.exact.ensures) fit))

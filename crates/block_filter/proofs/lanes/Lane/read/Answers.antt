@@ -21,6 +21,8 @@ returns c =
     let at : slice_get c.args.block.now.schema.columns c.args.col ≡ Some (column_view column) =
     ap (λ s. slice_get s.columns c.args.col) (sym c.schema.ensures)
     ∙ slice_get-get_or (map column_view columns) c.args.col (column_view column) inside
-    ∙ ap (λ v. Some v) (get_or-map column_view columns c.args.col column ∙ ap column_view (sym c.index.ensures)) in
-    rw (numbers_stay, nulls_stay) (column_stands c.tables_are_inputs.ensures c.args.block.now c.args.col (column_view column) c.in-Some.packed_type numbers nulls c.values_fit.ensures
-    at (sym c.in-Some.ensures) c.numbers.ensures.numbers c.numbers.ensures.nulls)
+    ∙ ap (λ v. Some v) (get_or-map column_view columns c.args.col column ∙ ap column_view (sym c.index.ensures)) in (
+      rw (numbers_stay, nulls_stay) (column_stands c.tables_are_inputs.ensures c.args.block.now c.args.col (column_view column) c.in-Some.packed_type numbers nulls c.values_fit.ensures
+          at (sym c.in-Some.ensures) c.numbers.ensures.numbers c.numbers.ensures.nulls),
+      c.bounds_of-self.ensures,
+    )
