@@ -8,7 +8,6 @@ use Rattle.std.proofs.Math.ListN.{get_or-map as get_or-map_default}
 use Rattle.cell_types.specs.Value.{CellValue, null}
 use Rattle.row_columns.specs.declared.cells.Cells.{Cells}
 use Rattle.row_columns.specs.Cells.{cells_view, kind_of, values_numbered, IsPushed, IsWhole}
-use Rattle.row_columns.specs.Columns.{beside}
 use Rattle.row_columns.specs.Kept.{row_at, rows_of, IsColumn}
 use Rattle.row_columns.specs.Kinds.{any}
 use Rattle.row_columns.specs.Picked.{kinds_at, numbered, values_at}
@@ -192,30 +191,6 @@ rows_in_order from now len numbers is within =
     ap (rows_of (length numbers)) is.values
     ∙ first_ordered from len numbers (length numbers) (omega arith) inside
     ∙ take_all (length numbers) (numbered numbers (rows_of len columns)) (omega (arith, many))
-
--- ---- columns beside others
-
-beside_push : (xs ys : List (List CellValue)) (x y : List CellValue) → length xs ≡ length ys
-    → beside (xs ++ x ∷ []) (ys ++ y ∷ []) ≡ beside xs ys ++ (x ++ y) ∷ []
-beside_push [] [] x y e = refl
-beside_push [] (b ∷ ys) x y e = absurd (omega (arith, e))
-beside_push (a ∷ xs) [] x y e = absurd (omega (arith, e))
-beside_push (a ∷ xs) (b ∷ ys) x y e = ap (λ rows. (a ++ b) ∷ rows) (beside_push xs ys x y (omega (arith, e)))
-
-rows_beside : (n : ℕ) (xs ys : List (List CellValue)) → rows_of n (xs ++ ys) ≡ beside (rows_of n xs) (rows_of n ys)
-rows_beside zero xs ys = refl
-rows_beside (suc n) xs ys =
-    let many : length (rows_of n xs) ≡ length (rows_of n ys) = length-rows_of n xs ∙ sym (length-rows_of n ys) in
-    ap (λ rows. rows ++ row_at (xs ++ ys) n ∷ []) (rows_beside n xs ys)
-    ∙ ap (λ row. beside (rows_of n xs) (rows_of n ys) ++ row ∷ []) (map-append (λ column. get_or column n null) xs ys)
-    ∙ sym (beside_push (rows_of n xs) (rows_of n ys) (row_at xs n) (row_at ys n) many)
-
-pub columns_beside : (n : ℕ) (xs ys : List Cells) → rows_of n (map cells_view (xs ++ ys)) ≡ beside (rows_of n (map cells_view xs)) (rows_of n (map cells_view ys))
-columns_beside n xs ys = ap (rows_of n) (map-append cells_view xs ys) ∙ rows_beside n (map cells_view xs) (map cells_view ys)
-
-pub aligned_beside : (len : ℕ) (xs ys : List Cells) → AllByRecursion (IsColumn len) xs → AllByRecursion (IsColumn len) ys → AllByRecursion (IsColumn len) (xs ++ ys)
-aligned_beside len [] ys all others = others
-aligned_beside len (x ∷ xs) ys all others = (all.0, aligned_beside len xs ys all.1 others)
 
 -- ---- rows
 

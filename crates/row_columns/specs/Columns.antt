@@ -1,5 +1,5 @@
 -- Columns as their callers see them: rows of values, each value of the kind of its column.
-use Rattle.std.specs.Prelude.{ℕ, List, [], ◌∷◌, ◌++◌, replicate}
+use Rattle.std.specs.Prelude.{ℕ, List, [], replicate}
 use Rattle.cell_types.specs.Value.{CellValue}
 use Rattle.row_columns.specs.Kinds.{KindOf, any}
 
@@ -14,9 +14,3 @@ no_columns = record { kinds = []; rows = [] }
 -- so many columns of any, and no rows
 abbrev pub columns_of_any : ℕ → ColumnsOf
 columns_of_any width = record { kinds = replicate width any; rows = [] }
-
--- each row, and behind its values those of the other row with its number
-abbrev pub beside : List (List CellValue) → List (List CellValue) → List (List CellValue)
-beside [] others = []
-beside (row ∷ rows) [] = []
-beside (row ∷ rows) (other ∷ others) = (row ++ other) ∷ beside rows others

@@ -5,7 +5,7 @@ ghost use Rattle.block_summary.specs.Ranges.{column_of};
 ghost use Rattle.cell_types.specs.Column.{column_view};
 ghost use Rattle.cell_types.specs.Value.{value_view, decimal, integer, null};
 ghost use Rattle.row_columns.specs.Cells.{value_or_null};
-ghost use Rattle.row_columns.specs.Columns.{beside, columns_of_any, no_columns};
+ghost use Rattle.row_columns.specs.Columns.{columns_of_any, no_columns};
 ghost use Rattle.row_columns.specs.Kinds.{any, decimals, integers, kinds_of, AreOfKinds};
 ghost use Rattle.row_columns.specs.Text.{text_in};
 ghost use Rattle.row_columns.specs.Picked.{kinds_at, numbered, values_at};
@@ -230,18 +230,6 @@ impl Columns {
         ensures rows { IfOk result (λ made. made.rows ≡ numbered numbers.now self.now.rows) }
     {
         let kept = self.kept.in_order(alloc, numbers)?;
-        Ok(Columns { kept })
-    }
-
-    /// Each row, and behind its values those of the other's row with its number.
-    pub fn beside(self, other: Columns) -> Result<Columns, AllocError>
-        requires { length self.rows ≡ length other.rows }
-        ensures kinds { IfOk result (λ made. made.kinds ≡ self.kinds ++ other.kinds) }
-        ensures rows { IfOk result (λ made. made.rows ≡ beside self.rows other.rows) }
-    {
-        let Columns { kept } = self;
-        let Columns { kept: others } = other;
-        let kept = kept.beside(others)?;
         Ok(Columns { kept })
     }
 }

@@ -5,7 +5,6 @@ ghost use Rattle.cell_types.specs.Value.{value_view};
 ghost use Rattle.std.specs.List.{All};
 ghost use Rattle.block_summary.specs.Ranges.{column_of};
 ghost use Rattle.row_columns.specs.Cells.{cells_view, kind_of, IsWhole};
-ghost use Rattle.row_columns.specs.Columns.{beside};
 ghost use Rattle.row_columns.specs.Kept.{kept_rows, kinds, AreAligned};
 ghost use Rattle.row_columns.specs.Kinds.{any, kinds_of, AreOfKinds};
 ghost use Rattle.row_columns.specs.Picked.{kinds_at, numbered, values_at};
@@ -274,22 +273,5 @@ impl Kept {
             columns,
             len: numbers.len(),
         })
-    }
-
-    /// The columns, and behind them the others.
-    pub(crate) fn beside(self, other: Kept) -> Result<Kept, AllocError>
-        requires aligned { AreAligned self }
-        requires other_aligned { AreAligned other }
-        requires rows { length (kept_rows self) ≡ length (kept_rows other) }
-        ensures rows { IfOk result
-            (λ kept. kept_rows kept ≡ beside (kept_rows self) (kept_rows other)) }
-        ensures kinds { IfOk result (λ kept. kinds kept ≡ kinds self ++ kinds other) }
-        ensures aligned { IfOk result AreAligned }
-    {
-        let Kept { columns, len } = self;
-        let mut columns = columns;
-        let mut others = other.columns;
-        columns.append(&mut others)?;
-        Ok(Kept { columns, len })
     }
 }

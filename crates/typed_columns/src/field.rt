@@ -1,8 +1,9 @@
 //! The values of fields as they stand in a file.
-ghost use Rattle.std.specs.Prelude.{◌≡◌, ◌⊎◌, Ok, Err, IfOk, IfErr};
+ghost use Rattle.std.specs.Prelude.{◌≡◌, ◌⊎◌, Ok, Err, IfOk, IfErr, IsErrOf};
 ghost use Rattle.cell_types.specs.Value.{value_view};
+ghost use Rattle.cell_types.specs.Cell.{NeedsMemory};
 ghost use Rattle.cell_types.specs.Column.{column_view};
-ghost use Rattle.csv_index.specs.Raw.{raw_view};
+ghost use Rattle.csv_index.specs.Raw.{raw_content, raw_view};
 ghost use Rattle.typed_columns.specs.Values.{value_in, value_or_null, HasValue};
 
 use cell_types::{CellFault, Column, Value, read_text};
@@ -15,6 +16,11 @@ pub fn cell_value<'a>(alloc: Global, column: &Column, raw: Raw<'a>) -> Result<Va
         value_in (column_view column.now, raw_view raw.entry) ≡ Ok (value_view value)) }
     ensures fault { IfErr result (λ e. (e ≡ CellFault.NoMemory)
         ⊎ (value_in (column_view column.now, raw_view raw.entry) ≡ Err e)) }
+
+    // A copy is made only of a field in which a doubled quote stands, or of a text that must be normalized.
+    ensures memory { IsErrOf result CellFault.NoMemory
+        → (raw_content (raw_view raw.entry) ≡ raw.entry.bytes.now → ⊥)
+        ⊎ NeedsMemory (column_view column.now) (raw_content (raw_view raw.entry)) }
 {
     match raw.text(alloc) {
         Ok(text) => read_text(alloc, column, text),
