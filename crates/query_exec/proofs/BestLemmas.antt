@@ -1,5 +1,5 @@
 -- The first rows of an order in the place of all.
-use Rattle.std.proofs.Common.{◌≡◌, inl, inr, ℕ, Bool, true, false, ◌&&◌, ◌||◌, cond, Option, Some, None, List, [], ◌∷◌, ◌++◌, drop, get_or, length, map, take, append-nil, refl, sym, ap, ◌∙◌, subst}
+use Rattle.std.proofs.Common.{◌≡◌, inl, inr, ℕ, Bool, true, false, ◌&&◌, ◌||◌, cond, Option, Some, None, List, [], ◌∷◌, ◌++◌, get_or, length, map, take, append-nil, refl, sym, ap, ◌∙◌, subst}
 use Rattle.std.specs.Prelude.{is_none, is_some, option_map, option_and_then, slice_get}
 use Rattle.std.specs.List.{All, AllByRecursion, list_any}
 use Rattle.std.proofs.lemmas.List.Elements.{All-from_recursion}
@@ -19,7 +19,7 @@ use Rattle.query_plan.specs.Plan.{node_view}
 use Rattle.query_plan.specs.Push.{room_of}
 use Rattle.query_plan.specs.declared.plan.Node.{Node}
 use Rattle.query_exec.specs.declared.run.Run.{Run}
-use Rattle.query_exec.specs.Run.{rows_so_far, steps_of}
+use Rattle.query_exec.specs.Run.{steps_of}
 use Rattle.query_exec.specs.Taking.{HasCut, HasTaken}
 use Rattle.query_exec.specs.Useful.{are_plain, useful}
 use Rattle.query_exec.specs.Underway.{AreAll}

@@ -1,6 +1,6 @@
 -- Rows that are gathered, of which none is kept.
-use Rattle.std.proofs.Common.{◌≡◌, ℕ, ◌+◌, ◌<◌, ◌≤◌, ◌^◌, suc, Bool, true, false, cond, Option, Some, None, List, [], ◌∷◌, ◌++◌, drop, filter, get_or, length, map, take, append-nil, append_assoc, refl, sym, ap, ◌∙◌, subst, arith}
-use Rattle.std.specs.Prelude.{IfSome, option_and_then, option_map, string_bytes}
+use Rattle.std.proofs.Common.{◌≡◌, ℕ, ◌<◌, ◌≤◌, ◌^◌, suc, Bool, true, false, cond, Option, Some, None, List, [], ◌∷◌, ◌++◌, drop, filter, length, map, take, append-nil, append_assoc, refl, sym, ap, ◌∙◌, subst, arith}
+use Rattle.std.specs.Prelude.{option_and_then, option_map}
 use Rattle.std.specs.List.{All, list_any}
 use Rattle.std.proofs.lemmas.List.{get_or_append_left, length-append, length-map}
 use Rattle.std.proofs.lemmas.List.Concat.{flat_map-append}
@@ -9,25 +9,21 @@ use Rattle.cell_types.specs.Value.{CellValue}
 use Rattle.csvw_meta.specs.Schema.{SchemaOf}
 use Rattle.row_eval.specs.Input.{IsTableRow}
 use Rattle.odata_types.specs.TypedTree.{TruthExprOf}
-use Rattle.odata_query.specs.Aggregate.{NamedAggregateOf}
-use Rattle.odata_query.specs.declared.aggregate.Aggregate.{Aggregate}
-use Rattle.odata_query.specs.declared.aggregate.Aggregate.TheVariants.{Count, SumOfIntegers, SumOfDecimals, Min, Max, CountDistinct}
 use Rattle.query_plan.specs.Filter.{faults, passes}
-use Rattle.query_plan.specs.Fitting.{AggregateFits, AreTableRows, NodesFit}
+use Rattle.query_plan.specs.Fitting.{AreTableRows, NodesFit}
 use Rattle.query_plan.specs.Laws.{ScansReadTableRows}
 use Rattle.query_plan.specs.Meaning.{ResultOf}
 use Rattle.query_plan.specs.Plan.{NodeOf, PlanOf, aggregating, choosing, filtering, grouping, leading, needed, node_view, projecting, slicing, sorting}
 use Rattle.query_plan.specs.Scan.{rows_of_blocks}
 use Rattle.row_columns.specs.Picked.{numbered, values_at}
 use Rattle.row_groups.specs.declared.gathering.Gathering.{Gathering}
-use Rattle.row_groups.specs.Gathered.{Gathers, Joins, MayJoin}
-use Rattle.row_groups.specs.Tallies.{FitsAll}
+use Rattle.row_groups.specs.Gathered.{Joins, MayJoin}
 use Rattle.table_store.specs.Table.{TableOf}
 use Rattle.block_filter.specs.Conditions.{joined, passing_all}
 use Rattle.query_exec.specs.declared.run.Run.{Run}
 use Rattle.query_exec.specs.Gathers.{behind, GathersFor, KeepsNone, MayGather}
 use Rattle.query_exec.specs.Picked.{selected_rows}
-use Rattle.query_exec.specs.Run.{handed_rows, places_of, rows_so_far, steps_of}
+use Rattle.query_exec.specs.Run.{handed_rows, rows_so_far, steps_of}
 use Rattle.query_exec.specs.Taking.{passed_rows, taken_rows, HasGathered, HasTaken, HasTakenIn}
 use Rattle.query_exec.specs.Underway.{AreAll}
 use Rattle.query_exec.specs.Useful.{useful}

@@ -10,5 +10,6 @@ pub mod AdmittedLemmas
 pub mod BestLemmas
 pub mod GatherLemmas
 pub mod MadeLemmas
+pub mod ReadLemmas
 pub mod RunLemmas
 pub mod StepLemmas

@@ -1,5 +1,5 @@
 -- What a first step makes of the rows that were gathered for it.
-use Rattle.std.proofs.Common.{◌≡◌, ℕ, ◌+◌, ◌-◌, ◌<◌, Bool, true, false, cond, Option, Some, None, List, [], ◌∷◌, ◌++◌, drop, get_or, length, map, take, refl, sym, ap, ◌∙◌, subst, arith}
+use Rattle.std.proofs.Common.{◌≡◌, ℕ, ◌+◌, ◌-◌, ◌<◌, Bool, true, false, cond, Option, Some, None, List, [], ◌∷◌, ◌++◌, drop, get_or, length, map, take, sym, ap, ◌∙◌, subst, arith}
 use Rattle.std.specs.Prelude.{Err, IsErrAnd, Ok, Result, option_and_then, slice_get, string_bytes}
 use Rattle.std.proofs.lemmas.List.{length-append, length-map, take_all}
 use Rattle.cell_types.specs.Value.{CellValue}
@@ -16,12 +16,12 @@ use Rattle.row_groups.specs.Gathered.{Gathers}
 use Rattle.row_groups.specs.Groups.{grouped_rows}
 use Rattle.query_exec.specs.declared.underway.Underway.{Underway}
 use Rattle.query_exec.specs.declared.run.Run.{Run}
-use Rattle.query_exec.specs.Gathers.{behind, uncounted, GathersFor, IsMade, MayBeMade}
+use Rattle.query_exec.specs.Gathers.{behind, uncounted, GathersFor, GivesOfGathered, IsMade, MayBeMade}
 use Rattle.query_exec.specs.declared.fault.ExecFault.{ExecFault}
 use Rattle.query_exec.specs.Fault.{exec_fault}
 use Rattle.query_exec.specs.Rows.{RowsOf}
 use Rattle.query_exec.specs.Run.{kept_result, steps_of, wanted_block, GoesOn, IsKeptAnswer, IsReady}
-use Rattle.query_exec.specs.Underway.{underway_view, GivesUnderway, Makes}
+use Rattle.query_exec.specs.Underway.{underway_view, Makes}
 
 -- ---- the first step alone
 
@@ -135,8 +135,7 @@ first_gives n ns r made makes = sym (ap (option_and_then (nodes_result ns)) make
 
 -- a fault of the steps is one of the run
 pub err_goes_on : (old new : Run) (fault : EvalFault) → wanted_block old ≡ None → old.faulted ≡ false
-    → ((gone : List (List CellValue)) → GathersFor (steps_of old) old.gathering gone
-    → GivesUnderway (nodes_result (steps_of old) (uncounted (map string_bytes old.names.items) (gone ++ old.kept.rows))) (Err fault))
+    → GivesOfGathered (steps_of old) (map string_bytes old.names.items) old.gathering old.kept.rows (Err fault)
     → GoesOn old new (Err (exec_fault fault))
 err_goes_on old new DivisionByZero beyond works each = (beyond, answer_made old None works each)
 err_goes_on old new NoMemory beyond works each = tt
@@ -148,7 +147,6 @@ residual_goes_on old new fault (Err made) is goes = subst (λ f. GoesOn old new 
 
 pub fault_goes_on : (old new : Run) (fault : EvalFault) (result : Result (Option RowsOf) ExecFault) → IsErrAnd result (λ made. made ≡ exec_fault fault)
     → wanted_block old ≡ None → old.faulted ≡ false
-    → ((gone : List (List CellValue)) → GathersFor (steps_of old) old.gathering gone
-    → GivesUnderway (nodes_result (steps_of old) (uncounted (map string_bytes old.names.items) (gone ++ old.kept.rows))) (Err fault))
+    → GivesOfGathered (steps_of old) (map string_bytes old.names.items) old.gathering old.kept.rows (Err fault)
     → GoesOn old new result
 fault_goes_on old new fault result is beyond works each = residual_goes_on old new fault result is (err_goes_on old new fault beyond works each)

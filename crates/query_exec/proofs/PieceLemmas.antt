@@ -1,17 +1,23 @@
 -- The first rows in the place of all, where the first step is a piece.
-use Rattle.std.proofs.Common.{◌≡◌, ℕ, zero, suc, ◌+◌, ◌-◌, ◌^◌, ◌≤◌, nat_lt, Bool, true, false, cond, Option, Some, None, List, [], ◌∷◌, ◌++◌, drop, length, map, take, refl, sym, ap, ◌∙◌, subst, arith}
-use Rattle.std.specs.Prelude.{slice_get}
-use Rattle.std.proofs.lemmas.List.{drop-take, take-map, take-take}
+use Rattle.std.proofs.Common.{◌≡◌, ℕ, zero, suc, ◌+◌, ◌-◌, ◌^◌, ◌<◌, ◌≤◌, nat_lt, Bool, true, false, cond, Option, Some, None, List, [], ◌∷◌, ◌++◌, drop, length, map, take, refl, sym, ap, ◌∙◌, subst, arith}
+use Rattle.std.specs.Prelude.{min, slice_get, string_bytes}
+use Rattle.std.specs.List.{All}
+use Rattle.std.proofs.lemmas.List.{drop-take, drop_min, length-drop, take-map, take-take, take_all, take_min}
+use Rattle.std.proofs.Math.Nat.{min-le_right}
 use Rattle.cell_types.specs.Value.{CellValue}
-use Rattle.row_columns.specs.Picked.{values_at}
+use Rattle.row_columns.specs.Picked.{numbered, values_at}
 use Rattle.query_plan.specs.Meaning.{ResultOf, first_rows}
 use Rattle.query_plan.specs.Plan.{SliceOf, node_result, node_view, slicing}
 use Rattle.query_plan.specs.Push.{room_of}
 use Rattle.query_plan.specs.declared.plan.Node.{Node}
 use Rattle.query_exec.specs.declared.run.Run.{Run}
+use Rattle.query_exec.specs.declared.underway.Underway.{Underway}
+use Rattle.query_exec.specs.Gathers.{uncounted}
 use Rattle.query_exec.specs.Picked.{selected_rows}
 use Rattle.query_exec.specs.Taking.{room_behind, IsSpare}
+use Rattle.query_exec.specs.Underway.{AreBetween, AreOfPiece, Makes}
 use Rattle.query_exec.specs.Useful.{useful}
+use Rattle.query_exec.proofs.StepLemmas.{between_numbered, between_within}
 
 take_same : {X : Type 0} (n : ℕ) (xs : List X) → take n (take n xs) ≡ take n xs
 take_same n xs = take-take n n xs (omega arith)
@@ -109,3 +115,54 @@ pub first_selected : (places : Option (List ℕ)) (most : Option ℕ) (rows : Li
 first_selected None most rows = refl
 first_selected (Some places) None rows = refl
 first_selected (Some places) (Some n) rows = sym (take-map (values_at places) n rows)
+
+-- ---- a piece of all rows, by the numbers of its own
+
+module _ (s : SliceOf) (len start end : ℕ) (numbers : List ℕ) (start_is : start ≡ min s.skip len) (are : AreBetween numbers start end) where
+  behind : (rows : List (List CellValue)) → length rows ≡ len → drop start rows ≡ drop s.skip rows
+  behind rows long = ap (λ k. drop k rows) (start_is ∙ ap (min s.skip) (sym long)) ∙ drop_min s.skip rows
+
+  left : (rows : List (List CellValue)) → length rows ≡ len → length (drop start rows) ≡ len - start
+  left rows long = length-drop start rows ∙ ap (λ k. k - start) long
+
+  within_len : end ≤ len → All (λ i. i < len) numbers
+  within_len within = λ k d h. let less = between_within numbers start end are k d h in omega (arith, less, within)
+
+  -- up to the end
+  pub piece_to_end : s.top ≡ None → end ≡ len → AreOfPiece s len numbers
+  piece_to_end none end_is = record {
+    within = within_len (omega (arith, end_is));
+    rows_are = λ rows long.
+        between_numbered numbers start end rows are (omega (arith, long, end_is))
+        ∙ take_all (end - start) (drop start rows) (omega (arith, end_is, left rows long))
+        ∙ behind rows long
+        ∙ ap (λ top. first_rows top (drop s.skip rows)) (sym none);
+  }
+
+  -- of so many rows
+  pub piece_to_top : (top : ℕ) → s.top ≡ Some top → end ≡ start + min top (len - start) → AreOfPiece s len numbers
+  piece_to_top top some end_is = record {
+    within = within_len inside;
+    rows_are = λ rows long.
+        between_numbered numbers start end rows are (omega (arith, long, inside))
+        ∙ ap (λ k. take k (drop start rows)) (many ∙ ap (min top) (sym (left rows long)))
+        ∙ take_min top (drop start rows)
+        ∙ ap (take top) (behind rows long)
+        ∙ ap (λ top. first_rows top (drop s.skip rows)) (sym some);
+  }
+    where
+      inside : end ≤ len
+      inside = omega (arith, end_is, start_is, min-le_right top (len - start), min-le_right s.skip len)
+
+      many : end - start ≡ min top (len - start)
+      many = omega (arith, end_is)
+
+-- what the piece makes
+pub piece_made : (s : SliceOf) (u : Underway) → length u.columns.kinds ≡ length u.names.items → AreOfPiece s (length u.columns.rows) u.numbers.items
+    → u.count ≡ cond s.counts (Some (length u.columns.rows)) None → Makes (node_result (slicing s) (uncounted (map string_bytes u.names.items) u.columns.rows)) u
+piece_made s u width are count_is = record {
+  result =
+      ap (λ rows. Some (record { names = map string_bytes u.names.items; rows = rows; count = cond s.counts (Some (length u.columns.rows)) None })) (sym (are.rows_are u.columns.rows refl))
+      ∙ ap (λ count. Some (record { names = map string_bytes u.names.items; rows = numbered u.numbers.items u.columns.rows; count = count })) (sym count_is);
+  underway = record { within = are.within; width = width };
+}

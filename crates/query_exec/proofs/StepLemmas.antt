@@ -1,9 +1,8 @@
 -- Steps on the rows of columns by their numbers.
-use Rattle.std.proofs.Common.{◌≡◌, inl, inr, ℕ, ◌+◌, ◌<◌, ◌≤◌, ◌^◌, Some, None, List, [], ◌∷◌, ◌++◌, length, map, drop, get_or, refl, sym, ap, ◌∙◌, subst, arith}
+use Rattle.std.proofs.Common.{◌≡◌, ℕ, ◌+◌, ◌-◌, ◌<◌, ◌≤◌, ◌^◌, Some, None, List, [], ◌∷◌, ◌++◌, length, map, drop, take, get_or, refl, sym, ap, ◌∙◌, subst, arith}
 use Rattle.std.specs.Prelude.{Err, slice_index_or, string_bytes}
 use Rattle.std.specs.List.{All}
-use Rattle.std.proofs.lemmas.Bool.{cases_eq}
-use Rattle.std.proofs.lemmas.List.{drop_all, drop_more, ext_get_or, get_or_append_left, get_or_default, get_or_push, length-append, length-map, length_push}
+use Rattle.std.proofs.lemmas.List.{drop_all, drop_more, ext_get_or, get_or-drop, get_or-take, get_or_default, length-append, length-drop, length-map, length-take, take_all}
 use Rattle.std.proofs.Math.ListN.{get_or-map}
 use Rattle.cell_types.specs.Value.{CellValue}
 use Rattle.row_eval.specs.declared.fault.EvalFault.{EvalFault}
@@ -18,40 +17,36 @@ use Rattle.query_plan.specs.Plan.{node_result, node_view, nodes_result}
 use Rattle.query_plan.specs.declared.plan.Node.{Node}
 use Rattle.row_columns.specs.Picked.{numbered}
 use Rattle.row_groups.specs.Tallies.{FitsAll}
-use Rattle.query_exec.specs.Underway.{underway_view, AreAll, GivesUnderway, IsUnderway, Makes}
+use Rattle.query_exec.specs.Underway.{underway_view, AreAll, AreBetween, GivesUnderway, IsUnderway, Makes}
 use Rattle.query_exec.specs.declared.underway.Underway.{Underway}
 
--- ---- all numbers
+-- ---- rows by all of their numbers
 
-pub none_at_all : AreAll [] 0
-none_at_all = record { count = refl; each = λ k h. absurd (omega (arith, h)) }
+pub between_within : (numbers : List ℕ) (start end : ℕ) → AreBetween numbers start end → All (λ i. i < end) numbers
+between_within numbers start end are = λ k d h.
+    let inside : start + k < end = omega (arith, h, are.count) in
+    let at : get_or numbers k d ≡ start + k = get_or_default numbers k d 0 h ∙ are.each k inside in
+    subst (λ i. i < end) (sym at) inside
 
--- and the next one behind them
-pub all_more : (numbers : List ℕ) (n : ℕ) → AreAll numbers n → AreAll (numbers ++ n ∷ []) (n + 1)
-all_more numbers n all = record {
-  count = length_push numbers n ∙ ap (λ m. m + 1) all.count;
-  each = λ k h. elim (cases_eq k n) [
-    | inl same ↦ get_or_push numbers n 0 k (all.count ∙ sym same) ∙ sym same
-    | inr other ↦
-        let inside : k < length numbers = omega (arith, all.count, h, other) in
-        get_or_append_left numbers (n ∷ []) 0 k inside ∙ all.each k (omega (arith, h, other))
-  ];
-}
-
-pub all_within : (numbers : List ℕ) (n : ℕ) → AreAll numbers n → All (λ i. i < n) numbers
-all_within numbers n all = λ k d h.
-    let inside : k < n = omega (arith, h, all.count) in
-    let at : get_or numbers k d ≡ k = get_or_default numbers k d 0 h ∙ all.each k inside in
-    subst (λ i. i < n) (sym at) inside
+-- the rows from one on up to another
+pub between_numbered : (numbers : List ℕ) (start end : ℕ) (rows : List (List CellValue)) → AreBetween numbers start end → end ≤ length rows
+    → numbered numbers rows ≡ take (end - start) (drop start rows)
+between_numbered numbers start end rows are within =
+    let pick : ℕ → List CellValue = λ k. get_or rows k [] in
+    let long : length (map pick numbers) ≡ length numbers = length-map numbers pick in
+    let left : length (drop start rows) ≡ length rows - start = length-drop start rows in
+    let size : end - start ≤ length (drop start rows) = omega (arith, within, left) in
+    ext_get_or [] (numbered numbers rows) (take (end - start) (drop start rows)) (omega (arith, long, are.count, size, length-take (end - start) (drop start rows))) (λ i h.
+    let inside : start + i < end = omega (arith, h, long, are.count) in
+    let less : i < end - start = omega (arith, inside) in
+    get_or_default (numbered numbers rows) i [] (pick 0) h ∙ get_or-map pick numbers i 0 ∙ ap pick (are.each i inside)
+    ∙ sym (get_or-take (end - start) (drop start rows) i [] less ∙ get_or-drop start rows i []))
 
 -- all rows, in their order
 pub all_numbered : (numbers : List ℕ) (rows : List (List CellValue)) → AreAll numbers (length rows) → numbered numbers rows ≡ rows
 all_numbered numbers rows all =
-    let pick : ℕ → List CellValue = λ n. get_or rows n [] in
-    let long : length (map pick numbers) ≡ length numbers = length-map numbers pick in
-    ext_get_or [] (numbered numbers rows) rows (long ∙ all.count) (λ i h.
-    let inside : i < length rows = omega (arith, h, long, all.count) in
-    get_or_default (numbered numbers rows) i [] (pick 0) h ∙ get_or-map pick numbers i 0 ∙ ap pick (all.each i inside))
+    let whole : length rows - 0 ≡ length rows = omega arith in
+    between_numbered numbers 0 (length rows) rows all (omega arith) ∙ ap (λ n. take n rows) whole ∙ take_all (length rows) rows (omega arith)
 
 -- ---- steps in turn
 

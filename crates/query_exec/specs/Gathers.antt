@@ -1,14 +1,15 @@
 -- What is gathered of the rows that passed, where the first step makes aggregates or groups of them: of the rows that were gathered none is kept.
-use Rattle.std.specs.Prelude.{◌≡◌, ◌++◌, ℕ, false, Option, Some, None, List, [], ◌∷◌, length, option_map}
+use Rattle.std.specs.Prelude.{◌≡◌, ◌++◌, ℕ, false, Option, Some, None, Result, List, [], ◌∷◌, length, option_map}
 use Rattle.cell_types.specs.Value.{CellValue}
 use Rattle.query_plan.specs.Fitting.{IsFitNode, NodesFit}
 use Rattle.query_plan.specs.Meaning.{ResultOf}
-use Rattle.query_plan.specs.Plan.{NodeOf, aggregating, grouping}
+use Rattle.query_plan.specs.Plan.{NodeOf, aggregating, grouping, node_result, nodes_result}
+use Rattle.row_eval.specs.declared.fault.EvalFault.{EvalFault}
 use Rattle.row_groups.specs.declared.gathering.Gathering.{Gathering}
 use Rattle.row_groups.specs.Gathered.{Gathers, MayJoin}
 use Rattle.query_exec.specs.declared.run.Run.{Run}
 use Rattle.query_exec.specs.declared.underway.Underway.{Underway}
-use Rattle.query_exec.specs.Underway.{underway_view, IsUnderway}
+use Rattle.query_exec.specs.Underway.{underway_view, GivesUnderway, IsUnderway, Makes}
 
 -- these rows were gathered for the first step: none, where nothing gathers
 abbrev pub GathersFor : List NodeOf → Option Gathering → List (List CellValue) → Type 0
@@ -58,3 +59,12 @@ pub record MayBeMade (steps : List NodeOf) (names : List (List ℕ)) (gathering 
   pub gone : List (List CellValue)
   pub gathers : GathersFor steps gathering gone
   pub fits : NodesFit steps (uncounted names (gone ++ kept))
+
+-- what a first step makes of the rows that were gathered for it
+abbrev pub MakesOfGathered : NodeOf → List (List ℕ) → Gathering → Underway → Type 0
+MakesOfGathered n names gathering made = (rows : List (List CellValue)) → GathersFor (n ∷ []) (Some gathering) rows → Makes (node_result n (uncounted names rows)) made
+
+-- and what the steps in turn make of those, and of those that are kept
+abbrev pub GivesOfGathered : List NodeOf → List (List ℕ) → Option Gathering → List (List CellValue) → Result Underway EvalFault → Type 0
+GivesOfGathered steps names gathering kept result =
+    (gone : List (List CellValue)) → GathersFor steps gathering gone → GivesUnderway (nodes_result steps (uncounted names (gone ++ kept))) result

@@ -1,10 +1,12 @@
 -- Results between two steps of a plan.
-use Rattle.std.specs.Prelude.{◌≡◌, ◌<◌, ℕ, List, Option, Some, None, Result, Ok, Err, get_or, length, map, string_bytes}
+use Rattle.std.specs.Prelude.{◌≡◌, ◌<◌, ◌+◌, ℕ, List, Option, Some, None, Result, Ok, Err, drop, get_or, length, map, string_bytes}
 use Rattle.std.specs.List.{All}
+use Rattle.cell_types.specs.Value.{CellValue}
 use Rattle.row_columns.specs.Picked.{numbered}
 use Rattle.row_eval.specs.declared.fault.EvalFault.{EvalFault}
 use Rattle.row_eval.specs.declared.fault.EvalFault.TheVariants.{DivisionByZero, NoMemory}
-use Rattle.query_plan.specs.Meaning.{ResultOf}
+use Rattle.query_plan.specs.Meaning.{ResultOf, first_rows}
+use Rattle.query_plan.specs.Plan.{SliceOf}
 use Rattle.query_exec.specs.declared.underway.Underway.{Underway}
 
 abbrev pub underway_view : Underway → ResultOf
@@ -19,10 +21,19 @@ pub record IsUnderway (u : Underway) : Type 0 where
   pub within : All (λ n. n < length u.columns.rows) u.numbers.items
   pub width : length u.columns.kinds ≡ length u.names.items
 
--- the numbers of so many rows, all of them and in their order
-pub record AreAll (numbers : List ℕ) (len : ℕ) : Type 0 where
-  pub count : length numbers ≡ len
-  pub each : (k : ℕ) → k < len → get_or numbers k 0 ≡ k
+-- the numbers from one on up to another, in their order
+pub record AreBetween (numbers : List ℕ) (start end : ℕ) : Type 0 where
+  pub count : start + length numbers ≡ end
+  pub each : (k : ℕ) → start + k < end → get_or numbers k 0 ≡ start + k
+
+-- the numbers of so many rows, all of them
+abbrev pub AreAll : List ℕ → ℕ → Type 0
+AreAll numbers len = AreBetween numbers 0 len
+
+-- of so many rows the numbers of those in a piece
+pub record AreOfPiece (s : SliceOf) (len : ℕ) (numbers : List ℕ) : Type 0 where
+  pub within : All (λ n. n < len) numbers
+  pub rows_are : (rows : List (List CellValue)) → length rows ≡ len → numbered numbers rows ≡ first_rows s.top (drop s.skip rows)
 
 -- that is the result that there is
 pub record Makes (made : Option ResultOf) (u : Underway) : Type 0 where

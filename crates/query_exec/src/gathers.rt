@@ -1,16 +1,14 @@
 //! Rows that the first step makes aggregates or groups of: they are gathered block by block, and none is kept.
-ghost use Rattle.std.specs.Prelude.{◌≡◌, ◌+◌, ◌++◌, ◌∷◌, [], IfOk, List, OnOk, Some, length, map, string_bytes};
-ghost use Rattle.cell_types.specs.Value.{CellValue};
+ghost use Rattle.std.specs.Prelude.{◌≡◌, ◌+◌, ◌++◌, [], IfOk, OnOk, length, map, string_bytes};
 ghost use Rattle.odata_query.specs.Aggregate.{named_view};
-ghost use Rattle.query_plan.specs.Plan.{node_result, node_view, nodes_result};
-ghost use Rattle.query_exec.specs.Gathers.{uncounted, GathersFor, IsMade, KeepsNone, MayBeFirst, MayBeMade, MayGather};
+ghost use Rattle.query_plan.specs.Plan.{node_view};
+ghost use Rattle.query_exec.specs.Gathers.{GathersFor, GivesOfGathered, IsMade, KeepsNone, MakesOfGathered, MayBeFirst, MayBeMade, MayGather};
 ghost use Rattle.query_exec.specs.Run.{rows_so_far, steps_of};
 ghost use Rattle.query_exec.specs.Taking.{HasGathered};
-ghost use Rattle.query_exec.specs.Underway.{GivesUnderway, Makes};
 
 use crate::names::{picked_names, push_aliases};
 use crate::run::Run;
-use crate::steps::apply_all;
+use crate::steps::{apply_all, apply_to_all};
 use crate::underway::{Underway, all_numbers};
 use odata_query::NamedAggregate;
 use query_plan::Node;
@@ -59,9 +57,8 @@ fn first_result(
     gathering: Gathering,
 ) -> Result<Underway, AllocError>
     requires { MayBeFirst (node_view first.now) (map string_bytes names.now) gathering }
-    ensures { IfOk result (λ made. (rows : List (List CellValue))
-        → GathersFor (node_view first.now ∷ []) (Some gathering) rows
-        → Makes (node_result (node_view first.now) (uncounted (map string_bytes names.now) rows)) made) }
+    ensures { IfOk result
+        (MakesOfGathered (node_view first.now) (map string_bytes names.now) gathering) }
 {
     let columns = gathering.finish(alloc)?;
     match first {
@@ -86,13 +83,13 @@ pub(crate) fn made_of(
 ) -> Result<Underway, EvalFault>
     requires width { length kept.kinds ≡ length names.items }
     requires none { KeepsNone gathering kept.rows }
-    requires fits { MayBeMade (map node_view steps.now) (map string_bytes names.items) gathering kept.rows }
-    ensures { (gone : List (List CellValue)) → GathersFor (map node_view steps.now) gathering gone
-        → GivesUnderway (nodes_result (map node_view steps.now)
-        (uncounted (map string_bytes names.items) (gone ++ kept.rows))) result }
+    requires fits { MayBeMade (map node_view steps.now) (map string_bytes names.items)
+        gathering kept.rows }
+    ensures { GivesOfGathered (map node_view steps.now) (map string_bytes names.items)
+        gathering kept.rows result }
 {
     let Some(gathering) = gathering else {
-        return apply_all(alloc, steps, Underway::whole(alloc, names, kept, None)?);
+        return apply_to_all(alloc, steps, names, kept);
     };
     match steps {
         [first, others @ ..] => {

@@ -31,9 +31,9 @@ pub(crate) struct Parts {
 /// The parts of the plan of these steps.
 #[tactic(auto, using(crate::proofs::PartsLemmas::leading_are))]
 pub(crate) fn split(alloc: Global, nodes: Vec<Node>) -> Result<Parts, AllocError>
-    ensures parts { IfOk result (λ parts. map node_view nodes.items
-        ≡ condition_nodes (map boxed_truth parts.conditions.items)
-        ++ select_nodes (optional_numbers parts.places) ++ map node_view parts.steps.items) }
+    ensures parts { IfOk result (λ p. map node_view nodes.items
+        ≡ condition_nodes (map boxed_truth p.conditions.items)
+        ++ select_nodes (optional_numbers p.places) ++ map node_view p.steps.items) }
     ensures conditions { IfOk result (λ parts. leading (map node_view nodes.items)
         ≡ map boxed_truth parts.conditions.items) }
 {

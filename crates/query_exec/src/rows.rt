@@ -1,10 +1,10 @@
 //! The rows of an answer.
-ghost use Rattle.std.specs.Prelude.{◌≡◌, ◌<◌, [], ◌∷◌, IfOk, IfSome, None, Some, length, map, option_and_then, option_map, slice_get, string_bytes};
+ghost use Rattle.std.specs.Prelude.{◌≡◌, ◌<◌, IfOk, IfSome, Some, length, map, option_and_then, option_map, slice_get, string_bytes};
 ghost use Rattle.std.specs.List.{All, AllByRecursion};
 ghost use Rattle.cell_types.specs.Value.{value_view};
 ghost use Rattle.csvw_meta.specs.Schema.{schema_view};
 ghost use Rattle.row_eval.specs.Row.{row_view};
-ghost use Rattle.query_plan.specs.Meaning.{selected_names, selected_values, table_names};
+ghost use Rattle.query_exec.specs.Rows.{rows_of_row};
 
 use crate::names::names_of;
 use crate::steps::project;
@@ -46,11 +46,8 @@ impl Rows {
         requires wide { length values.now ≡ length (schema_view schema.now).columns }
         requires within { IfSome select
             (λ places. All (λ place. place < length values.now) places.now) }
-        ensures { IfOk result (λ rows. rows ≡ record {
-          names = selected_names (option_map (λ places. places.now) select.entry) (table_names (schema_view schema.now));
-          rows = selected_values (option_map (λ places. places.now) select.entry) (row_view values.now) ∷ [];
-          count = None;
-        }) }
+        ensures { IfOk result (λ rows. rows ≡ rows_of_row (schema_view schema.now)
+            (option_map (λ places. places.now) select.entry) (row_view values.now)) }
     {
         let names = names_of(alloc, schema.columns.as_slice())?;
         let mut columns = Columns::of_any(alloc, values.len())?;

@@ -103,8 +103,9 @@ impl Run {
     /// Takes in the block, if one is needed, and goes on.
     fn step(&mut self, alloc: Global, block: Option<Block<'_>>) -> Result<Option<Rows>, ExecFault>
         requires { IsAwaited self.old block }
-        ensures steps { (plan : PlanOf) (table : TableOf) (handed : ℕ) → StandsFor self.old plan table handed
-            → block.entry ≡ handed_block plan table handed → StepsTo plan table handed self.new result }
+        ensures steps { (plan : PlanOf) (table : TableOf) (handed : ℕ)
+            → StandsFor self.old plan table handed → block.entry ≡ handed_block plan table handed
+            → StepsTo plan table handed self.new result }
         ensures not_failed { ¬ (IsErrOf result Failed) }
     {
         conditions_in_turn();
@@ -126,9 +127,9 @@ impl Run {
         plan: Plan,
     ) -> Result<Run, ExecFault>
         requires { IsFitFor (schema_view schema.now) (plan_view plan) }
-        ensures stands { IfOk result (λ run. (table : TableOf) → table.schema ≡ schema_view schema.now
-            → HasTableRows table → AreSummariesOf table summaries.now
-            → StandsFor run (plan_view plan) table 0) }
+        ensures stands { IfOk result (λ run. (table : TableOf)
+            → table.schema ≡ schema_view schema.now → HasTableRows table
+            → AreSummariesOf table summaries.now → StandsFor run (plan_view plan) table 0) }
         ensures refused { IfErr result (λ fault. fault ≡ NoMemory) }
     {
         conditions_in_turn();
@@ -162,8 +163,8 @@ impl Run {
 
     /// The number of the block that is needed next: none where none is needed, and none once the run is done or was refused.
     pub fn next(&self) -> Option<usize>
-        ensures needed { (plan : PlanOf) (table : TableOf) (handed : ℕ) → StandsFor self.now plan table handed
-            → result ≡ next_block plan table handed }
+        ensures needed { (plan : PlanOf) (table : TableOf) (handed : ℕ)
+            → StandsFor self.now plan table handed → result ≡ next_block plan table handed }
         ensures done { IsDone self.now → result ≡ None }
         ensures failed { HasFailed self.now → result ≡ None }
     {
@@ -177,8 +178,8 @@ impl Run {
     /// Done, and by no other. After Done it answers Done, and after a refusal Failed.
     pub fn advance(&mut self, alloc: Global, block: Option<Block<'_>>) -> Result<Step, ExecFault>
         requires { MayBeHanded self.old block }
-        ensures advances { (plan : PlanOf) (table : TableOf) (handed : ℕ) → StandsFor self.old plan table handed
-            → block.entry ≡ handed_block plan table handed
+        ensures advances { (plan : PlanOf) (table : TableOf) (handed : ℕ)
+            → StandsFor self.old plan table handed → block.entry ≡ handed_block plan table handed
             → AdvancesTo plan table handed self.new result }
         ensures done { (rows : RowsOf) → Gives self.old rows → (result ≡ Ok Done)
             × Gives self.new rows }

@@ -1,16 +1,18 @@
 //! The steps of a plan on a result.
-ghost use Rattle.std.specs.Prelude.{◌≡◌, ◌<◌, IfOk, length, map};
+ghost use Rattle.std.specs.Prelude.{◌≡◌, ◌<◌, IfOk, length, map, string_bytes};
 ghost use Rattle.std.specs.List.{All};
 ghost use Rattle.odata_query.specs.Aggregate.{named_view};
 ghost use Rattle.odata_query.specs.Query.{order_view};
 ghost use Rattle.query_plan.specs.Fitting.{IsFitNode, NodesFit};
-ghost use Rattle.query_plan.specs.Plan.{aggregating, choosing, counted, grouping, node_result, node_view, nodes_result, projecting, slice_view, sorting};
-ghost use Rattle.query_exec.specs.Underway.{underway_view, GivesUnderway, IsUnderway, Makes};
+ghost use Rattle.query_plan.specs.Plan.{aggregating, choosing, counted, grouping, node_result, node_view, nodes_result, projecting, slice_view, slicing, sorting};
+ghost use Rattle.query_exec.specs.Gathers.{uncounted};
+ghost use Rattle.query_exec.specs.Underway.{underway_view, AreOfPiece, GivesUnderway, IsUnderway, Makes};
 
 use crate::names::{picked_names, push_aliases};
-use crate::underway::Underway;
+use crate::underway::{Underway, numbers_between};
 use odata_query::{NamedAggregate, OrderBy};
 use query_plan::{Node, Slice};
+use row_columns::Columns;
 use row_eval::EvalFault;
 use row_groups::gathered;
 use row_order::{best_numbers, passing_numbers, piece, sorted_numbers};
@@ -25,7 +27,8 @@ pub(crate) fn project(
 ) -> Result<Underway, AllocError>
     requires underway { IsUnderway underway.now }
     requires places { All (λ place. place < length underway.now.names.items) places.now }
-    ensures { IfOk result (Makes (node_result (projecting places.now) (underway_view underway.now))) }
+    ensures { IfOk result (Makes (node_result (projecting places.now)
+        (underway_view underway.now))) }
 {
     let columns = underway
         .columns
@@ -175,4 +178,63 @@ pub(crate) fn apply_all(
         underway = apply(alloc, node, underway)?;
     }
     Ok(underway)
+}
+
+/// The numbers of the rows in a piece of so many rows.
+fn piece_numbers(alloc: Global, slice: Slice, len: usize) -> Result<Vec<usize>, AllocError>
+    ensures { IfOk result (λ numbers. AreOfPiece (slice_view slice) len numbers.items) }
+{
+    let start = slice.skip.min(len as u64) as usize;
+    let end = match slice.top {
+        Some(top) => start + top.min((len - start) as u64) as usize,
+        None => len,
+    };
+    numbers_between(alloc, start, end)
+}
+
+/// A piece of all rows of columns, and their count where it asks for that. No number is made of a row that is not in the piece.
+fn first_piece(
+    alloc: Global,
+    slice: Slice,
+    names: Vec<String>,
+    columns: Columns,
+) -> Result<Underway, AllocError>
+    requires { length columns.kinds ≡ length names.items }
+    ensures { IfOk result (Makes (node_result (slicing (slice_view slice))
+        (uncounted (map string_bytes names.items) columns.rows))) }
+{
+    let len = columns.len();
+    let numbers = piece_numbers(alloc, slice, len)?;
+    let count = if slice.counts { Some(len as u64) } else { None };
+    Ok(Underway {
+        names,
+        columns,
+        numbers,
+        count,
+    })
+}
+
+/// What the steps in turn make of all rows of columns.
+pub(crate) fn apply_to_all(
+    alloc: Global,
+    nodes: &[Node],
+    names: Vec<String>,
+    columns: Columns,
+) -> Result<Underway, EvalFault>
+    requires width { length columns.kinds ≡ length names.items }
+    requires fits { NodesFit (map node_view nodes.now)
+        (uncounted (map string_bytes names.items) columns.rows) }
+    ensures { GivesUnderway (nodes_result (map node_view nodes.now)
+        (uncounted (map string_bytes names.items) columns.rows)) result }
+{
+    match nodes {
+        [Node::Slice(slice), others @ ..] => {
+            let made = first_piece(alloc, *slice, names, columns)?;
+            apply_all(alloc, others, made)
+        }
+        _ => {
+            let all = Underway::whole(alloc, names, columns, None)?;
+            apply_all(alloc, nodes, all)
+        }
+    }
 }

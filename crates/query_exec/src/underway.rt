@@ -1,8 +1,6 @@
 //! Results between two steps of a plan.
-ghost use Rattle.std.specs.Prelude.{◌≡◌, ℕ, IfOk, IsTrue, List, length, map, string_bytes};
-ghost use Rattle.cell_types.specs.Value.{CellValue};
-ghost use Rattle.row_columns.specs.Picked.{numbered};
-ghost use Rattle.query_exec.specs.Underway.{underway_view, AreAll, IsUnderway};
+ghost use Rattle.std.specs.Prelude.{◌≡◌, ◌≤◌, IfOk, IsTrue, length, map, string_bytes};
+ghost use Rattle.query_exec.specs.Underway.{underway_view, AreAll, AreBetween, IsUnderway};
 
 use crate::rows::Rows;
 use row_columns::Columns;
@@ -18,15 +16,27 @@ pub(crate) struct Underway {
     pub(crate) count: Option<u64>,
 }
 
+/// The numbers from one on up to another.
+pub(crate) fn numbers_between(
+    alloc: Global,
+    start: usize,
+    end: usize,
+) -> Result<Vec<usize>, AllocError>
+    requires { start ≤ end }
+    ensures { IfOk result (λ numbers. AreBetween numbers.items start end) }
+{
+    let mut numbers = Vec::with_capacity(alloc, end - start)?;
+    for number in start..end {
+        numbers.push(number)?;
+    }
+    Ok(numbers)
+}
+
 /// The numbers of so many rows.
 pub(crate) fn all_numbers(alloc: Global, len: usize) -> Result<Vec<usize>, AllocError>
     ensures { IfOk result (λ numbers. AreAll numbers.items len) }
 {
-    let mut numbers = Vec::with_capacity(alloc, len)?;
-    for number in 0..len {
-        numbers.push(number)?;
-    }
-    Ok(numbers)
+    numbers_between(alloc, 0, len)
 }
 
 /// Whether these are the numbers of so many rows, all of them and in their order.

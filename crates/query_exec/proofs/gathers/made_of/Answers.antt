@@ -7,8 +7,8 @@ use Rattle.query_exec.specs.Underway.{GivesUnderway, Makes}
 use Rattle.query_exec.proofs.MadeLemmas.{first_fits, first_gives, only_first, others_are}
 use Rattle.query_exec.proofs.gathers.made_of.Goals as goal
 
-pub apply_all-requires-in-len1-up-clause-underway : goal.apply_all-requires-in-len1-up-clause-underway
-apply_all-requires-in-len1-up-clause-underway c =
+pub apply_all-requires-clause-underway : goal.apply_all-requires-clause-underway
+apply_all-requires-clause-underway c =
     let steps = c.args.steps.now in
     let first : Node = c.first-item.result in
     let others = take (length steps - 1) (drop 1 steps) in
@@ -18,8 +18,8 @@ apply_all-requires-in-len1-up-clause-underway c =
     (subst (λ g. GathersFor (map node_view steps) g c.requires.fits.gone) c.in-Some.is c.requires.fits.gathers) in
     (c.in_ok-made-in-len1-up.ensures c.requires.fits.gone (only_first (node_view first) (map node_view others) c.in-Some.gathering c.requires.fits.gone at)).underway
 
-pub apply_all-requires-in-len1-up-clause-fits : goal.apply_all-requires-in-len1-up-clause-fits
-apply_all-requires-in-len1-up-clause-fits c =
+pub apply_all-requires-clause-fits : goal.apply_all-requires-clause-fits
+apply_all-requires-clause-fits c =
     let steps = c.args.steps.now in
     let first : Node = c.first-item.result in
     let others = take (length steps - 1) (drop 1 steps) in
@@ -53,8 +53,8 @@ returns c = λ gone gathers.
     subst (λ ns. Makes (node_result (node_view first) (uncounted (map string_bytes ns) gone)) made) c.as_slice.ensures.value
     (c.in_ok-made-in-len1-up.ensures gone (only_first (node_view first) (map node_view others) c.in-Some.gathering gone at)) in
     let none : c.args.kept.rows ≡ [] = c.requires.none c.in-Some.gathering c.in-Some.is in
-    subst (λ answer. GivesUnderway answer c.apply_all-in-len1-up.result)
+    subst (λ answer. GivesUnderway answer c.apply_all.result)
     (first_gives (node_view first) (map node_view others) (uncounted names gone) made makes
     ∙ ap (λ ss. nodes_result (map node_view ss) (uncounted names gone)) (sym parts)
     ∙ ap (λ rows. nodes_result (map node_view steps) (uncounted names rows)) (sym (ap (λ rows. gone ++ rows) none ∙ append-nil gone)))
-    c.apply_all-in-len1-up.ensures
+    c.apply_all.ensures

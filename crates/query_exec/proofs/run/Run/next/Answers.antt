@@ -1,5 +1,5 @@
 use Rattle.std.proofs.Common.{◌∙◌}
-use Rattle.query_exec.proofs.RunLemmas.{no_block_read, wanted_is_next}
+use Rattle.query_exec.proofs.ReadLemmas.{no_block_read, wanted_is_next}
 use Rattle.query_exec.proofs.run.Run.next.Goals as goal
 
 pub returns-in-Reading-clause-needed : goal.returns-in-Reading-clause-needed

@@ -21,7 +21,7 @@ use Rattle.query_exec.specs.Useful.{useful}
 use Rattle.query_exec.proofs.AdmittedLemmas.{admitted_are}
 use Rattle.query_exec.proofs.ConditionLemmas.{selected_none}
 use Rattle.query_exec.proofs.FitLemmas.{are_rows, places_within}
-use Rattle.query_exec.proofs.RunLemmas.{names-column_view}
+use Rattle.query_exec.proofs.ReadLemmas.{names-column_view}
 use Rattle.query_exec.proofs.run.Run.start.Goals as goal
 
 pub kept_names-requires : goal.kept_names-requires
