@@ -1,11 +1,11 @@
 -- Texts that need no escape, and pieces joined with commas.
-use Rattle.std.proofs.Common.{◌≡◌, ◌<◌, ◌≤◌, ℕ, ◌+◌, Bool, true, false, cond, not, List, [], ◌∷◌, ◌++◌, length, map, take, drop, get_or, suc, Option, Some, None, codes, unwrap_or, ltb, refl, sym, ap, ◌∙◌, arith, append_assoc, tests}
+use Rattle.std.proofs.Common.{◌≡◌, ◌<◌, ℕ, ◌+◌, Bool, true, false, cond, not, List, [], ◌∷◌, ◌++◌, length, map, take, drop, get_or, suc, Option, Some, codes, unwrap_or, refl, sym, ap, ◌∙◌, arith, append_assoc, tests}
 use Rattle.std.specs.List.{flat_map, join_with_byte, position, position_or_len}
-use Rattle.std.proofs.lemmas.List.Sums.{prefix_len-le-length}
 use Rattle.std.proofs.lemmas.List.{take-append-drop, append-nil, nil_from_length, map-append, length-map, length-take-le, map_more}
 use Rattle.std.specs.Fmt.{decimal}
 use Rattle.std.proofs.lemmas.List.Concat.{flat_map-append}
 use Rattle.reply_text.specs.Json.{escaped, needs_escape, comma, json_text, json_count}
+use Rattle.reply_text.proofs.BlockLemmas.{place_is_first}
 
 -- a byte that needs no escape stands for itself
 pub escaped_plain : (b : ℕ) → needs_escape b ≡ false → escaped b ≡ b ∷ []
@@ -23,14 +23,11 @@ flat_map_plain : (bs : List ℕ) → flat_map escaped (take (position_or_len nee
 flat_map_plain [] = refl
 flat_map_plain (b ∷ bs) = flat_map_plain_from b bs (needs_escape b) refl (position_or_len needs_escape bs) (flat_map_plain bs)
 
-first_place : (k n : ℕ) → k ≤ n → unwrap_or (cond (ltb k n) (Some k) None) n ≡ k
-first_place k n h = grind (arith, tests)
-
 abbrev pub run_of : List ℕ → ℕ
 run_of bs = unwrap_or (position needs_escape bs) (length bs)
 
 place_of_run : (bs : List ℕ) → run_of bs ≡ position_or_len needs_escape bs
-place_of_run bs = first_place _ _ (prefix_len-le-length (λ b. not (needs_escape b)) bs)
+place_of_run bs = place_is_first needs_escape bs
 
 pub plain_run : (bs : List ℕ) → flat_map escaped (take (run_of bs) bs) ≡ take (run_of bs) bs
 plain_run bs = rw place_of_run (flat_map_plain bs)

@@ -1,3 +1,6 @@
+pub mod LaneLemmas
+pub mod BlockLemmas
+pub mod DoubledLemmas
 pub mod DecimalLemmas
 pub mod JsonLemmas
 pub mod MemberLemmas

@@ -1,13 +1,15 @@
 //! Rows as CSV (RFC 4180, section 2), appended to one buffer in one pass.
-ghost use Rattle.std.specs.Prelude.{◌≡◌, ◌<◌, ◌++◌, [], ◌||◌, ◌==◌, IfOk, OnOk, get_or, length, map, string_bytes};
+ghost use Rattle.std.specs.Prelude.{◌≡◌, ◌<◌, ◌≤◌, ◌++◌, [], ◌||◌, ◌==◌, IfOk, OnOk, get_or, length, map, string_bytes};
 ghost use Rattle.std.specs.List.{flat_map, join_with_byte, list_any};
 ghost use Rattle.cell_types.specs.Value.{value_view};
 ghost use Rattle.reply_text.specs.Csv.{csv_field, csv_text, csv_value, doubled_byte, is_quoted_byte, needs_quotes, row_line};
 
 use crate::decimal::push_decimal;
 use crate::json::push_comma;
+use crate::lanes::unquoted_in;
 use crate::value::{push_bool, push_date, push_integer};
 use cell_types::Value;
+use memchr::memchr;
 use query_exec::Rows;
 use std::alloc::{AllocError, Global};
 
@@ -18,11 +20,41 @@ fn is_quoted_byte(byte: u8) -> bool
     byte == b'"' || byte == b',' || byte == b'\r' || byte == b'\n'
 }
 
+/// Whether a text shorter than a block has such a byte.
+fn short_has_quoted_byte(text: &[u8]) -> bool
+    ensures { result ≡ list_any is_quoted_byte text.now }
+{
+    text.iter().any(|byte| is_quoted_byte(*byte))
+}
+
+/// Whether a text has such a byte, looked at a block at a time. The last block ends where the text does, over bytes that were seen.
+#[inline(always)]
+fn has_quoted_byte_by<const N: usize>(text: &[u8]) -> bool
+    requires some { 0 < N }
+    requires most { N ≤ 64 }
+    requires block { N ≤ length text.now }
+    ensures { result ≡ list_any is_quoted_byte text.now }
+{
+    let last = text.len() - N;
+    let mut at = 0;
+    while at < last {
+        if unquoted_in::<N>(text, at) < N {
+            return true;
+        }
+        at += N;
+    }
+    unquoted_in::<N>(text, last) < N
+}
+
 /// Whether a text has such a byte.
 fn has_quoted_byte(text: &[u8]) -> bool
     ensures { result ≡ list_any is_quoted_byte text.now }
 {
-    text.iter().any(|byte| is_quoted_byte(*byte))
+    match text.len() {
+        0..8 => short_has_quoted_byte(text),
+        8..16 => has_quoted_byte_by::<8>(text),
+        _ => has_quoted_byte_by::<16>(text),
+    }
 }
 
 /// Whether a text stands in double quotes.
@@ -32,25 +64,18 @@ fn needs_quotes(text: &[u8]) -> bool
     text.is_empty() || has_quoted_byte(text)
 }
 
-/// Appends a byte, a double quote as two.
-fn push_doubled_byte(out: &mut Vec<u8>, byte: u8) -> Result<(), AllocError>
-    ensures { OnOk result (out.new.items ≡ out.old.items ++ doubled_byte byte) }
-{
-    if byte == b'"' {
-        out.extend_from_slice(b"\"\"")
-    } else {
-        out.extend_from_slice(&[byte])
-    }
-}
-
-/// Appends a text with each of its double quotes written as two.
+/// Appends a text with each of its double quotes written as two, whole runs at a time.
 fn push_doubled(out: &mut Vec<u8>, text: &[u8]) -> Result<(), AllocError>
     ensures { OnOk result (out.new.items ≡ out.old.items ++ flat_map doubled_byte text.now) }
 {
-    for byte in text {
-        push_doubled_byte(out, *byte)?;
+    let mut rest = text;
+    while let Some(place) = memchr(b'"', rest) {
+        let (run, behind) = rest.split_at(place);
+        out.extend_from_slice(run)?;
+        out.extend_from_slice(b"\"\"")?;
+        rest = &behind[1..];
     }
-    Ok(())
+    out.extend_from_slice(rest)
 }
 
 /// Appends a text, in double quotes where it needs them.

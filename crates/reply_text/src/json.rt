@@ -1,12 +1,13 @@
 //! The texts of JSON (RFC 8259), appended to one buffer.
 ghost use Rattle.jiff.specs.Words.{date_text};
-ghost use Rattle.std.specs.Prelude.{◌≡◌, ◌++◌, ◌∷◌, [], ◌<◌, IfOk, OnOk, get_or, length, map, position, string_bytes, unwrap_or};
+ghost use Rattle.std.specs.Prelude.{◌≡◌, ◌++◌, ◌∷◌, [], ◌<◌, ◌≤◌, IfOk, OnOk, get_or, length, map, position, string_bytes, unwrap_or};
 ghost use Rattle.std.specs.List.{flat_map, join_with_byte, zip};
 ghost use Rattle.std.specs.Fmt.{decimal};
 ghost use Rattle.cell_types.specs.Value.{value_view};
 ghost use Rattle.reply_text.specs.Json.{comma, escaped, hex_digit, json_count, json_member, json_row, json_text, json_value, member_head, needs_escape, quote, text_member, AreHeads};
 
 use crate::decimal::push_decimal;
+use crate::lanes::unescaped_in;
 use crate::value::{push_bool, push_date, push_integer};
 use cell_types::Value;
 use itoa::Buffer;
@@ -49,13 +50,44 @@ fn needs_escape(byte: u8) -> bool
     byte == b'"' || byte == b'\\' || byte < 0x20
 }
 
-/// How many bytes at the front stand for themselves.
-fn run_len(text: &[u8]) -> usize
+/// How many bytes at the front of a text shorter than a block stand for themselves.
+fn short_run_len(text: &[u8]) -> usize
     ensures { result ≡ unwrap_or (position needs_escape text.now) (length text.now) }
 {
     text.iter()
         .position(|byte| needs_escape(*byte))
         .unwrap_or(text.len())
+}
+
+/// How many bytes at the front of a text stand for themselves, a block at a time. The last block ends where the text does, over bytes that were seen.
+#[inline(always)]
+fn run_len_by<const N: usize>(text: &[u8]) -> usize
+    requires some { 0 < N }
+    requires most { N ≤ 64 }
+    requires block { N ≤ length text.now }
+    ensures { result ≡ unwrap_or (position needs_escape text.now) (length text.now) }
+{
+    let last = text.len() - N;
+    let mut at = 0;
+    while at < last {
+        let run = unescaped_in::<N>(text, at);
+        if run < N {
+            return at + run;
+        }
+        at += N;
+    }
+    last + unescaped_in::<N>(text, last)
+}
+
+/// How many bytes at the front stand for themselves.
+fn run_len(text: &[u8]) -> usize
+    ensures { result ≡ unwrap_or (position needs_escape text.now) (length text.now) }
+{
+    match text.len() {
+        0..8 => short_run_len(text),
+        8..16 => run_len_by::<8>(text),
+        _ => run_len_by::<16>(text),
+    }
 }
 
 /// Appends the inside of a text, whole runs at a time.

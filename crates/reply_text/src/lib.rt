@@ -7,6 +7,7 @@ mod code;
 mod csv;
 mod decimal;
 mod json;
+mod lanes;
 mod laws;
 mod value;
 

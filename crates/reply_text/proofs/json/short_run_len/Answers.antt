@@ -2,7 +2,7 @@ use Rattle.std.proofs.Common.{rules, tests, ap, ◌∙◌, unwrap_or, length}
 use Rattle.std.proofs.lemmas.Iterator.{YieldsList-from_slice}
 use Rattle.std.proofs.lemmas.Iterator.Search.{position_from_yields_List}
 use Rattle.reply_text.specs.Json.{needs_escape}
-use Rattle.reply_text.proofs.json.run_len.Goals as goal
+use Rattle.reply_text.proofs.json.short_run_len.Goals as goal
 
 pub returns : goal.returns
 returns c =
