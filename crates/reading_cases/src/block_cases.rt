@@ -1,7 +1,7 @@
-//! Summaries of blocks, and the tests that they admit.
+//! Columns of blocks, summaries of blocks, and the tests that they admit.
 ghost use Rattle.std.specs.Prelude.{◌≡◌, IfOk, length};
 
-use block_summary::{Comparison, Summary, Test, admits};
+use block_summary::{Comparison, PackedColumn, PackedType, Summary, Test, admits};
 use cell_types::Value;
 use std::alloc::AllocError;
 use std::process::Abort;
@@ -66,6 +66,23 @@ fn tests(rt: HostRuntime) -> Result<(), Fail> {
             admitted(&summary, *op, *literal) == *wanted,
             "case {place}"
         );
+    }
+    Ok(())
+}
+
+/// The numbers of a column, where what stands in the place of a null does not matter, and which of them are null.
+const NUMBERS: [i64; 4] = [i64::MIN, 5, i64::MAX, 0];
+
+const NULLS: [bool; 4] = [false, true, false, false];
+
+/// The number of each row, and of one past the end.
+const NUMBERS_OF_ROWS: &[Option<i64>] = &[Some(i64::MIN), None, Some(i64::MAX), Some(0), None];
+
+#[test]
+fn numbers_of_rows(rt: HostRuntime) -> Result<(), Fail> {
+    let column = PackedColumn::pack(rt.alloc(), PackedType::Integer, &NUMBERS, &NULLS)?;
+    for (row, number) in NUMBERS_OF_ROWS.iter().enumerate() {
+        assert!(rt; column.number(row) == *number, "row {row}");
     }
     Ok(())
 }
