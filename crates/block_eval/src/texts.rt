@@ -1,6 +1,6 @@
 //! Texts on the rows of a block.
 
-ghost use Rattle.std.specs.Prelude.{◌≡◌, ◌<◌, ℕ, Option, IfOk, length, option_and_then, option_map};
+ghost use Rattle.std.specs.Prelude.{◌≡◌, ◌<◌, ℕ, Option, IfOk, option_and_then, option_map};
 ghost use Rattle.cell_types.specs.Value.{CellValue, value_view};
 ghost use Rattle.odata_types.specs.TypedTree.{text_view};
 ghost use Rattle.row_eval.specs.Row.{cell, text_in as text_in_cell};

@@ -1,6 +1,5 @@
 //! A stream of requests, cut into heads as its pieces come.
 ghost use Rattle.std.specs.Prelude.{◌≡◌, ◌↔◌, ◌<◌, ◌++◌, [], IfOk, IsSome, OnErr, length, map, position};
-ghost use Rattle.std.specs.List.{list_any};
 ghost use Rattle.http_heads.specs.Checks.{closes};
 ghost use Rattle.http_heads.specs.Cut.{IsCut};
 ghost use Rattle.http_heads.specs.Head.{head_view};

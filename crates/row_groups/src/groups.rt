@@ -1,6 +1,6 @@
 //! Groups of rows, by their values in some columns, while rows come.
-ghost use Rattle.std.specs.Prelude.{◌≡◌, ◌<◌, ◌+◌, ◌^◌, ◌∷◌, [], ℕ, IfOk, List, None, OnOk, Option, Some, length, map, replicate, slice_index_or};
-ghost use Rattle.std.specs.List.{All, AllByRecursion};
+ghost use Rattle.std.specs.Prelude.{◌≡◌, ◌<◌, ◌+◌, ◌^◌, [], ℕ, IfOk, List, None, OnOk, Option, Some, length, map, replicate, slice_index_or};
+ghost use Rattle.std.specs.List.{All};
 ghost use Rattle.cell_types.specs.Value.{CellValue, value_view};
 ghost use Rattle.odata_query.specs.declared.aggregate.Aggregate.{Aggregate};
 ghost use Rattle.query_plan.specs.Apply.{values_at};
