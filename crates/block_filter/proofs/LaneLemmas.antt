@@ -24,10 +24,8 @@ use Rattle.cell_types.specs.Laws.{IsOfColumn, IsOfDatatype}
 use Rattle.cell_types.specs.declared.value.Value.{Value}
 use Rattle.cell_types.specs.Value.{CellValue, null, integer, text, boolean, date, decimal}
 use Rattle.odata_types.specs.Schema.{input_of, type_of_datatype}
-use Rattle.row_eval.specs.Input as inputs
 use Rattle.row_eval.specs.Input.{IsOfType, IsRowOf}
 use Rattle.row_eval.specs.Laws.{TablesAreInputs}
-use Rattle.table_store.specs.Fits as fits
 use Rattle.table_store.specs.Fits.{HasTableRows, IsTableRow}
 use Rattle.table_store.specs.Table.{TableOf}
 use Rattle.block_filter.specs.declared.lanes.Lane.{Lane}
@@ -89,21 +87,6 @@ cell_stands column type (date y m d) n b h g p unmarked is = value_back column t
 
 -- ---- a column of a block
 
--- a row of a table is one of the rows that the evaluation is for
-short_value : (v : CellValue) → fits.IsShortValue v → inputs.IsShortValue v
-short_value null h = tt
-short_value (integer n) h = tt
-short_value (text t) h = h
-short_value (boolean b) h = tt
-short_value (date y m d) h = tt
-short_value (decimal n) h = tt
-
-table_row : (columns : List ColumnOf) (row : List CellValue) → IsTableRow columns row → inputs.IsTableRow columns row
-table_row [] [] h = tt
-table_row [] (v ∷ row) h = absurd h
-table_row (c ∷ columns) [] h = absurd h
-table_row (c ∷ columns) (v ∷ row) h = (h.0, short_value v h.1, table_row columns row h.2)
-
 pub record IsTypedCell (column : ColumnOf) (row : List CellValue) (col : ℕ) : Type 0 where
   pub there : slice_get row col ≡ Some (get_or row col null)
   pub fits : IsOfColumn column (get_or row col null)
@@ -127,7 +110,7 @@ column_stands law block col column type numbers nulls fit at p unpacked marks ro
     let values = get_or block.rows row [] in
     let cell : List CellValue → CellValue = λ vs. get_or vs col null in
     let is = fit.each row [] h in
-    let typed = typed_at block.schema.columns values col column is (law.rows block.schema values (table_row block.schema.columns values is)) at in
+    let typed = typed_at block.schema.columns values col column is (law.rows block.schema values is) at in
     let long = length-map block.rows cell in
     let value : get_or (column_of block.rows col) row null ≡ cell values = get_or-map cell block.rows row [] null h in
     let mark : get_or nulls row true ≡ is_null (cell values) =

@@ -9,3 +9,4 @@ pub mod Decimal
 pub mod Fault
 pub mod Cell
 pub mod Laws
+pub mod Rows

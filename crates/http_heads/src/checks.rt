@@ -8,7 +8,7 @@ use crate::head::Head;
 use crate::method::Method;
 
 /// What is wrong with a head, whatever its target is. The first of these is told.
-#[derive(Clone, Copy, Debug, PartialEq, Eq)]
+#[derive(Clone, Copy, PartialEq, Eq)]
 pub enum HeadFault {
     /// HTTP/1.1 without exactly one Host field, or HTTP/1.0 with more than one (RFC 9112, section 3.2).
     BadHost,
@@ -21,7 +21,7 @@ pub enum HeadFault {
 }
 
 /// What a head says whatever its target is.
-#[derive(Clone, Copy, Debug, PartialEq, Eq)]
+#[derive(Clone, Copy, PartialEq, Eq)]
 pub struct Checks {
     /// What is wrong with it.
     pub fault: Option<HeadFault>,
