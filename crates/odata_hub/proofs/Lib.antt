@@ -3,9 +3,13 @@ mod ConnLemmas
 mod TurnLemmas
 mod RunLemmas
 mod GivenLemmas
+mod OverLemmas
+mod CallLemmas
 mod AlikeLemmas
 mod HubLemmas
 mod CatalogLemmas
+mod LifeLemmas
+mod BringLemmas
 mod LawLemmas
 mod StepLemmas
 mod PlaceLemmas
