@@ -1,6 +1,6 @@
 -- How many turns a reply takes, whatever other calls stand between them.
-use Rattle.std.proofs.Common.{◌≡◌, ◌<◌, ◌≤◌, ◌+◌, ◌-◌, ℕ, Bool, true, false, List, [], ◌∷◌, ◌++◌, length, Option, Some, None, refl, sym, ap, subst, ◌∙◌, inl, inr, arith, append_assoc, append-nil}
-use Rattle.std.specs.Prelude.{⊤, MatchBool, max, nat_le}
+use Rattle.std.proofs.Common.{◌≡◌, ◌<◌, ◌≤◌, ◌+◌, ◌-◌, ℕ, Bool, false, List, [], ◌∷◌, ◌++◌, length, Option, Some, None, refl, sym, ap, subst, ◌∙◌, inl, inr, arith, append_assoc, append-nil}
+use Rattle.std.specs.Prelude.{MatchBool, max, nat_le}
 use Rattle.std.proofs.lemmas.Bool.Decides.{leb_tells}
 use Rattle.table_store.specs.Block.{block_count}
 use Rattle.table_store.specs.Catalog.{CatalogOf}
@@ -12,7 +12,7 @@ use Rattle.odata_hub.specs.Streams.{Asked}
 use Rattle.odata_hub.specs.Replies.{IsReplyTo}
 use Rattle.odata_hub.specs.Connections.{ConnOf, FlightOf, AddsReply, BeginsNext, IsTurned, IsTurnedBy, Own, Run, given_by, taken_of, HasMemory, turns_by, turns_in}
 use Rattle.odata_hub.specs.Laws.{AreEnough, IsAmong, IsBrought, IsNext}
-use Rattle.odata_hub.proofs.CallLemmas.{Adds, IsOneTurn, Waits, adds_both, adds_run, answered, quiet_or_turn, quiet_run}
+use Rattle.odata_hub.proofs.CallLemmas.{Adds, Waits, adds_both, adds_run, answered, quiet_or_turn, quiet_run}
 
 -- A moment of a run from one connection to another, behind so many turns: what was taken and added before it, what is in flight and which heads wait
 -- then, and the calls that follow.
@@ -292,7 +292,7 @@ pub next_brought : OneLength → (c d : ConnOf) (os : List Own) (a : Asked) (oth
     → HeadTakes a.catalog a.head calls → turns_in os ≡ calls + 1 → HasMemory os → Run c os d → IsBrought c a others os d
 next_brought lengths c d os a others calls going next takes len m r =
     let fits : (n : ℕ) → HeadTakes a.catalog a.head n → n + 1 ≤ turns_in os = λ n h.
-        let same : n ≡ calls = lengths.one a.catalog a.head n calls h takes in omega (arith, same, len) in
+    let same : n ≡ calls = lengths.one a.catalog a.head n calls h takes in omega (arith, same, len) in
     let x = next_in lengths c d os a others going next (omega (arith, len)) fits m r in
     let same : x.calls ≡ calls = lengths.one a.catalog a.head x.calls calls x.takes takes in
     brought c d os a others (1 + x.calls) x.reply x.is (omega (arith, same, len)) x.moment
@@ -319,6 +319,6 @@ pub next_among : OneLength → (c d : ConnOf) (os : List Own) (a : Asked) (other
     → HasMemory os → Run c os d → IsAmong c a os d
 next_among lengths c d os a others request going next asks many m r =
     let fits : (n : ℕ) → HeadTakes a.catalog a.head n → n + 1 ≤ turns_in os = λ n h.
-        calls_fit a.catalog request n (turns_in os) (lengths.within a.catalog a.head n request h asks) many in
+    calls_fit a.catalog request n (turns_in os) (lengths.within a.catalog a.head n request h asks) many in
     let x = next_in lengths c d os a others going next (some_turn a.catalog request (turns_in os) many) fits m r in
     among c d os a others (1 + x.calls) x.reply x.is x.moment

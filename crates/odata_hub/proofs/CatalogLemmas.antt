@@ -8,8 +8,8 @@ use Rattle.http_heads.specs.Laws.{OneCut, CutsJoin}
 use Rattle.odata_hub.specs.Streams.{Came, Asked, AreAskedBehind, IsCutUnder, bytes_of, heads_of}
 use Rattle.odata_hub.specs.Connections.{Call, Piece, End, Turn, Take, Answer, Opened, Own, came_with, is_done, stream_of}
 use Rattle.odata_hub.specs.Schedules.{HubOf, Event, Open, On, Drop, Reload, Happening, conn_at, IsCurrent, OpensAt, CallsOn, FreesAt, HubStep, HubRun, own_before, own_of, stays_by, stays, opened, reload, reloads_by, has_reload}
-use Rattle.odata_hub.specs.Laws.{Parts}
-use Rattle.odata_hub.proofs.StreamLemmas.{CameUnder, have_behind, behind_halves, behind_one}
+use Rattle.odata_hub.specs.Laws.{CameUnder, Parts}
+use Rattle.odata_hub.proofs.StreamLemmas.{have_behind, behind_halves, behind_one}
 use Rattle.odata_hub.proofs.RunLemmas.{Keeps-own}
 use Rattle.odata_hub.proofs.HubLemmas.{from_open}
 

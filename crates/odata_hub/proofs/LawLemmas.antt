@@ -1,5 +1,5 @@
 -- The laws, each from a connection's own run.
-use Rattle.std.proofs.Common.{◌≡◌, ◌<◌, ℕ, List, Option, Some, refl, sym, ap, subst, ◌∙◌}
+use Rattle.std.proofs.Common.{◌≡◌, ◌<◌, ℕ, List, Option, Some, refl, sym, subst, ◌∙◌}
 use Rattle.std.specs.Prelude.{false}
 use Rattle.http_heads.specs.Laws.{OneCut, CutsJoin}
 use Rattle.odata_http.specs.Laws.{OneLength, OneReply, UnderTables}

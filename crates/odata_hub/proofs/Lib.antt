@@ -1,4 +1,5 @@
 mod StreamLemmas
+mod SameLemmas
 mod ConnLemmas
 mod TurnLemmas
 mod RunLemmas

@@ -1,6 +1,6 @@
 -- The life of a connection in a schedule is two runs of it, and what is in flight in it has calls left.
 use Rattle.std.proofs.Common.{◌≡◌, ◌<◌, ◌-◌, ℕ, Bool, true, false, eqb, List, [], ◌∷◌, ◌++◌, Option, Some, None, refl, sym, ap, subst, ◌∙◌, inl, inr, arith}
-use Rattle.std.specs.Prelude.{⊤, MatchBool, if◌then◌else◌, nat_le}
+use Rattle.std.specs.Prelude.{⊤, MatchBool, if◌then◌else◌}
 use Rattle.std.proofs.lemmas.Bool.Decides.{leb_tells}
 use Rattle.odata_http.specs.Laws.{OneLength}
 use Rattle.odata_hub.specs.Streams.{Asked}

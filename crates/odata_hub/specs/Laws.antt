@@ -10,8 +10,10 @@ use Rattle.http_heads.specs.Head.{HeadOf}
 use Rattle.http_heads.specs.Cut.{IsCut}
 use Rattle.odata_http.specs.Request.{AsksFor, RequestOf, refused, rows, service}
 use Rattle.odata_http.specs.Exchange.{HeadTakes}
+use Rattle.odata_http.specs.Replies.{AreReplies as AreAllReplies, IsCertain}
+use Rattle.odata_http.specs.Reply.{IsReply}
 use Rattle.odata_hub.specs.declared.answers.Turned.TheVariants.{Idle}
-use Rattle.odata_hub.specs.Streams.{Came, Asked, asked, IsCutUnder}
+use Rattle.odata_hub.specs.Streams.{Came, Asked, asked, bytes_of, IsCutUnder}
 use Rattle.odata_hub.specs.Replies.{IsReplyTo, AreReplies, AreFirstReplies}
 use Rattle.odata_hub.specs.Connections.{ConnOf, FlightOf, Turn, Went, Own, Run, fresh, is_over, stream_of, taken_of, calls_of, turns_in, HasMemory, has_ended}
 use Rattle.odata_hub.specs.Schedules.{HubOf, Happening, On, conn_at, HubStep, HubRun, own_of, stays, opened, reload, has_reload}
@@ -39,6 +41,23 @@ pub record Joins : Type 0 where
       → IsCutUnder (stream ++ piece ∷ []) (heads ++ asked piece.catalog more) left closed
   pub closed : (stream : List Came) (heads : List Asked) (rest : List ℕ) (piece : Came)
       → IsCutUnder stream heads rest true → IsCutUnder (stream ++ piece ∷ []) heads rest true
+
+-- these pieces came under these tables
+abbrev pub CameUnder : CatalogOf → List Came → Type 0
+CameUnder catalog [] = ⊤
+CameUnder catalog (piece ∷ stream) = (piece.catalog ≡ catalog) × CameUnder catalog stream
+
+-- the replies of these bytes under one catalog: those that are certain, and after the end all
+abbrev pub AreRepliesUnder : CatalogOf → List ℕ → Bool → List ℕ → Type 0
+AreRepliesUnder catalog bytes true all = (closed : Bool) × AreAllReplies (IsReply catalog) bytes all closed
+AreRepliesUnder catalog bytes false all = (rest : List ℕ) × (closed : Bool) × IsCertain (IsReply catalog) bytes all rest closed
+
+-- Where all pieces of a stream came under the same tables, its replies are those of its bytes under them.
+pub record SameReplies : Type 0 where
+  pub under : (catalog : CatalogOf) (stream : List Came) (ended : Bool) (all : List ℕ) → CameUnder catalog stream
+      → AreReplies stream ended all → AreRepliesUnder catalog (bytes_of stream) ended all
+  pub each : (catalog : CatalogOf) (stream : List Came) (ended : Bool) (all : List ℕ) → CameUnder catalog stream
+      → AreRepliesUnder catalog (bytes_of stream) ended all → AreReplies stream ended all
 
 -- ---- what a connection is given
 

@@ -1,5 +1,5 @@
 //! What holds of a connection in every schedule. The functions here are theorems, and do nothing.
-ghost use Rattle.odata_hub.specs.Laws.{AnswersAlike, BringsNext, BringsReply, BringsWithin, GivesReplies, IdlesWhenAnswered, Joins, KeepsCatalogs, OneReading, OverWhenTaken, RunsAlone};
+ghost use Rattle.odata_hub.specs.Laws.{AnswersAlike, BringsNext, BringsReply, BringsWithin, GivesReplies, IdlesWhenAnswered, Joins, KeepsCatalogs, OneReading, OverWhenTaken, RunsAlone, SameReplies};
 
 /// A stream has one list of heads, each with the tables of the piece that brought its last byte.
 pub fn one_reading()
@@ -12,6 +12,14 @@ pub fn one_reading()
 pub fn joins()
     ensures { Joins }
 {
+    http_heads::cuts_join();
+}
+
+/// Where the tables never change, the replies of a stream are those of its bytes that a run over devices and a session give.
+pub fn same_replies()
+    ensures { SameReplies }
+{
+    http_heads::one_cut();
     http_heads::cuts_join();
 }
 
