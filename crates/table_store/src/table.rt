@@ -141,13 +141,6 @@ impl Table {
         }
     }
 
-    /// The rows, one after another, the first one first.
-    pub fn cursor(&self) -> RowCursor<'_>
-        ensures { result ≡ self.now.rows }
-    {
-        self.rows_from(0, self.rows())
-    }
-
     /// So many rows, from the one with that number on.
     pub(crate) fn rows_from(&self, first: usize, rows: usize) -> RowCursor<'_>
         requires within { first + rows ≤ length self.now.rows }
@@ -191,7 +184,7 @@ impl Table {
     pub fn values_fit(&self)
         ensures { HasTableRows self.now }
     {
-        let _schema = &self.schema;
+        let _schema = &self.schema; // a look at a field brings the invariant into sight
     }
 
     /// The row, counted from 0, whose values in the columns of the key are those, in the order of the key (Metadata Vocabulary for

@@ -1,6 +1,6 @@
 use Rattle.std.proofs.Common.{Some, Ok, sym, ap, ◌∙◌}
 use Rattle.table_store.proofs.CatalogLemmas.{HaveTables-schemas}
-use Rattle.table_store.proofs.schemas_of_tables.Goals as goal
+use Rattle.table_store.proofs.laws.schemas_of_tables.Goals as goal
 
 pub returns : goal.returns
 returns c folder catalog means =

@@ -1,6 +1,6 @@
 use Rattle.table_store.proofs.OneMeaning.{one_catalog, one_cause, not_both}
 use Rattle.table_store.proofs.SomeMeaning.{some_meaning}
-use Rattle.table_store.proofs.one_meaning.Goals as goal
+use Rattle.table_store.proofs.laws.one_meaning.Goals as goal
 
 pub returns : goal.returns
 returns c = record {

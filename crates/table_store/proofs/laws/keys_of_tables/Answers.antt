@@ -1,5 +1,5 @@
 use Rattle.table_store.proofs.KeysOfTables.{HaveTables-keys}
-use Rattle.table_store.proofs.keys_of_tables.Goals as goal
+use Rattle.table_store.proofs.laws.keys_of_tables.Goals as goal
 
 pub returns : goal.returns
 returns c folder catalog means =
