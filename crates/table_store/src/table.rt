@@ -15,7 +15,6 @@ ghost use Rattle.table_store.specs.Loading.{table_cause, HasKeyColumns, IsRefuse
 ghost use Rattle.table_store.specs.Summaries.{AreSummariesOf};
 ghost use Rattle.table_store.specs.Table.{keys_of};
 
-use crate::block::Block;
 use crate::column_values::file_values;
 use crate::cursor::RowCursor;
 use crate::fault::LoadFault;
@@ -112,21 +111,6 @@ impl Table {
         ensures { AreSummariesOf self.now result.now }
     {
         self.summaries.as_slice()
-    }
-
-    /// The block of a number, counted from 0.
-    pub fn block(&self, number: usize) -> Block<'_>
-        requires { number < block_count (length self.now.rows) }
-        ensures { result ≡ block_of self.now number }
-    {
-        let all = self.rows();
-        let first = number * BLOCK_ROWS;
-        let rows = (all - first).min(BLOCK_ROWS);
-        Block {
-            table: self,
-            first,
-            rows,
-        }
     }
 
     /// The cells of a column in the block of a number; nothing for a column of texts.
