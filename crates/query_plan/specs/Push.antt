@@ -50,6 +50,6 @@ pushed_down p = record {
 abbrev pub pushed : PlanOf → PlanOf
 pushed p = if may_be_pushed p then pushed_down p else p
 
--- a plan that reads fewer blocks, and of what it reads keeps few rows of a sort, and few columns
+-- a plan that reads fewer blocks, and of what it reads keeps few columns, and few rows of a sort
 abbrev pub rewritten : PlanOf → PlanOf
 rewritten p = narrowed_plan (pushed p)

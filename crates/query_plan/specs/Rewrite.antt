@@ -33,6 +33,6 @@ best_nodes (n ∷ m ∷ ns) = chosen n (rows_needed m) ∷ best_nodes (m ∷ ns)
 
 -- ---- the whole
 
--- few rows of a sort, and few columns
+-- few columns, and then few rows of a sort
 abbrev pub narrowed_plan : PlanOf → PlanOf
-narrowed_plan p = record p { nodes = narrowed_nodes (best_nodes p.nodes) }
+narrowed_plan p = record p { nodes = best_nodes (narrowed_nodes p.nodes) }
