@@ -227,7 +227,7 @@ up_to_few : (stop : Option ℕ) (es : List TruthExprOf) (rows : List Row) (numbe
 up_to_few None es rows numbers = omega arith
 up_to_few (Some room) es rows numbers = reached_few es room rows numbers
 
-reached_each : (P : ℕ → Type 0) (es : List TruthExprOf) (room : ℕ) (rows : List Row) (numbers : List ℕ) → AllByRecursion P numbers → AllByRecursion P (reached es room rows numbers)
+pub reached_each : (P : ℕ → Type 0) (es : List TruthExprOf) (room : ℕ) (rows : List Row) (numbers : List ℕ) → AllByRecursion P numbers → AllByRecursion P (reached es room rows numbers)
 reached_each P es room rows [] h = tt
 reached_each P es room rows (n ∷ ns) h =
     elim (cases_Bool (eqb room 0)) [

@@ -19,11 +19,8 @@ use std::alloc::{AllocError, Global};
 fn rows_needed(node: &Node) -> Option<u64>
     ensures { result ≡ rows_needed (node_view node.now) }
 {
-    let Node::Slice(slice) = node else {
-        return None;
-    };
-    match slice.top {
-        Some(top) if !slice.counts => slice.skip.checked_add(top),
+    match node {
+        Node::Slice(slice) => slice.room(),
         _ => None,
     }
 }
