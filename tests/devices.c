@@ -1,6 +1,6 @@
 /* Makes the devices of a program fail. The reads of the file INPUT and the writes of standard output are counted, each
-   from 1; number READ or WRITE fails with the error ERRNO, as does opening the file OPEN. With ONE_BYTE each of them moves one byte; with NOTHING a
-   write takes none. Each is noted in the file LOG, one line each: `r` or `w`, and how many bytes it moved or -1. */
+   from 1; number READ or WRITE fails with the error ERRNO, as does opening the file OPEN, and write number NOTHING takes no byte. With ONE_BYTE each of
+   them moves one byte. Each is noted in the file LOG, one line each: `r` or `w`, and how many bytes it moved or -1. */
 #define _GNU_SOURCE
 #include <dlfcn.h>
 #include <errno.h>
@@ -34,10 +34,16 @@ static ssize_t note(char call, ssize_t moved) {
     return moved;
 }
 
+/* Whether the variable of that name has that number. */
+static int is_number(const char *name, long number) {
+    const char *which = getenv(name);
+    return which && atol(which) == number;
+}
+
 /* Whether the call of that number fails, by the variable of that name. */
 static int fails(const char *name, long number) {
-    const char *which = getenv(name), *error = getenv("ERRNO");
-    if (!which || atol(which) != number) return 0;
+    const char *error = getenv("ERRNO");
+    if (!is_number(name, number)) return 0;
     errno = error ? atoi(error) : EIO;
     return 1;
 }
@@ -67,6 +73,6 @@ ssize_t read(int file, void *bytes, size_t size) {
 ssize_t write(int file, const void *bytes, size_t size) {
     if (file != 1) return syscall(SYS_write, file, bytes, size);
     if (fails("WRITE", ++writes)) return note('w', -1);
-    if (getenv("NOTHING")) return note('w', 0);
+    if (is_number("NOTHING", writes)) return note('w', 0);
     return note('w', syscall(SYS_write, file, bytes, getenv("ONE_BYTE") && size > 1 ? 1 : size));
 }

@@ -8,36 +8,14 @@ import re
 from datetime import date
 from fractions import Fraction
 
+import replies
 from plain_filter import Fault, Refused, bounded, check_condition, kept, outcome, small, type_of
 from random_tables import csv_value, json_value
+from replies import CSV, JSON, PLAIN
 
 SERVED = ["apply", "filter", "count", "orderby", "skip", "top", "select", "format"]
 NOT_SERVED = ["expand", "search", "compute", "levels", "skiptoken", "deltatoken", "schemaversion", "id", "index"]
 MOST_TRANSFORMATIONS = 8
-CODES = {
-    "BadTarget": ("400 Bad Request", "the target is not a path"),
-    "BadEscape": ("400 Bad Request", "a percent escape is broken"),
-    "BadUtf8": ("400 Bad Request", "the target is not UTF-8"),
-    "UnknownOption": ("400 Bad Request", "unknown system option"),
-    "OptionTwice": ("400 Bad Request", "a system option stands twice"),
-    "NotFound": ("404 Not Found", "no such resource"),
-    "UnknownSet": ("404 Not Found", "no such table"),
-    "OptionNotAllowed": ("400 Bad Request", "the option does not fit the path"),
-    "NotAcceptable": ("406 Not Acceptable", "the format is not served"),
-    "NotServed": ("501 Not Implemented", "not served by this profile"),
-    "BadToken": ("400 Bad Request", "an unknown token"),
-    "TooMany": ("400 Bad Request", "more than 1024 tokens"),
-    "TooDeep": ("400 Bad Request", "nested too deep"),
-    "Syntax": ("400 Bad Request", "a syntax fault"),
-    "UnknownName": ("400 Bad Request", "no such column"),
-    "Mismatch": ("400 Bad Request", "the types do not fit"),
-    "TooLarge": ("400 Bad Request", "a number may grow too large"),
-    "AliasTaken": ("400 Bad Request", "the alias is taken"),
-    "BadKey": ("400 Bad Request", "the key does not fit the table"),
-    "NoSuchRow": ("404 Not Found", "no row has this key"),
-    "DivisionByZero": ("400 Bad Request", "division by zero"),
-}
-JSON, CSV, PLAIN = "application/json;odata.metadata=none", "text/csv;charset=utf-8", "text/plain;charset=utf-8"
 
 # The grammar: {..} any number of times, [..] once or not at all. Words are read in any case.
 GRAMMAR = """
@@ -505,6 +483,10 @@ def object_text(names, row):
     return "{" + ",".join(f'"{name}":{json_value(row[name])}' for name in names) + "}"
 
 
+def json_text(names, rows, count=""):
+    return "{" + count + '"value":[' + ",".join(object_text(names, row) for row in rows) + "]}"
+
+
 def csv_text(names, rows):
     lines = [",".join(names)] + [",".join(csv_value(row[name]) for name in names) for row in rows]
     return "".join(line + "\r\n" for line in lines)
@@ -534,7 +516,7 @@ def query_body(query, table, counting, media_type):
     rows = rows[:query.get("top", len(rows))]
     if media_type == CSV:
         return csv_text(names, rows), CSV
-    return "{" + count + '"value":[' + ",".join(object_text(names, row) for row in rows) + "]}", JSON
+    return json_text(names, rows, count), JSON
 
 
 def body_of(target, tables):
@@ -560,13 +542,10 @@ def answer(target, tables):
         code = refused.args[0]
     except Fault:
         code = "DivisionByZero"
-    status, message = CODES[code]
-    return status, JSON, '{"error":{"code":"%s","message":"%s"}}' % (code, message), code
+    return replies.CODES[code][0], JSON, replies.error_body(code), code
 
 
 def reply(method, answered):
     """The bytes of the reply to a GET or a HEAD."""
     status, media_type, body, _ = answered
-    body = body.encode()
-    head = f"HTTP/1.1 {status}\r\nContent-Type: {media_type}\r\nOData-Version: 4.0\r\nContent-Length: {len(body)}\r\n\r\n"
-    return head.encode() + (body if method == "GET" else b"")
+    return replies.reply(body if method == "GET" else "", media_type, status, length=len(body.encode()))

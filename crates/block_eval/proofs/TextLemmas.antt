@@ -1,6 +1,6 @@
 -- Texts on the rows that are wanted.
-use Rattle.std.proofs.Common.{◌≡◌, ℕ, Bool, Option, None, Some, List, length, get_or, slice_get, refl, sym, ap, ◌∙◌}
-use Rattle.std.specs.Prelude.{option_and_then, option_map}
+use Rattle.std.proofs.Common.{◌≡◌, ℕ, Bool, Option, Some, List, length, slice_get, sym, ap, ◌∙◌}
+use Rattle.std.specs.Prelude.{option_and_then}
 use denote.Ref.{Bor}
 use Rattle.cell_types.specs.declared.value.Value.{Value}
 use Rattle.cell_types.specs.Value.{CellValue}
@@ -11,24 +11,11 @@ use Rattle.block_eval.specs.declared.columns.Column.TheVariants as columns
 use Rattle.block_eval.specs.declared.relation.TextRelation.{TextRelation}
 use Rattle.block_eval.specs.declared.texts.Texts.{Texts}
 use Rattle.block_eval.specs.declared.texts.Texts.TheVariants as texts
-use Rattle.block_eval.specs.Columns.{text_cell}
 use Rattle.block_eval.specs.Lanes.{GivesTruths}
 use Rattle.block_eval.specs.Texts.{related, text_lane, AreRelated, AreTextsLong, GivesTexts}
 use Rattle.block_eval.proofs.LogicLemmas.{wanted_within}
 
-cell-text : (t : Option (Bor (List ℕ))) → text_in (text_cell t) ≡ option_map (λ t. t.now) t
-cell-text None = refl
-cell-text (Some t) = refl
-
 -- the texts of a column
-pub slices-give : (cs : List Column) (place : ℕ) (ts : Bor (List (Option (Bor (List ℕ))))) (wanted : List Bool) (v : Texts) → slice_get cs place ≡ Some (columns.Texts ts)
-    → v ≡ texts.Cells ts → AreTextsLong (length wanted) v → GivesTexts (λ cells. cell text_in cells place) cs wanted v
-slices-give cs place ts wanted v e is long = record {
-  each = λ row cells h at.
-      ap (option_and_then text_in) (at.each place (columns.Texts ts) e) ∙ cell-text (get_or ts.now row None) ∙ ap (λ x. text_lane x row) (sym is);
-  long = long;
-}
-
 pub values-give : (cs : List Column) (place : ℕ) (vs : Bor (List Value)) (wanted : List Bool) (v : Texts) → slice_get cs place ≡ Some (columns.Values vs)
     → v ≡ texts.Values vs → AreTextsLong (length wanted) v → GivesTexts (λ cells. cell text_in cells place) cs wanted v
 values-give cs place vs wanted v e is long = record {

@@ -1,23 +1,16 @@
 -- The rows of a block, from its columns.
 pub use Rattle.block_lanes.specs.Lanes.{number_at, unless_null}
-use Rattle.std.specs.Prelude.{◌≡◌, ℕ, Option, None, Some, List, map, slice_get, slice_index_or}
-use denote.Ref.{Bor}
-use Rattle.cell_types.specs.Value.{CellValue, null, text, value_view}
+use Rattle.std.specs.Prelude.{◌≡◌, ℕ, Option, Some, List, map, slice_get, slice_index_or}
+use Rattle.cell_types.specs.Value.{CellValue, null, value_view}
 use Rattle.block_summary.specs.Types.{cell_of, number_of}
 use Rattle.block_eval.specs.Bounds.{IsWithin}
 use Rattle.block_eval.specs.declared.columns.Column.{Column}
-use Rattle.block_eval.specs.declared.columns.Column.TheVariants.{Nulls, Numbers, Texts, Unread, Values}
-
-abbrev pub text_cell : Option (Bor (List ℕ)) → CellValue
-text_cell None = null
-text_cell (Some t) = text t.now
+use Rattle.block_eval.specs.declared.columns.Column.TheVariants.{Numbers, Unread, Values}
 
 -- the cell of a row, in a column that was read
 abbrev pub cell_at : Column → ℕ → CellValue
 cell_at Unread row = null
-cell_at Nulls row = null
 cell_at (Numbers type values nulls bounds) row = cell_of type (number_at values.now nulls.now row)
-cell_at (Texts texts) row = text_cell (slice_index_or texts.now row None)
 cell_at (Values values) row = slice_index_or (map value_view values.now) row null
 
 -- what stands in a row at the place of a column: any cell, where the column was not read; a number is between the bounds of its column

@@ -1,5 +1,5 @@
 -- Texts on the rows of a block that are wanted.
-use Rattle.std.specs.Prelude.{◌≡◌, ◌<◌, ℕ, Bool, Option, None, Some, List, length, map, option_map, slice_index_or}
+use Rattle.std.specs.Prelude.{◌≡◌, ◌<◌, ℕ, Bool, Option, None, Some, List, length, map, slice_index_or}
 use Rattle.std.specs.Cmp.Lexicographic.{slice_cmp}
 use Rattle.std.specs.Ordering.{nat_cmp}
 use Rattle.cell_types.specs.Value.{CellValue, null, value_view}
@@ -15,20 +15,18 @@ use Rattle.block_eval.specs.declared.columns.Column.{Column}
 use Rattle.block_eval.specs.declared.relation.TextRelation.{TextRelation}
 use Rattle.block_eval.specs.declared.relation.TextRelation.TheVariants.{Comparison, Test}
 use Rattle.block_eval.specs.declared.texts.Texts.{Texts}
-use Rattle.block_eval.specs.declared.texts.Texts.TheVariants.{Null, Same, Cells, Values}
+use Rattle.block_eval.specs.declared.texts.Texts.TheVariants.{Null, Same, Values}
 use Rattle.block_eval.specs.Columns.{IsRowAt}
 use Rattle.block_eval.specs.Lanes.{truth_lane, IsWanted}
 
 abbrev pub text_lane : Texts → ℕ → Option (List ℕ)
 text_lane Null row = None
 text_lane (Same t) row = Some t.now
-text_lane (Cells ts) row = option_map (λ t. t.now) (slice_index_or ts.now row None)
 text_lane (Values vs) row = text_in (slice_index_or (map value_view vs.now) row null)
 
 abbrev pub AreTextsLong : ℕ → Texts → Type 0
 AreTextsLong rows Null = Unit {0}
 AreTextsLong rows (Same t) = Unit {0}
-AreTextsLong rows (Cells ts) = length ts.now ≡ rows
 AreTextsLong rows (Values vs) = length vs.now ≡ rows
 
 -- for each wanted row the lane is what f makes of its cells

@@ -1,6 +1,6 @@
 //! A condition on the rows of a block, a column at a time.
 
-ghost use Rattle.std.specs.Prelude.{◌≡◌, IfOk, IfSome, List};
+ghost use Rattle.std.specs.Prelude.{IfOk, IfSome, List};
 ghost use Rattle.block_summary.specs.Ranges.{RangeOf};
 ghost use Rattle.odata_types.specs.TypedTree.{truth_view};
 ghost use Rattle.block_eval.specs.Lanes.{AreOutcomesWithin};

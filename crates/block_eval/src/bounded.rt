@@ -1,6 +1,6 @@
 //! Numbers on the rows of a block, with bounds where such are known. Where the bounds of what an operator makes fit 64 bits, no number is checked.
 
-ghost use Rattle.std.specs.Prelude.{◌≡◌, None, Some, IfOk, length};
+ghost use Rattle.std.specs.Prelude.{None, Some, IfOk, length};
 ghost use Rattle.block_eval.specs.Bounded.{joined_bounds as joined_bounds_of, AreJoined, IsSame};
 ghost use Rattle.block_eval.specs.Bounds.{AreFitting};
 ghost use Rattle.block_eval.specs.Lanes.{AreLong};

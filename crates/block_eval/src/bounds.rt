@@ -1,6 +1,6 @@
 //! Two numbers between which others lie, and what operators make of those.
 
-ghost use Rattle.std.specs.Prelude.{◌≡◌, SomeIff};
+ghost use Rattle.std.specs.Prelude.{SomeIff};
 ghost use Rattle.block_eval.specs.Bounds.{bounds_of, difference_bounds as difference_bounds_of, product_bounds as product_bounds_of, sum_bounds as sum_bounds_of, AreFitting, Fit};
 
 use block_summary::Bounds;

@@ -8,13 +8,9 @@ use cell_types::Value;
 pub enum Column<'a> {
     /// The column was not read: its cells may be any. What names it falls back.
     Unread,
-    /// Each cell is null.
-    Nulls,
     /// The numbers that stand for the cells of a type, which cells are null, and two numbers between which the others lie. At a null the number
     /// may be any.
     Numbers(PackedType, &'a [i64], &'a [bool], Bounds),
-    /// The texts, and none for null.
-    Texts(&'a [Option<&'a str>]),
     /// The cells themselves, of any types. The texts of such a column are read, and what names it otherwise falls back.
     Values(&'a [Value<'a>]),
 }

@@ -1,6 +1,6 @@
 //! Comparisons of numbers on the wanted rows of a block.
 
-ghost use Rattle.std.specs.Prelude.{◌≡◌, IfOk};
+ghost use Rattle.std.specs.Prelude.{IfOk};
 ghost use Rattle.odata_types.specs.TypedTree.{compare_decimals as decimals_compared, compare_integers as integers_compared, decimal_view, integer_view};
 ghost use Rattle.block_eval.specs.Lanes.{AreOutcomes};
 

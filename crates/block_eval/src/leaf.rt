@@ -1,6 +1,6 @@
 //! Conditions that have no condition as a part.
 
-ghost use Rattle.std.specs.Prelude.{◌≡◌, IfOk};
+ghost use Rattle.std.specs.Prelude.{IfOk};
 ghost use Rattle.odata_types.specs.TypedTree.{truth_view};
 ghost use Rattle.block_eval.specs.Lanes.{AreOutcomes};
 

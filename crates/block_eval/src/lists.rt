@@ -1,9 +1,8 @@
 //! Lists of values on the rows of a block (`in`, OData 4.01 URL Conventions, section 5.1.1.1.12): a value is in a list where it equals one
 //! of the items. The value is evaluated once.
 
-ghost use Rattle.std.specs.Prelude.{◌≡◌, ℕ, Option, ℤ, IfOk, length, map, option_map};
-ghost use Rattle.std.specs.Cmp.Lexicographic.{slice_cmp};
-ghost use Rattle.std.specs.Ordering.{int_cmp, nat_cmp};
+ghost use Rattle.std.specs.Prelude.{◌≡◌, ℕ, Option, IfOk, length, map, option_map};
+ghost use Rattle.std.specs.Ordering.{int_cmp};
 ghost use Rattle.odata_types.specs.TypedTree.{date_in as date_in_of, date_view, decimal_in as decimal_in_of, decimal_view, integer_in as integer_in_of, integer_view, optional_day, optional_text, text_in as text_in_of, text_view};
 ghost use Rattle.row_eval.specs.Comparison.{is_among};
 ghost use Rattle.row_eval.specs.Logic.{greatest, truth_of};

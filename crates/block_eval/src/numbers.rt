@@ -1,6 +1,6 @@
 //! Integers and decimals on the rows of a block.
 
-ghost use Rattle.std.specs.Prelude.{◌≡◌, Some, IfOk};
+ghost use Rattle.std.specs.Prelude.{Some, IfOk};
 ghost use Rattle.odata_types.specs.TypedTree.{decimal_view, integer_view};
 ghost use Rattle.row_eval.specs.Outcome.{decimal_outcome, integer_outcome};
 ghost use Rattle.row_eval.specs.Row.{cell, decimal_in, integer_in};

@@ -1,6 +1,6 @@
 //! Texts on the rows of a block.
 
-ghost use Rattle.std.specs.Prelude.{◌≡◌, ◌<◌, ℕ, Option, IfOk, length, option_and_then, option_map};
+ghost use Rattle.std.specs.Prelude.{◌≡◌, ◌<◌, ℕ, Option, IfOk, option_and_then, option_map};
 ghost use Rattle.cell_types.specs.Value.{CellValue, value_view};
 ghost use Rattle.odata_types.specs.TypedTree.{text_view};
 ghost use Rattle.row_eval.specs.Row.{cell, text_in as text_in_cell};
@@ -19,8 +19,6 @@ pub enum Texts<'a> {
     Null,
     /// The same text on each row.
     Same(&'a str),
-    /// The texts of a column.
-    Cells(&'a [Option<&'a str>]),
     /// The cells of a column; null for one that is no text.
     Values(&'a [Value<'a>]),
 }
@@ -46,7 +44,6 @@ impl<'a> Texts<'a> {
         match self {
             Texts::Null => None,
             Texts::Same(text) => Some(text),
-            Texts::Cells(texts) => texts[row],
             Texts::Values(cells) => text_of(&cells[row]),
         }
     }
@@ -59,7 +56,6 @@ fn texts_of<'a>(column: Column<'a>, rows: usize) -> Result<Texts<'a>, Fallback>
     ensures long { IfOk result (AreTextsLong rows) }
 {
     match column {
-        Column::Texts(texts) if texts.len() == rows => Ok(Texts::Cells(texts)),
         Column::Values(cells) if cells.len() == rows => Ok(Texts::Values(cells)),
         _ => Err(Fallback),
     }

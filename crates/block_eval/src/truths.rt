@@ -1,6 +1,6 @@
 //! The truths of a column, and truths as values: compared with one another, and in lists. Both sides of a comparison are evaluated, and what it says is never null.
 
-ghost use Rattle.std.specs.Prelude.{◌≡◌, ◌<◌, ℕ, pos, true, Some, IfOk, length, map, option_map, slice_index_or};
+ghost use Rattle.std.specs.Prelude.{◌≡◌, ◌<◌, ℕ, true, Some, IfOk, length, map, option_map};
 ghost use Rattle.std.specs.Ordering.{bool_cmp};
 ghost use Rattle.row_eval.specs.Comparison.{is_among};
 ghost use Rattle.row_eval.specs.Logic.{option_of_truth, truth_of, truth_of_option};

@@ -15,18 +15,9 @@ use Rattle.block_filter.specs.Conditions.{passing_all}
 use Rattle.block_filter.specs.Marks.{is_marked, marked}
 use Rattle.block_filter.specs.Passing.{unless_faulted, AreAllPassing, AreFirstOf, ArePassing}
 use Rattle.block_filter.proofs.InTurnLemmas.{passed_count}
+use Rattle.block_filter.proofs.PassingLemmas.{marked_count}
 
 -- ---- rows that are marked
-
--- as many as there are marks
-marked_filtered : {X : Type 0} (marks : List Bool) (xs : List X) → length marks ≡ length xs → length (marked marks xs) ≡ length (filter is_marked marks)
-marked_filtered [] xs h = refl
-marked_filtered (m ∷ marks) [] h = absurd (omega arith)
-marked_filtered (true ∷ marks) (x ∷ xs) h = ap suc (marked_filtered marks xs (omega arith))
-marked_filtered (false ∷ marks) (x ∷ xs) h = marked_filtered marks xs (omega arith)
-
-pub marked_count : {X : Type 0} (marks : List Bool) (xs : List X) → length marks ≡ length xs → length (marked marks xs) ≡ count_by is_marked marks
-marked_count marks xs h = marked_filtered marks xs h ∙ length-filter is_marked marks
 
 -- what the first marks leave is what comes first
 pub marked_front : {X : Type 0} (marks : List Bool) (xs : List X) (i : ℕ) → take (length (marked (take i marks) xs)) (marked marks xs) ≡ marked (take i marks) xs

@@ -24,10 +24,8 @@ use Rattle.cell_types.specs.Laws.{IsOfColumn, IsOfDatatype}
 use Rattle.cell_types.specs.declared.value.Value.{Value}
 use Rattle.cell_types.specs.Value.{CellValue, null, integer, text, boolean, date, decimal}
 use Rattle.odata_types.specs.Schema.{input_of, type_of_datatype}
-use Rattle.row_eval.specs.Input as inputs
 use Rattle.row_eval.specs.Input.{IsOfType, IsRowOf}
 use Rattle.row_eval.specs.Laws.{TablesAreInputs}
-use Rattle.table_store.specs.Fits as fits
 use Rattle.table_store.specs.Fits.{HasTableRows, IsTableRow}
 use Rattle.table_store.specs.Table.{TableOf}
 use Rattle.block_filter.specs.declared.lanes.Lane.{Lane}
@@ -89,21 +87,6 @@ cell_stands column type (date y m d) n b h g p unmarked is = value_back column t
 
 -- ---- a column of a block
 
--- a row of a table is one of the rows that the evaluation is for
-short_value : (v : CellValue) → fits.IsShortValue v → inputs.IsShortValue v
-short_value null h = tt
-short_value (integer n) h = tt
-short_value (text t) h = h
-short_value (boolean b) h = tt
-short_value (date y m d) h = tt
-short_value (decimal n) h = tt
-
-table_row : (columns : List ColumnOf) (row : List CellValue) → IsTableRow columns row → inputs.IsTableRow columns row
-table_row [] [] h = tt
-table_row [] (v ∷ row) h = absurd h
-table_row (c ∷ columns) [] h = absurd h
-table_row (c ∷ columns) (v ∷ row) h = (h.0, short_value v h.1, table_row columns row h.2)
-
 pub record IsTypedCell (column : ColumnOf) (row : List CellValue) (col : ℕ) : Type 0 where
   pub there : slice_get row col ≡ Some (get_or row col null)
   pub fits : IsOfColumn column (get_or row col null)
@@ -127,7 +110,7 @@ column_stands law block col column type numbers nulls fit at p unpacked marks ro
     let values = get_or block.rows row [] in
     let cell : List CellValue → CellValue = λ vs. get_or vs col null in
     let is = fit.each row [] h in
-    let typed = typed_at block.schema.columns values col column is (law.rows block.schema values (table_row block.schema.columns values is)) at in
+    let typed = typed_at block.schema.columns values col column is (law.rows block.schema values is) at in
     let long = length-map block.rows cell in
     let value : get_or (column_of block.rows col) row null ≡ cell values = get_or-map cell block.rows row [] null h in
     let mark : get_or nulls row true ≡ is_null (cell values) =
@@ -188,6 +171,17 @@ one_read rows lanes i y is so_far place lane h inside =
       | inr other ↦ rw (get_or-set_other lanes i place y lane other) (so_far place lane (omega arith) (omega arith))
     ]
 
+-- one more was read
+pub lane_more : (rows : List (List CellValue)) (lanes : List Lane) (i : ℕ) (y : Lane) → IsLaneOf rows i y → AreLanesOf rows lanes → AreLanesOf rows (set lanes i y)
+lane_more rows lanes i y is are place lane inside =
+    let len = length-set lanes i y in
+    elim (cases_eq place i) [
+      | inl same ↦
+          let at : y ≡ get_or (set lanes i y) i lane = sym (get_or-set_same lanes i y lane (omega (arith, inside, len, same))) in
+          subst (λ j. IsLaneOf rows j (get_or (set lanes i y) j lane)) (sym same) (subst (IsLaneOf rows i) at is)
+      | inr other ↦ rw (get_or-set_other lanes i place y lane other) (are place lane (omega (arith, inside, len)))
+    ]
+
 -- the columns so far are those of the first lanes, or of the texts
 pub record AreOfLanes {A : Type 0} (lanes : List Lane) (texts : List (Option (Vec Value A))) (columns : List Column) (i : ℕ) : Type 0 where
   pub long : length columns ≡ i
@@ -239,20 +233,23 @@ values_stand block col values fit h are row within =
     slice_get-get_or cells col null (omega (arith, h, wide))
     ∙ ap (λ v. Some v) (sym (ap (λ vs. get_or vs row null) are ∙ get_or-map cell block.rows row [] null within))
 
-pub record AreTextsSoFar {A : Type 0} (rows : List (List CellValue)) (texts : List (Option (Vec Value A))) (i : ℕ) : Type 0 where
-  pub long : length texts ≡ i
-  pub each : AreTextsOf rows texts
+pub no_texts_more : {A : Type 0} (rows : List (List CellValue)) (texts : List (Option (Vec Value A))) → AreTextsOf rows texts → AreTextsOf rows (texts ++ None ∷ [])
+no_texts_more rows texts are place d within = elim (cases_eq place (length texts)) [
+  | inl same ↦
+      let at : None ≡ get_or (texts ++ None ∷ []) place d = sym (get_or_push texts None d place (sym same)) in
+      subst (λ t. AreValuesOf rows place (texts_view t)) at tt
+  | inr other ↦
+      let inside : place < length texts = omega (arith, within, other, length_push texts None) in
+      subst (λ t. AreValuesOf rows place (texts_view t)) (sym (get_or_append_left texts (None ∷ []) d place inside)) (are place d inside)
+]
 
-pub one_text : {A : Type 0} (rows : List (List CellValue)) (texts : List (Option (Vec Value A))) (i : ℕ) (new : Option (Vec Value A)) → AreValuesOf rows i (texts_view new)
-    → AreTextsSoFar rows texts i → AreTextsSoFar rows (texts ++ new ∷ []) (i + 1)
-one_text rows texts i new is so_far = record {
-  long = length_push texts new ∙ ap (λ k. k + 1) so_far.long;
-  each = λ place d within. elim (cases_eq place i) [
-    | inl same ↦
-        let at : new ≡ get_or (texts ++ new ∷ []) i d = sym (get_or_push texts new d i so_far.long) in
-        subst (λ j. AreValuesOf rows j (texts_view (get_or (texts ++ new ∷ []) j d))) (sym same) (subst (λ t. AreValuesOf rows i (texts_view t)) at is)
-    | inr other ↦
-        let inside : place < length texts = omega (arith, so_far.long, length_push texts new) in
-        subst (λ t. AreValuesOf rows place (texts_view t)) (sym (get_or_append_left texts (new ∷ []) d place inside)) (so_far.each place d inside)
-  ];
-}
+pub texts_more : {A : Type 0} (rows : List (List CellValue)) (texts : List (Option (Vec Value A))) (i : ℕ) (new : Option (Vec Value A)) → AreValuesOf rows i (texts_view new)
+    → AreTextsOf rows texts → AreTextsOf rows (set texts i new)
+texts_more rows texts i new is are place d within =
+    let len = length-set texts i new in
+    elim (cases_eq place i) [
+      | inl same ↦
+          let at : new ≡ get_or (set texts i new) i d = sym (get_or-set_same texts i new d (omega (arith, within, len, same))) in
+          subst (λ j. AreValuesOf rows j (texts_view (get_or (set texts i new) j d))) (sym same) (subst (λ t. AreValuesOf rows i (texts_view t)) at is)
+      | inr other ↦ rw (get_or-set_other texts i place new d other) (are place d (omega (arith, within, len)))
+    ]

@@ -1,9 +1,10 @@
 -- Rows that are marked, and those that pass a step.
 use Rattle.std.proofs.Common.{◌≡◌, ℕ, zero, suc, ◌+◌, ◌<◌, Bool, true, false, ◌&&◌, cond, Some, List, [], ◌∷◌, ◌++◌, length, map, take, drop, replicate, get_or, refl, sym, ap, ◌∙◌, arith}
-use Rattle.std.specs.Prelude.{Box, option_and_then}
+use Rattle.std.specs.Prelude.{Box, count_by, filter, option_and_then}
 use Rattle.std.specs.List.{All}
 use Rattle.std.proofs.lemmas.List.{append-nil, drop_more, map_push}
 use Rattle.std.proofs.lemmas.List.Elements.{All-push}
+use Rattle.std.proofs.lemmas.List.Sums.{length-filter}
 use Rattle.cell_types.specs.Value.{CellValue}
 use Rattle.odata_types.specs.declared.tree.TruthExpr.{TruthExpr}
 use Rattle.odata_types.specs.TypedTree.{boxed_truth, TruthExprOf}
@@ -18,7 +19,8 @@ use Rattle.query_plan.specs.Laws.{TrueRowsPass}
 use Rattle.block_filter.specs.Lanes.{AreColumnsOf}
 use Rattle.row_columns.specs.Picked.{numbered}
 use Rattle.block_filter.specs.Conditions.{passing_all}
-use Rattle.block_filter.specs.Marks.{is_true, marked}
+use Rattle.block_filter.specs.Marks.{is_marked, is_true, marked}
+use Rattle.block_filter.proofs.ConditionLemmas.{none_pass}
 
 -- ---- a filter on the rows that are marked
 
@@ -127,7 +129,30 @@ unmarked_row marks i numbers h at so_far = record {
   within = so_far.within;
 }
 
+-- ---- how many are marked
+
+-- as many as there are marks
+marked_filtered : {X : Type 0} (marks : List Bool) (xs : List X) → length marks ≡ length xs → length (marked marks xs) ≡ length (filter is_marked marks)
+marked_filtered [] xs h = refl
+marked_filtered (m ∷ marks) [] h = absurd (omega arith)
+marked_filtered (true ∷ marks) (x ∷ xs) h = ap suc (marked_filtered marks xs (omega arith))
+marked_filtered (false ∷ marks) (x ∷ xs) h = marked_filtered marks xs (omega arith)
+
+pub marked_count : {X : Type 0} (marks : List Bool) (xs : List X) → length marks ≡ length xs → length (marked marks xs) ≡ count_by is_marked marks
+marked_count marks xs h = marked_filtered marks xs h ∙ length-filter is_marked marks
+
 -- ---- conditions in turn
+
+no_rows : {X : Type 0} (xs : List X) → length xs ≡ 0 → xs ≡ []
+no_rows [] h = refl
+no_rows (x ∷ xs) h = absurd (omega (arith, h))
+
+-- where no row is wanted, conditions leave as many
+pub none_wanted : (es : List TruthExprOf) (wanted : List Bool) (rows : List (List CellValue)) → length wanted ≡ length rows → count_by is_marked wanted ≡ 0
+    → passing_all es (marked wanted rows) ≡ Some (marked wanted rows)
+none_wanted es wanted rows long none =
+    let empty : marked wanted rows ≡ [] = no_rows (marked wanted rows) (marked_count wanted rows long ∙ none) in
+    ap (passing_all es) empty ∙ none_pass es ∙ ap (λ xs. Some xs) (sym empty)
 
 pub next_condition : {A : Type 0} (conditions : List (Box TruthExpr A)) (i : ℕ) (condition : Box TruthExpr A) (rows : List (List CellValue)) (was now : List Bool)
     → i < length conditions → condition ≡ get_or conditions i condition → passing (boxed_truth condition) (marked was rows) ≡ Some (marked now rows)

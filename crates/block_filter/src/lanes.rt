@@ -1,5 +1,5 @@
 //! The columns of a block that are read for conditions, or for an order.
-ghost use Rattle.std.specs.Prelude.{◌≡◌, ◌<◌, List, OnOk, IfOk, IfSome, IsTrue, length, map, option_map};
+ghost use Rattle.std.specs.Prelude.{◌≡◌, ◌<◌, ℕ, List, OnOk, IfOk, IfSome, IsTrue, length, map, option_map};
 ghost use Rattle.cell_types.specs.Value.{CellValue, value_view};
 ghost use Rattle.table_store.specs.Block.{HasNumbers};
 ghost use Rattle.block_filter.specs.Lanes.{AreColumnsOf, AreKeysIn, AreKeysOf, AreLanesOf, AreTextsOf, IsLaneOf, IsMadeOf, LieBetween};
@@ -60,23 +60,21 @@ impl Lane {
         Ok(())
     }
 
-    /// Reads the numbers of a column, if it is named and has numbers.
-    fn read(
-        &mut self,
-        alloc: Global,
-        block: &Block<'_>,
-        col: usize,
-        is_named: bool,
-    ) -> Result<(), AllocError>
-        requires { IsTrue is_named → col < length block.now.schema.columns }
+    /// Forgets what was read, of whichever block.
+    fn forget(&mut self)
+        ensures { (rows : List (List CellValue)) (place : ℕ) → IsLaneOf rows place self.new }
+    {
+        self.packed_type = None;
+    }
+
+    /// Reads the numbers of a column, if it has numbers.
+    fn read(&mut self, alloc: Global, block: &Block<'_>, col: usize) -> Result<(), AllocError>
+        requires { col < length block.now.schema.columns }
         ensures { OnOk result (IsLaneOf block.now.rows col self.new) }
     {
         block.values_fit();
         tables_are_inputs();
         self.packed_type = None;
-        if !is_named {
-            return Ok(());
-        }
         let Some(packed_type) = packed_type_of(&block.schema().columns[col].datatype) else {
             return Ok(());
         };
@@ -120,7 +118,8 @@ impl Lane {
     }
 }
 
-fn is_marked(marks: &[bool], place: usize) -> bool
+/// Whether a place is marked.
+pub(crate) fn is_marked(marks: &[bool], place: usize) -> bool
     ensures { IsTrue result → place < length marks.now }
 {
     match marks.get(place) {
@@ -150,19 +149,30 @@ impl Lanes {
         Ok(Lanes { lanes })
     }
 
-    /// Reads the columns of a block that are named, and no others.
+    /// Forgets what was read, of whichever block.
+    pub(crate) fn forget(&mut self)
+        ensures { (rows : List (List CellValue)) → AreLanesOf rows self.new.lanes.items }
+    {
+        for col in 0..self.lanes.len() {
+            self.lanes[col].forget();
+        }
+    }
+
+    /// Reads the columns of a block that are named, beside those that were read of it.
     pub(crate) fn read(
         &mut self,
         alloc: Global,
         block: &Block<'_>,
         named: &[bool],
     ) -> Result<(), AllocError>
-        requires { length named.now ≡ length block.now.schema.columns }
+        requires named { length named.now ≡ length block.now.schema.columns }
+        requires lanes { AreLanesOf block.now.rows self.old.lanes.items }
         ensures { OnOk result (AreLanesOf block.now.rows self.new.lanes.items) }
     {
         for col in 0..self.lanes.len() {
-            let is_named = is_marked(named, col);
-            self.lanes[col].read(alloc, block, col, is_named)?;
+            if is_marked(named, col) && self.lanes[col].packed_type.is_none() {
+                self.lanes[col].read(alloc, block, col)?;
+            }
         }
         Ok(())
     }
@@ -181,7 +191,7 @@ impl Lanes {
         let Some(lane) = self.lanes.get_mut(col) else {
             return Ok(None);
         };
-        lane.read(alloc, block, col, true)?;
+        lane.read(alloc, block, col)?;
         Ok(lane.keys(column, block.rows()))
     }
 

@@ -7,12 +7,14 @@ ghost use Rattle.odata_types.specs.TypedTree.{boxed_truth, truth_view};
 ghost use Rattle.query_plan.specs.Filter.{passing};
 ghost use Rattle.row_columns.specs.Picked.{numbered};
 ghost use Rattle.block_filter.specs.Conditions.{passing_all};
+ghost use Rattle.block_filter.specs.Lanes.{AreColumnsOf, AreLanesOf, AreTextsOf};
 ghost use Rattle.block_filter.specs.Marks.{is_marked, is_true, marked};
 
 use crate::lanes::Lanes;
 use crate::named::mark_truth;
-use crate::texts::texts_of;
-use block_eval::{Fallback, eval_block};
+use crate::texts::{no_texts, read_texts};
+use block_eval::{Column, Fallback, eval_block};
+use cell_types::Value;
 use odata_types::TruthExpr;
 use query_plan::true_rows_pass;
 use row_eval::Truth;
@@ -30,26 +32,41 @@ fn keep_true(truths: &[Truth], wanted: &mut [bool])
     }
 }
 
+/// Reads the columns of a block that a condition names, beside those that were read of it.
+fn read_named<'t>(
+    alloc: Global,
+    condition: &TruthExpr,
+    block: &Block<'t>,
+    lanes: &mut Lanes,
+    texts: &mut [Option<Vec<Value<'t>>>],
+) -> Result<(), AllocError>
+    requires lanes { AreLanesOf block.now.rows lanes.old.lanes.items }
+    requires texts { AreTextsOf block.now.rows texts.old }
+    ensures lanes { OnOk result (AreLanesOf block.now.rows lanes.new.lanes.items) }
+    ensures texts { OnOk result (AreTextsOf block.now.rows texts.new) }
+{
+    let mut named = Vec::from_elem(alloc, false, block.schema().columns.len())?;
+    mark_truth(condition, block.summary(), named.as_mut_slice());
+    lanes.read(alloc, block, named.as_slice())?;
+    read_texts(alloc, block, named.as_slice(), texts)?;
+    Ok(())
+}
+
 /// Leaves those rows of a block wanted on which a condition is true.
 fn narrow_by(
     alloc: Global,
     condition: &TruthExpr,
     block: &Block<'_>,
-    lanes: &mut Lanes,
+    columns: &[Column<'_>],
     wanted: &mut [bool],
 ) -> Result<(), Fallback>
-    requires { length wanted.old ≡ length block.now.rows }
+    requires columns { AreColumnsOf block.now.rows columns.now }
+    requires long { length wanted.old ≡ length block.now.rows }
     ensures { OnOk result (passing (truth_view condition.now) (marked wanted.old block.now.rows)
         ≡ Some (marked wanted.new block.now.rows)) }
 {
     true_rows_pass();
-    let mut named = Vec::from_elem(alloc, false, block.schema().columns.len())?;
-    let summary = block.summary();
-    mark_truth(condition, summary, named.as_mut_slice());
-    lanes.read(alloc, block, named.as_slice())?;
-    let texts = texts_of(alloc, block, named.as_slice())?;
-    let columns = lanes.columns(alloc, texts.as_slice())?;
-    let truths = eval_block(alloc, condition, columns.as_slice(), summary, wanted)?;
+    let truths = eval_block(alloc, condition, columns, block.summary(), wanted)?;
     keep_true(truths.as_slice(), wanted);
     Ok(())
 }
@@ -90,8 +107,8 @@ pub(crate) fn count_of(wanted: &[bool]) -> usize
     count
 }
 
-/// Which rows of a block pass conditions, in turn, of all that are marked. Where it falls back, the rows are to be taken one by one: so it is where a condition
-/// divides by zero.
+/// Which rows of a block pass conditions, in turn, of all that are marked. Each column is read once, and none for a condition that comes to no row. Where it
+/// falls back, the rows are to be taken one by one: so it is where a condition divides by zero.
 pub(crate) fn passing_rows(
     alloc: Global,
     conditions: &[Box<TruthExpr>],
@@ -104,8 +121,15 @@ pub(crate) fn passing_rows(
         ≡ Some (marked wanted.items block.now.rows)) }
     ensures long { IfOk result (λ wanted. length wanted.items ≡ length block.now.rows) }
 {
+    lanes.forget();
+    let mut texts = no_texts(alloc, block.schema().columns.len())?;
     for condition in conditions {
-        narrow_by(alloc, condition, block, lanes, wanted.as_mut_slice())?;
+        if count_of(&wanted) == 0 {
+            return Ok(wanted);
+        }
+        read_named(alloc, condition, block, lanes, texts.as_mut_slice())?;
+        let columns = lanes.columns(alloc, texts.as_slice())?;
+        narrow_by(alloc, condition, block, &columns, wanted.as_mut_slice())?;
     }
     Ok(wanted)
 }

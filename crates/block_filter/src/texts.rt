@@ -1,26 +1,37 @@
 //! The texts of a block that are read for a condition.
-ghost use Rattle.std.specs.Prelude.{◌≡◌, ◌<◌, List, IfOk, IsTrue, length, map, option_map};
+ghost use Rattle.std.specs.Prelude.{◌≡◌, ◌<◌, List, IfOk, OnOk, length, map, option_map};
 ghost use Rattle.cell_types.specs.Value.{CellValue, value_view};
 ghost use Rattle.block_filter.specs.Lanes.{texts_view, AreTextsOf, AreValuesOf};
 
+use crate::lanes::is_marked;
 use cell_types::{Datatype, Value};
 use std::alloc::{AllocError, Global};
 use table_store::Block;
 
-/// The values of a column, if it is named and has texts.
-fn read_texts<'t>(
+/// So many columns, of none of which texts were read.
+pub(crate) fn no_texts<'t>(
+    alloc: Global,
+    width: usize,
+) -> Result<Vec<Option<Vec<Value<'t>>>>, AllocError>
+    ensures { IfOk result (λ texts. (rows : List (List CellValue)) → AreTextsOf rows texts.items) }
+{
+    let mut texts = Vec::with_capacity(alloc, width)?;
+    for _ in 0..width {
+        texts.push(None)?;
+    }
+    Ok(texts)
+}
+
+/// The values of a column, if it has texts.
+fn column_texts<'t>(
     alloc: Global,
     block: &Block<'t>,
     col: usize,
-    is_named: bool,
 ) -> Result<Option<Vec<Value<'t>>>, AllocError>
-    requires { IsTrue is_named → col < length block.now.schema.columns }
+    requires { col < length block.now.schema.columns }
     ensures { IfOk result (λ texts. AreValuesOf block.now.rows col (texts_view texts)) }
 {
     block.values_fit();
-    if !is_named {
-        return Ok(None);
-    }
     match block.schema().columns[col].datatype {
         Datatype::Text => Ok(Some(block.values(alloc, col)?)),
         Datatype::Integer | Datatype::Boolean(_) | Datatype::Date(_) | Datatype::Decimal => Ok(
@@ -29,20 +40,23 @@ fn read_texts<'t>(
     }
 }
 
-/// The values of each column that is named and has texts.
-pub(crate) fn texts_of<'t>(
+/// Reads the values of each column of a block that is named and has texts, beside those that were read of it.
+pub(crate) fn read_texts<'t>(
     alloc: Global,
     block: &Block<'t>,
     named: &[bool],
-) -> Result<Vec<Option<Vec<Value<'t>>>>, AllocError>
-    requires { length named.now ≡ length block.now.schema.columns }
-    ensures { IfOk result (λ texts. AreTextsOf block.now.rows texts.items) }
+    texts: &mut [Option<Vec<Value<'t>>>],
+) -> Result<(), AllocError>
+    requires named { length named.now ≡ length block.now.schema.columns }
+    requires texts { AreTextsOf block.now.rows texts.old }
+    ensures { OnOk result (AreTextsOf block.now.rows texts.new) }
 {
-    let mut texts = Vec::with_capacity(alloc, named.len())?;
-    for (col, is_named) in named.iter().enumerate() {
-        texts.push(read_texts(alloc, block, col, *is_named)?)?;
+    for col in 0..texts.len() {
+        if is_marked(named, col) && texts[col].is_none() {
+            texts[col] = column_texts(alloc, block, col)?;
+        }
     }
-    Ok(texts)
+    Ok(())
 }
 
 /// The values of a column, if they were read.

@@ -1,7 +1,7 @@
 //! Loops over the rows of a block. Each reads all that it needs of a row, computes one number without a branch and writes it, so that LLVM makes vector
 //! instructions of it. The widths differ in nothing else.
 
-ghost use Rattle.std.specs.Prelude.{◌≡◌, ◌<◌, ◌+◌, ◌-◌, ◌^◌, ◌%◌, ℕ, pos, false, length, slice_index_or, ◌+ℤ◌, ◌≤ℤ◌, ◌<ℤ◌, MatchOption, if◌then◌else◌};
+ghost use Rattle.std.specs.Prelude.{◌≡◌, ◌<◌, ◌+◌, ◌^◌, pos, false, length, ◌+ℤ◌, ◌≤ℤ◌, ◌<ℤ◌, if◌then◌else◌};
 ghost use Rattle.std.specs.List.{count_by};
 ghost use Rattle.block_summary.specs.Cells.{AreBelow, AreOffsets, AreSums, AreWithin, HaveBounds, cells_of};
 

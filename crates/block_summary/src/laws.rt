@@ -1,6 +1,4 @@
 //! The laws of blocks: each function is a theorem, and does nothing.
-
-ghost use Rattle.std.specs.Prelude.{◌≡◌};
 ghost use Rattle.block_summary.specs.Laws.{NumbersAreOrdered, OneRange, RangesWiden, SkipsNoRow, SkipsNothing};
 
 /// The numbers of cells are in the order of the cells.

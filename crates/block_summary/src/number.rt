@@ -1,6 +1,6 @@
 //! The numbers that stand for cells.
 
-ghost use Rattle.std.specs.Prelude.{◌≡◌, Some};
+ghost use Rattle.std.specs.Prelude.{◌≡◌};
 ghost use Rattle.cell_types.specs.Value.{value_view};
 ghost use Rattle.block_summary.specs.Types.{day_number as day_number_of, typed_cell, IsNumberOf};
 

@@ -1,6 +1,6 @@
 //! The offsets of the rows of a block from its least value.
 
-ghost use Rattle.std.specs.Prelude.{◌≡◌, ◌<◌, ℕ, pos, IfOk, length, MatchOption, slice_index_or, ◌≤◌, ◌+ℤ◌, ◌≤ℤ◌};
+ghost use Rattle.std.specs.Prelude.{◌≡◌, ◌<◌, IfOk, length, MatchOption, slice_index_or, ◌≤◌, ◌≤ℤ◌};
 ghost use Rattle.block_summary.specs.Cells.{AreBelow, AreOffsets, AreSums, AreWithin};
 ghost use Rattle.block_summary.specs.Offsets.{offset_list};
 

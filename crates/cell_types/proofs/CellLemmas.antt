@@ -4,8 +4,8 @@ use Rattle.std.specs.List.{list_any}
 use Rattle.std.specs.Str.{bytes_eq}
 use Rattle.std.specs.Str.Parse.{signed_digits_value}
 use Rattle.std.proofs.lemmas.Bool.{cond_both}
-use Rattle.cell_types.specs.declared.cell.CellFault.{CellFault}
-use Rattle.cell_types.specs.declared.cell.CellFault.TheVariants.{Missing, NoMemory, NotBoolean, NotDate, NotDecimal, NotInteger, OutOfRange, TooFine}
+use Rattle.cell_types.specs.declared.fault.CellFault.{CellFault}
+use Rattle.cell_types.specs.declared.fault.CellFault.TheVariants.{Missing, NoMemory, NotBoolean, NotDate, NotDecimal, NotInteger, OutOfRange, TooFine}
 use Rattle.cell_types.specs.declared.datatype.DateForm.{DateForm}
 use Rattle.cell_types.specs.Boolean.{boolean_of}
 use Rattle.cell_types.specs.Cell.{content_of, content_value, is_null_text, null_reading, text_or_default, typed_value, value_of}

@@ -9,12 +9,12 @@ use Rattle.std.proofs.lemmas.Int.{ints}
 use Rattle.std.proofs.lemmas.Slice.Eq.{bytes_eq-Decides}
 use Rattle.std.proofs.lemmas.List.{append_assoc, length-append}
 use Rattle.jiff.specs.Words.{IsBetween, IsDate, IsYear, days_in_month}
-use Rattle.cell_types.specs.declared.cell.CellFault.TheVariants.{NotDate}
+use Rattle.cell_types.specs.declared.fault.CellFault.TheVariants.{NotDate}
 use Rattle.cell_types.specs.declared.datatype.DateForm.{DateForm}
 use Rattle.cell_types.specs.declared.datatype.DateForm.TheVariants.{YearMonthDay, Compact, DayMonthYear, MonthDayYear, Dotted}
 use Rattle.cell_types.specs.Date.{HasDate, HasNoDate, HasNoNumbers, HasNumbers, HasParts, IsDateText, date_of, date_text, day_place, four_digits, is_date, laid_out, month_place, number_at, two_digits, year_place}
 use Rattle.cell_types.specs.Value.{CellValue, date}
-use Rattle.cell_types.specs.declared.cell.CellFault.{CellFault}
+use Rattle.cell_types.specs.declared.fault.CellFault.{CellFault}
 
 -- the digits of a number tell it
 pub two_digits_injective : (m n : ℕ) → m < 100 → n < 100 → two_digits m ≡ two_digits n → m ≡ n

@@ -12,8 +12,8 @@ use Rattle.std.proofs.lemmas.List.Folds.{list_all-append}
 use Rattle.std.proofs.lemmas.List.{append_cancel_left, take-append-drop, take_min}
 use Rattle.std.proofs.lemmas.Str.{digit_value_digit}
 use Rattle.std.proofs.lemmas.Str.Parse.{digit_from_value}
-use Rattle.cell_types.specs.declared.cell.CellFault.{CellFault}
-use Rattle.cell_types.specs.declared.cell.CellFault.TheVariants.{NotDecimal, OutOfRange, TooFine}
+use Rattle.cell_types.specs.declared.fault.CellFault.{CellFault}
+use Rattle.cell_types.specs.declared.fault.CellFault.TheVariants.{NotDecimal, OutOfRange, TooFine}
 use Rattle.cell_types.specs.Decimal.{are_digits, decimal_of, fraction_part, is_decimal, is_in_millionths, is_zero, millionths, signed, six_places, value_of_millionths, whole_part}
 use Rattle.cell_types.specs.Integer.{fits_64_bits}
 use Rattle.cell_types.specs.Value.{CellValue, decimal}

@@ -12,7 +12,7 @@ use Rattle.std.proofs.lemmas.Bool.Decides.{nat_tests}
 use Rattle.std.proofs.lemmas.Fmt.{decimal_nonempty, digits_decimal, digits_value-decimal}
 use Rattle.std.proofs.lemmas.List.{drop_all}
 use Rattle.std.proofs.lemmas.Str.{digit_value_digit}
-use Rattle.cell_types.specs.declared.cell.CellFault.TheVariants.{OutOfRange}
+use Rattle.cell_types.specs.declared.fault.CellFault.TheVariants.{OutOfRange}
 use Rattle.cell_types.specs.Date.{four_digits, two_digits}
 use Rattle.cell_types.specs.Decimal.{are_digits, decimal_of, decimal_text, fraction_part, fraction_text, is_decimal, is_in_millionths, is_point, is_zero, millionths, millionths_text, signed, six_digits, six_places, value_of_millionths, whole_part, without_last_zeros}
 use Rattle.cell_types.specs.Value.{decimal}

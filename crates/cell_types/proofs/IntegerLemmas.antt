@@ -8,10 +8,10 @@ use Rattle.std.proofs.lemmas.Bool.{lt-ltb, ltb-true, and_parts, and_from, eqb-fa
 use Rattle.std.specs.Fmt.{signed_decimal}
 use Rattle.std.proofs.lemmas.Fmt.{parse-signed_decimal}
 use Rattle.std.proofs.lemmas.Str.Parse.{IsNumeralModel, numerals_by_value, tells_all_ascii_digits}
-use Rattle.cell_types.specs.declared.cell.CellFault.TheVariants.{NotInteger, OutOfRange}
+use Rattle.cell_types.specs.declared.fault.CellFault.TheVariants.{NotInteger, OutOfRange}
 use Rattle.cell_types.specs.Integer.{fits_64_bits, is_integer, integer_of}
 use Rattle.cell_types.specs.Value.{CellValue, integer}
-use Rattle.cell_types.specs.declared.cell.CellFault.{CellFault}
+use Rattle.cell_types.specs.declared.fault.CellFault.{CellFault}
 
 pub fits-true : (z : ℤ) → FitsSigned w64 z → fits_64_bits z ≡ true
 fits-true (pos n) h = lt-ltb n (2 ^ 63) h.sfits

@@ -1,9 +1,9 @@
 -- How a column reads its cells (Model for Tabular Data and Metadata on the Web, section 6.4).
-use Rattle.std.specs.Prelude.{◌≡◌, ◌≢◌, ℕ, Bool, false, List, ◌==◌, ◌<◌, length, if◌then◌else◌, Result, Ok, Err, codes}
+use Rattle.std.specs.Prelude.{◌≡◌, ◌≢◌, ℕ, Bool, false, List, ◌==◌, ◌<◌, length, if◌then◌else◌, Result, Ok, Err}
 use Rattle.std.specs.List.{list_any}
 use Rattle.std.specs.Str.{bytes_eq}
-use Rattle.cell_types.specs.declared.cell.CellFault.{CellFault}
-use Rattle.cell_types.specs.declared.cell.CellFault.TheVariants.{NotInteger, OutOfRange, NotBoolean, NotDate, Missing, NotDecimal, TooFine, NoMemory}
+use Rattle.cell_types.specs.declared.fault.CellFault.{CellFault}
+use Rattle.cell_types.specs.declared.fault.CellFault.TheVariants.{Missing}
 use Rattle.cell_types.specs.declared.value.Value.{Value}
 use Rattle.cell_types.specs.Column.{ColumnOf}
 use Rattle.cell_types.specs.Datatype as datatype
@@ -68,14 +68,3 @@ NeedsMemory column bytes = IsCopied column.datatype column bytes
 abbrev pub reading_view : Result Value CellFault → Result CellValue CellFault
 reading_view (Ok value) = Ok (value_view value)
 reading_view (Err fault) = Err fault
-
--- the name of a fault in a message
-abbrev pub cell_fault_name : CellFault → List ℕ
-cell_fault_name NotInteger = codes "NotInteger"
-cell_fault_name OutOfRange = codes "OutOfRange"
-cell_fault_name NotBoolean = codes "NotBoolean"
-cell_fault_name NotDate = codes "NotDate"
-cell_fault_name Missing = codes "Missing"
-cell_fault_name NotDecimal = codes "NotDecimal"
-cell_fault_name TooFine = codes "TooFine"
-cell_fault_name NoMemory = codes "NoMemory"

@@ -4,8 +4,8 @@ use Rattle.std.specs.List.{after_first, before_first, list_all}
 use Rattle.std.specs.Fmt.{decimal as whole_text}
 use Rattle.std.specs.Str.{all_ascii_digits}
 use Rattle.std.specs.Str.Parse.{digits_value, starts_with_minus, without_leading_sign}
-use Rattle.cell_types.specs.declared.cell.CellFault.{CellFault}
-use Rattle.cell_types.specs.declared.cell.CellFault.TheVariants.{NotDecimal, OutOfRange, TooFine}
+use Rattle.cell_types.specs.declared.fault.CellFault.{CellFault}
+use Rattle.cell_types.specs.declared.fault.CellFault.TheVariants.{NotDecimal, OutOfRange, TooFine}
 use Rattle.cell_types.specs.Date.{four_digits, two_digits}
 use Rattle.cell_types.specs.Integer.{fits_64_bits}
 use Rattle.cell_types.specs.Value.{CellValue, decimal}

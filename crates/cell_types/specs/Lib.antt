@@ -6,5 +6,7 @@ pub mod Integer
 pub mod Boolean
 pub mod Date
 pub mod Decimal
+pub mod Fault
 pub mod Cell
 pub mod Laws
+pub mod Rows

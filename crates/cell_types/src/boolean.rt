@@ -4,8 +4,8 @@ ghost use Rattle.cell_types.specs.Datatype.{boolean_view};
 ghost use Rattle.cell_types.specs.Boolean.{truth_reading};
 ghost use Rattle.cell_types.specs.Cell.{reading_view, typed_value};
 
-use crate::cell::CellFault;
 use crate::datatype::BooleanForm;
+use crate::fault::CellFault;
 use crate::value::Value;
 
 /// The truth value of a text; none of a text that is none of those of true and false.

@@ -1,5 +1,5 @@
 //! The value of a cell's text.
-ghost use Rattle.std.specs.Prelude.{◌≡◌, ◌⊎◌, ◌≢◌, ◌<◌, false, Ok, Err, IfOk, IfErr, IfSome, IsErrOf, MatchOption, SomeIff, length, string_bytes};
+ghost use Rattle.std.specs.Prelude.{◌≡◌, ◌⊎◌, ◌≢◌, false, Ok, Err, IfOk, IfErr, IfSome, IsErrOf, MatchOption, SomeIff, string_bytes};
 ghost use Rattle.std.specs.List.{list_any};
 ghost use Rattle.std.specs.Str.{bytes_eq};
 ghost use Rattle.std.specs.Str.Parse.{signed_digits_value};
@@ -9,57 +9,19 @@ ghost use Rattle.cell_types.specs.Datatype.{datatype_view};
 ghost use Rattle.cell_types.specs.Column.{column_view};
 ghost use Rattle.cell_types.specs.Value.{value_view, integer as integer_value, text as text_value};
 ghost use Rattle.cell_types.specs.Integer.{IsShortInteger};
-ghost use Rattle.cell_types.specs.Cell.{NeedsMemory, cell_fault_name, content_value, is_null_text as is_null_text_of, null_reading, reading_view, text_or_default as text_or_default_of, value_of};
+ghost use Rattle.cell_types.specs.Cell.{NeedsMemory, content_value, is_null_text as is_null_text_of, null_reading, reading_view, text_or_default as text_or_default_of, value_of};
 
 use crate::boolean::read_boolean;
 use crate::column::Column;
 use crate::datatype::Datatype;
 use crate::date::read_date;
 use crate::decimal::read_decimal;
+use crate::fault::CellFault;
 use crate::integer::{read_integer, short_integer};
 use crate::value::Value;
 use crate::white_space::{is_normal, normal_copy};
 use std::alloc::Global;
 use std::borrow::CowStr;
-
-/// Why a text has no value in a column.
-#[derive(Clone, Copy, Debug, PartialEq, Eq)]
-pub enum CellFault {
-    /// The text of an integer is not an optional sign and one or more digits.
-    NotInteger,
-    /// An integer, or the number of a decimal's millionths, does not fit 64 signed bits.
-    OutOfRange,
-    /// The text of a boolean is none of those of true and false.
-    NotBoolean,
-    /// The text of a date is not in the column's form, or no day of the years 1 to 9999.
-    NotDate,
-    /// The value is null, and the column requires one.
-    Missing,
-    /// The text of a decimal is not an optional sign and digits with at most one point before, among or behind them.
-    NotDecimal,
-    /// A decimal has a digit other than 0 behind the sixth decimal place.
-    TooFine,
-    /// Memory ran out.
-    NoMemory,
-}
-
-impl CellFault {
-    /// Its name, as messages have it.
-    pub fn name(&self) -> &'static str
-        ensures { result.now ≡ cell_fault_name self.now }
-    {
-        match self {
-            CellFault::NotInteger => "NotInteger",
-            CellFault::OutOfRange => "OutOfRange",
-            CellFault::NotBoolean => "NotBoolean",
-            CellFault::NotDate => "NotDate",
-            CellFault::Missing => "Missing",
-            CellFault::NotDecimal => "NotDecimal",
-            CellFault::TooFine => "TooFine",
-            CellFault::NoMemory => "NoMemory",
-        }
-    }
-}
 
 /// Whether a text is among some.
 fn is_among(texts: &[String], text: &str) -> bool

@@ -4,8 +4,8 @@ ghost use Rattle.std.specs.Prelude.{◌≡◌, ◌≢◌, ◌<◌, ℕ, MatchOpt
 ghost use Rattle.cell_types.specs.Cell.{reading_view};
 ghost use Rattle.cell_types.specs.Date.{HasDate, HasNoDate, HasNoNumbers, HasNoParts, HasNumbers, HasParts, date_of, four_digits, two_digits};
 
-use crate::cell::CellFault;
 use crate::datatype::DateForm;
+use crate::fault::CellFault;
 use crate::value::Value;
 use jiff::civil::Date;
 

@@ -6,7 +6,7 @@ ghost use Rattle.std.specs.Str.Parse.{AllDigits, digits_value, digits_value_afte
 ghost use Rattle.cell_types.specs.Cell.{reading_view};
 ghost use Rattle.cell_types.specs.Decimal.{are_digits as are_parts_of_decimal, decimal_of, decimal_reading, is_point, is_zero, signed, six_places, value_of_millionths};
 
-use crate::cell::CellFault;
+use crate::fault::CellFault;
 use crate::integer::{are_digits, is_negative, without_sign};
 use crate::value::Value;
 

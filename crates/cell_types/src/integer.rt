@@ -7,7 +7,7 @@ ghost use Rattle.std.specs.Str.Parse.{IsNumeral, digits_value, signed_digits_val
 ghost use Rattle.cell_types.specs.Cell.{reading_view};
 ghost use Rattle.cell_types.specs.Integer.{integer_of, is_integer as is_integer_text, IsShortInteger};
 
-use crate::cell::CellFault;
+use crate::fault::CellFault;
 use crate::value::Value;
 
 /// Any number of so many digits fits 64 signed bits.

@@ -7,7 +7,7 @@ ghost use Rattle.cell_types.specs.Value.{value_cmp, value_eq, value_view};
 use crate::value::Value as CellValue;
 use std::hash::Hash;
 
-/// A text in a column has a value, or one of five causes why it has none.
+/// A text in a column has a value, or one of seven causes why it has none.
 pub fn memory_is_no_cause()
     ensures { MemoryIsNoCause }
 {}

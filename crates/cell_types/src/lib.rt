@@ -8,15 +8,17 @@ mod column;
 mod datatype;
 mod date;
 mod decimal;
+mod fault;
 mod integer;
 mod laws;
 mod plain;
 mod value;
 mod white_space;
 
-pub use cell::{CellFault, read_cell, read_short_integer, read_text, string_of};
+pub use cell::{read_cell, read_short_integer, read_text, string_of};
 pub use column::Column;
 pub use datatype::{BooleanForm, Datatype, DateForm};
+pub use fault::CellFault;
 pub use laws::{
     dates_read_back, decimals_read_back, integers_read_back, memory_is_no_cause, normal_texts,
     strings_have_values, texts_are_in_order, values_are_ordered, values_compare_as_their_views,

@@ -1,7 +1,7 @@
 //! The structural places of a file (RFC 4180, section 2), kept as masks: which bytes of each block of 64 part fields or end
 //! records, and how many do before the block, in 16 bytes. So the place of a given number is found by a search of the counts and one
 //! [`select`], and no list of places is kept.
-ghost use Rattle.std.specs.Prelude.{◌≡◌, ◌≤◌, ◌<◌, ◌+◌, length, Some, MatchOption, slice_get};
+ghost use Rattle.std.specs.Prelude.{◌≤◌, ◌<◌, length, MatchOption};
 ghost use Rattle.csv_index.specs.Blocks.{block_places, AreRanked, IsLastBefore, Stands};
 
 use quote_parity::select;

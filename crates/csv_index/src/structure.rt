@@ -1,5 +1,5 @@
 //! The structure of a whole file (RFC 4180, section 2).
-ghost use Rattle.std.specs.Prelude.{◌≡◌, ◌≤◌, ◌<◌, ◌+◌, ◌^◌, List, [], ◌∷◌, ◌++◌, length, Some, IfOk, IfErr, IsUtf8};
+ghost use Rattle.std.specs.Prelude.{◌≡◌, ◌≤◌, ◌<◌, ◌+◌, ◌^◌, List, length, Some, IfOk, IfErr, IsUtf8};
 ghost use Rattle.std.specs.Str.{IsCharBoundary};
 ghost use Rattle.csv_grammar.specs.Records.{Field};
 ghost use Rattle.csv_grammar.specs.Faults.{cause_at};

@@ -7,7 +7,7 @@ use Rattle.std.proofs.lemmas.List.Elements.{All-cons, All-head, All-map, All-nil
 use Rattle.serde_json.specs.Data.{Data, null}
 use Rattle.serde_json.specs.Find.{as_object, as_str}
 use Rattle.cell_types.specs.Column.{ColumnOf}
-use Rattle.csvw_meta.specs.declared.document.TheConstants.{MOST_METADATA_BYTES}
+use Rattle.csvw_meta.specs.declared.limits.TheConstants.{MOST_METADATA_BYTES}
 use Rattle.csvw_meta.specs.Fault.{bad_default, bad_null, bad_required, no_tables, not_object, too_many_tables}
 use Rattle.csvw_meta.specs.Limits.{LimitsOf}
 use Rattle.csvw_meta.specs.Refusal.{each_conditions, ensure, first_cause}

@@ -8,7 +8,7 @@ use Rattle.serde_json.specs.Data.{Data}
 use Rattle.serde_json.specs.Read.{read}
 use Rattle.csv_grammar.specs.Bytes.{byte_order_mark}
 use Rattle.csv_grammar.specs.Files.{text_of}
-use Rattle.csvw_meta.specs.declared.document.TheConstants.{MOST_METADATA_BYTES}
+use Rattle.csvw_meta.specs.declared.limits.TheConstants.{MOST_METADATA_BYTES}
 use Rattle.csvw_meta.specs.Document.{document}
 
 -- a text that is UTF-8 and reads as a value is that document

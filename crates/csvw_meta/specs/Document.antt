@@ -7,7 +7,7 @@ use Rattle.serde_json.specs.Read.{read}
 use Rattle.serde_json.specs.Find.{as_object}
 use Rattle.csv_grammar.specs.Files.{text_of}
 use Rattle.csvw_meta.specs.declared.document.Schemas.{Schemas}
-use Rattle.csvw_meta.specs.declared.document.TheConstants.{MOST_METADATA_BYTES}
+use Rattle.csvw_meta.specs.declared.limits.TheConstants.{MOST_METADATA_BYTES}
 use Rattle.csvw_meta.specs.Fault.{MetaCause, not_json, not_object, no_tables}
 use Rattle.csvw_meta.specs.Limits.{LimitsOf}
 use Rattle.csvw_meta.specs.Refusal.{Condition, ensure, first_cause}

@@ -2,7 +2,7 @@
 use Rattle.std.specs.Prelude.{ℕ, Bool, false, List, [], ◌∷◌, ◌++◌, length, nat_le, codes, Option, None, Some, option_and_then, option_map, is_some, unwrap_or}
 use Rattle.serde_json.specs.Data.{Data}
 use Rattle.serde_json.specs.Find.{as_str, as_bool}
-use Rattle.csvw_meta.specs.declared.document.TheConstants.{MOST_METADATA_BYTES}
+use Rattle.csvw_meta.specs.declared.limits.TheConstants.{MOST_METADATA_BYTES}
 use Rattle.csvw_meta.specs.Fault.{bad_null, bad_default, bad_required}
 use Rattle.csvw_meta.specs.Refusal.{Condition, ensure}
 use Rattle.csvw_meta.specs.Members.{member, fits}

@@ -11,7 +11,7 @@ ghost use Rattle.csvw_meta.specs.Document.{document, is_group as is_group_of, lo
 
 use crate::fault::MetaFault;
 use crate::group::{check_group, make_group};
-use crate::limits::Limits;
+use crate::limits::{Limits, MOST_METADATA_BYTES};
 use crate::members::has;
 use crate::refusal::{Refusal, ensure};
 use crate::schema::Schema;
@@ -19,9 +19,6 @@ use crate::table::{check_table, make_table};
 use csv_grammar::mark_len;
 use serde_json::Value;
 use std::alloc::{AllocError, Global};
-
-/// The most bytes of a metadata text.
-pub(crate) const MOST_METADATA_BYTES: usize = 1_073_741_824;
 
 /// The schemas of a folder, in the order of its metadata.
 #[derive(Drop)]

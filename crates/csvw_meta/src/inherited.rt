@@ -5,7 +5,7 @@ ghost use Rattle.csvw_meta.specs.Refusal.{condition_of, first_cause};
 ghost use Rattle.csvw_meta.specs.Inherited.{inherited_conditions, is_short_text as is_short_text_of, nulls_of, default_of, required_of};
 
 use crate::datatype::check_datatype;
-use crate::document::MOST_METADATA_BYTES;
+use crate::limits::MOST_METADATA_BYTES;
 use crate::members::member;
 use crate::refusal::{Refusal, ensure};
 use crate::texts::{is_texts, make_texts};

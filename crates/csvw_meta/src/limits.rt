@@ -11,6 +11,9 @@ pub const MOST_COLUMNS: u32 = 256;
 /// The most transformations that a limit may leave a query.
 pub const MOST_TRANSFORMATIONS: u32 = 8;
 
+/// The most bytes of a metadata text, and of a default in it.
+pub(crate) const MOST_METADATA_BYTES: usize = 1_073_741_824;
+
 /// The limits of a folder, each at least 1.
 #[derive(Clone, Copy, PartialEq, Eq)]
 pub struct Limits {

@@ -3,8 +3,8 @@ use Rattle.std.proofs.Common.{◌≡◌, ◌≢◌, ◌==◌, ◌∙◌, ◌++�
 use Rattle.std.proofs.lemmas.List.{append_cancel_left}
 use Rattle.event_scripts.specs.declared.command.Word.{Word}
 use Rattle.event_scripts.specs.declared.command.Word.TheVariants.{Open, Piece, End, Turn, Take, Drop, Reload}
-use Rattle.event_scripts.specs.declared.command.CommandFault.{CommandFault}
-use Rattle.event_scripts.specs.declared.command.CommandFault.TheVariants.{Bad, NoMemory}
+use Rattle.event_scripts.specs.declared.fault.CommandFault.{CommandFault}
+use Rattle.event_scripts.specs.declared.fault.CommandFault.TheVariants.{Bad, NoMemory}
 use Rattle.std.specs.declared.alloc.Global.{Global}
 use Rattle.event_scripts.specs.Command.{BeginsWithNumber, CommandOf, IsAsked, IsCommand, IsNumber, Reads, letters}
 use Rattle.event_scripts.specs.Escapes.{IsText, ReadsText}

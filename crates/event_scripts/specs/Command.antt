@@ -7,8 +7,8 @@ use Rattle.event_scripts.specs.declared.command.Word.{Word}
 use Rattle.event_scripts.specs.declared.command.Word.TheVariants as word
 use Rattle.event_scripts.specs.declared.command.Command.{Command}
 use Rattle.event_scripts.specs.declared.command.Command.TheVariants as command
-use Rattle.event_scripts.specs.declared.command.CommandFault.{CommandFault}
-use Rattle.event_scripts.specs.declared.command.CommandFault.TheVariants.{Bad, NoMemory}
+use Rattle.event_scripts.specs.declared.fault.CommandFault.{CommandFault}
+use Rattle.event_scripts.specs.declared.fault.CommandFault.TheVariants.{Bad, NoMemory}
 use Rattle.event_scripts.specs.Escapes.{IsText}
 
 -- one or more digits, which write a number of at most 65,536

@@ -1,8 +1,8 @@
 -- The bytes of a stream in a line of a script: CR, LF and backslash are escaped, and any other byte stands for itself.
 use Rattle.std.specs.Prelude.{◌≡◌, ◌≢◌, ◌==◌, ◌⊎◌, ℕ, List, [], ◌∷◌, Option, Some, None, if◌then◌else◌, Result, Ok, Err}
 use Rattle.std.specs.declared.vec.Vec.{Vec}
-use Rattle.event_scripts.specs.declared.command.CommandFault.{CommandFault}
-use Rattle.event_scripts.specs.declared.command.CommandFault.TheVariants.{Bad, NoMemory}
+use Rattle.event_scripts.specs.declared.fault.CommandFault.{CommandFault}
+use Rattle.event_scripts.specs.declared.fault.CommandFault.TheVariants.{Bad, NoMemory}
 
 abbrev pub backslash : ℕ
 backslash = 92

@@ -1,10 +1,11 @@
 //! Commands, and a line read as one.
 ghost use Rattle.std.specs.Prelude.{◌≡◌, ◌≢◌, ◌++◌, ℕ, List, MatchOption, position};
-ghost use Rattle.event_scripts.specs.Command.{BeginsWithNumber, IsAsked, IsCommand, IsNumber, Reads, is_space, letters};
+ghost use Rattle.event_scripts.specs.Command.{BeginsWithNumber, IsAsked, IsCommand, Reads, is_space, letters};
 
 use crate::escapes::read_text;
+use crate::fault::CommandFault;
 use crate::number::read_number;
-use std::alloc::{AllocError, Global};
+use std::alloc::Global;
 use std::str;
 
 /// The word that a command begins with.
@@ -36,25 +37,6 @@ pub enum Command<'a> {
     Drop { place: u32 },
     /// Loads a folder, which is answered from then on.
     Reload { folder: &'a str },
-}
-
-/// Why a line gave no command.
-#[derive(Clone, Copy, Debug, PartialEq, Eq)]
-pub enum CommandFault {
-    /// It is none.
-    Bad,
-    /// Memory ran out.
-    NoMemory,
-}
-
-impl From<AllocError> for CommandFault {
-    ghost use Rattle.event_scripts.specs.declared.command.CommandFault.TheVariants.{NoMemory};
-
-    ghost from_gives = { λ _ e. e ≡ NoMemory };
-
-    fn from(_error: AllocError) -> CommandFault {
-        CommandFault::NoMemory
-    }
 }
 
 /// What stands behind a word.

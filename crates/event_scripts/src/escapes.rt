@@ -1,9 +1,9 @@
 //! The bytes of a stream in a line, with `\r`, `\n` and `\\` for CR, LF and backslash.
-ghost use Rattle.std.specs.Prelude.{◌≡◌, ◌≢◌, ◌++◌, ◌⊎◌, ℕ, List, OnOk, MatchOption, Some};
+ghost use Rattle.std.specs.Prelude.{◌≡◌, ◌++◌, ℕ, List, OnOk, MatchOption, Some};
 ghost use Rattle.std.specs.List.{flat_map};
 ghost use Rattle.event_scripts.specs.Escapes.{BeginsWith, ReadsText, byte_behind, escaped};
 
-use crate::command::CommandFault;
+use crate::fault::CommandFault;
 use std::alloc::{AllocError, Global};
 
 /// The byte that a character behind a backslash stands for.

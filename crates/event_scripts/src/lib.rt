@@ -5,12 +5,14 @@
 mod answers;
 mod command;
 mod escapes;
+mod fault;
 mod laws;
 mod lines;
 mod number;
 
 pub use answers::{bytes_line, place_line, refusal_line, text_line};
-pub use command::{Command, CommandFault, Word, read_command};
+pub use command::{Command, Word, read_command};
+pub use fault::CommandFault;
 pub use laws::{limits, one_command, reads_back};
 pub use lines::first_line;
 pub use number::MOST_NUMBER;

@@ -1,5 +1,5 @@
 //! The lines of a script.
-ghost use Rattle.std.specs.Prelude.{◌≡◌, ◌<◌, ◌∷◌, [], ◌++◌, IfSome, MatchOption, length, position};
+ghost use Rattle.std.specs.Prelude.{◌≡◌, ◌<◌, ◌∷◌, [], IfSome, MatchOption, length, position};
 ghost use Rattle.event_scripts.specs.Lines.{is_line_feed, script_lines, without_return};
 
 /// Where the first line feed is.

@@ -1,5 +1,5 @@
 //! The numbers of commands.
-ghost use Rattle.std.specs.Prelude.{◌≡◌, ℕ, MatchOption};
+ghost use Rattle.std.specs.Prelude.{ℕ, MatchOption};
 ghost use Rattle.event_scripts.specs.Command.{IsNumber};
 
 /// The greatest number that a command may have, of a place or of bytes.

@@ -1,16 +1,12 @@
 -- What a head says whatever its target is: what is wrong with it, and whether the connection closes behind its reply (RFC 9110, section 9;
 -- RFC 9112, sections 3.2, 6 and 9.3).
-use Rattle.std.specs.Prelude.{ℕ, Bool, ◌&&◌, ◌||◌, not, List, [], ◌∷◌, codes, if◌then◌else◌, Option, None, Some}
-use Rattle.std.specs.Str.{bytes_eq}
+use Rattle.std.specs.Prelude.{Bool, ◌||◌, not, List, [], ◌∷◌, if◌then◌else◌, is_some, Option, None, Some}
 use Rattle.http_heads.specs.declared.checks.Checks.{Checks}
 use Rattle.http_heads.specs.declared.checks.HeadFault.{HeadFault}
 use Rattle.http_heads.specs.declared.checks.HeadFault.TheVariants.{BadHost, NotServed, BadLength, MethodNotAllowed}
 use Rattle.http_heads.specs.Head.{HeadOf}
+use Rattle.http_heads.specs.Method.{method_of}
 use Rattle.http_heads.specs.Fields.{host_fits, has_coding, has_no_length, asks_to_close}
-
--- GET or HEAD, which count their case
-abbrev pub is_served_method : List ℕ → Bool
-is_served_method method = bytes_eq method (codes "GET") || bytes_eq method (codes "HEAD")
 
 -- a test, or its fault
 abbrev pub unless : Bool → HeadFault → Option HeadFault
@@ -22,7 +18,7 @@ head_faults head =
     unless (host_fits head) BadHost
     ∷ unless (not (has_coding head)) NotServed
     ∷ unless (has_no_length head) BadLength
-    ∷ unless (is_served_method head.method) MethodNotAllowed
+    ∷ unless (is_some (method_of head.method)) MethodNotAllowed
     ∷ []
 
 -- the first fault

@@ -1,13 +1,14 @@
 //! What a head says whatever its target is.
 ghost use Rattle.std.specs.Prelude.{◌≡◌, Some, true};
-ghost use Rattle.http_heads.specs.Checks.{checks_of, closes, is_served_method};
+ghost use Rattle.http_heads.specs.Checks.{checks_of, closes};
 ghost use Rattle.http_heads.specs.Head.{head_view};
 
 use crate::fields::{has_host, is_coded, is_last, is_without_length};
 use crate::head::Head;
+use crate::method::Method;
 
 /// What is wrong with a head, whatever its target is. The first of these is told.
-#[derive(Clone, Copy, Debug, PartialEq, Eq)]
+#[derive(Clone, Copy, PartialEq, Eq)]
 pub enum HeadFault {
     /// HTTP/1.1 without exactly one Host field, or HTTP/1.0 with more than one (RFC 9112, section 3.2).
     BadHost,
@@ -20,19 +21,12 @@ pub enum HeadFault {
 }
 
 /// What a head says whatever its target is.
-#[derive(Clone, Copy, Debug, PartialEq, Eq)]
+#[derive(Clone, Copy, PartialEq, Eq)]
 pub struct Checks {
     /// What is wrong with it.
     pub fault: Option<HeadFault>,
     /// Whether the connection closes behind the reply.
     pub closes: bool,
-}
-
-/// Whether a method is served: GET and HEAD, which count their case.
-fn is_served_method(method: &[u8]) -> bool
-    ensures { result ≡ is_served_method method.now }
-{
-    method == b"GET".as_slice() || method == b"HEAD".as_slice()
 }
 
 /// A fault behind which it is not known where the next head begins.
@@ -60,10 +54,9 @@ pub fn check_head(head: &Head) -> Checks
         return lost(HeadFault::BadLength);
     }
     let closes = is_last(head);
-    let fault = if is_served_method(head.method.as_slice()) {
-        None
-    } else {
-        Some(HeadFault::MethodNotAllowed)
+    let fault = match Method::of(head.method.as_slice()) {
+        Some(_) => None,
+        None => Some(HeadFault::MethodNotAllowed),
     };
     Checks { fault, closes }
 }

@@ -6,9 +6,11 @@ mod checks;
 mod fields;
 mod head;
 mod laws;
+mod method;
 mod splitter;
 
 pub use checks::{Checks, HeadFault, check_head, closes};
 pub use head::{Field, Head, MAX_FIELDS, MAX_HEAD};
 pub use laws::{cuts_join, head_limits, one_cut};
+pub use method::Method;
 pub use splitter::{Cut, Splitter, Unreadable};

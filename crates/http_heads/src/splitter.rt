@@ -1,6 +1,5 @@
 //! A stream of requests, cut into heads as its pieces come.
 ghost use Rattle.std.specs.Prelude.{◌≡◌, ◌↔◌, ◌<◌, ◌++◌, [], IfOk, IsSome, OnErr, length, map, position};
-ghost use Rattle.std.specs.List.{list_any};
 ghost use Rattle.http_heads.specs.Checks.{closes};
 ghost use Rattle.http_heads.specs.Cut.{IsCut};
 ghost use Rattle.http_heads.specs.Head.{head_view};
@@ -12,7 +11,7 @@ use std::alloc::{AllocError, Global};
 use std::marker::Model;
 
 /// What is left of a stream when it ends has no head.
-#[derive(Clone, Copy, Debug, PartialEq, Eq)]
+#[derive(Clone, Copy, PartialEq, Eq)]
 pub struct Unreadable;
 
 /// The heads that a piece made whole, none behind one that closes.

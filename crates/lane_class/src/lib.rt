@@ -2,7 +2,7 @@
 //! double quote, a comma, CR and LF. Bit i of a word speaks of byte i of its block, exactly.
 #![tactic(auto)]
 
-ghost use Rattle.std.specs.Prelude.{◌≡◌, ◌+◌, ◌<◌, length};
+ghost use Rattle.std.specs.Prelude.{◌≡◌, ◌<◌, length};
 ghost use Rattle.lane_class.specs.Classes.{block_at, Marks, AreClasses};
 
 use std::simd::prelude::*;

@@ -44,8 +44,6 @@ impl<T> Counted<T> {
 }
 
 impl<T: Read> Source for Counted<T> {
-    ghost use Rattle.odata_http.specs.Device.{SourceOf};
-
     ghost source = { λ s. record { left = T.remaining s.inner; reads = s.reads; ends = s.ends; failed_reads = s.failed } };
 
     fn read(&mut self, buf: &mut [u8]) -> Result<usize, DeviceFault> {
@@ -65,8 +63,6 @@ impl<T: Read> Source for Counted<T> {
 }
 
 impl<T: Write> Sink for Counted<T> {
-    ghost use Rattle.odata_http.specs.Device.{SinkOf};
-
     ghost sink = { λ s. record { taken = T.contents s.inner; failed_writes = s.failed } };
 
     fn write(&mut self, bytes: &[u8]) -> Result<usize, DeviceFault> {

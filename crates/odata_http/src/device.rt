@@ -1,5 +1,5 @@
 //! Sources and sinks of bytes, which may fail. Contracts see each as one record: what it tells of its bytes, and what it counts.
-ghost use Rattle.std.specs.Prelude.{◌≡◌, ◌≤◌, ℕ, OnOk, OnErr, length, take};
+ghost use Rattle.std.specs.Prelude.{◌≤◌, ℕ, OnOk, OnErr, length, take};
 ghost use Rattle.std.specs.Io.{ReadsAtMost, WritesAtMost};
 ghost use Rattle.std.specs.Io.KnownBytes.{Appends, ReadConsumes, WriteAppends};
 ghost use Rattle.odata_http.specs.Device.{Counts, CountsEnd, CountsFailure, SinkOf, SourceOf, TakesSome};

@@ -1,10 +1,9 @@
 //! The run of a query on its table, block by block.
 ghost use Rattle.std.specs.Prelude.{◌≡◌, ℕ, None, IfOk};
-ghost use Rattle.http.specs.StatusCode.{IsStatusCode};
 ghost use Rattle.query_plan.specs.Plan.{PlanOf};
 ghost use Rattle.query_exec.specs.Run.{StandsFor, handed_block};
 ghost use Rattle.odata_request.specs.Request.{IsRowsInside, RowsRequestOf, rows_view};
-ghost use Rattle.odata_http.specs.Exchange.{IsReading, TakesRunCalls};
+ghost use Rattle.odata_http.specs.Exchange.{IsReading};
 ghost use Rattle.odata_http.specs.Work.{IsKnown, MayRead, NeedsBlocksOf, ReadsOn, StartsReading};
 
 use crate::response::{Response, answer_response, error_response};

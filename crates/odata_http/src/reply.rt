@@ -1,7 +1,6 @@
 //! Replies: the lines and the body.
 ghost use Rattle.std.specs.Prelude.{◌≡◌, ◌++◌, IfOk, OnOk, codes, decimal, unwrap_or};
 ghost use Rattle.http.specs.StatusCode.{IsStatusCode, reason_phrase};
-ghost use Rattle.odata_http.specs.Media.{media_type};
 ghost use Rattle.odata_http.specs.Reply.{allow_line, body_for, closing_line, field_line, first_lines, reply_lines, reply_with, rest_reply, status_line};
 
 use crate::media::Media;

@@ -8,8 +8,8 @@ use Rattle.http_heads.specs.Laws.{OneCut, CutsJoin}
 use Rattle.odata_hub.specs.Streams.{Came, Asked, AreAskedBehind, IsCutUnder, bytes_of, heads_of}
 use Rattle.odata_hub.specs.Connections.{Call, Piece, End, Turn, Take, Answer, Opened, Own, came_with, is_done, stream_of}
 use Rattle.odata_hub.specs.Schedules.{HubOf, Event, Open, On, Drop, Reload, Happening, conn_at, IsCurrent, OpensAt, CallsOn, FreesAt, HubStep, HubRun, own_before, own_of, stays_by, stays, opened, reload, reloads_by, has_reload}
-use Rattle.odata_hub.specs.Laws.{Parts}
-use Rattle.odata_hub.proofs.StreamLemmas.{CameUnder, have_behind, behind_halves, behind_one}
+use Rattle.odata_hub.specs.Laws.{CameUnder, Parts}
+use Rattle.odata_hub.proofs.StreamLemmas.{have_behind, behind_halves, behind_one}
 use Rattle.odata_hub.proofs.RunLemmas.{Keeps-own}
 use Rattle.odata_hub.proofs.HubLemmas.{from_open}
 
@@ -98,13 +98,13 @@ own_before-append k (On p call) answer rest os ps e = grind (arith, nat_tests)
 own_before-append k (Drop p) answer rest os ps e = grind (arith, nat_tests)
 own_before-append k (Reload catalog) answer rest os ps e = refl
 
-stays_rest : (k : ℕ) (event : Event) (rest : Bool) → stays_by k event rest ≡ true → rest ≡ true
+pub stays_rest : (k : ℕ) (event : Event) (rest : Bool) → stays_by k event rest ≡ true → rest ≡ true
 stays_rest k Open rest e = e
 stays_rest k (On p call) rest e = e
 stays_rest k (Drop p) rest e = grind (arith, nat_tests)
 stays_rest k (Reload catalog) rest e = e
 
-own_of-append : (k : ℕ) (hs gs : List Happening) → stays k hs ≡ true → own_of k (hs ++ gs) ≡ own_of k hs ++ own_of k gs
+pub own_of-append : (k : ℕ) (hs gs : List Happening) → stays k hs ≡ true → own_of k (hs ++ gs) ≡ own_of k hs ++ own_of k gs
 own_of-append k [] gs e = refl
 own_of-append k (x ∷ hs) gs e =
     ap (own_before k x.event x.answer) (own_of-append k hs gs (stays_rest k x.event (stays k hs) e))

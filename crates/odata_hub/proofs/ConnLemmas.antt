@@ -1,5 +1,5 @@
 -- What a connection was given, what waits in its output and what it still owes are together the replies of its stream.
-use Rattle.std.proofs.Common.{◌≡◌, ◌⊎◌, ℕ, ◌-◌, Bool, true, false, List, [], ◌∷◌, ◌++◌, take, drop, Option, Some, None, refl, sym, ap, subst, ◌∙◌, inl, inr, append_assoc, append-nil}
+use Rattle.std.proofs.Common.{◌≡◌, ◌⊎◌, ℕ, Bool, true, false, List, [], ◌∷◌, ◌++◌, Option, Some, None, refl, sym, ap, subst, ◌∙◌, inl, inr, append_assoc, append-nil}
 use Rattle.std.specs.Prelude.{◌||◌}
 use Rattle.std.specs.List.{AllZip, concat}
 use Rattle.table_store.specs.Catalog.{CatalogOf}
@@ -34,7 +34,7 @@ pub record Keeps (c : ConnOf) (stream : List Came) (ended : Bool) (taken : List 
   pub all : taken ++ c.output ≡ concat each ++ behind
   pub owes : c.failed ≡ false → heads_in c.flight ++ c.waiting ≡ others
   pub rest : c.failed ≡ false → ended ≡ false → c.rest ≡ left
-  pub closed : c.failed ≡ false → ended ≡ false → c.closed ≡ shut
+  pub closed : c.failed ≡ false → c.closed ≡ shut
   pub ended_is : c.failed ≡ false → c.ended ≡ ended
   pub rests : c.failed ≡ false → ended ≡ true → IsLeft c.rest left behind
 
@@ -52,7 +52,7 @@ Keeps-fresh cuts = record {
   all = refl;
   owes = λ _. refl;
   rest = λ _ _. refl;
-  closed = λ _ _. refl;
+  closed = λ _. refl;
   ended_is = λ _. refl;
   rests = λ _ e. absurd (cc e);
 }
@@ -81,7 +81,7 @@ Keeps-failed c d s e t f k =
       all = rw f.output k.all;
       owes = λ h. absurd (cc (f.failed));
       rest = λ h _. absurd (cc (f.failed));
-      closed = λ h _. absurd (cc (f.failed));
+      closed = λ h. absurd (cc (f.failed));
       ended_is = λ h. absurd (cc (f.failed));
       rests = λ h _. absurd (cc (f.failed));
     } in
@@ -108,7 +108,7 @@ Keeps-piece_open joins rest waiting flight output catalog bytes d s t f k =
     let R : List ℕ → Type 0 = λ x. IsCut (x ++ bytes) f.heads f.rest f.closed in
     let A : List Asked → Type 0 = λ hs. IsCutUnder (s ++ piece ∷ []) hs f.rest f.closed in
     let cut = (joins_under joins).follows s (k.answered ++ k.others) k.left piece f.heads f.rest f.closed
-    (subst C (sym (k.closed refl refl)) k.cut) (subst R (k.rest refl refl) f.cut) in
+    (subst C (sym (k.closed refl)) k.cut) (subst R (k.rest refl refl) f.cut) in
     let new : Keeps (conn f.rest (waiting ++ more) flight output f.closed false false) (s ++ piece ∷ []) false (t ++ []) = record {
       answered = k.answered;
       others = k.others ++ more;
@@ -122,7 +122,7 @@ Keeps-piece_open joins rest waiting flight output catalog bytes d s t f k =
       all = rw (append-nil t) k.all;
       owes = λ _. sym (append_assoc (heads_in flight) waiting more) ∙ ap (λ (hs : List Asked). hs ++ more) (k.owes refl);
       rest = λ _ _. refl;
-      closed = λ _ _. refl;
+      closed = λ _. refl;
       ended_is = λ _. refl;
       rests = λ _ e. absurd (cc e);
     } in
@@ -139,7 +139,7 @@ Keeps-piece_closed joins rest waiting flight output piece s t k =
       others = k.others;
       left = k.left;
       shut = true;
-      cut = (joins_under joins).closed s (k.answered ++ k.others) k.left piece (subst C (sym (k.closed refl refl)) k.cut);
+      cut = (joins_under joins).closed s (k.answered ++ k.others) k.left piece (subst C (sym (k.closed refl)) k.cut);
       each = k.each;
       are = k.are;
       behind = k.behind;
@@ -147,7 +147,7 @@ Keeps-piece_closed joins rest waiting flight output piece s t k =
       all = rw (append-nil t) k.all;
       owes = λ _. k.owes refl;
       rest = λ _ _. k.rest refl refl;
-      closed = λ _ _. refl;
+      closed = λ _. refl;
       ended_is = λ _. refl;
       rests = λ _ e. absurd (cc e);
     }
@@ -171,7 +171,7 @@ Keeps-end rest waiting flight output closed s t k =
       all = k.all;
       owes = λ _. k.owes refl;
       rest = λ _ e. absurd (cc e);
-      closed = λ _ e. absurd (cc e);
+      closed = λ _. k.closed refl;
       ended_is = λ _. refl;
       rests = λ _ _. inl (k.rest refl refl, none);
     })

@@ -66,7 +66,7 @@ pub on_steps : (h m : HubOf) (k : ℕ) (c : ConnOf) (call : Call) (answer : Answ
 on_steps h m k c call answer e s = let P : Option ConnOf → Type 0 = λ o. CallsOn h k o call answer m in subst P e s
 
 -- the own events of a connection are a run of it
-isolated : (h e : HubOf) (k : ℕ) (c : ConnOf) (hs : List Happening) → HubRun h hs e → conn_at h k ≡ Some c
+pub isolated : (h e : HubOf) (k : ℕ) (c : ConnOf) (hs : List Happening) → HubRun h hs e → conn_at h k ≡ Some c
     → Follows c (own_of k hs) k (stays k hs) e
 isolated h e k c [] r at = record { last = c; run = refl; here = λ _. rw r at }
 isolated h e k c (x ∷ hs) r at = go (λ d here. isolated r.0 e k d hs r.2 here) x.event r.1 where

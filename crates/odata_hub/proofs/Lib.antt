@@ -1,11 +1,16 @@
 mod StreamLemmas
+mod SameLemmas
 mod ConnLemmas
 mod TurnLemmas
 mod RunLemmas
 mod GivenLemmas
+mod OverLemmas
+mod CallLemmas
 mod AlikeLemmas
 mod HubLemmas
 mod CatalogLemmas
+mod LifeLemmas
+mod BringLemmas
 mod LawLemmas
 mod StepLemmas
 mod PlaceLemmas

@@ -7,7 +7,7 @@ use Rattle.http_heads.specs.Head.{HeadOf}
 use Rattle.http_heads.specs.Cut.{IsCut}
 use Rattle.http_heads.specs.Laws.{OneCut, CutsJoin}
 use Rattle.odata_hub.specs.Streams.{Came, bytes_of, Asked, asked, heads_of, AreAskedBehind, IsCutUnder}
-use Rattle.odata_hub.specs.Laws.{HaveCatalog, Joins, OneReading}
+use Rattle.odata_hub.specs.Laws.{CameUnder, HaveCatalog, Joins, OneReading}
 
 heads_of-asked : (c : CatalogOf) (hs : List HeadOf) → heads_of (asked c hs) ≡ hs
 heads_of-asked c [] = refl
@@ -23,7 +23,7 @@ pub bytes_of-more : (s : List Came) (p : Came) → bytes_of (s ++ p ∷ []) ≡ 
 bytes_of-more s p = bytes_of-append s (p ∷ []) ∙ ap (λ (b : List ℕ). bytes_of s ++ b) (append-nil p.bytes)
 
 -- the heads of a piece, and those behind it
-heads_of-behind : (c : CatalogOf) (hs : List HeadOf) (later all : List Asked) → all ≡ asked c hs ++ later → heads_of all ≡ hs ++ heads_of later
+pub heads_of-behind : (c : CatalogOf) (hs : List HeadOf) (later all : List Asked) → all ≡ asked c hs ++ later → heads_of all ≡ hs ++ heads_of later
 heads_of-behind c hs later all e =
     ap heads_of e ∙ heads_of-append (asked c hs) later ∙ ap (λ (x : List HeadOf). x ++ heads_of later) (heads_of-asked c hs)
 
@@ -109,11 +109,6 @@ one_under cuts s heads others rest left closed shut x y =
     (behind_one cuts [] [] s heads others x.asked y.asked, same.1, same.2)
 
 -- ---- under which tables heads came
-
--- these pieces came under these tables
-abbrev pub CameUnder : CatalogOf → List Came → Type 0
-CameUnder catalog [] = Unit {0}
-CameUnder catalog (p ∷ s) = (p.catalog ≡ catalog) × CameUnder catalog s
 
 have-append : (c : CatalogOf) (xs ys : List Asked) → HaveCatalog c xs → HaveCatalog c ys → HaveCatalog c (xs ++ ys)
 have-append c [] ys x y = y

@@ -82,7 +82,7 @@ Keeps-last rest output closed s t k = elim (k.rests refl refl) [
         ∙ ap (λ (y : List ℕ). y ++ last_reply rest) (k.all ∙ ap (λ (y : List ℕ). concat k.each ++ y) x.1 ∙ append-nil (concat k.each));
     owes = λ _. k.owes refl;
     rest = λ _ e. absurd (cc e);
-    closed = λ _ e. absurd (cc e);
+    closed = λ _. k.closed refl;
     ended_is = λ _. refl;
     rests = λ _ _. inr (refl, ap last_reply x.0);
   }
@@ -100,7 +100,7 @@ Keeps-last rest output closed s t k = elim (k.rests refl refl) [
         ap (λ (y : List ℕ). t ++ (output ++ last_reply y)) x.0 ∙ ap (λ (y : List ℕ). t ++ y) (append-nil output) ∙ k.all;
     owes = λ _. k.owes refl;
     rest = λ _ e. absurd (cc e);
-    closed = λ _ e. absurd (cc e);
+    closed = λ _. k.closed refl;
     ended_is = λ _. refl;
     rests = λ _ _. inr (refl, x.1);
   }

@@ -1,5 +1,5 @@
 -- A connection, what each call on it does, and lists of calls.
-use Rattle.std.specs.Prelude.{◌≡◌, ◌≢◌, ◌⊎◌, ⊤, ℕ, ◌-◌, Bool, true, false, ◌||◌, ◌&&◌, List, [], ◌∷◌, ◌++◌, take, drop, is_none, nat_le, Option, Some, None, Result, Ok, Err, MatchBool, if◌then◌else◌}
+use Rattle.std.specs.Prelude.{◌≡◌, ◌≢◌, ◌⊎◌, ⊤, ℕ, ◌+◌, ◌-◌, Bool, true, false, not, ◌||◌, ◌&&◌, List, [], ◌∷◌, ◌++◌, take, drop, is_none, nat_le, Option, Some, None, Result, Ok, Err, MatchBool, if◌then◌else◌}
 use Rattle.table_store.specs.Catalog.{CatalogOf}
 use Rattle.http_heads.specs.Head.{HeadOf}
 use Rattle.http_heads.specs.Cut.{IsCut}
@@ -116,19 +116,25 @@ MayWant c End = ⊥
 MayWant c Turn = (c.failed ≡ false) × (works c ≡ true)
 MayWant c (Take room) = ⊥
 
--- want of memory marks a connection failed, and leaves its output as it was
+-- Want of memory marks a connection failed. Its output is kept, and whether a closing head was cut off and the stream ended; the rest, the heads that
+-- wait and the exchange in flight are given up.
 pub record IsFailed (old new : ConnOf) : Type 0 where
   pub failed : new.failed ≡ true
   pub output : new.output ≡ old.output
+  pub closed : new.closed ≡ old.closed
+  pub ended : new.ended ≡ old.ended
+  pub rest : new.rest ≡ []
+  pub waiting : new.waiting ≡ []
+  pub flight : new.flight ≡ None
 
 -- the call is answered, or memory is wanting
 abbrev pub Step : ConnOf → Call → Answer → ConnOf → Type 0
 Step old call answer new =
     ((answer ≡ answer_to old call) × IsAfter old call new) ⊎ ((answer ≡ Refused NoMemory) × MayWant old call × IsFailed old new)
 
--- a closing head was cut off, and all replies were taken
+-- a closing head was cut off, and all replies were taken; where memory ran out, one of them was never made
 abbrev pub is_over : ConnOf → Bool
-is_over c = c.closed && is_none c.flight && is_empty c.waiting && is_empty c.output
+is_over c = not c.failed && c.closed && is_none c.flight && is_empty c.waiting && is_empty c.output
   where
     is_empty : {T : Type 0} → List T → Bool
     is_empty [] = true
@@ -199,3 +205,14 @@ calls_of (o ∷ os) = o.call ∷ calls_of os
 abbrev pub HasMemory : List Own → Type 0
 HasMemory [] = ⊤
 HasMemory (o ∷ os) = (o.answer ≢ Refused NoMemory) × HasMemory os
+
+abbrev pub turns_by : Call → ℕ → ℕ
+turns_by (Piece catalog bytes) others = others
+turns_by End others = others
+turns_by Turn others = others + 1
+turns_by (Take room) others = others
+
+-- how many of these calls are turns
+abbrev pub turns_in : List Own → ℕ
+turns_in [] = 0
+turns_in (o ∷ os) = turns_by o.call (turns_in os)

@@ -1,16 +1,30 @@
 -- What holds of a connection in every schedule. A connection is opened at a place; the events behind that which are its own are those of
 -- `own_of`.
-use Rattle.std.specs.Prelude.{◌≡◌, ◌≢◌, ◌<◌, ◌+◌, ⊤, length, ℕ, Bool, true, false, List, [], ◌∷◌, ◌++◌, None, Some}
+use Rattle.std.specs.Prelude.{◌≡◌, ◌≤◌, ◌+◌, ⊤, length, max, ℕ, Bool, true, false, List, [], ◌∷◌, ◌++◌, None, Some, slice_get}
+use Rattle.std.specs.List.{AllZip, concat}
+use Rattle.table_store.specs.Block.{block_count}
 use Rattle.table_store.specs.Catalog.{CatalogOf}
+use Rattle.table_store.specs.Table.{TableOf}
+use Rattle.http_heads.specs.Checks.{head_fault}
 use Rattle.http_heads.specs.Head.{HeadOf}
 use Rattle.http_heads.specs.Cut.{IsCut}
+use Rattle.odata_http.specs.Request.{AsksFor, RequestOf, refused, rows, service}
 use Rattle.odata_http.specs.Exchange.{HeadTakes}
-use Rattle.odata_hub.specs.declared.answers.HubFault.TheVariants.{NoMemory}
+use Rattle.odata_http.specs.Replies.{AreReplies as AreAllReplies, IsCertain}
+use Rattle.odata_http.specs.Reply.{IsReply}
 use Rattle.odata_hub.specs.declared.answers.Turned.TheVariants.{Idle}
-use Rattle.odata_hub.specs.Streams.{Came, Asked, asked, IsCutUnder}
+use Rattle.odata_hub.specs.Streams.{Came, Asked, asked, bytes_of, IsCutUnder}
 use Rattle.odata_hub.specs.Replies.{IsReplyTo, AreReplies, AreFirstReplies}
-use Rattle.odata_hub.specs.Connections.{ConnOf, FlightOf, Turn, Went, Refused, Own, Run, stream_of, taken_of, calls_of, HasMemory, has_ended}
+use Rattle.odata_hub.specs.Connections.{ConnOf, FlightOf, Turn, Went, Own, Run, fresh, is_over, stream_of, taken_of, calls_of, turns_in, HasMemory, has_ended}
 use Rattle.odata_hub.specs.Schedules.{HubOf, Happening, On, conn_at, HubStep, HubRun, own_of, stays, opened, reload, has_reload}
+
+-- ---- what is a connection's own
+
+-- What else happens in a schedule changes no connection: its own events are a run of it from what `open` gives, which leads to what is at its place,
+-- where it was not dropped.
+abbrev pub RunsAlone : Type 0
+RunsAlone = (start end : HubOf) (place : ℕ) (events : List Happening) → HubRun start (opened place ∷ events) end
+    → (c : ConnOf) × Run fresh (own_of place events) c × (stays place events ≡ true → conn_at end place ≡ Some c)
 
 -- ---- streams whose heads have tables of their own
 
@@ -27,6 +41,23 @@ pub record Joins : Type 0 where
       → IsCutUnder (stream ++ piece ∷ []) (heads ++ asked piece.catalog more) left closed
   pub closed : (stream : List Came) (heads : List Asked) (rest : List ℕ) (piece : Came)
       → IsCutUnder stream heads rest true → IsCutUnder (stream ++ piece ∷ []) heads rest true
+
+-- these pieces came under these tables
+abbrev pub CameUnder : CatalogOf → List Came → Type 0
+CameUnder catalog [] = ⊤
+CameUnder catalog (piece ∷ stream) = (piece.catalog ≡ catalog) × CameUnder catalog stream
+
+-- the replies of these bytes under one catalog: those that are certain, and after the end all
+abbrev pub AreRepliesUnder : CatalogOf → List ℕ → Bool → List ℕ → Type 0
+AreRepliesUnder catalog bytes true all = (closed : Bool) × AreAllReplies (IsReply catalog) bytes all closed
+AreRepliesUnder catalog bytes false all = (rest : List ℕ) × (closed : Bool) × IsCertain (IsReply catalog) bytes all rest closed
+
+-- Where all pieces of a stream came under the same tables, its replies are those of its bytes under them.
+pub record SameReplies : Type 0 where
+  pub under : (catalog : CatalogOf) (stream : List Came) (ended : Bool) (all : List ℕ) → CameUnder catalog stream
+      → AreReplies stream ended all → AreRepliesUnder catalog (bytes_of stream) ended all
+  pub each : (catalog : CatalogOf) (stream : List Came) (ended : Bool) (all : List ℕ) → CameUnder catalog stream
+      → AreRepliesUnder catalog (bytes_of stream) ended all → AreReplies stream ended all
 
 -- ---- what a connection is given
 
@@ -59,30 +90,83 @@ IdlesWhenAnswered = (start mid end : HubOf) (place : ℕ) (events : List Happeni
     → stays place events ≡ true → HubStep mid (On place Turn) (Went Idle) end
     → (c : ConnOf) × (conn_at mid place ≡ Some c) × IsAllAnswered (own_of place events) c
 
+-- ---- where a connection is over
+
+-- a closing head was cut off the stream, and the takes gave the replies to all of its heads
+pub record IsAllTaken (os : List Own) : Type 0 where
+  pub heads : List Asked
+  pub cut : IsCutUnder (stream_of os) heads [] true
+  pub each : List (List ℕ)
+  pub are : AllZip IsReplyTo heads each
+  pub taken : taken_of os ≡ concat each
+
+-- a connection is over only where all of its replies were taken
+abbrev pub OverWhenTaken : Type 0
+OverWhenTaken = (start end : HubOf) (place : ℕ) (events : List Happening) (c : ConnOf) → HubRun start (opened place ∷ events) end
+    → stays place events ≡ true → conn_at end place ≡ Some c → is_over c ≡ true → IsAllTaken (own_of place events)
+
 -- ---- how many turns a reply takes
 
--- these calls are turns, and none meets want of memory
-abbrev pub AreTurns : List Own → Type 0
-AreTurns [] = ⊤
-AreTurns (o ∷ os) = (o.call ≡ Turn) × (o.answer ≢ Refused NoMemory) × AreTurns os
+-- The life of a connection in a schedule, seen at two moments: it was opened at the place; behind the events `before` it was the old one, and
+-- behind `after`, which follow them, it is the new one. It was not dropped, and memory lasted for it.
+pub record Lives (place : ℕ) (before after : List Happening) (old new : ConnOf) : Type 0 where
+  pub start : HubOf
+  pub mid : HubOf
+  pub end : HubOf
+  pub earlier : HubRun start (opened place ∷ before) mid
+  pub later : HubRun mid after end
+  pub stays : stays place (before ++ after) ≡ true
+  pub memory : HasMemory (own_of place (before ++ after))
+  pub old_is : conn_at mid place ≡ Some old
+  pub new_is : conn_at end place ≡ Some new
 
--- the reply to this head was added to the output, and nothing else
-pub record Replies (old new : ConnOf) (a : Asked) : Type 0 where
+-- The whole reply to this head was added to the output, and nothing else: what was taken since, and what is in the output, are together what was in
+-- the output before and then the reply. No exchange is in flight; and these others wait, with what came since behind them.
+pub record IsBrought (old : ConnOf) (a : Asked) (others : List Asked) (os : List Own) (new : ConnOf) : Type 0 where
   pub reply : List ℕ
   pub is : IsReplyTo a reply
-  pub output : new.output ≡ old.output ++ reply
+  pub output : taken_of os ++ new.output ≡ old.output ++ reply
   pub flight : new.flight ≡ None
+  pub came : List Asked
+  pub waiting : new.waiting ≡ others ++ came
 
--- the exchange in flight has its whole reply in the output after as many turns as it has calls left
+-- The exchange in flight has its whole reply in the output after as many turns of its connection as it has calls left, whatever other calls stand
+-- between these.
 abbrev pub BringsReply : Type 0
-BringsReply = (old new : ConnOf) (f : FlightOf) (turns : List Own) → old.failed ≡ false → old.flight ≡ Some f → 0 < f.left
-    → length turns ≡ f.left → AreTurns turns → Run old turns new → Replies old new f.asked
+BringsReply = (place : ℕ) (before after : List Happening) (old new : ConnOf) (f : FlightOf) → Lives place before after old new
+    → old.flight ≡ Some f → turns_in (own_of place after) ≡ f.left
+    → IsBrought old f.asked old.waiting (own_of place after) new
 
--- and the first waiting head, where none is in flight, after one more than its reply takes calls
+-- the first head that waits is the next to be answered
+abbrev pub IsNext : ConnOf → Asked → List Asked → Type 0
+IsNext c a others = (c.flight ≡ None) × (c.waiting ≡ a ∷ others)
+
+-- and the next head, after as many turns behind the one that begins it as its reply takes calls
 abbrev pub BringsNext : Type 0
-BringsNext = (old new : ConnOf) (a : Asked) (waiting : List Asked) (calls : ℕ) (turns : List Own) → old.failed ≡ false → old.flight ≡ None
-    → old.waiting ≡ a ∷ waiting → HeadTakes a.catalog a.head calls → length turns ≡ calls + 1 → AreTurns turns → Run old turns new
-    → Replies old new a × (new.waiting ≡ waiting)
+BringsNext = (place : ℕ) (before after : List Happening) (old new : ConnOf) (a : Asked) (others : List Asked) (calls : ℕ)
+    → Lives place before after old new → IsNext old a others → HeadTakes a.catalog a.head calls
+    → turns_in (own_of place after) ≡ calls + 1
+    → IsBrought old a others (own_of place after) new
+
+-- The whole reply to this head was added to the output, and maybe others behind it.
+pub record IsAmong (old : ConnOf) (a : Asked) (os : List Own) (new : ConnOf) : Type 0 where
+  pub reply : List ℕ
+  pub is : IsReplyTo a reply
+  pub output : IsFrontOf (old.output ++ reply) (taken_of os ++ new.output)
+
+-- So many turns are enough for a request: on a table one more than it has blocks, of which one is counted where it has none; on no table 2.
+abbrev pub AreEnough : CatalogOf → RequestOf → ℕ → Type 0
+AreEnough catalog (refused code) turns = 2 ≤ turns
+AreEnough catalog service turns = 2 ≤ turns
+AreEnough catalog (rows asked) turns =
+    (table : TableOf) × (slice_get catalog.tables asked.table ≡ Some table) × (max 1 (block_count (length table.rows)) + 1 ≤ turns)
+
+-- the next head has its reply in the output within that many turns in all
+abbrev pub BringsWithin : Type 0
+BringsWithin = (place : ℕ) (before after : List Happening) (old new : ConnOf) (a : Asked) (others : List Asked) (request : RequestOf)
+    → Lives place before after old new → IsNext old a others
+    → AsksFor a.catalog (head_fault a.head) a.head.target request → AreEnough a.catalog request (turns_in (own_of place after))
+    → IsAmong old a (own_of place after) new
 
 -- ---- what other connections and other tables change: nothing
 

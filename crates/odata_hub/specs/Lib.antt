@@ -10,3 +10,4 @@ pub mod Stands
 pub use Rattle.odata_http.specs.Reply
 pub use Rattle.odata_http.specs.Replies as ReplyLists
 pub use Rattle.odata_http.specs.Exchange
+pub use Rattle.odata_http.specs.Request

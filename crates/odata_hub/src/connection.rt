@@ -26,7 +26,7 @@ impl Connection {
     ghost use Rattle.odata_hub.specs.Connections.{ConnOf, Done, End, FlightOf, Gave, IsFailed, Piece, Take, Turn, Went, answer_of, fresh, is_over};
     ghost use Rattle.odata_hub.specs.Held.{IsFlight, IsInFlight};
     ghost use Rattle.odata_hub.specs.Stands.{ConnStandsFor, IsConnStep, conn_of};
-    ghost use Rattle.odata_hub.specs.Work.{FoundWork, IsWorked};
+    ghost use Rattle.odata_hub.specs.Work.{FoundWork, IsWorked, KeepsOutput};
 
     /// A connection that holds nothing.
     pub(crate) fn new(alloc: Global) -> Connection
@@ -43,7 +43,7 @@ impl Connection {
         }
     }
 
-    /// Memory ran out: only the output is kept.
+    /// Memory ran out: of what the connection held only the output is kept.
     fn fail(&mut self, alloc: Global)
         ensures flight { self.new.flight ≡ None }
         ensures failed { IsFailed (conn_of self.old None) (conn_of self.new None) }
@@ -103,7 +103,7 @@ impl Connection {
     fn go_on(&mut self, alloc: Global, flight: Flight) -> Result<Turned, AllocError>
         ensures ok { IfOk result (λ went. (f : FlightOf) → IsFlight flight f
             → IsWorked self.old (Some f) went self.new) }
-        ensures err { OnErr result (self.new.output ≡ self.old.output) }
+        ensures err { OnErr result (KeepsOutput self.old self.new) }
     {
         match flight.go_on(alloc)? {
             Gone::On(flight) => self.flight = Some(flight),
@@ -119,7 +119,7 @@ impl Connection {
     fn answer_rest(&mut self, alloc: Global) -> Result<Turned, AllocError>
         ensures ok { self.old.flight ≡ None → self.old.waiting.items ≡ []
             → IfOk result (λ went. IsWorked self.old None went self.new) }
-        ensures err { OnErr result (self.new.output ≡ self.old.output) }
+        ensures err { OnErr result (KeepsOutput self.old self.new) }
         ensures wants { self.old.waiting.items ≡ [] → OnErr result (FoundWork self.old None) }
     {
         if !self.ended {
@@ -139,7 +139,7 @@ impl Connection {
     fn begin_next(&mut self, alloc: Global) -> Result<Turned, AllocError>
         ensures ok { self.old.flight ≡ None
             → IfOk result (λ went. IsWorked self.old None went self.new) }
-        ensures err { OnErr result (self.new.output ≡ self.old.output) }
+        ensures err { OnErr result (KeepsOutput self.old self.new) }
         ensures wants { OnErr result (FoundWork self.old None) }
     {
         match self.waiting.pop_front() {
@@ -155,7 +155,7 @@ impl Connection {
     fn work(&mut self, alloc: Global) -> Result<Turned, AllocError>
         ensures ok { IfOk result (λ went. (f : Option FlightOf) → IsInFlight self.old.flight f
             → IsWorked self.old f went self.new) }
-        ensures err { OnErr result (self.new.output ≡ self.old.output) }
+        ensures err { OnErr result (KeepsOutput self.old self.new) }
         ensures wants { OnErr result ((f : Option FlightOf) → IsInFlight self.old.flight f
             → FoundWork self.old f) }
     {
@@ -191,10 +191,14 @@ impl Connection {
         self.output.take(out)
     }
 
-    /// Whether a closing head was cut off, and all replies were taken.
+    /// Whether a closing head was cut off, and all replies were taken: where memory ran out, one of them was never made.
     pub(crate) fn closed(&self) -> bool
         ensures { (c : ConnOf) → ConnStandsFor self.now c → result ≡ is_over c }
     {
-        self.closed && self.flight.is_none() && self.waiting.is_empty() && self.output.is_empty()
+        !self.failed
+            && self.closed
+            && self.flight.is_none()
+            && self.waiting.is_empty()
+            && self.output.is_empty()
     }
 }

@@ -103,7 +103,7 @@ impl Hub {
         self.catalog = catalog;
     }
 
-    /// Whether a closing head was cut off a connection's stream, and all its replies were taken.
+    /// Whether a closing head was cut off a connection's stream, and all its replies were taken. It is false where memory ran out for the connection.
     pub fn closed(&self, conn: Conn) -> Result<bool, HubFault>
         ensures { (h : HubOf) → StandsFor self.now h → TellsOver (conn_at h conn.0) result }
     {

@@ -1,5 +1,5 @@
 //! What holds of a connection in every schedule. The functions here are theorems, and do nothing.
-ghost use Rattle.odata_hub.specs.Laws.{AnswersAlike, BringsNext, BringsReply, GivesReplies, IdlesWhenAnswered, Joins, KeepsCatalogs, OneReading};
+ghost use Rattle.odata_hub.specs.Laws.{AnswersAlike, BringsNext, BringsReply, BringsWithin, GivesReplies, IdlesWhenAnswered, Joins, KeepsCatalogs, OneReading, OverWhenTaken, RunsAlone, SameReplies};
 
 /// A stream has one list of heads, each with the tables of the piece that brought its last byte.
 pub fn one_reading()
@@ -14,6 +14,19 @@ pub fn joins()
 {
     http_heads::cuts_join();
 }
+
+/// Where the tables never change, the replies of a stream are those of its bytes that a run over devices and a session give.
+pub fn same_replies()
+    ensures { SameReplies }
+{
+    http_heads::one_cut();
+    http_heads::cuts_join();
+}
+
+/// A connection's own events are a run of it, whatever else happens: what holds of every run of a connection holds of it in every schedule.
+pub fn runs_alone()
+    ensures { RunsAlone }
+{}
 
 /// What a connection is given is a front of the replies of its stream, each head answered from its own tables.
 pub fn gives_replies()
@@ -32,14 +45,31 @@ pub fn idles_when_answered()
     http_heads::cuts_join();
 }
 
-/// The exchange in flight has its reply in the output after as many turns as it has calls left.
+/// A connection is over only where all of its replies were taken, that to the closing head too.
+pub fn over_when_taken()
+    ensures { OverWhenTaken }
+{
+    http_heads::one_cut();
+    http_heads::cuts_join();
+}
+
+/// The exchange in flight has its reply in the output after as many turns of its connection as it has calls left, whatever else is called.
 pub fn brings_reply()
     ensures { BringsReply }
-{}
+{
+    odata_http::one_length();
+}
 
-/// The first waiting head has its reply in the output after one turn more than its reply takes calls.
+/// The first waiting head has its reply in the output after one turn more than its reply takes calls, whatever else is called.
 pub fn brings_next()
     ensures { BringsNext }
+{
+    odata_http::one_length();
+}
+
+/// On a table that is within one turn more than it has blocks, or 2 where it has none; on no table within 2.
+pub fn brings_within()
+    ensures { BringsWithin }
 {
     odata_http::one_length();
 }

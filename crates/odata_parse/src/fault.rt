@@ -7,7 +7,7 @@ ghost use Rattle.odata_parse.specs.Parsing.{parse_fault};
 use std::alloc::{AllocError, AllocFailed};
 
 /// Why tokens are not parsed, in the order in which it is looked for.
-#[derive(Clone, Copy, Debug, PartialEq, Eq)]
+#[derive(Clone, Copy, PartialEq, Eq)]
 pub enum ParseFault {
     /// Parentheses or prefix operators are nested more than this service takes, or `$apply` has too many transformations.
     TooDeep,
@@ -18,7 +18,7 @@ pub enum ParseFault {
 }
 
 /// The text of a value is not of the form that was asked for.
-#[derive(Clone, Copy, Debug, PartialEq, Eq)]
+#[derive(Clone, Copy, PartialEq, Eq)]
 pub struct Syntax;
 
 /// Why a phrase is not read.

@@ -6,7 +6,7 @@ use crate::fault::Syntax;
 use crate::keyword::spells;
 
 /// The format of a reply.
-#[derive(Clone, Copy, Debug, PartialEq, Eq)]
+#[derive(Clone, Copy, PartialEq, Eq)]
 pub enum Format {
     /// JSON (RFC 8259).
     Json,

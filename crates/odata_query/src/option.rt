@@ -1,6 +1,6 @@
 //! `$filter` and `$orderby` (OData 4.01 URL Conventions, sections 5.1.2 and 5.1.5).
 
-ghost use Rattle.std.specs.Prelude.{◌≡◌, map, option_map};
+ghost use Rattle.std.specs.Prelude.{map, option_map};
 ghost use Rattle.odata_parse.specs.Tree.{expr_view, order_item_view};
 ghost use Rattle.odata_types.specs.Columns.{inputs_view};
 ghost use Rattle.odata_types.specs.Result.{Gives};

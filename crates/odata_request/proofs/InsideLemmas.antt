@@ -1,7 +1,7 @@
 -- What is asked for is inside of the tables: the table is one of them, and the query is one on its columns, by the laws of expressions.
 use Rattle.std.proofs.Common.{◌≡◌, ◌≤◌, ◌^◌, ℕ, Bool, true, false, List, [], ◌∷◌, length, Option, Some, None, Result, Ok, Err, IfSome, IfOk, ap, sym, subst, arith}
 use Rattle.std.specs.Prelude.{All, slice_get, find, option_map, cond}
-use Rattle.std.proofs.lemmas.List.Elements.{All-cons, All-head, All-nil, All-tail}
+use Rattle.std.proofs.lemmas.List.Elements.{All-nil}
 use Rattle.csvw_meta.specs.Schema.{SchemaOf}
 use Rattle.table_store.specs.Catalog.{CatalogOf}
 use Rattle.table_store.specs.Table.{TableOf}
@@ -16,12 +16,11 @@ use Rattle.odata_parse.specs.declared.format.Format.{Format}
 use Rattle.odata_parse.specs.declared.format.Format.TheVariants.{Json, Csv}
 use Rattle.odata_parse.specs.Expression.{IsFilter}
 use Rattle.odata_parse.specs.Options.{IsOrder}
-use Rattle.odata_parse.specs.Tree.{ExprOf, OrderItemOf, TransformationOf, aggregate, filter_by, group_by, order_item}
+use Rattle.odata_parse.specs.Tree.{ExprOf, OrderItemOf, TransformationOf}
 use Rattle.odata_types.specs.declared.fault.TypeFault.{TypeFault}
 use Rattle.odata_query.specs.Query.{QueryOf, TypedOf, query_typing}
 use Rattle.row_eval.specs.Input.{IsQueried, IsQueriedItem, IsQueriedTransformation, IsShort}
 use Rattle.row_eval.specs.Laws.{ExpressionsAreQueried, FiltersAreQueried}
-use Rattle.query_plan.specs.Fitting as plan
 use Rattle.query_plan.specs.Fitting.{AreQueried, IsTypedFor}
 use Rattle.reply_text.specs.declared.code.Code.{Code}
 use Rattle.http_heads.specs.declared.checks.HeadFault.{HeadFault}
@@ -72,32 +71,17 @@ text_tree IsDeep IsTree text tree (has_tokens tokens are h) = tokens_tree IsDeep
 
 -- ---- the expressions of a query
 
-each_item : (items : List OrderItemOf) → All IsQueriedItem items → All plan.IsQueriedItem items
-each_item [] h = All-nil plan.IsQueriedItem
-each_item (order_item e d ∷ items) h =
-    All-cons plan.IsQueriedItem (order_item e d) items (All-head IsQueriedItem (order_item e d) items h) (each_item items (All-tail IsQueriedItem (order_item e d) items h))
-
-transformation : (t : TransformationOf) → IsQueriedTransformation t → plan.IsQueriedTransformation t
-transformation (filter_by e) h = h
-transformation (aggregate items) h = tt
-transformation (group_by names items) h = tt
-
-each_transformation : (ts : List TransformationOf) → All IsQueriedTransformation ts → All plan.IsQueriedTransformation ts
-each_transformation [] h = All-nil plan.IsQueriedTransformation
-each_transformation (t ∷ ts) h =
-    All-cons plan.IsQueriedTransformation t ts (transformation t (All-head IsQueriedTransformation t ts h)) (each_transformation ts (All-tail IsQueriedTransformation t ts h))
-
 apply_queried : Queried → (limit : ℕ) (text : Option (List ℕ)) (ts : List TransformationOf) → IfSome text IsShort → ReadsOr [] (ReadsApply limit) text (Ok ts)
-    → All plan.IsQueriedTransformation ts
-apply_queried laws limit None ts short h = subst (All plan.IsQueriedTransformation) (ok_tree ts [] h) (All-nil plan.IsQueriedTransformation)
+    → All IsQueriedTransformation ts
+apply_queried laws limit None ts short h = subst (All IsQueriedTransformation) (ok_tree ts [] h) (All-nil IsQueriedTransformation)
 apply_queried laws limit (Some text) ts short h =
-    let read = text_tree _ _ text ts h in each_transformation ts (laws.expressions.apply text read.tokens ts read.are short read.is)
+    let read = text_tree _ _ text ts h in laws.expressions.apply text read.tokens ts read.are short read.is
 
 order_queried : Queried → (text : Option (List ℕ)) (items : List OrderItemOf) → IfSome text IsShort → ReadsOr [] (ReadsTree IsOrder) text (Ok items)
-    → All plan.IsQueriedItem items
-order_queried laws None items short h = subst (All plan.IsQueriedItem) (ok_tree items [] h) (All-nil plan.IsQueriedItem)
+    → All IsQueriedItem items
+order_queried laws None items short h = subst (All IsQueriedItem) (ok_tree items [] h) (All-nil IsQueriedItem)
 order_queried laws (Some text) items short h =
-    let read = text_tree _ _ text items h in each_item items (laws.expressions.order text read.tokens items read.are short read.is)
+    let read = text_tree _ _ text items h in laws.expressions.order text read.tokens items read.are short read.is
 
 filter_queried : Queried → (text : Option (List ℕ)) (filter : Option ExprOf) → IfSome text IsShort → ReadsOption (ReadsTree IsFilter) text (Ok filter)
     → IfSome filter IsQueried

@@ -9,11 +9,6 @@ abbrev pub ◌>>=◌ : {A B : Type 0} → Result A TypeFault → (A → Result B
 (Ok x) >>= f = f x
 (Err e) >>= f = Err e
 
--- a result seen by a view
-abbrev pub is_as : {T X : Type 0} → (T → X) → Result T TypeFault → Result X TypeFault
-is_as view (Ok x) = Ok (view x)
-is_as view (Err e) = Err e
-
 -- a cause is told just where it is the cause; want of memory is none
 abbrev pub IsCause : {X : Type 0} → TypeFault → Result X TypeFault → Type 0
 IsCause NoMemory r = Unit {0}

@@ -3,7 +3,7 @@
 use std::alloc::{AllocError, AllocFailed};
 
 /// The first cause why a query does not fit, on a walk that takes the operands of a node from left to right, and then the node.
-#[derive(Clone, Copy, Debug, PartialEq, Eq)]
+#[derive(Clone, Copy, PartialEq, Eq)]
 pub enum TypeFault {
     /// A name that no column has.
     UnknownName,

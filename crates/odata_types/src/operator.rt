@@ -3,7 +3,7 @@
 ghost use Rattle.std.specs.Prelude.{◌≡◌};
 ghost use Rattle.odata_types.specs.Result.{Gives};
 ghost use Rattle.odata_types.specs.TypedTree.{boxed_truth, decimal_difference, decimal_sum, typed_view};
-ghost use Rattle.odata_types.specs.Typing.{arithmetic_as as arithmetic_as_of, arithmetic_typing, binary_typing, common_type as common_type_of, comparison_as as comparison_as_of, comparison_typing, computed_size as computed_size_of, decimals_typing, integers_typing, logic_typing, type_of, unary_typing, within};
+ghost use Rattle.odata_types.specs.Typing.{arithmetic_typing, binary_typing, common_type as common_type_of, comparison_as as comparison_as_of, comparison_typing, computed_size as computed_size_of, decimals_typing, integers_typing, logic_typing, unary_typing, within};
 
 use crate::fault::TypeFault;
 use crate::operand::within;

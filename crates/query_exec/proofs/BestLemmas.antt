@@ -19,12 +19,13 @@ use Rattle.query_plan.specs.Plan.{node_view}
 use Rattle.query_plan.specs.Push.{room_of}
 use Rattle.query_plan.specs.declared.plan.Node.{Node}
 use Rattle.query_exec.specs.declared.run.Run.{Run}
+use Rattle.query_exec.specs.Gathers.{behind}
 use Rattle.query_exec.specs.Run.{steps_of}
 use Rattle.query_exec.specs.Taking.{HasCut, HasTaken}
-use Rattle.query_exec.specs.Useful.{are_plain, useful}
+use Rattle.query_exec.specs.Useful.{are_plain, steps_result, useful, StepsFit}
 use Rattle.query_exec.specs.Underway.{AreAll}
 use Rattle.block_filter.specs.Conditions.{joined}
-use Rattle.query_exec.proofs.PieceLemmas.{first_front, sliced_same}
+use Rattle.query_exec.proofs.PieceLemmas.{first_front, piece_same}
 use Rattle.query_exec.proofs.StepLemmas.{all_numbered}
 
 -- ---- items that are columns alone
@@ -133,33 +134,34 @@ useful_front law (aggregating aggregates ∷ ns) xs ys = refl
 useful_front law (grouping places aggregates ∷ ns) xs ys = refl
 useful_front law (sorting items ∷ ns) xs ys = refl
 useful_front law (choosing items most ∷ ns) xs ys = choosing_front items most ns law xs ys
-useful_front law (slicing s ∷ ns) xs ys = first_front (room_of s.skip s.top s.counts) xs ys
+useful_front law (slicing s ∷ ns) xs ys = first_front (room_of s.skip s.top false) xs ys
 useful_front law (projecting places ∷ ns) xs ys = refl
 
 -- of the rows that it has a use for it has a use
 pub useful_again : BestInPieces → (steps : List NodeOf) (xs : List (List CellValue)) → useful steps (useful steps xs) ≡ useful steps xs
 useful_again law steps xs = ap (useful steps) (sym (append-nil (useful steps xs))) ∙ useful_front law steps xs [] ∙ ap (useful steps) (append-nil xs)
 
+-- what the steps make of the rows that are kept of all is what they make of all
 pub useful_result : (steps : List NodeOf) (r : ResultOf) (xs zs : List (List CellValue)) → useful steps xs ≡ useful steps zs
-    → nodes_result steps (record r { rows = xs }) ≡ nodes_result steps (record r { rows = zs })
+    → steps_result steps (length zs) (record r { rows = xs }) ≡ nodes_result steps (record r { rows = zs })
 useful_result [] r xs zs e = ap (λ rows. Some (record r { rows = rows })) e
 useful_result (filtering c ∷ ns) r xs zs e = ap (λ rows. nodes_result (filtering c ∷ ns) (record r { rows = rows })) e
 useful_result (aggregating aggregates ∷ ns) r xs zs e = ap (λ rows. nodes_result (aggregating aggregates ∷ ns) (record r { rows = rows })) e
 useful_result (grouping places aggregates ∷ ns) r xs zs e = ap (λ rows. nodes_result (grouping places aggregates ∷ ns) (record r { rows = rows })) e
 useful_result (sorting items ∷ ns) r xs zs e = ap (λ rows. nodes_result (sorting items ∷ ns) (record r { rows = rows })) e
 useful_result (choosing items most ∷ ns) r xs zs e = ap (option_and_then (nodes_result ns)) (chosen_same items most ns r xs zs e)
-useful_result (slicing s ∷ ns) r xs zs e = ap (option_and_then (nodes_result ns)) (sliced_same s r xs zs e)
+useful_result (slicing s ∷ ns) r xs zs e = ap (option_and_then (nodes_result ns)) (piece_same s r xs zs e)
 useful_result (projecting places ∷ ns) r xs zs e = ap (λ rows. nodes_result (projecting places ∷ ns) (record r { rows = rows })) e
 
 pub useful_fit : (steps : List NodeOf) (r : ResultOf) (xs zs : List (List CellValue)) → useful steps xs ≡ useful steps zs → NodesFit steps (record r { rows = zs })
-    → NodesFit steps (record r { rows = xs })
+    → StepsFit steps (length zs) (record r { rows = xs })
 useful_fit [] r xs zs e fit = tt
 useful_fit (filtering c ∷ ns) r xs zs e fit = subst (λ rows. NodesFit (filtering c ∷ ns) (record r { rows = rows })) (sym e) fit
 useful_fit (aggregating aggregates ∷ ns) r xs zs e fit = subst (λ rows. NodesFit (aggregating aggregates ∷ ns) (record r { rows = rows })) (sym e) fit
 useful_fit (grouping places aggregates ∷ ns) r xs zs e fit = subst (λ rows. NodesFit (grouping places aggregates ∷ ns) (record r { rows = rows })) (sym e) fit
 useful_fit (sorting items ∷ ns) r xs zs e fit = subst (λ rows. NodesFit (sorting items ∷ ns) (record r { rows = rows })) (sym e) fit
 useful_fit (choosing items most ∷ ns) r xs zs e fit = choosing_fit items most ns r xs zs e fit
-useful_fit (slicing s ∷ ns) r xs zs e fit = (tt, λ made is. fit.1 made (sym (sliced_same s r xs zs e) ∙ is))
+useful_fit (slicing s ∷ ns) r xs zs e fit = (tt, λ made is. fit.1 made (sym (piece_same s r xs zs e) ∙ is))
 useful_fit (projecting places ∷ ns) r xs zs e fit = subst (λ rows. NodesFit (projecting places ∷ ns) (record r { rows = rows })) (sym e) fit
 
 -- ---- what is kept
@@ -177,17 +179,29 @@ alike_joined law steps (Some xs) (Some zs) (Some ys) e =
     let same = some_same (useful steps xs) (useful steps zs) e in
     ap (λ rows. Some rows) (sym (useful_front law steps xs ys) ∙ ap (λ front. useful steps (front ++ ys)) same ∙ useful_front law steps zs ys)
 
-pub alike_answer : (steps : List NodeOf) (r : ResultOf) (kept passed : Option (List (List CellValue))) → Alike steps kept passed
-    → option_and_then (λ rows. nodes_result steps (record r { rows = rows })) kept ≡ option_and_then (λ rows. nodes_result steps (record r { rows = rows })) passed
-alike_answer steps r None None e = refl
-alike_answer steps r None (Some zs) e = absurd (cc)
-alike_answer steps r (Some xs) None e = absurd (cc)
-alike_answer steps r (Some xs) (Some zs) e = useful_result steps r xs zs (some_same (useful steps xs) (useful steps zs) e)
+-- what the steps make of what is kept of so many that passed
+pub alike_answer : (steps : List NodeOf) (r : ResultOf) (many : ℕ) (kept passed : Option (List (List CellValue))) → Alike steps kept passed
+    → ((zs : List (List CellValue)) → passed ≡ Some zs → many ≡ length zs)
+    → option_and_then (λ rows. steps_result steps many (record r { rows = rows })) kept ≡ option_and_then (λ rows. nodes_result steps (record r { rows = rows })) passed
+alike_answer steps r many None None e count = refl
+alike_answer steps r many None (Some zs) e count = absurd (cc)
+alike_answer steps r many (Some xs) None e count = absurd (cc)
+alike_answer steps r many (Some xs) (Some zs) e count =
+    ap (λ n. steps_result steps n (record r { rows = xs })) (count zs refl) ∙ useful_result steps r xs zs (some_same (useful steps xs) (useful steps zs) e)
 
-pub alike_fit : (steps : List NodeOf) (r : ResultOf) (passed : Option (List (List CellValue))) (xs : List (List CellValue)) → Alike steps (Some xs) passed
-    → ((rows : List (List CellValue)) → passed ≡ Some rows → NodesFit steps (record r { rows = rows })) → NodesFit steps (record r { rows = xs })
-alike_fit steps r None xs e fit = absurd (cc)
-alike_fit steps r (Some zs) xs e fit = useful_fit steps r xs zs (some_same (useful steps xs) (useful steps zs) e) (fit zs refl)
+pub alike_fit : (steps : List NodeOf) (r : ResultOf) (many : ℕ) (passed : Option (List (List CellValue))) (xs : List (List CellValue)) → Alike steps (Some xs) passed
+    → ((zs : List (List CellValue)) → passed ≡ Some zs → many ≡ length zs)
+    → ((rows : List (List CellValue)) → passed ≡ Some rows → NodesFit steps (record r { rows = rows })) → StepsFit steps many (record r { rows = xs })
+alike_fit steps r many None xs e count fit = absurd (cc)
+alike_fit steps r many (Some zs) xs e count fit =
+    subst (λ n. StepsFit steps n (record r { rows = xs })) (sym (count zs refl)) (useful_fit steps r xs zs (some_same (useful steps xs) (useful steps zs) e) (fit zs refl))
+
+-- no condition divided by zero where rows passed
+pub none_faulted : (steps : List NodeOf) (faulted : Bool) (gone kept zs : List (List CellValue)) (passed : Option (List (List CellValue)))
+    → Alike steps (behind gone (cond faulted None (Some kept))) passed → passed ≡ Some zs → faulted ≡ false
+none_faulted steps false gone kept zs passed e is = refl
+none_faulted steps true gone kept zs None e is = absurd (cc)
+none_faulted steps true gone kept zs (Some rows) e is = absurd (cc)
 
 kept_alike : (steps : List NodeOf) (b : Bool) (xs zs : List (List CellValue)) → useful steps xs ≡ useful steps zs → Alike steps (cond b None (Some xs)) (cond b None (Some zs))
 kept_alike steps true xs zs e = refl
@@ -209,6 +223,7 @@ taken_and_cut old taken less rows has cut =
       };
       left_is = cut.left_is ∙ has.left_is;
       looks_on = cut.room_is ∙ has.looks_on;
+      counts_on = λ works. let on = has.counts_on (sym cut.faulted_is ∙ works) in (on.0, cut.count_is ∙ on.1);
       passed =
           ap (λ b. option_map (useful (steps_of old)) (cond b None (Some less.kept.rows))) cut.faulted_is
           ∙ kept_alike (steps_of old) taken.faulted less.kept.rows taken.kept.rows useful_are

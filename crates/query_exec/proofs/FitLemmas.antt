@@ -3,12 +3,9 @@ use Rattle.std.proofs.Common.{◌≡◌, ℕ, zero, suc, ◌<◌, List, [], ◌�
 use Rattle.std.specs.Prelude.{None, Some, IfSome, Option, option_map}
 use Rattle.std.specs.List.{All}
 use Rattle.std.proofs.lemmas.List.{length-map}
-use Rattle.cell_types.specs.Column.{ColumnOf}
-use Rattle.cell_types.specs.Value.{CellValue, null, integer, text, boolean, date, decimal}
+use Rattle.cell_types.specs.Value.{CellValue}
 use Rattle.csvw_meta.specs.Schema.{SchemaOf}
 use Rattle.odata_types.specs.TypedTree.{TruthExprOf}
-use Rattle.row_eval.specs.Input as inputs
-use Rattle.table_store.specs.Fits as fits
 use Rattle.table_store.specs.Fits.{HasTableRows, IsTableRow}
 use Rattle.table_store.specs.Table.{TableOf}
 use Rattle.row_columns.specs.Kinds.{kinds_of}
@@ -24,29 +21,14 @@ use Rattle.query_exec.specs.Run.{conditions_of, places_of, steps_of, StandsFor}
 use Rattle.query_exec.specs.Taking.{MayTake}
 use Rattle.query_exec.proofs.ConditionLemmas.{conditions_give}
 
--- a row of a table is one of the rows that the evaluation is for
-short_value : (v : CellValue) → fits.IsShortValue v → inputs.IsShortValue v
-short_value null h = tt
-short_value (integer n) h = tt
-short_value (text t) h = h
-short_value (boolean b) h = tt
-short_value (date y m d) h = tt
-short_value (decimal n) h = tt
-
-pub table_row : (columns : List ColumnOf) (row : List CellValue) → IsTableRow columns row → inputs.IsTableRow columns row
-table_row [] [] h = tt
-table_row [] (v ∷ row) h = absurd h
-table_row (c ∷ columns) [] h = absurd h
-table_row (c ∷ columns) (v ∷ row) h = (h.0, short_value v h.1, table_row columns row h.2)
-
 -- the rows of a table are rows that a plan is for
 pub are_rows : (table : TableOf) → HasTableRows table → AreTableRows table.schema table.rows
-are_rows table rows = record { each = λ k d h. table_row table.schema.columns _ (rows.each k d h); count = rows.count }
+are_rows table rows = record { each = rows.each; count = rows.count }
 
 -- so is one of them
 only : (schema : SchemaOf) (row : List CellValue) → IsTableRow schema.columns row → (k : ℕ) (d : List CellValue) → k < length (row ∷ [])
-    → inputs.IsTableRow schema.columns (get_or (row ∷ []) k d)
-only schema row is zero d h = table_row schema.columns row is
+    → IsTableRow schema.columns (get_or (row ∷ []) k d)
+only schema row is zero d h = is
 only schema row is (suc k) d h = absurd (omega (arith, h))
 
 one_row : (schema : SchemaOf) (row : List CellValue) → IsTableRow schema.columns row → AreTableRows schema (row ∷ [])

@@ -1,34 +1,30 @@
 -- Rows that are gathered, of which none is kept.
-use Rattle.std.proofs.Common.{◌≡◌, ℕ, ◌<◌, ◌≤◌, ◌^◌, suc, Bool, true, false, cond, Option, Some, None, List, [], ◌∷◌, ◌++◌, drop, filter, length, map, take, append-nil, append_assoc, refl, sym, ap, ◌∙◌, subst, arith}
-use Rattle.std.specs.Prelude.{option_and_then, option_map}
-use Rattle.std.specs.List.{All, list_any}
-use Rattle.std.proofs.lemmas.List.{get_or_append_left, length-append, length-map}
+use Rattle.std.proofs.Common.{◌≡◌, ℕ, ◌<◌, ◌^◌, suc, false, cond, Option, Some, None, List, [], ◌∷◌, ◌++◌, drop, length, map, take, append-nil, append_assoc, refl, sym, ap, ◌∙◌, subst, arith}
+use Rattle.std.specs.Prelude.{option_map}
+use Rattle.std.specs.List.{All}
+use Rattle.std.proofs.lemmas.List.{get_or_append_left, length-append}
 use Rattle.std.proofs.lemmas.List.Concat.{flat_map-append}
 use Rattle.block_summary.specs.Blocks.{block_at}
 use Rattle.cell_types.specs.Value.{CellValue}
 use Rattle.csvw_meta.specs.Schema.{SchemaOf}
 use Rattle.row_eval.specs.Input.{IsTableRow}
-use Rattle.odata_types.specs.TypedTree.{TruthExprOf}
-use Rattle.query_plan.specs.Filter.{faults, passes}
 use Rattle.query_plan.specs.Fitting.{AreTableRows, NodesFit}
 use Rattle.query_plan.specs.Laws.{ScansReadTableRows}
 use Rattle.query_plan.specs.Meaning.{ResultOf}
-use Rattle.query_plan.specs.Plan.{NodeOf, PlanOf, aggregating, choosing, filtering, grouping, leading, needed, node_view, projecting, slicing, sorting}
+use Rattle.query_plan.specs.Plan.{NodeOf, PlanOf, aggregating, choosing, filtering, grouping, leading, needed, node_result, node_view, projecting, slicing, sorting}
 use Rattle.query_plan.specs.Scan.{rows_of_blocks}
-use Rattle.row_columns.specs.Picked.{numbered, values_at}
+use Rattle.row_columns.specs.Picked.{numbered}
 use Rattle.row_groups.specs.declared.gathering.Gathering.{Gathering}
 use Rattle.row_groups.specs.Gathered.{Joins, MayJoin}
 use Rattle.table_store.specs.Table.{TableOf}
-use Rattle.block_filter.specs.Conditions.{joined, passing_all}
+use Rattle.block_filter.specs.Conditions.{joined}
 use Rattle.query_exec.specs.declared.run.Run.{Run}
 use Rattle.query_exec.specs.Gathers.{behind, GathersFor, KeepsNone, MayGather}
-use Rattle.query_exec.specs.Picked.{selected_rows}
 use Rattle.query_exec.specs.Run.{handed_rows, rows_so_far, steps_of}
 use Rattle.query_exec.specs.Taking.{passed_rows, taken_rows, HasGathered, HasTaken, HasTakenIn}
 use Rattle.query_exec.specs.Underway.{AreAll}
-use Rattle.query_exec.specs.Useful.{useful}
+use Rattle.query_exec.specs.Useful.{first_result, useful}
 use Rattle.query_exec.proofs.BestLemmas.{some_same, Alike}
-use Rattle.query_exec.proofs.ConditionLemmas.{some_selected}
 use Rattle.query_exec.proofs.StepLemmas.{aggregate_fits, all_numbered}
 
 -- ---- where rows are gathered the first step has a use for each
@@ -46,6 +42,17 @@ uses_all (projecting places ∷ ns) g gone at rows = absurd at
 of_all : (steps : List NodeOf) → ((rows : List (List CellValue)) → useful steps rows ≡ rows) → (rows : Option (List (List CellValue))) → option_map (useful steps) rows ≡ rows
 of_all steps all None = refl
 of_all steps all (Some rows) = ap (λ rs. Some rs) (all rows)
+
+-- and what it makes of them is what it makes of all
+pub same_result : (n : NodeOf) (g : Gathering) (gone : List (List CellValue)) → GathersFor (n ∷ []) (Some g) gone → (passed : ℕ) (r : ResultOf)
+    → node_result n r ≡ first_result n passed r
+same_result (filtering e) g gone at passed r = absurd at
+same_result (aggregating aggregates) g gone at passed r = refl
+same_result (grouping places aggregates) g gone at passed r = refl
+same_result (sorting items) g gone at passed r = absurd at
+same_result (choosing items most) g gone at passed r = absurd at
+same_result (slicing s) g gone at passed r = absurd at
+same_result (projecting places) g gone at passed r = absurd at
 
 pub same_of : (steps : List NodeOf) (g : Gathering) (gone : List (List CellValue)) → GathersFor steps (Some g) gone → (kept passed : Option (List (List CellValue)))
     → Alike steps kept passed → kept ≡ passed
@@ -97,6 +104,8 @@ gathered_all old new g h numbers works at all joins is kinds none = record {
   };
   left_is = ap (λ (r : Run). r.left) is;
   room_is = ap (λ (r : Run). r.room) is;
+  count_is = ap (λ (r : Run). r.count) is;
+  faulted_is = ap (λ (r : Run). r.faulted) is;
   keeps_none = λ still x e. none;
   passed = λ gone gathers.
       let kept = old.kept.rows in (
@@ -115,6 +124,8 @@ gathered_none run none = record {
   same = record { conditions = refl; places = refl; steps = refl; names = refl; stage = refl; kinds = refl };
   left_is = refl;
   room_is = refl;
+  count_is = refl;
+  faulted_is = refl;
   keeps_none = none;
   passed = λ gone gathers. (gone, gathers, refl);
 }
@@ -150,6 +161,9 @@ taken_and_gathered old less more new rows has gathered left is =
       };
       left_are = left ∙ ap (λ (q : _). drop 1 q.items) (gathered.left_is ∙ has.left_is);
       looks_on = ap (λ (r : Run). r.room) is ∙ gathered.room_is ∙ has.looks_on;
+      counts_on = λ works.
+          let on = has.counts_on (sym gathered.faulted_is ∙ sym (ap (λ (r : Run). r.faulted) is) ∙ works) in
+          (on.0, ap (λ (r : Run). r.count) is ∙ gathered.count_is ∙ on.1);
       keeps_none = subst (λ (r : Run). r.faulted ≡ false → KeepsNone r.gathering r.kept.rows) (sym is) gathered.keeps_none;
       passed = λ gone gathers.
           let after = gathered.passed gone (subst (λ ns. GathersFor ns less.gathering gone) steps_are (subst (λ gs. GathersFor (steps_of old) gs gone) (sym has.same.gathering) gathers)) in (
@@ -164,40 +178,6 @@ taken_and_gathered old less more new rows has gathered left is =
     }
 
 -- ---- what is computed of the rows that come fits
-
-fewer_kept : {X : Type 0} (keeps : X → Bool) (xs : List X) → length (filter keeps xs) ≤ length xs
-fewer_kept keeps [] = omega arith
-fewer_kept keeps (x ∷ xs) = by (keeps x) (fewer_kept keeps xs)
-  where
-    by : (b : Bool) → length (filter keeps xs) ≤ length xs → length (cond b (x ∷ filter keeps xs) (filter keeps xs)) ≤ suc (length xs)
-    by true h = omega arith
-    by false h = omega arith
-
-fewer_pass : (es : List TruthExprOf) (rows kept : List (List CellValue)) → passing_all es rows ≡ Some kept → length kept ≤ length rows
-fewer_pass [] rows kept is = let same = ap length (some_same rows kept is) in omega (arith, same)
-fewer_pass (e ∷ es) rows kept is = by (list_any (faults e) rows) is (fewer_pass es (filter (passes e) rows) kept)
-  where
-    by : (b : Bool) → option_and_then (passing_all es) (cond b None (Some (filter (passes e) rows))) ≡ Some kept
-        → (passing_all es (filter (passes e) rows) ≡ Some kept → length kept ≤ length (filter (passes e) rows)) → length kept ≤ length rows
-    by true h less = absurd (cc)
-    by false h less =
-        let few = less h in
-        let fewer = fewer_kept (passes e) rows in
-        omega (arith, few, fewer)
-
-selected_long : (picked : Option (List ℕ)) (rows : List (List CellValue)) → length (selected_rows picked rows) ≡ length rows
-selected_long None rows = refl
-selected_long (Some places) rows = length-map rows (values_at places)
-
--- no more rows pass than there are
-pub few_pass : (es : List TruthExprOf) (picked : Option (List ℕ)) (rows kept : List (List CellValue)) → option_map (selected_rows picked) (passing_all es rows) ≡ Some kept
-    → length kept ≤ length rows
-few_pass es picked rows kept is =
-    let some = some_selected picked (passing_all es rows) kept is in
-    let less = fewer_pass es rows some.0 some.1 in
-    let same = selected_long picked some.0 in
-    let last = ap length some.2 in
-    omega (arith, less, same, last)
 
 in_two : {X : Type 0} (n : ℕ) (xs : List X) → xs ≡ take n xs ++ drop n xs
 in_two ℕ.zero xs = refl

@@ -1,6 +1,6 @@
 -- What a run has behind the rows of a block.
-use Rattle.std.proofs.Common.{◌≡◌, ℕ, Bool, true, false, ◌||◌, cond, Option, None, Some, List, ◌++◌, refl, sym, ap, ◌∙◌, subst}
-use Rattle.std.specs.Prelude.{OnOk, Result, Ok, Err, option_map}
+use Rattle.std.proofs.Common.{◌≡◌, ℕ, ◌+◌, ◌<◌, ◌^◌, Bool, true, false, ◌||◌, cond, Option, None, Some, List, ◌++◌, refl, sym, ap, ◌∙◌, subst}
+use Rattle.std.specs.Prelude.{OnOk, Result, Ok, Err, count_by, option_map}
 use Rattle.cell_types.specs.Value.{CellValue}
 use Rattle.row_columns.specs.Picked.{numbered}
 use Rattle.block_filter.specs.declared.lanes.Lanes.{Lanes}
@@ -9,10 +9,11 @@ use Rattle.query_exec.specs.Picked.{selected_rows}
 use Rattle.query_exec.specs.Run.{conditions_of, places_of, steps_of}
 use Rattle.block_filter.specs.declared.block.Passed.{Passed}
 use Rattle.block_filter.specs.Passing.{unless_faulted, ArePassing}
-use Rattle.query_exec.specs.Taking.{room_behind, HasKept, HasTaken, IsSpare, LooksOn}
+use Rattle.query_exec.specs.Taking.{room_behind, HasKept, HasTaken, IsSpare, LooksOn, MayCount}
 use Rattle.query_exec.specs.Useful.{useful}
 use Rattle.block_filter.specs.Conditions.{joined, passing_all}
 use Rattle.query_plan.specs.Meaning.{first_rows}
+use Rattle.query_plan.specs.Scan.{passes_each}
 use Rattle.query_exec.proofs.PieceLemmas.{first_selected}
 
 looks_on : (old new : Run) (most : Option ℕ) (rows : List (List CellValue)) (found : Passed) → ArePassing (conditions_of old) most rows found
@@ -29,10 +30,11 @@ none_first most None is = refl
 none_first most (Some all) is = absurd (cc)
 
 -- a run that keeps the rows that pass
-pub taken_some : (old mid new : Run) (most : Option ℕ) (rows : List (List CellValue)) (found : Passed) → mid ≡ record old { lanes = mid.lanes; room = mid.room; faulted = mid.faulted }
-    → mid.room ≡ room_behind old.room found.count → IsSpare old most → ArePassing (conditions_of old) most rows found → mid.faulted ≡ false → old.faulted ≡ false → found.faulted ≡ false
+pub taken_some : (old mid new : Run) (most : Option ℕ) (rows : List (List CellValue)) (found : Passed)
+    → mid ≡ record old { lanes = mid.lanes; room = mid.room; count = mid.count; faulted = mid.faulted }
+    → mid.room ≡ room_behind old.room found.count → mid.count ≡ old.count + found.count → IsSpare old most → ArePassing (conditions_of old) most rows found → mid.faulted ≡ false → old.faulted ≡ false → found.faulted ≡ false
     → HasKept mid new (selected_rows (places_of old) (numbered found.numbers.items rows)) → HasTaken old new rows
-taken_some old mid new most rows found is room spare are now was none kept = record {
+taken_some old mid new most rows found is room count spare are now was none kept = record {
   same = record {
     conditions = kept.same.conditions ∙ ap (λ (r : Run). r.conditions) is;
     places = kept.same.places ∙ ap (λ (r : Run). r.places) is;
@@ -44,6 +46,7 @@ taken_some old mid new most rows found is room spare are now was none kept = rec
   };
   left_is = kept.left_is ∙ ap (λ (r : Run). r.left) is;
   looks_on = looks_on old new most rows found are (kept.room_is ∙ room);
+  counts_on = λ works. (was, kept.count_is ∙ count ∙ ap (λ n. old.count + n) are.count);
   passed =
       let steps = steps_of old in
       let picked = selected_rows (places_of old) in
@@ -65,14 +68,19 @@ or_right : (a b : Bool) → (a || b) ≡ false → b ≡ false
 or_right true b h = absurd (cc)
 or_right false b h = h
 
-pub kept_is_taken : {X E : Type 0} (old new : Run) (lanes : Lanes) (room most : Option ℕ) (rows : List (List CellValue)) (found : Passed) (result : Result X E)
-    → room ≡ room_behind old.room found.count → IsSpare old most → ArePassing (conditions_of old) most rows found → (old.faulted || found.faulted) ≡ false
-    → OnOk result (HasKept (record old { lanes = lanes; room = room; faulted = old.faulted || found.faulted }) new (selected_rows (places_of old) (numbered found.numbers.items rows)))
+pub kept_is_taken : {X E : Type 0} (old new : Run) (lanes : Lanes) (room most : Option ℕ) (count : ℕ) (rows : List (List CellValue)) (found : Passed) (result : Result X E)
+    → room ≡ room_behind old.room found.count → count ≡ old.count + found.count → IsSpare old most → ArePassing (conditions_of old) most rows found → (old.faulted || found.faulted) ≡ false
+    → OnOk result (HasKept (record old { lanes = lanes; room = room; count = count; faulted = old.faulted || found.faulted }) new (selected_rows (places_of old) (numbered found.numbers.items rows)))
     → OnOk result (HasTaken old new rows)
-kept_is_taken old new lanes room most rows found (Ok x) is spare are none kept =
-    taken_some old (record old { lanes = lanes; room = room; faulted = old.faulted || found.faulted }) new most rows found refl is spare are none (or_left old.faulted found.faulted none)
+kept_is_taken old new lanes room most count rows found (Ok x) is counts spare are none kept =
+    taken_some old (record old { lanes = lanes; room = room; count = count; faulted = old.faulted || found.faulted }) new most rows found refl is counts spare are none (or_left old.faulted found.faulted none)
     (or_right old.faulted found.faulted none) kept
-kept_is_taken old new lanes room most rows found (Err e) is spare are none kept = kept
+kept_is_taken old new lanes room most count rows found (Err e) is counts spare are none kept = kept
+
+-- what passes may be counted
+pub count_fits : (run : Run) (most : Option ℕ) (rows : List (List CellValue)) (found : Passed) → ArePassing (conditions_of run) most rows found
+    → (run.faulted || found.faulted) ≡ false → MayCount run rows → run.count + found.count < 2 ^ 64
+count_fits run most rows found are none may = subst (λ n. run.count + n < 2 ^ 64) (sym are.count) (may (or_left run.faulted found.faulted none))
 
 -- a run that keeps none, since a condition divided by zero
 none_joined : (picked : Option (List ℕ)) (was faulted : Bool) (kept : List (List CellValue)) (passed : Option (List (List CellValue))) → (was || faulted) ≡ true
@@ -87,8 +95,22 @@ taken_none old lanes room most rows found is are faults = record {
   same = record { conditions = refl; places = refl; steps = refl; names = refl; stage = refl; gathering = refl; kinds = refl };
   left_is = refl;
   looks_on = is ∙ ap (room_behind old.room) are.count;
+  counts_on = λ works. let no : true ≡ false = sym faults ∙ works in absurd (cc);
   passed =
       ap (λ b. option_map (useful (steps_of old)) (cond b None (Some old.kept.rows))) faults
       ∙ ap (option_map (useful (steps_of old))) (sym (none_joined (places_of old) old.faulted found.faulted old.kept.rows (passing_all (conditions_of old) rows) faults
       (λ b. none_first most (passing_all (conditions_of old) rows) (are.passed ∙ ap (λ f. unless_faulted f (numbered found.numbers.items rows)) b))));
+}
+
+-- a run that looks at no block, since a condition divided by zero before and nothing stops it
+pub not_taken : (run : Run) (rows : List (List CellValue)) → run.faulted ≡ true → run.room ≡ None → HasTaken run run rows
+not_taken run rows faults none = record {
+  same = record { conditions = refl; places = refl; steps = refl; names = refl; stage = refl; gathering = refl; kinds = refl };
+  left_is = refl;
+  looks_on = none ∙ sym (ap (λ room. room_behind room (count_by (passes_each (conditions_of run)) rows)) none);
+  counts_on = λ works. let no : true ≡ false = sym faults ∙ works in absurd (cc);
+  passed =
+      let passed = option_map (selected_rows (places_of run)) (passing_all (conditions_of run) rows) in
+      ap (λ b. option_map (useful (steps_of run)) (cond b None (Some run.kept.rows))) faults
+      ∙ sym (ap (λ b. option_map (useful (steps_of run)) (joined (cond b None (Some run.kept.rows)) passed)) faults);
 }

@@ -1,5 +1,5 @@
 -- What a first step makes of the rows that were gathered for it.
-use Rattle.std.proofs.Common.{◌≡◌, ℕ, ◌+◌, ◌-◌, ◌<◌, Bool, true, false, cond, Option, Some, None, List, [], ◌∷◌, ◌++◌, drop, get_or, length, map, take, sym, ap, ◌∙◌, subst, arith}
+use Rattle.std.proofs.Common.{◌≡◌, ℕ, ◌+◌, ◌-◌, ◌<◌, Bool, true, false, cond, Option, Some, None, List, [], ◌∷◌, ◌++◌, drop, get_or, length, map, take, refl, sym, ap, ◌∙◌, subst, arith}
 use Rattle.std.specs.Prelude.{Err, IsErrAnd, Ok, Result, option_and_then, slice_get, string_bytes}
 use Rattle.std.proofs.lemmas.List.{length-append, length-map, take_all}
 use Rattle.cell_types.specs.Value.{CellValue}
@@ -9,6 +9,8 @@ use Rattle.query_plan.specs.Fitting.{NodesFit}
 use Rattle.query_plan.specs.Meaning.{ResultOf}
 use Rattle.query_plan.specs.Plan.{NodeOf, aggregating, choosing, filtering, grouping, node_result, node_view, nodes_result, projecting, slicing, sorting}
 use Rattle.query_plan.specs.declared.plan.Node.{Node}
+use Rattle.query_plan.specs.declared.plan.Node.TheVariants as variants
+use Rattle.query_plan.specs.declared.plan.Slice.{Slice}
 use Rattle.row_eval.specs.declared.fault.EvalFault.{EvalFault}
 use Rattle.row_eval.specs.declared.fault.EvalFault.TheVariants.{DivisionByZero, NoMemory}
 use Rattle.row_groups.specs.declared.gathering.Gathering.{Gathering}
@@ -21,7 +23,8 @@ use Rattle.query_exec.specs.declared.fault.ExecFault.{ExecFault}
 use Rattle.query_exec.specs.Fault.{exec_fault}
 use Rattle.query_exec.specs.Rows.{RowsOf}
 use Rattle.query_exec.specs.Run.{kept_result, steps_of, wanted_block, GoesOn, IsKeptAnswer, IsReady}
-use Rattle.query_exec.specs.Underway.{underway_view, Makes}
+use Rattle.query_exec.specs.Underway.{underway_view, GivesUnderway, IsUnderway, Makes}
+use Rattle.query_exec.specs.Useful.{first_result, steps_result, StepsFit}
 
 -- ---- the first step alone
 
@@ -99,9 +102,9 @@ named_long view names places all is = sym (length-map names view) ∙ ap length 
 module _ (run : Run) where
   abbrev answer_of : List (List CellValue) → Bool → Option ResultOf
   answer_of gone faulted =
-      option_and_then (λ rows. nodes_result (steps_of run) (record (kept_result run) { rows = rows })) (behind gone (cond faulted None (Some run.kept.rows)))
+      option_and_then (λ rows. steps_result (steps_of run) run.count (record (kept_result run) { rows = rows })) (behind gone (cond faulted None (Some run.kept.rows)))
 
-  pub ready_made : IsReady run → run.faulted ≡ false → MayBeMade (steps_of run) (map string_bytes run.names.items) run.gathering run.kept.rows
+  pub ready_made : IsReady run → run.faulted ≡ false → MayBeMade (steps_of run) (map string_bytes run.names.items) run.gathering run.kept.rows run.count
   ready_made ready works = record {
     gone = ready.gone;
     gathers = ready.gathered.gathers;
@@ -111,7 +114,7 @@ module _ (run : Run) where
   -- unless a condition divided by zero it is that of all rows that passed
   pub answer_made : (answer : Option ResultOf) → run.faulted ≡ false
       → ((gone : List (List CellValue)) → GathersFor (steps_of run) run.gathering gone
-      → nodes_result (steps_of run) (uncounted (map string_bytes run.names.items) (gone ++ run.kept.rows)) ≡ answer) → IsKeptAnswer run answer
+      → steps_result (steps_of run) run.count (uncounted (map string_bytes run.names.items) (gone ++ run.kept.rows)) ≡ answer) → IsKeptAnswer run answer
   answer_made answer works each = λ gone g. ap (answer_of gone) works ∙ each gone g.gathers
 
   pub answer_none : run.faulted ≡ true → IsKeptAnswer run None
@@ -126,16 +129,56 @@ others_are (n ∷ ns) first is some =
     ap (λ m. m ∷ ns) (sym is) ∙ ap (λ rest. first ∷ rest) (sym (ap (λ k. take k ns) less ∙ take_all (length ns) ns (omega arith)))
 
 -- what the first made fits them, and what they make of it is what all make
-pub first_fits : (n : NodeOf) (ns : List NodeOf) (r : ResultOf) (made : Underway) → NodesFit (n ∷ ns) r → Makes (node_result n r) made → NodesFit ns (underway_view made)
-first_fits n ns r made fit makes = fit.1 (underway_view made) makes.result
+pub first_fits : (n : NodeOf) (ns : List NodeOf) (passed : ℕ) (r : ResultOf) (made : Underway) → StepsFit (n ∷ ns) passed r → Makes (first_result n passed r) made
+    → NodesFit ns (underway_view made)
+first_fits n ns passed r made fit makes = fit.1 (underway_view made) makes.result
 
-pub first_gives : (n : NodeOf) (ns : List NodeOf) (r : ResultOf) (made : Underway) → Makes (node_result n r) made
-    → nodes_result ns (underway_view made) ≡ nodes_result (n ∷ ns) r
-first_gives n ns r made makes = sym (ap (option_and_then (nodes_result ns)) makes.result)
+pub first_gives : (n : NodeOf) (ns : List NodeOf) (passed : ℕ) (r : ResultOf) (made : Underway) → Makes (first_result n passed r) made
+    → nodes_result ns (underway_view made) ≡ steps_result (n ∷ ns) passed r
+first_gives n ns passed r made makes = sym (ap (option_and_then (nodes_result ns)) makes.result)
+
+pub first_faults : (n : NodeOf) (ns : List NodeOf) (passed : ℕ) (r : ResultOf) (fault : EvalFault) → GivesUnderway (first_result n passed r) (Err fault)
+    → GivesUnderway (steps_result (n ∷ ns) passed r) (Err fault)
+first_faults n ns passed r DivisionByZero is = ap (option_and_then (nodes_result ns)) is
+first_faults n ns passed r NoMemory is = tt
+
+-- any step but a piece makes of the rows that are kept what it makes of all
+pub other_first : (n : Node) (passed : ℕ) (r : ResultOf) → ((s : Slice) → n ≡ variants.Slice s → ⊥) → node_result (node_view n) r ≡ first_result (node_view n) passed r
+other_first (variants.Filter e) passed r other = refl
+other_first (variants.Aggregate aggregates) passed r other = refl
+other_first (variants.Group places aggregates) passed r other = refl
+other_first (variants.Sort items) passed r other = refl
+other_first (variants.Best items most) passed r other = refl
+other_first (variants.Slice s) passed r other = absurd (other s refl)
+other_first (variants.Project places) passed r other = refl
+
+-- no step makes of them what they are
+pub none_left : (nodes : List Node) (passed : ℕ) (r : ResultOf) (u : Underway) → length nodes < 1 → underway_view u ≡ r → IsUnderway u
+    → Makes (steps_result (map node_view nodes) passed r) u
+none_left [] passed r u few is under = record { result = ap (λ made. Some made) (sym is); underway = under }
+none_left (n ∷ ns) passed r u few is under = absurd (omega (arith, few))
+
+-- ---- where there is no step, what is kept is the result
+
+no_more : (steps : List NodeOf) (gathering : Option Gathering) (gone : List (List CellValue)) → steps ≡ [] → GathersFor steps gathering gone → gone ≡ []
+no_more [] None gone is at = at
+no_more [] (Some g) gone is at = absurd at
+no_more (n ∷ ns) gathering gone is at = absurd (cc)
+
+pub kept_goes_on : (old new : Run) (rows : RowsOf) → wanted_block old ≡ None → old.faulted ≡ false → steps_of old ≡ [] → rows ≡ kept_result old
+    → GoesOn old new (Ok (Some rows))
+kept_goes_on old new rows beyond works none is = (
+  beyond,
+  answer_made old (Some rows) works (λ gone gathers.
+      let names = map string_bytes old.names.items in
+      ap (λ steps. steps_result steps old.count (uncounted names (gone ++ old.kept.rows))) none
+      ∙ ap (λ first. Some (uncounted names (first ++ old.kept.rows))) (no_more (steps_of old) old.gathering gone none gathers)
+      ∙ ap (λ made. Some made) (sym is)),
+)
 
 -- a fault of the steps is one of the run
 pub err_goes_on : (old new : Run) (fault : EvalFault) → wanted_block old ≡ None → old.faulted ≡ false
-    → GivesOfGathered (steps_of old) (map string_bytes old.names.items) old.gathering old.kept.rows (Err fault)
+    → GivesOfGathered (steps_of old) (map string_bytes old.names.items) old.gathering old.kept.rows old.count (Err fault)
     → GoesOn old new (Err (exec_fault fault))
 err_goes_on old new DivisionByZero beyond works each = (beyond, answer_made old None works each)
 err_goes_on old new NoMemory beyond works each = tt
@@ -147,6 +190,6 @@ residual_goes_on old new fault (Err made) is goes = subst (λ f. GoesOn old new 
 
 pub fault_goes_on : (old new : Run) (fault : EvalFault) (result : Result (Option RowsOf) ExecFault) → IsErrAnd result (λ made. made ≡ exec_fault fault)
     → wanted_block old ≡ None → old.faulted ≡ false
-    → GivesOfGathered (steps_of old) (map string_bytes old.names.items) old.gathering old.kept.rows (Err fault)
+    → GivesOfGathered (steps_of old) (map string_bytes old.names.items) old.gathering old.kept.rows old.count (Err fault)
     → GoesOn old new result
 fault_goes_on old new fault result is beyond works each = residual_goes_on old new fault result is (err_goes_on old new fault beyond works each)

@@ -16,7 +16,7 @@ use Rattle.query_exec.specs.Gathers.{uncounted}
 use Rattle.query_exec.specs.Picked.{selected_rows}
 use Rattle.query_exec.specs.Taking.{room_behind, IsSpare}
 use Rattle.query_exec.specs.Underway.{AreBetween, AreOfPiece, Makes}
-use Rattle.query_exec.specs.Useful.{useful}
+use Rattle.query_exec.specs.Useful.{first_result, piece_of_kept, useful}
 use Rattle.query_exec.proofs.StepLemmas.{between_numbered, between_within}
 
 take_same : {X : Type 0} (n : ℕ) (xs : List X) → take n (take n xs) ≡ take n xs
@@ -30,43 +30,21 @@ sized skip top true rows = ap (take top) (drop-take skip top rows) ∙ take_same
 sized skip top false rows = refl
 
 -- is that of all
-piece_first : (skip : ℕ) (top : Option ℕ) (counts : Bool) (rows : List (List CellValue))
-    → first_rows top (drop skip (first_rows (room_of skip top counts) rows)) ≡ first_rows top (drop skip rows)
-piece_first skip None true rows = refl
-piece_first skip None false rows = refl
-piece_first skip (Some zero) true rows = refl
-piece_first skip (Some zero) false rows = refl
-piece_first skip (Some (suc top)) true rows = refl
-piece_first skip (Some (suc top)) false rows = sized skip (suc top) (nat_lt (skip + suc top) (2 ^ 64)) rows
-
-no_room : (skip : ℕ) (top : Option ℕ) → room_of skip top true ≡ None
-no_room skip None = refl
-no_room skip (Some zero) = refl
-no_room skip (Some (suc top)) = refl
+piece_first : (skip : ℕ) (top : Option ℕ) (rows : List (List CellValue))
+    → first_rows top (drop skip (first_rows (room_of skip top false) rows)) ≡ first_rows top (drop skip rows)
+piece_first skip None rows = refl
+piece_first skip (Some zero) rows = refl
+piece_first skip (Some (suc top)) rows = sized skip (suc top) (nat_lt (skip + suc top) (2 ^ 64)) rows
 
 abbrev first_of : SliceOf → List (List CellValue) → List (List CellValue)
-first_of s rows = first_rows (room_of s.skip s.top s.counts) rows
+first_of s rows = first_rows (room_of s.skip s.top false) rows
 
--- a piece of rows of which it has a use for the same
-pub sliced_same : (s : SliceOf) (r : ResultOf) (xs zs : List (List CellValue)) → first_of s xs ≡ first_of s zs
-    → node_result (slicing s) (record r { rows = xs }) ≡ node_result (slicing s) (record r { rows = zs })
-sliced_same s r xs zs e = by_count s.counts refl
-  where
-    rows_are : first_rows s.top (drop s.skip xs) ≡ first_rows s.top (drop s.skip zs)
-    rows_are =
-        sym (piece_first s.skip s.top s.counts xs) ∙ ap (λ rows. first_rows s.top (drop s.skip rows)) e ∙ piece_first s.skip s.top s.counts zs
-
-    all_are : s.counts ≡ true → xs ≡ zs
-    all_are counts =
-        let none : room_of s.skip s.top s.counts ≡ None = ap (room_of s.skip s.top) counts ∙ no_room s.skip s.top in
-        ap (λ room. first_rows room xs) (sym none) ∙ e ∙ ap (λ room. first_rows room zs) none
-
-    by_count : (b : Bool) → s.counts ≡ b → node_result (slicing s) (record r { rows = xs }) ≡ node_result (slicing s) (record r { rows = zs })
-    by_count true is = ap (λ rows. node_result (slicing s) (record r { rows = rows })) (all_are is)
-    by_count false is =
-        ap (λ b. Some (record { names = r.names; rows = first_rows s.top (drop s.skip xs); count = cond b (Some (length xs)) r.count })) is
-        ∙ ap (λ rows. Some (record { names = r.names; rows = rows; count = r.count })) rows_are
-        ∙ ap (λ b. Some (record { names = r.names; rows = first_rows s.top (drop s.skip zs); count = cond b (Some (length zs)) r.count })) (sym is)
+-- a piece of the rows that are kept of all, which has a use for the same of both
+pub piece_same : (s : SliceOf) (r : ResultOf) (xs zs : List (List CellValue)) → first_of s xs ≡ first_of s zs
+    → first_result (slicing s) (length zs) (record r { rows = xs }) ≡ node_result (slicing s) (record r { rows = zs })
+piece_same s r xs zs e =
+    ap (λ rows. Some (record { names = r.names; rows = rows; count = cond s.counts (Some (length zs)) r.count }))
+    (sym (piece_first s.skip s.top xs) ∙ ap (λ rows. first_rows s.top (drop s.skip rows)) e ∙ piece_first s.skip s.top zs)
 
 -- ---- rows behind others
 
@@ -93,7 +71,7 @@ same_node n node e = cc
 
 -- of rows behind those that are kept a piece has a use for so many alone
 pub piece_spare : (run : Run) (node : Node) (s : SliceOf) (most : Option ℕ) → slice_get run.steps.items 0 ≡ Some node → node_view node ≡ slicing s
-    → most ≡ room_behind (room_of s.skip s.top s.counts) (length run.kept.rows) → IsSpare run most
+    → most ≡ room_behind (room_of s.skip s.top false) (length run.kept.rows) → IsSpare run most
 piece_spare run node s most at is left rows = of_steps run.steps.items at
   where
     of_steps : (steps : List Node) → slice_get steps 0 ≡ Some node
@@ -102,7 +80,7 @@ piece_spare run node s most at is left rows = of_steps run.steps.items at
     of_steps (n ∷ ns) at =
         let first : node_view n ≡ slicing s = ap node_view (same_node n node at) ∙ is in
         subst (λ step. useful (step ∷ map node_view ns) (run.kept.rows ++ first_rows most rows) ≡ useful (step ∷ map node_view ns) (run.kept.rows ++ rows)) (sym first)
-        (ap (λ m. first_rows (room_of s.skip s.top s.counts) (run.kept.rows ++ first_rows m rows)) left ∙ first_behind (room_of s.skip s.top s.counts) run.kept.rows rows)
+        (ap (λ m. first_rows (room_of s.skip s.top false) (run.kept.rows ++ first_rows m rows)) left ∙ first_behind (room_of s.skip s.top false) run.kept.rows rows)
 
 -- any other step may have a use for each
 pub all_spare : (run : Run) → IsSpare run None
@@ -116,7 +94,7 @@ first_selected None most rows = refl
 first_selected (Some places) None rows = refl
 first_selected (Some places) (Some n) rows = sym (take-map (values_at places) n rows)
 
--- ---- a piece of all rows, by the numbers of its own
+-- ---- a piece of rows, by the numbers of its own
 
 module _ (s : SliceOf) (len start end : ℕ) (numbers : List ℕ) (start_is : start ≡ min s.skip len) (are : AreBetween numbers start end) where
   behind : (rows : List (List CellValue)) → length rows ≡ len → drop start rows ≡ drop s.skip rows
@@ -157,12 +135,12 @@ module _ (s : SliceOf) (len start end : ℕ) (numbers : List ℕ) (start_is : st
       many : end - start ≡ min top (len - start)
       many = omega (arith, end_is)
 
--- what the piece makes
-pub piece_made : (s : SliceOf) (u : Underway) → length u.columns.kinds ≡ length u.names.items → AreOfPiece s (length u.columns.rows) u.numbers.items
-    → u.count ≡ cond s.counts (Some (length u.columns.rows)) None → Makes (node_result (slicing s) (uncounted (map string_bytes u.names.items) u.columns.rows)) u
-piece_made s u width are count_is = record {
+-- what the piece makes of those that are kept of so many that passed
+pub piece_made : (s : SliceOf) (passed : ℕ) (u : Underway) → length u.columns.kinds ≡ length u.names.items → AreOfPiece s (length u.columns.rows) u.numbers.items
+    → u.count ≡ cond s.counts (Some passed) None → Makes (Some (piece_of_kept s passed (uncounted (map string_bytes u.names.items) u.columns.rows))) u
+piece_made s passed u width are count_is = record {
   result =
-      ap (λ rows. Some (record { names = map string_bytes u.names.items; rows = rows; count = cond s.counts (Some (length u.columns.rows)) None })) (sym (are.rows_are u.columns.rows refl))
+      ap (λ rows. Some (record { names = map string_bytes u.names.items; rows = rows; count = cond s.counts (Some passed) None })) (sym (are.rows_are u.columns.rows refl))
       ∙ ap (λ count. Some (record { names = map string_bytes u.names.items; rows = numbered u.numbers.items u.columns.rows; count = count })) (sym count_is);
   underway = record { within = are.within; width = width };
 }

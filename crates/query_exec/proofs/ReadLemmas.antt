@@ -1,5 +1,5 @@
 -- What a run has that was handed the first so many of the blocks that are needed.
-use Rattle.std.proofs.Common.{◌≡◌, ℕ, ◌+◌, ◌<◌, Option, Some, None, List, [], ◌∷◌, ◌++◌, length, map, drop, get_or, refl, sym, ap, ◌∙◌, subst, string_bytes}
+use Rattle.std.proofs.Common.{◌≡◌, ℕ, ◌+◌, ◌<◌, false, Option, Some, None, List, [], ◌∷◌, ◌++◌, length, map, drop, get_or, refl, sym, ap, ◌∙◌, subst, string_bytes}
 use Rattle.std.specs.List.{All}
 use Rattle.std.specs.Prelude.{IfSome, count_by, option_and_then, option_map, slice_get}
 use Rattle.std.proofs.lemmas.List.{length-map}
@@ -26,10 +26,11 @@ use Rattle.query_exec.specs.Picked.{selected_kinds, selected_rows}
 use Rattle.query_exec.specs.Run.{conditions_of, handed_rows, kept_answer, kept_result, next_block, places_of, rows_so_far, steps_of, wanted_block, IsReady, StandsFor}
 use Rattle.query_exec.specs.Gathers.{behind, GathersFor, IsGathered}
 use Rattle.query_exec.specs.Taking.{room_behind, HasTakenIn}
-use Rattle.query_exec.specs.Useful.{useful}
+use Rattle.query_exec.specs.Useful.{useful, StepsFit}
 use Rattle.query_exec.proofs.NeededLemmas.{all_rows, drop_one, first_left, more_rows, needed_behind, wanted_is_first}
-use Rattle.query_exec.proofs.BestLemmas.{alike_answer, alike_fit, alike_joined, Alike}
+use Rattle.query_exec.proofs.BestLemmas.{alike_answer, alike_fit, alike_joined, none_faulted, Alike}
 use Rattle.query_exec.proofs.ConditionLemmas.{parts_fit, parts_give, selected_joined, selected_result}
+use Rattle.query_exec.proofs.CountLemmas.{counted_parts, selected_count}
 
 -- the names of a table's columns
 pub names-column_view : (columns : List Column) → map (λ (c : ColumnOf). c.name) (map column_view columns) ≡ map (λ c. string_bytes c.name) columns
@@ -49,6 +50,7 @@ pub record HasRead (run : Run) (plan : PlanOf) (table : TableOf) (blocks : ℕ) 
   pub within : IfSome (places_of run) (All (λ place. place < length table.schema.columns))
   pub names_are : map string_bytes run.names.items ≡ selected_names (places_of run) (table_names table.schema)
   pub kinds_are : run.kept.kinds ≡ selected_kinds (places_of run) (kinds_of table.schema.columns)
+  pub count_is : run.faulted ≡ false → run.count ≡ count_by (passes_each (conditions_of run)) (handed_rows plan table blocks)
   pub gone : List (List CellValue)
   pub gathered : IsGathered (steps_of run) run gone
   pub passed : Alike (steps_of run) (behind gone (rows_so_far run)) (option_map (selected_rows (places_of run)) (passing_all (conditions_of run) (handed_rows plan table blocks)))
@@ -64,6 +66,7 @@ no_block_read run plan table handed stands = record {
   within = stands.within;
   names_are = stands.names_are;
   kinds_are = stands.kinds_are;
+  count_is = stands.count_is;
   gone = stands.gone;
   gathered = stands.gathered;
   passed = stands.passed;
@@ -115,6 +118,13 @@ block_read law pieces old new plan table handed number stands next taken =
       within = rw same.places stands.within;
       names_are = rw (same.places, same.names) stands.names_are;
       kinds_are = rw same.places (same.kinds ∙ stands.kinds_are);
+      count_is = λ works.
+          let on = taken.counts_on works in
+          let p = passes_each (conditions_of old) in
+          let block = (block_of table number).rows in
+          on.1 ∙ ap (λ n. n + count_by p block) (stands.count_is on.0)
+          ∙ sym (counted_parts p (handed_rows plan table handed) block (handed_rows plan table (handed + 1)) (more_rows plan table handed number next))
+          ∙ ap (λ es. count_by (passes_each es) (handed_rows plan table (handed + 1))) es_are;
       gone = after.0;
       gathered = record { gathers = subst (λ ns. GathersFor ns new.gathering after.0) steps_are after.1; keeps_none = taken.keeps_none };
       passed =
@@ -134,9 +144,20 @@ whole_read run plan table blocks has beyond =
     has.passed
     ∙ ap (λ rows. option_map (useful (steps_of run)) (option_map (selected_rows (places_of run)) (passing_all (conditions_of run) rows))) (all_rows plan table blocks beyond)
 
--- the rows that passed may go through the steps
+-- and how many pass these
+whole_count : (run : Run) (plan : PlanOf) (table : TableOf) (blocks : ℕ) → HasRead run plan table blocks → next_block plan table blocks ≡ None → (zs : List (List CellValue))
+    → option_map (selected_rows (places_of run)) (passing_all (conditions_of run) (read_rows plan table)) ≡ Some zs → run.count ≡ length zs
+whole_count run plan table blocks has beyond zs is =
+    let es = conditions_of run in
+    let picked = places_of run in
+    let works : run.faulted ≡ false =
+    none_faulted (steps_of run) run.faulted has.gone run.kept.rows zs (option_map (selected_rows picked) (passing_all es (read_rows plan table)))
+    (whole_read run plan table blocks has beyond) is in
+    has.count_is works ∙ ap (count_by (passes_each es)) (all_rows plan table blocks beyond) ∙ sym (selected_count es picked (read_rows plan table) zs is)
+
+-- the rows that are kept may go through the steps
 fits_behind : NodesInTurn → ScansReadTableRows → (run : Run) (plan : PlanOf) (table : TableOf) (blocks : ℕ) (has : HasRead run plan table blocks) → next_block plan table blocks ≡ None
-    → (rows : List (List CellValue)) → behind has.gone (rows_so_far run) ≡ Some rows → NodesFit (steps_of run) (record (kept_result run) { rows = rows })
+    → (rows : List (List CellValue)) → behind has.gone (rows_so_far run) ≡ Some rows → StepsFit (steps_of run) run.count (record (kept_result run) { rows = rows })
 fits_behind law scans run plan table blocks has beyond rows is =
     let es = conditions_of run in
     let all = read_rows plan table in
@@ -145,8 +166,9 @@ fits_behind law scans run plan table blocks has beyond rows is =
     subst (λ ns. NodesFit ns r) (sym has.plan_is) (has.fits all (scans table.schema plan.scan (leading plan.nodes) table.rows has.are_rows)) in
     let alike = subst (λ kept. Alike (steps_of run) kept (option_map (selected_rows (places_of run)) (passing_all es all))) is
     (whole_read run plan table blocks has beyond) in
-    subst (λ names. NodesFit (steps_of run) (record { names = names; rows = rows; count = None })) (sym has.names_are)
-    (alike_fit (steps_of run) (selected_result (places_of run) r) (option_map (selected_rows (places_of run)) (passing_all es all)) rows alike
+    subst (λ names. StepsFit (steps_of run) run.count (record { names = names; rows = rows; count = None })) (sym has.names_are)
+    (alike_fit (steps_of run) (selected_result (places_of run) r) run.count (option_map (selected_rows (places_of run)) (passing_all es all)) rows alike
+    (whole_count run plan table blocks has beyond)
     (λ kept passed. parts_fit law es (places_of run) (steps_of run) r all kept fit passed))
 
 kinds_long : (picked : Option (List ℕ)) (kinds : List KindOf) (names : List (List ℕ)) → length kinds ≡ length names
@@ -184,5 +206,5 @@ answer_is run plan table blocks has beyond =
     ap (λ ns. nodes_result ns r) (sym has.plan_is)
     ∙ parts_give es picked (steps_of run) r all
     ∙ ap (λ names. option_and_then (kept names) (option_map (selected_rows picked) (passing_all es all))) (sym has.names_are)
-    ∙ sym (alike_answer (steps_of run) (kept_result run) (behind has.gone (rows_so_far run)) (option_map (selected_rows picked) (passing_all es all))
-    (whole_read run plan table blocks has beyond))
+    ∙ sym (alike_answer (steps_of run) (kept_result run) run.count (behind has.gone (rows_so_far run)) (option_map (selected_rows picked) (passing_all es all))
+    (whole_read run plan table blocks has beyond) (whole_count run plan table blocks has beyond))

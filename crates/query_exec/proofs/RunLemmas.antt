@@ -1,15 +1,17 @@
 -- What the calls of a run give behind the blocks that were handed in.
 use Rattle.std.proofs.Common.{◌≡◌, ◌⊎◌, inl, inr, ℕ, ◌+◌, ◌<◌, true, Option, Some, None, ◌++◌, length, drop, refl, sym, ap, ◌∙◌, subst, arith, string_bytes}
-use Rattle.std.specs.Prelude.{Result, Ok, Err, is_some, max, option_map}
+use Rattle.std.specs.Prelude.{Result, Ok, Err, count_by, is_some, max, option_map}
 use Rattle.std.proofs.Math.Nat.{le-max_right, max-eq_left, max-eq_right}
 use Rattle.std.proofs.lemmas.Bool.{cases_lt}
 use Rattle.std.proofs.lemmas.List.{length-map}
+use Rattle.std.proofs.lemmas.List.Sums.{count_by-le-length}
 use Rattle.std.proofs.lemmas.Option.{slice_get_within}
 use Rattle.table_store.specs.Table.{TableOf}
 use Rattle.query_plan.specs.Fitting.{NodesFit}
 use Rattle.query_plan.specs.Laws.{NodesInTurn, ScansReadTableRows}
 use Rattle.query_plan.specs.Meaning.{selected_names, table_names}
 use Rattle.query_plan.specs.Plan.{PlanOf, needed, select_nodes, table_result}
+use Rattle.query_plan.specs.Scan.{passes_each}
 use Rattle.row_order.specs.Best.{BestInPieces}
 use Rattle.query_exec.specs.declared.fault.ExecFault.{ExecFault}
 use Rattle.query_exec.specs.declared.fault.ExecFault.TheVariants.{DivisionByZero, NoMemory, Failed}
@@ -20,10 +22,11 @@ use Rattle.query_exec.specs.Rows.{RowsOf}
 use Rattle.query_exec.specs.Picked.{selected_rows}
 use Rattle.query_exec.specs.Run.{conditions_of, handed_block, handed_rows, next_block, places_of, rows_so_far, run_length, steps_of, wanted_block, GoesOn, IsReady, StandsFor, StepsTo}
 use Rattle.query_exec.specs.Gathers.{behind, GathersFor, MayGather}
-use Rattle.query_exec.specs.Taking.{passed_rows, taken_rows, HasTakenIn}
+use Rattle.query_exec.specs.Taking.{passed_rows, taken_rows, HasTakenIn, MayCount}
 use Rattle.query_exec.proofs.NeededLemmas.{is_block, is_no_block, more_rows, none_behind}
 use Rattle.query_exec.proofs.BestLemmas.{Alike}
-use Rattle.query_exec.proofs.GatherLemmas.{behind_joined, few_pass, handed_are_rows, may_join, same_of}
+use Rattle.query_exec.proofs.CountLemmas.{counted_parts, few_pass}
+use Rattle.query_exec.proofs.GatherLemmas.{behind_joined, handed_are_rows, may_join, same_of}
 use Rattle.query_exec.proofs.ConditionLemmas.{parts_fit, selected_result}
 use Rattle.query_exec.proofs.ReadLemmas.{answer_is, as_many, block_read, is_ready, no_block_read, one_block_more, wanted_is_next, HasRead}
 
@@ -73,6 +76,7 @@ answers run new plan table handed blocks (Ok None) has more last goes =
         within = has.within;
         names_are = has.names_are;
         kinds_are = has.kinds_are;
+        count_is = λ works. has.count_is works ∙ ap (λ k. count_by (passes_each (conditions_of run)) (handed_rows plan table k)) one;
         gone = has.gone;
         gathered = has.gathered;
         passed = subst (λ k. Alike (steps_of run) (behind has.gone (rows_so_far run)) (option_map (selected_rows (places_of run)) (passing_all (conditions_of run) (handed_rows plan table k)))) one
@@ -118,6 +122,22 @@ pub ready_behind_none : NodesInTurn → ScansReadTableRows → (run : Run) (plan
 ready_behind_none turn scans run plan table handed stands beyond = is_ready turn scans run plan table handed (no_block_read run plan table handed stands) beyond
 
 -- ---- before a block is taken in
+
+-- what passes of it may be counted
+pub block_may_be_counted : ScansReadTableRows → (run : Run) (block : TableOf) (plan : PlanOf) (table : TableOf) (handed : ℕ) → StandsFor run plan table handed
+    → Some block ≡ handed_block plan table handed → MayCount run block.rows
+block_may_be_counted scans run block plan table handed stands is = λ works.
+    let p = passes_each (conditions_of run) in
+    let front = handed_rows plan table handed in
+    let whole = handed_rows plan table (handed + 1) in
+    let at = is_block plan table handed block is in
+    let whole_is : whole ≡ front ++ block.rows = more_rows plan table handed at.0 at.1 ∙ ap (λ (b : TableOf). front ++ b.rows) (sym at.2) in
+    let are = handed_are_rows scans plan table (handed + 1) stands.are_rows in
+    let count = are.count in
+    let parts = counted_parts p front block.rows whole whole_is in
+    let few = count_by-le-length p whole in
+    let before = stands.count_is works in
+    omega (arith, few, count, parts, before)
 
 -- what passes of it may be gathered
 pub block_may_be_gathered : ConditionsInTurn → BestInPieces → NodesInTurn → ScansReadTableRows → (run : Run) (block : TableOf) (plan : PlanOf) (table : TableOf) (handed : ℕ)

@@ -1,15 +1,16 @@
 -- What is gathered of the rows that passed, where the first step makes aggregates or groups of them: of the rows that were gathered none is kept.
 use Rattle.std.specs.Prelude.{◌≡◌, ◌++◌, ℕ, false, Option, Some, None, Result, List, [], ◌∷◌, length, option_map}
 use Rattle.cell_types.specs.Value.{CellValue}
-use Rattle.query_plan.specs.Fitting.{IsFitNode, NodesFit}
+use Rattle.query_plan.specs.Fitting.{IsFitNode}
 use Rattle.query_plan.specs.Meaning.{ResultOf}
-use Rattle.query_plan.specs.Plan.{NodeOf, aggregating, grouping, node_result, nodes_result}
+use Rattle.query_plan.specs.Plan.{NodeOf, aggregating, grouping, node_result}
 use Rattle.row_eval.specs.declared.fault.EvalFault.{EvalFault}
 use Rattle.row_groups.specs.declared.gathering.Gathering.{Gathering}
 use Rattle.row_groups.specs.Gathered.{Gathers, MayJoin}
 use Rattle.query_exec.specs.declared.run.Run.{Run}
 use Rattle.query_exec.specs.declared.underway.Underway.{Underway}
 use Rattle.query_exec.specs.Underway.{underway_view, GivesUnderway, IsUnderway, Makes}
+use Rattle.query_exec.specs.Useful.{steps_result, StepsFit}
 
 -- these rows were gathered for the first step: none, where nothing gathers
 abbrev pub GathersFor : List NodeOf → Option Gathering → List (List CellValue) → Type 0
@@ -54,17 +55,17 @@ pub record MayBeFirst (n : NodeOf) (names : List (List ℕ)) (gathering : Gather
   pub gathers : GathersFor (n ∷ []) (Some gathering) gone
   pub fits : IsFitNode n (uncounted names gone)
 
--- the steps may go over the rows that were gathered, and those that are kept
-pub record MayBeMade (steps : List NodeOf) (names : List (List ℕ)) (gathering : Option Gathering) (kept : List (List CellValue)) : Type 0 where
+-- the steps may go over the rows that were gathered, and those that are kept, of so many that passed
+pub record MayBeMade (steps : List NodeOf) (names : List (List ℕ)) (gathering : Option Gathering) (kept : List (List CellValue)) (passed : ℕ) : Type 0 where
   pub gone : List (List CellValue)
   pub gathers : GathersFor steps gathering gone
-  pub fits : NodesFit steps (uncounted names (gone ++ kept))
+  pub fits : StepsFit steps passed (uncounted names (gone ++ kept))
 
 -- what a first step makes of the rows that were gathered for it
 abbrev pub MakesOfGathered : NodeOf → List (List ℕ) → Gathering → Underway → Type 0
 MakesOfGathered n names gathering made = (rows : List (List CellValue)) → GathersFor (n ∷ []) (Some gathering) rows → Makes (node_result n (uncounted names rows)) made
 
--- and what the steps in turn make of those, and of those that are kept
-abbrev pub GivesOfGathered : List NodeOf → List (List ℕ) → Option Gathering → List (List CellValue) → Result Underway EvalFault → Type 0
-GivesOfGathered steps names gathering kept result =
-    (gone : List (List CellValue)) → GathersFor steps gathering gone → GivesUnderway (nodes_result steps (uncounted names (gone ++ kept))) result
+-- and what the steps in turn make of those, and of those that are kept, of so many that passed
+abbrev pub GivesOfGathered : List NodeOf → List (List ℕ) → Option Gathering → List (List CellValue) → ℕ → Result Underway EvalFault → Type 0
+GivesOfGathered steps names gathering kept passed result =
+    (gone : List (List CellValue)) → GathersFor steps gathering gone → GivesUnderway (steps_result steps passed (uncounted names (gone ++ kept))) result

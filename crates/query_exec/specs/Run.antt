@@ -1,5 +1,5 @@
 -- What a run stands for, and what its calls make of that.
-use Rattle.std.specs.Prelude.{◌≡◌, ◌<◌, ◌+◌, ◌++◌, ⊤, ℕ, true, IfSome, Option, Some, None, Result, Ok, Err, List, drop, if◌then◌else◌, is_some, length, map, max, option_and_then, option_map, slice_get, string_bytes, take}
+use Rattle.std.specs.Prelude.{◌≡◌, ◌<◌, ◌+◌, ◌++◌, ⊤, ℕ, false, true, IfSome, Option, Some, None, Result, Ok, Err, List, count_by, drop, if◌then◌else◌, is_some, length, map, max, option_and_then, option_map, slice_get, string_bytes, take}
 use Rattle.std.specs.List.{All}
 use Rattle.cell_types.specs.Value.{CellValue}
 use Rattle.odata_query.specs.Query.{optional_numbers}
@@ -7,10 +7,10 @@ use Rattle.odata_types.specs.TypedTree.{TruthExprOf, boxed_truth}
 use Rattle.table_store.specs.Block.{block_of}
 use Rattle.table_store.specs.Table.{TableOf}
 use Rattle.row_columns.specs.Kinds.{kinds_of}
-use Rattle.query_plan.specs.Fitting.{AreTableRows, IsFitFor, NodesFit}
+use Rattle.query_plan.specs.Fitting.{AreTableRows, IsFitFor}
 use Rattle.query_plan.specs.Meaning.{ResultOf, selected_names, table_names}
-use Rattle.query_plan.specs.Plan.{NodeOf, PlanOf, leading, needed, node_view, nodes_result, select_nodes}
-use Rattle.query_plan.specs.Scan.{rows_of_blocks, up_to}
+use Rattle.query_plan.specs.Plan.{NodeOf, PlanOf, leading, needed, node_view, select_nodes}
+use Rattle.query_plan.specs.Scan.{passes_each, rows_of_blocks, up_to}
 use Rattle.query_exec.specs.declared.fault.ExecFault.{ExecFault}
 use Rattle.query_exec.specs.declared.fault.ExecFault.TheVariants.{DivisionByZero, NoMemory, Failed}
 use Rattle.query_exec.specs.declared.run.Run.{Run}
@@ -23,7 +23,7 @@ use Rattle.query_exec.specs.Conditions.{condition_nodes}
 use Rattle.query_exec.specs.Gathers.{behind, IsGathered}
 use Rattle.query_exec.specs.Picked.{selected_kinds, selected_rows}
 use Rattle.query_exec.specs.Rows.{RowsOf}
-use Rattle.query_exec.specs.Useful.{useful}
+use Rattle.query_exec.specs.Useful.{steps_result, useful, StepsFit}
 
 -- the number of the block that is needed behind those that were handed in, where there is one
 abbrev pub next_block : PlanOf → TableOf → ℕ → Option ℕ
@@ -60,7 +60,8 @@ abbrev pub kept_result : Run → ResultOf
 kept_result run = record { names = map string_bytes run.names.items; rows = run.kept.rows; count = None }
 
 -- The run stands for the plan on the table, of which it was handed so many of the blocks that are needed: what it gathered and what it kept is of the same
--- use as what the conditions make of their rows, in the columns that are picked; and up to its stop it is left with the other blocks that are needed.
+-- use as what the conditions make of their rows, in the columns that are picked; it counted all of these, be they kept or not; and up to its stop it is left
+-- with the other blocks that are needed.
 pub record StandsFor (run : Run) (plan : PlanOf) (table : TableOf) (handed : ℕ) : Type 0 where
   pub plan_is : condition_nodes (conditions_of run) ++ select_nodes (places_of run) ++ steps_of run ≡ plan.nodes
   pub conditions_are : leading plan.nodes ≡ conditions_of run
@@ -72,6 +73,7 @@ pub record StandsFor (run : Run) (plan : PlanOf) (table : TableOf) (handed : ℕ
   pub within : IfSome (places_of run) (All (λ place. place < length table.schema.columns))
   pub names_are : map string_bytes run.names.items ≡ selected_names (places_of run) (table_names table.schema)
   pub kinds_are : run.kept.kinds ≡ selected_kinds (places_of run) (kinds_of table.schema.columns)
+  pub count_is : run.faulted ≡ false → run.count ≡ count_by (passes_each (conditions_of run)) (handed_rows plan table handed)
   pub gone : List (List CellValue)
   pub gathered : IsGathered (steps_of run) run gone
   pub passed : option_map (useful (steps_of run)) (behind gone (rows_so_far run))
@@ -120,7 +122,7 @@ StepsTo plan table handed run (Err Failed) = ⊥
 
 -- what the steps behind the conditions make of the rows that passed these
 abbrev pub kept_answer : Run → List (List CellValue) → Option RowsOf
-kept_answer run gone = option_and_then (λ rows. nodes_result (steps_of run) (record (kept_result run) { rows = rows })) (behind gone (rows_so_far run))
+kept_answer run gone = option_and_then (λ rows. steps_result (steps_of run) run.count (record (kept_result run) { rows = rows })) (behind gone (rows_so_far run))
 
 abbrev pub IsKeptAnswer : Run → Option RowsOf → Type 0
 IsKeptAnswer run answer = (gone : List (List CellValue)) → IsGathered (steps_of run) run gone → kept_answer run gone ≡ answer
@@ -130,7 +132,7 @@ pub record IsReady (run : Run) : Type 0 where
   pub width : length run.kept.kinds ≡ length run.names.items
   pub gone : List (List CellValue)
   pub gathered : IsGathered (steps_of run) run gone
-  pub fits : (rows : List (List CellValue)) → behind gone (rows_so_far run) ≡ Some rows → NodesFit (steps_of run) (record (kept_result run) { rows = rows })
+  pub fits : (rows : List (List CellValue)) → behind gone (rows_so_far run) ≡ Some rows → StepsFit (steps_of run) run.count (record (kept_result run) { rows = rows })
 
 -- the next of the blocks that are left, where the stop looks for rows behind those before it
 abbrev pub wanted : Option ℕ → Option ℕ → Option ℕ

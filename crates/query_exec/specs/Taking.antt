@@ -1,5 +1,5 @@
 -- How a run takes in rows.
-use Rattle.std.specs.Prelude.{◌≡◌, ◌<◌, ◌-◌, ◌++◌, ℕ, false, IfSome, Option, Some, None, List, count_by, drop, length, option_map, slice_get}
+use Rattle.std.specs.Prelude.{◌≡◌, ◌<◌, ◌+◌, ◌-◌, ◌^◌, ◌++◌, ℕ, false, IfSome, Option, Some, None, List, count_by, drop, length, option_map, slice_get}
 use Rattle.std.specs.List.{All}
 use Rattle.cell_types.specs.Value.{CellValue}
 use Rattle.row_columns.specs.Kinds.{kinds_of}
@@ -31,11 +31,15 @@ pub record MayTake (run : Run) (block : TableOf) : Type 0 where
   pub within : IfSome (places_of run) (All (λ place. place < length block.schema.columns))
   pub kinds_are : run.kept.kinds ≡ selected_kinds (places_of run) (kinds_of block.schema.columns)
 
+-- those of these rows that pass may be counted behind those that were
+abbrev pub MayCount : Run → List (List CellValue) → Type 0
+MayCount run rows = run.faulted ≡ false → run.count + count_by (passes_each (conditions_of run)) rows < 2 ^ 64
+
 -- of rows behind those that a run kept the first step has a use for these first ones alone, where that is limited
 abbrev pub IsSpare : Run → Option ℕ → Type 0
 IsSpare run most = (rows : List (List CellValue)) → useful (steps_of run) (run.kept.rows ++ first_rows most rows) ≡ useful (steps_of run) (run.kept.rows ++ rows)
 
--- nothing is another but the blocks that are left, the stop, what is kept and what was gathered
+-- nothing is another but the blocks that are left, the stop, the count, what is kept and what was gathered
 pub record IsAsBefore (old new : Run) : Type 0 where
   pub conditions : new.conditions ≡ old.conditions
   pub places : new.places ≡ old.places
@@ -70,6 +74,7 @@ pub record HasKept (old new : Run) (rows : List (List CellValue)) : Type 0 where
   pub same : IsSameRun old new
   pub left_is : new.left ≡ old.left
   pub room_is : new.room ≡ old.room
+  pub count_is : new.count ≡ old.count
   pub faulted_is : new.faulted ≡ old.faulted
   pub useful_are : useful (steps_of old) new.kept.rows ≡ useful (steps_of old) (old.kept.rows ++ rows)
 
@@ -77,11 +82,16 @@ pub record HasKept (old new : Run) (rows : List (List CellValue)) : Type 0 where
 abbrev pub LooksOn : Run → Run → List (List CellValue) → Type 0
 LooksOn old new rows = new.room ≡ room_behind old.room (count_by (passes_each (conditions_of old)) rows)
 
+-- those of these rows that pass are counted behind those that were, be they kept or not, unless a condition divided by zero
+abbrev pub CountsOn : Run → Run → List (List CellValue) → Type 0
+CountsOn old new rows = new.faulted ≡ false → (old.faulted ≡ false) × (new.count ≡ old.count + count_by (passes_each (conditions_of old)) rows)
+
 -- a run took in rows: behind what it had it has what passed of them, in the columns that are picked, but for rows that the first step has no use for
 pub record HasTaken (old new : Run) (rows : List (List CellValue)) : Type 0 where
   pub same : IsSameRun old new
   pub left_is : new.left ≡ old.left
   pub looks_on : LooksOn old new rows
+  pub counts_on : CountsOn old new rows
   pub passed : option_map (useful (steps_of old)) (rows_so_far new)
       ≡ option_map (useful (steps_of old)) (joined (rows_so_far old) (option_map (selected_rows (places_of old)) (passing_all (conditions_of old) rows)))
 
@@ -90,6 +100,7 @@ pub record HasCut (old new : Run) : Type 0 where
   pub same : IsSameRun old new
   pub left_is : new.left ≡ old.left
   pub room_is : new.room ≡ old.room
+  pub count_is : new.count ≡ old.count
   pub faulted_is : new.faulted ≡ old.faulted
   pub useful_are : useful (steps_of old) new.kept.rows ≡ useful (steps_of old) old.kept.rows
 
@@ -98,6 +109,8 @@ pub record HasGathered (old new : Run) : Type 0 where
   pub same : IsAsBefore old new
   pub left_is : new.left ≡ old.left
   pub room_is : new.room ≡ old.room
+  pub count_is : new.count ≡ old.count
+  pub faulted_is : new.faulted ≡ old.faulted
   pub keeps_none : new.faulted ≡ false → KeepsNone new.gathering new.kept.rows
   pub passed : (gone : List (List CellValue)) → GathersFor (steps_of old) old.gathering gone → (more : List (List CellValue))
       × GathersFor (steps_of old) new.gathering more × (behind more (rows_so_far new) ≡ behind gone (rows_so_far old))
@@ -107,6 +120,7 @@ pub record HasTakenIn (old new : Run) (rows : List (List CellValue)) : Type 0 wh
   pub same : IsAsBefore old new
   pub left_are : new.left.items ≡ drop 1 old.left.items
   pub looks_on : LooksOn old new rows
+  pub counts_on : CountsOn old new rows
   pub keeps_none : new.faulted ≡ false → KeepsNone new.gathering new.kept.rows
   pub passed : (gone : List (List CellValue)) → GathersFor (steps_of old) old.gathering gone → (more : List (List CellValue))
       × GathersFor (steps_of old) new.gathering more

@@ -6,7 +6,7 @@ ghost use Rattle.query_plan.specs.Order.{rows_cmp, sorted};
 ghost use Rattle.block_filter.specs.Conditions.{ConditionsFit};
 ghost use Rattle.query_exec.specs.Gathers.{MayGather};
 ghost use Rattle.query_exec.specs.Run.{conditions_of, steps_of};
-ghost use Rattle.query_exec.specs.Taking.{taken_rows, HasCut, HasTakenIn, MayTake};
+ghost use Rattle.query_exec.specs.Taking.{taken_rows, HasCut, HasTakenIn, MayCount, MayTake};
 ghost use Rattle.query_exec.specs.Useful.{are_plain};
 
 use crate::run::Run;
@@ -61,6 +61,7 @@ impl Run {
         requires gathers { MayGather (steps_of self.old) self.old
             (taken_rows self.old block.now.rows) }
         requires fits { All (ConditionsFit (conditions_of self.old)) block.now.rows }
+        requires count { MayCount self.old block.now.rows }
         ensures { OnOk result (HasTakenIn self.old self.new block.now.rows) }
     {
         self.take_block(alloc, block)?;

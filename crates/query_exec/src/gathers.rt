@@ -73,23 +73,24 @@ fn first_result(
     }
 }
 
-/// What the steps make of the rows that were gathered for the first of them, or else of those that are kept.
+/// What the steps make of the rows that were gathered for the first of them, or else of those that are kept, of so many that passed.
 pub(crate) fn made_of(
     alloc: Global,
     steps: &[Node],
     names: Vec<String>,
     kept: Columns,
     gathering: Option<Gathering>,
+    passed: u64,
 ) -> Result<Underway, EvalFault>
     requires width { length kept.kinds ≡ length names.items }
     requires none { KeepsNone gathering kept.rows }
     requires fits { MayBeMade (map node_view steps.now) (map string_bytes names.items)
-        gathering kept.rows }
+        gathering kept.rows passed }
     ensures { GivesOfGathered (map node_view steps.now) (map string_bytes names.items)
-        gathering kept.rows result }
+        gathering kept.rows passed result }
 {
     let Some(gathering) = gathering else {
-        return apply_to_all(alloc, steps, names, kept);
+        return apply_to_all(alloc, steps, names, kept, passed);
     };
     match steps {
         [first, others @ ..] => {

@@ -24,7 +24,7 @@ use query_plan::{Node, Plan, nodes_in_turn, scans_read_table_rows};
 use row_columns::Columns;
 use row_groups::Gathering;
 use row_order::best_in_pieces;
-use std::alloc::{AllocError, Global};
+use std::alloc::Global;
 use std::collections::VecDeque;
 use std::mem;
 use table_store::Block;
@@ -61,8 +61,10 @@ pub struct Run {
     names: Vec<String>,
     /// The columns of a block that a condition names.
     pub(crate) lanes: Lanes,
-    /// The rows that passed the conditions.
+    /// Of the rows that passed the conditions those that the first step has a use for.
     pub(crate) kept: Columns,
+    /// How many rows passed them, be they kept or not, unless one divided by zero.
+    pub(crate) count: u64,
     /// What gathers them, where the first step makes aggregates or groups of them: then none is kept behind a block.
     pub(crate) gathering: Option<Gathering>,
     /// Whether a condition divided by zero on a row.
@@ -95,8 +97,15 @@ impl Run {
         }
         let names = mem::replace(&mut self.names, Vec::new(alloc));
         let kept = mem::replace(&mut self.kept, Columns::none(alloc));
+        if self.steps.is_empty() {
+            return Ok(Some(Rows {
+                names,
+                columns: kept,
+                count: None,
+            }));
+        }
         let gathering = self.gathering.take();
-        let made = made_of(alloc, &self.steps, names, kept, gathering)?;
+        let made = made_of(alloc, &self.steps, names, kept, gathering, self.count)?;
         Ok(Some(made.into_rows(alloc)?))
     }
 
@@ -155,6 +164,7 @@ impl Run {
             names,
             lanes,
             kept,
+            count: 0,
             gathering,
             faulted: false,
             stage: Stage::Reading,

@@ -1,12 +1,13 @@
 //! The steps of a plan on a result.
-ghost use Rattle.std.specs.Prelude.{◌≡◌, ◌<◌, IfOk, length, map, string_bytes};
+ghost use Rattle.std.specs.Prelude.{◌≡◌, ◌<◌, IfOk, Some, length, map, string_bytes};
 ghost use Rattle.std.specs.List.{All};
 ghost use Rattle.odata_query.specs.Aggregate.{named_view};
 ghost use Rattle.odata_query.specs.Query.{order_view};
 ghost use Rattle.query_plan.specs.Fitting.{IsFitNode, NodesFit};
-ghost use Rattle.query_plan.specs.Plan.{aggregating, choosing, counted, grouping, node_result, node_view, nodes_result, projecting, slice_view, slicing, sorting};
+ghost use Rattle.query_plan.specs.Plan.{aggregating, choosing, counted, grouping, node_result, node_view, nodes_result, projecting, slice_view, sorting};
 ghost use Rattle.query_exec.specs.Gathers.{uncounted};
 ghost use Rattle.query_exec.specs.Underway.{underway_view, AreOfPiece, GivesUnderway, IsUnderway, Makes};
+ghost use Rattle.query_exec.specs.Useful.{first_result, piece_of_kept, steps_result, StepsFit};
 
 use crate::names::{picked_names, push_aliases};
 use crate::underway::{Underway, numbers_between};
@@ -192,20 +193,21 @@ fn piece_numbers(alloc: Global, slice: Slice, len: usize) -> Result<Vec<usize>, 
     numbers_between(alloc, start, end)
 }
 
-/// A piece of all rows of columns, and their count where it asks for that. No number is made of a row that is not in the piece.
+/// A piece of the rows of columns, which are kept of so many that passed, and the number of these where it asks for that. No number is made of a row that is
+/// not in the piece.
 fn first_piece(
     alloc: Global,
     slice: Slice,
     names: Vec<String>,
     columns: Columns,
+    passed: u64,
 ) -> Result<Underway, AllocError>
     requires { length columns.kinds ≡ length names.items }
-    ensures { IfOk result (Makes (node_result (slicing (slice_view slice))
-        (uncounted (map string_bytes names.items) columns.rows))) }
+    ensures { IfOk result (Makes (Some (piece_of_kept (slice_view slice) passed
+        (uncounted (map string_bytes names.items) columns.rows)))) }
 {
-    let len = columns.len();
-    let numbers = piece_numbers(alloc, slice, len)?;
-    let count = if slice.counts { Some(len as u64) } else { None };
+    let numbers = piece_numbers(alloc, slice, columns.len())?;
+    let count = if slice.counts { Some(passed) } else { None };
     Ok(Underway {
         names,
         columns,
@@ -214,27 +216,48 @@ fn first_piece(
     })
 }
 
-/// What the steps in turn make of all rows of columns.
+/// What a first step makes of the rows of columns, which are kept of so many that passed.
+fn apply_first(
+    alloc: Global,
+    node: &Node,
+    names: Vec<String>,
+    columns: Columns,
+    passed: u64,
+) -> Result<Underway, EvalFault>
+    requires width { length columns.kinds ≡ length names.items }
+    requires fits { IsFitNode (node_view node.now)
+        (uncounted (map string_bytes names.items) columns.rows) }
+    ensures { GivesUnderway (first_result (node_view node.now) passed
+        (uncounted (map string_bytes names.items) columns.rows)) result }
+{
+    match node {
+        Node::Slice(slice) => Ok(first_piece(alloc, *slice, names, columns, passed)?),
+        _ => {
+            let all = Underway::whole(alloc, names, columns, None)?;
+            apply(alloc, node, all)
+        }
+    }
+}
+
+/// What the steps in turn make of the rows of columns, which are kept of so many that passed.
 pub(crate) fn apply_to_all(
     alloc: Global,
     nodes: &[Node],
     names: Vec<String>,
     columns: Columns,
+    passed: u64,
 ) -> Result<Underway, EvalFault>
     requires width { length columns.kinds ≡ length names.items }
-    requires fits { NodesFit (map node_view nodes.now)
+    requires fits { StepsFit (map node_view nodes.now) passed
         (uncounted (map string_bytes names.items) columns.rows) }
-    ensures { GivesUnderway (nodes_result (map node_view nodes.now)
+    ensures { GivesUnderway (steps_result (map node_view nodes.now) passed
         (uncounted (map string_bytes names.items) columns.rows)) result }
 {
     match nodes {
-        [Node::Slice(slice), others @ ..] => {
-            let made = first_piece(alloc, *slice, names, columns)?;
+        [first, others @ ..] => {
+            let made = apply_first(alloc, first, names, columns, passed)?;
             apply_all(alloc, others, made)
         }
-        _ => {
-            let all = Underway::whole(alloc, names, columns, None)?;
-            apply_all(alloc, nodes, all)
-        }
+        [] => Ok(Underway::whole(alloc, names, columns, None)?),
     }
 }

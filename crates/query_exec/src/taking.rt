@@ -1,12 +1,12 @@
 //! How a run takes in the rows of a block.
-ghost use Rattle.std.specs.Prelude.{◌≡◌, ◌<◌, OnOk, length};
+ghost use Rattle.std.specs.Prelude.{◌≡◌, ◌<◌, OnOk, false, length};
 ghost use Rattle.std.specs.List.{All};
 ghost use Rattle.block_filter.specs.Conditions.{ConditionsFit};
 ghost use Rattle.query_plan.specs.Push.{room_of};
 ghost use Rattle.row_columns.specs.Picked.{numbered};
 ghost use Rattle.query_exec.specs.Picked.{selected_rows};
 ghost use Rattle.query_exec.specs.Run.{conditions_of, places_of};
-ghost use Rattle.query_exec.specs.Taking.{room_behind, HasKept, HasTaken, IsSpare, MayTake};
+ghost use Rattle.query_exec.specs.Taking.{room_behind, HasKept, HasTaken, IsSpare, MayCount, MayTake};
 
 use crate::run::Run;
 use block_filter::filter_block;
@@ -24,13 +24,10 @@ fn room_behind(room: Option<u64>, passed: usize) -> Option<u64>
     }
 }
 
-/// Of how many first rows a piece is, which is none where it is empty: None, where it is of all, or counts them.
+/// Of how many first rows a piece is, which is none where it is empty: None, where it is of all.
 fn end_of(slice: Slice) -> Option<u64>
-    ensures { result ≡ room_of slice.skip slice.top slice.counts }
+    ensures { result ≡ room_of slice.skip slice.top false }
 {
-    if slice.counts {
-        return None;
-    }
     match slice.top {
         None => None,
         Some(0) => Some(0),
@@ -68,10 +65,12 @@ impl Run {
         }
     }
 
-    /// Takes in the rows of a block. Once a condition divided by zero, no more rows are kept.
+    /// Takes in the rows of a block: those that pass are counted, and those of them are kept that the first step has a use for. Once a condition divided
+    /// by zero, no more rows are kept.
     pub(crate) fn take_block(&mut self, alloc: Global, block: &Block<'_>) -> Result<(), AllocError>
         requires block { MayTake self.old block.now }
         requires fits { All (ConditionsFit (conditions_of self.old)) block.now.rows }
+        requires count { MayCount self.old block.now.rows }
         ensures { OnOk result (HasTaken self.old self.new block.now.rows) }
     {
         if self.faulted && self.room.is_none() {
@@ -84,6 +83,7 @@ impl Run {
         if self.faulted {
             return Ok(());
         }
+        self.count += found.count as u64;
         self.keep(alloc, block, found.numbers)
     }
 }

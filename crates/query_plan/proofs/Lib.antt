@@ -23,6 +23,8 @@ pub mod TypedLemmas
 pub mod TypedQueryLemmas
 pub mod PushedLemmas
 pub mod NeededLemmas
+pub mod UpToLemmas
+pub mod WorkedLemmas
 pub mod PlainLemmas
 pub mod StepLemmas
 pub mod QueryLemmas

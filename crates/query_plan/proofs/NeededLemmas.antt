@@ -15,11 +15,11 @@ use Rattle.odata_types.specs.TypedTree.{TruthExprOf}
 use Rattle.odata_query.specs.Aggregate.{TypedTransformationOf, aggregate_rows, filter_rows, group_rows}
 use Rattle.odata_query.specs.Query.{TypedOf}
 use Rattle.query_plan.specs.Laws.{NeededBlocksAreRead, PlansNeedBlocks}
+use Rattle.query_plan.specs.Narrow.{narrowed_nodes}
 use Rattle.query_plan.specs.Needed.{conditions_can_fault, conditions_of, gives_first_rows, is_filter, last_row, row_conditions}
 use Rattle.query_plan.specs.Order.{Item}
 use Rattle.query_plan.specs.Plan.{NodeOf, PlanOf, apply_nodes, asked_slice, count_nodes, filter_nodes, leading, naive_plan, needed, order_nodes, select_nodes, slice_nodes}
 use Rattle.query_plan.specs.Push.{conjuncts, early_stop, pushed, pushed_down, rewritten, room_of, split_nodes}
-use Rattle.query_plan.specs.Rewrite.{best_nodes}
 use Rattle.query_plan.specs.Scan.{admits_all, admitted_blocks, block_numbers, passes_each, reached, read_blocks, rows_of_blocks, up_to}
 use Rattle.query_plan.specs.Tests.{test_of}
 use Rattle.query_plan.proofs.MeaningLemmas.{last_nodes}
@@ -179,7 +179,7 @@ stop_alike q =
 -- what a rewritten plan needs by its filters that come first
 needs_pushed : (p : PlanOf) (rows : List Row) → needed (rewritten p) rows ≡ needed (pushed p) rows
 needs_pushed p rows =
-    ap (λ (es : List TruthExprOf). read_blocks (pushed p).scan es rows) (leading_narrowed (best_nodes (pushed p).nodes) ∙ leading_best (pushed p).nodes)
+    ap (λ (es : List TruthExprOf). read_blocks (pushed p).scan es rows) (leading_best (narrowed_nodes (pushed p).nodes) ∙ leading_narrowed (pushed p).nodes)
 
 few_rows : (ok : ℕ → Bool) (rows : List Row) → length rows < 2 ^ 64 → length (rows_of_blocks rows (filter ok (block_numbers rows))) < 2 ^ 64
 few_rows ok rows h =
@@ -227,7 +227,7 @@ up_to_few : (stop : Option ℕ) (es : List TruthExprOf) (rows : List Row) (numbe
 up_to_few None es rows numbers = omega arith
 up_to_few (Some room) es rows numbers = reached_few es room rows numbers
 
-reached_each : (P : ℕ → Type 0) (es : List TruthExprOf) (room : ℕ) (rows : List Row) (numbers : List ℕ) → AllByRecursion P numbers → AllByRecursion P (reached es room rows numbers)
+pub reached_each : (P : ℕ → Type 0) (es : List TruthExprOf) (room : ℕ) (rows : List Row) (numbers : List ℕ) → AllByRecursion P numbers → AllByRecursion P (reached es room rows numbers)
 reached_each P es room rows [] h = tt
 reached_each P es room rows (n ∷ ns) h =
     elim (cases_Bool (eqb room 0)) [

@@ -121,8 +121,8 @@ fits_when laws schema p true e fit = λ rows are.
 
 narrowed_same : (schema : SchemaOf) (p : PlanOf) → MeansTheSame schema p (narrowed_plan p)
 narrowed_same schema p =
-    same_steps schema p (narrowed_nodes (best_nodes p.nodes)) (leading_narrowed (best_nodes p.nodes) ∙ leading_best p.nodes)
-    (λ rows. narrowed_means (best_nodes p.nodes) (table_result schema rows) ∙ best_result p.nodes (table_result schema rows))
+    same_steps schema p (best_nodes (narrowed_nodes p.nodes)) (leading_best (narrowed_nodes p.nodes) ∙ leading_narrowed p.nodes)
+    (λ rows. best_result (narrowed_nodes p.nodes) (table_result schema rows) ∙ narrowed_means p.nodes (table_result schema rows))
 
 pub rewritten_means : PushLaws → (schema : SchemaOf) (p : PlanOf) → IsTypedPlan schema p → MeansTheSame schema p (rewritten p)
 rewritten_means laws schema p typed rows are = narrowed_same schema (pushed p) rows are ∙ pushed_means laws schema p typed rows are
@@ -130,7 +130,7 @@ rewritten_means laws schema p typed rows are = narrowed_same schema (pushed p) r
 pub rewritten_fits : FaultsAreForeseen → (schema : SchemaOf) (p : PlanOf) → IsFitFor schema p → IsFitFor schema (rewritten p)
 rewritten_fits laws schema p fit = λ rows are.
     let first = fits_when laws schema p (may_be_pushed p) refl fit in
-    narrowed_fits (best_nodes (pushed p).nodes) (table_result schema rows) (best_fit (pushed p).nodes (table_result schema rows) (first rows are))
+    best_fit (narrowed_nodes (pushed p).nodes) (table_result schema rows) (narrowed_fits (pushed p).nodes (table_result schema rows) (first rows are))
 
-pub is_narrowed : (p : PlanOf) (best few : List NodeOf) → best ≡ best_nodes p.nodes → few ≡ narrowed_nodes best → record p { nodes = few } ≡ narrowed_plan p
-is_narrowed p best few e f = ap (λ (ns : List NodeOf). record p { nodes = ns }) (f ∙ ap narrowed_nodes e)
+pub is_narrowed : (p : PlanOf) (few best : List NodeOf) → few ≡ narrowed_nodes p.nodes → best ≡ best_nodes few → record p { nodes = best } ≡ narrowed_plan p
+is_narrowed p few best e f = ap (λ (ns : List NodeOf). record p { nodes = ns }) (f ∙ ap best_nodes e)

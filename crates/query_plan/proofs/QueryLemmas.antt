@@ -21,10 +21,10 @@ use Rattle.odata_query.specs.Key.{optional_key_typing}
 use Rattle.odata_query.specs.Query.{QueryOf, TypedOf, item_typing, optional_typing, order_typing, query_typing}
 use Rattle.odata_query.specs.Selection.{is_known, optional_selection_typing, selected_from, selects}
 use Rattle.row_eval.specs.Bounds.{NumbersFit, TruthFits}
-use Rattle.row_eval.specs.Input.{IsInput, IsQueried, IsRowOf, IsTableRow}
+use Rattle.row_eval.specs.Input.{IsInput, IsQueried, IsQueriedItem, IsQueriedTransformation, IsRowOf, IsTableRow}
 use Rattle.row_eval.specs.Laws.{BoundsHold, TablesAreInputs}
 use Rattle.query_plan.specs.Apply.{applied, applied_names}
-use Rattle.query_plan.specs.Fitting.{AreFitItems, AreQueried, AreRowsOf, AreTableRows, IsQueriedItem, IsQueriedTransformation, NodesFit}
+use Rattle.query_plan.specs.Fitting.{AreFitItems, AreQueried, AreRowsOf, AreTableRows, NodesFit}
 use Rattle.query_plan.specs.Meaning.{ResultOf, first_rows}
 use Rattle.query_plan.specs.Order.{Item, order_faults, plain_column, rows_cmp, sorted}
 use Rattle.query_plan.specs.Plan.{NodeOf, SliceOf, apply_nodes, asked_slice, filter_nodes, filtering, naive_plan, node_result, nodes_result, order_nodes, piece_nodes, select_nodes, slice_nodes, slicing, sorting, table_result}

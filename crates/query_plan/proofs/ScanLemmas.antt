@@ -44,7 +44,7 @@ all_rows rows =
     ∙ ap (λ n. take (block_count (length rows) * BLOCK_ROWS) (drop n rows)) start
     ∙ take_all (block_count (length rows) * BLOCK_ROWS) rows (enough (length rows))
 
-no_test_fails : (rows : List Row) (numbers : List ℕ) → filter (λ number. admits_all [] (block_at rows number)) numbers ≡ numbers
+pub no_test_fails : (rows : List Row) (numbers : List ℕ) → filter (λ number. admits_all [] (block_at rows number)) numbers ≡ numbers
 no_test_fails rows [] = refl
 no_test_fails rows (number ∷ numbers) = ap (λ ns. number ∷ ns) (no_test_fails rows numbers)
 

@@ -14,12 +14,12 @@ use Rattle.odata_query.specs.declared.aggregate.TheConstants.{MOST_ROWS}
 use Rattle.odata_query.specs.Aggregate.{ItemOf, TypedTransformationOf, filter_rows, aggregate_rows, group_rows}
 use Rattle.odata_query.specs.Apply.{apply_typing, columns_at, grouped_places, item_column, items_typing, named_of, optional_items, place_at, place_typing, places_typing, transformation_typing}
 use Rattle.odata_query.specs.FirstSeen.{first_seen}
-use Rattle.row_eval.specs.Input.{IsInput, IsRowOf}
+use Rattle.row_eval.specs.Input.{IsInput, IsQueriedTransformation, IsRowOf}
 use Rattle.row_eval.specs.Laws.{BoundsHold}
 use Rattle.query_plan.specs.Apply.{computed_values, group_values, names_at, rows_of_group, same_values, value_at, values_at}
 use Rattle.query_plan.specs.Filter.{faults, passes}
 use Rattle.row_eval.specs.Bounds.{TruthFits}
-use Rattle.query_plan.specs.Fitting.{AggregateFits, IsFitNode, IsQueriedTransformation, NodesFit}
+use Rattle.query_plan.specs.Fitting.{AggregateFits, IsFitNode, NodesFit}
 use Rattle.query_plan.specs.Meaning.{ResultOf}
 use Rattle.query_plan.specs.Plan.{NodeOf, aggregating, apply_nodes, filtering, grouping, node_count, node_names, node_result, node_rows, nodes_result, transformation_node}
 use Rattle.query_plan.proofs.AggregateLemmas.{AreGood, Stands, aggregates_fit, computed_row, items_good, optional_good, place_below}

@@ -4,14 +4,13 @@ use Rattle.std.specs.List.{All, filter_map}
 use Rattle.cell_types.specs.Value.{CellValue}
 use Rattle.csvw_meta.specs.Schema.{SchemaOf}
 use Rattle.csvw_meta.specs.declared.limits.TheConstants.{MOST_FILE_BYTES}
-use Rattle.odata_parse.specs.Tree.{OrderItemOf, order_item, TransformationOf, filter_by}
 use Rattle.odata_types.specs.Columns.{InputOf}
 use Rattle.odata_query.specs.declared.aggregate.Aggregate.{Aggregate}
 use Rattle.odata_query.specs.declared.aggregate.Aggregate.TheVariants.{Count, SumOfIntegers, SumOfDecimals, Min, Max, CountDistinct}
 use Rattle.odata_query.specs.declared.aggregate.TheConstants.{MOST_ROWS}
 use Rattle.odata_query.specs.Query.{QueryOf, TypedOf, query_typing}
 use Rattle.row_eval.specs.Bounds.{NumbersFit, TruthFits}
-use Rattle.row_eval.specs.Input.{IsQueried, IsRowOf, IsTableRow}
+use Rattle.row_eval.specs.Input.{IsQueried, IsQueriedItem, IsQueriedTransformation, IsRowOf, IsTableRow}
 use Rattle.row_eval.specs.Row.{cell, decimal_in, integer_in}
 use Rattle.query_plan.specs.Meaning.{ResultOf}
 use Rattle.query_plan.specs.Order.{Item, plain_column}
@@ -65,13 +64,6 @@ abbrev pub IsFitFor : SchemaOf → PlanOf → Type 0
 IsFitFor schema plan = (rows : List (List CellValue)) → AreTableRows schema rows → NodesFit plan.nodes (table_result schema rows)
 
 -- ---- queries that were typed
-
-abbrev pub IsQueriedTransformation : TransformationOf → Type 0
-IsQueriedTransformation (filter_by e) = IsQueried e
-IsQueriedTransformation _ = Unit {0}
-
-abbrev pub IsQueriedItem : OrderItemOf → Type 0
-IsQueriedItem (order_item e descending) = IsQueried e
 
 -- each expression of the query has few nodes and short texts
 pub record AreQueried (q : QueryOf) : Type 0 where

@@ -1,5 +1,5 @@
 -- What holds of filters, orders, groups and plans.
-use Rattle.std.specs.Prelude.{Ok, ◌≡◌, ℕ, ◌^◌, ◌<◌, ◌≤◌, ◌↔◌, ◌++◌, true, false, filter, List, [], ◌∷◌, Some, None, length, option_and_then}
+use Rattle.std.specs.Prelude.{Ok, ◌≡◌, ℕ, ◌^◌, ◌<◌, ◌≤◌, ◌↔◌, ◌++◌, true, false, count_by, filter, List, [], ◌∷◌, Some, None, length, option_and_then}
 use Rattle.std.specs.List.{All, Any, Contains, IsDistinct}
 use Rattle.std.specs.List.Sorted.{IsPermutation, IsSorted, IsStable}
 use Rattle.block_summary.specs.Blocks.{block_count}
@@ -23,7 +23,7 @@ use Rattle.query_plan.specs.Meaning.{ResultOf}
 use Rattle.query_plan.specs.Needed.{needed_blocks}
 use Rattle.query_plan.specs.Plan.{NodeOf, PlanOf, naive_plan, needed, nodes_result}
 use Rattle.query_plan.specs.Push.{rewritten}
-use Rattle.query_plan.specs.Scan.{ScanOf, TestOf, admits_all, bare, block_numbers, passes_test, passes_tests, read_blocks, rows_of_blocks}
+use Rattle.query_plan.specs.Scan.{ScanOf, TestOf, admits_all, admitted_blocks, bare, block_numbers, passes_each, passes_test, passes_tests, read_blocks, rows_of_blocks}
 use Rattle.query_plan.specs.Tests.{test_of}
 use Rattle.query_plan.specs.Types.{IsTruthOver, IsTypedPlan}
 
@@ -103,6 +103,19 @@ QueriesFit = (schema : SchemaOf) (q : TypedOf) → IsTypedFor schema q → IsFit
 -- Of a table of fewer than 2 to the 64 rows the plan of a query, rewritten, needs the blocks that the query needs.
 abbrev pub NeededBlocksAreRead : Type 0
 NeededBlocksAreRead = (q : TypedOf) (rows : List (List CellValue)) → length rows < 2 ^ 64 → needed (rewritten (naive_plan q)) rows ≡ needed_blocks q rows
+
+-- Of the blocks that its tests admit a scan reads a front, in order: all of them where it has no stop. Else a block is read just where fewer rows than
+-- its stop pass the conditions in the admitted blocks before that one: so none behind the block of the row that is number `stop` among those that pass,
+-- counted from 1.
+pub record BlocksUpToTheStop : Type 0 where
+  pub front : (scan : ScanOf) (conditions : List TruthExprOf) (rows : List (List CellValue))
+      → (left : List ℕ) × (admitted_blocks scan.tests rows ≡ read_blocks scan conditions rows ++ left)
+  pub every : (tests : List TestOf) (conditions : List TruthExprOf) (rows : List (List CellValue))
+      → read_blocks (record { tests = tests; stop = None }) conditions rows ≡ admitted_blocks tests rows
+  pub reached : (tests : List TestOf) (stop : ℕ) (conditions : List TruthExprOf) (rows : List (List CellValue)) (before : List ℕ) (number : ℕ) (behind : List ℕ)
+      → admitted_blocks tests rows ≡ before ++ number ∷ behind
+      → Contains (read_blocks (record { tests = tests; stop = Some stop }) conditions rows) number
+      ↔ (count_by (passes_each conditions) (rows_of_blocks rows before) < stop)
 
 -- What a plan needs are blocks of the table, and no more than it has.
 pub record PlansNeedBlocks : Type 0 where

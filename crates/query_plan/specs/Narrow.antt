@@ -1,12 +1,12 @@
 -- Plans that keep only the columns that their steps name.
-use Rattle.std.specs.Prelude.{ℕ, Bool, true, false, List, [], ◌∷◌, ◌++◌, Option, Some, None, drop, is_some, map, nat_eq, option_and_then, option_map, take, if◌then◌else◌}
-use Rattle.std.specs.List.{filter_map, list_all, list_any, position_or_len, prefix_len}
+use Rattle.std.specs.Prelude.{ℕ, Bool, true, false, List, [], ◌∷◌, ◌++◌, Option, Some, None, drop, map, nat_eq, option_and_then, option_map, take, if◌then◌else◌}
+use Rattle.std.specs.List.{filter_map, list_any, position_or_len, prefix_len}
 use Rattle.odata_types.specs.TypedTree as typed
 use Rattle.odata_types.specs.TypedTree.{TypedExprOf}
 use Rattle.odata_query.specs.declared.aggregate.Aggregate.{Aggregate}
 use Rattle.odata_query.specs.declared.aggregate.Aggregate.TheVariants.{Count, SumOfIntegers, SumOfDecimals, Min, Max, CountDistinct}
 use Rattle.odata_query.specs.Aggregate.{NamedAggregateOf}
-use Rattle.query_plan.specs.Order.{Item, plain_column}
+use Rattle.query_plan.specs.Order.{Item, are_plain, plain_column}
 use Rattle.query_plan.specs.Plan.{NodeOf, aggregating, filtering, grouping, projecting, slicing, sorting}
 
 -- ---- the columns that steps name
@@ -25,7 +25,7 @@ aggregate_columns aggregates = filter_map (λ a. aggregate_column a.aggregate) a
 
 -- the columns that items are: None, where an item is computed
 abbrev pub item_columns : List Item → Option (List ℕ)
-item_columns items = if list_all (λ item. is_some (plain_column item.0)) items then Some (filter_map (λ item. plain_column item.0) items) else None
+item_columns items = if are_plain items then Some (filter_map (λ item. plain_column item.0) items) else None
 
 -- the columns that a step names: None, where more may be asked for than it names
 abbrev pub node_columns : NodeOf → Option (List ℕ)

@@ -1,10 +1,11 @@
 -- What the filters that a plan begins with say of the blocks that it needs.
-use Rattle.std.specs.Prelude.{ℕ, ◌&&◌, not, Bool, false, List, [], ◌∷◌, ◌++◌, Option, Some, None, if◌then◌else◌, map}
+use Rattle.std.specs.Prelude.{ℕ, ◌&&◌, not, Bool, List, [], ◌∷◌, ◌++◌, Option, None, if◌then◌else◌, map}
 use Rattle.std.specs.List.{filter_map, list_any}
 use Rattle.odata_types.specs.CanFault.{truth_can_fault}
 use Rattle.odata_types.specs.TypedTree.{TruthExprOf, conjunction}
 use Rattle.query_plan.specs.Plan.{NodeOf, PlanOf, filtering, leading, slicing}
-use Rattle.query_plan.specs.Rewrite.{first_needed, narrowed_plan}
+use Rattle.query_plan.specs.Rewrite.{narrowed_plan}
+pub use Rattle.query_plan.specs.Rewrite.{room_of}
 use Rattle.query_plan.specs.Scan.{is_bare}
 use Rattle.query_plan.specs.Tests.{test_of}
 
@@ -21,11 +22,6 @@ split_nodes (filtering e ∷ ns) = map filtering (conjuncts e) ++ split_nodes ns
 split_nodes (n ∷ ns) = n ∷ ns
 
 -- ---- the stop
-
--- of how many first rows a piece is, which is none where it is empty
-abbrev pub room_of : ℕ → Option ℕ → Bool → Option ℕ
-room_of skip (Some ℕ.zero) false = Some 0
-room_of skip top counts = first_needed skip top counts
 
 -- how many rows that pass the filters that come first are looked for, where the step behind them is a piece that counts nothing
 abbrev pub early_stop : List NodeOf → Option ℕ
@@ -50,6 +46,6 @@ pushed_down p = record {
 abbrev pub pushed : PlanOf → PlanOf
 pushed p = if may_be_pushed p then pushed_down p else p
 
--- a plan that reads fewer blocks, and of what it reads keeps few rows of a sort, and few columns
+-- a plan that reads fewer blocks, and of what it reads keeps few columns, and few rows of a sort
 abbrev pub rewritten : PlanOf → PlanOf
 rewritten p = narrowed_plan (pushed p)

@@ -17,8 +17,13 @@ abbrev pub first_needed : ℕ → Option ℕ → Bool → Option ℕ
 first_needed skip (Some top) false = if nat_lt (skip + top) (2 ^ 64) then Some (skip + top) else None
 first_needed skip _ _ = None
 
+-- the same, but none of a piece that is empty
+abbrev pub room_of : ℕ → Option ℕ → Bool → Option ℕ
+room_of skip (Some ℕ.zero) false = Some 0
+room_of skip top counts = first_needed skip top counts
+
 abbrev pub rows_needed : NodeOf → Option ℕ
-rows_needed (slicing s) = first_needed s.skip s.top s.counts
+rows_needed (slicing s) = room_of s.skip s.top s.counts
 rows_needed n = None
 
 -- a step before one that takes so many first rows
@@ -33,6 +38,6 @@ best_nodes (n ∷ m ∷ ns) = chosen n (rows_needed m) ∷ best_nodes (m ∷ ns)
 
 -- ---- the whole
 
--- few rows of a sort, and few columns
+-- few columns, and then few rows of a sort
 abbrev pub narrowed_plan : PlanOf → PlanOf
-narrowed_plan p = record p { nodes = narrowed_nodes (best_nodes p.nodes) }
+narrowed_plan p = record p { nodes = best_nodes (narrowed_nodes p.nodes) }

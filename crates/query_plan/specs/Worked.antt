@@ -1,5 +1,5 @@
 -- Queries with their answers, on a table of three cities.
-use Rattle.std.specs.Prelude.{◌≡◌, ℕ, pos, true, false, List, [], ◌∷◌, codes, Option, Some, None}
+use Rattle.std.specs.Prelude.{◌≡◌, ℕ, pos, true, false, List, [], ◌∷◌, codes, length, Option, Some, None}
 use Rattle.cell_types.specs.declared.datatype.DateForm.TheVariants.{YearMonthDay}
 use Rattle.cell_types.specs.declared.datatype.BooleanForm.TheVariants.{Standard}
 use Rattle.cell_types.specs.Column.{ColumnOf}
@@ -7,7 +7,8 @@ use Rattle.cell_types.specs.Datatype as datatype
 use Rattle.cell_types.specs.Datatype.{DatatypeOf, boolean_view}
 use Rattle.cell_types.specs.Value.{CellValue, null, integer, text, boolean, date}
 use Rattle.csvw_meta.specs.Schema.{SchemaOf}
-use Rattle.odata_parse.specs.declared.tree.ComparisonOperator.TheVariants.{GreaterThan}
+use Rattle.odata_parse.specs.declared.tree.ArithmeticOperator.TheVariants.{Div, Sub}
+use Rattle.odata_parse.specs.declared.tree.ComparisonOperator.TheVariants.{Equal, GreaterThan}
 use Rattle.odata_types.specs.declared.types.TheConstants.{COLUMN_SIZE}
 use Rattle.odata_types.specs.TypedTree as typed
 use Rattle.odata_types.specs.TypedTree.{TypedExprOf, TruthExprOf}
@@ -15,6 +16,7 @@ use Rattle.odata_query.specs.declared.aggregate.Aggregate.TheVariants.{Count, Su
 use Rattle.odata_query.specs.Aggregate.{filter_rows, aggregate_rows, group_rows}
 use Rattle.odata_query.specs.Query.{TypedOf}
 use Rattle.query_plan.specs.Meaning.{result, number, single, no_row, query_meaning}
+use Rattle.query_plan.specs.Needed.{needed_blocks}
 
 abbrev pub column : List ℕ → DatatypeOf → ColumnOf
 column name type = record { name = name; titles = []; datatype = type; nulls = codes "" ∷ []; default = []; required = false }
@@ -56,6 +58,20 @@ pop = typed.integer (typed.integer_column 2) COLUMN_SIZE
 abbrev pub beyond : TruthExprOf
 beyond = typed.compare_integers GreaterThan (typed.integer_column 0) (typed.integer_literal (pos 9))
 
+-- `Pop gt 5`, and `Pop eq null`
+abbrev pub populous : TruthExprOf
+populous = typed.compare_integers GreaterThan (typed.integer_column 2) (typed.integer_literal (pos 5))
+
+abbrev pub uncounted : TruthExprOf
+uncounted = typed.compare_integers Equal (typed.integer_column 2) typed.null_integer
+
+-- `10 div (Id sub 1) gt 0`
+abbrev pub divided : TruthExprOf
+divided =
+    typed.compare_integers GreaterThan
+    (typed.arithmetic Div (typed.integer_literal (pos 10)) (typed.arithmetic Sub (typed.integer_column 0) (typed.integer_literal (pos 1))))
+    (typed.integer_literal (pos 0))
+
 -- what a query without a key gives: these rows under these names, with this count
 abbrev pub Gives : TypedOf → List (List ℕ) → List (List CellValue) → Option ℕ → Type 0
 Gives q names rows count = query_meaning schema q cities ≡ Some (result (record { names = names; rows = rows; count = count }))
@@ -74,6 +90,13 @@ pub record WorkedQueries : Type 0 where
       ((integer (pos 1) ∷ []) ∷ (integer (pos 3) ∷ []) ∷ (integer (pos 2) ∷ []) ∷ []) None
   pub ascending : Gives (record every { order = (pop, false) ∷ []; select = Some (0 ∷ []) }) (codes "Id" ∷ [])
       ((integer (pos 2) ∷ []) ∷ (integer (pos 3) ∷ []) ∷ (integer (pos 1) ∷ []) ∷ []) None
+  -- `$filter=Pop gt 5&$select=Id`, and `$filter=Pop eq null&$select=Id`
+  pub greater : Gives (record every { filter = Some populous; select = Some (0 ∷ []) }) (codes "Id" ∷ []) ((integer (pos 1) ∷ []) ∷ []) None
+  pub unknown : Gives (record every { filter = Some uncounted; select = Some (0 ∷ []) }) (codes "Id" ∷ []) ((integer (pos 2) ∷ []) ∷ []) None
+  -- `$filter=10 div (Id sub 1) gt 0&$top=0`: of no row, and yet a division by zero
+  pub faulty : query_meaning schema (record every { filter = Some divided; top = Some 0 }) cities ≡ None
+  -- `$skip=1&$select=Id`
+  pub skipped : Gives (record every { skip = 1; select = Some (0 ∷ []) }) (codes "Id" ∷ []) ((integer (pos 2) ∷ []) ∷ (integer (pos 3) ∷ []) ∷ []) None
   -- `$count=true&$top=0`
   pub counted : Gives (record every { count = true; top = Some 0 }) (codes "Id" ∷ codes "Name" ∷ codes "Pop" ∷ codes "Open" ∷ codes "Since" ∷ []) [] (Some 3)
   -- `$apply=filter(Id gt 9)/aggregate(Pop with max as M,$count as N)`
@@ -86,3 +109,20 @@ pub record WorkedQueries : Type 0 where
       ≡ Some (single (codes "Id" ∷ []) (integer (pos 2) ∷ []))
   pub keyless : query_meaning schema (record every { key = Some (integer (pos 9) ∷ []) }) cities ≡ Some no_row
   pub numbered : query_meaning schema (record every { counting = true; order = (pop, true) ∷ []; top = Some 1 }) cities ≡ Some (number 3)
+
+-- ---- blocks
+
+-- what a query needs of any table of 10,000 rows, which are three blocks
+abbrev pub Needs : TypedOf → List ℕ → Type 0
+Needs q blocks = (rows : List (List CellValue)) → length rows ≡ 10_000 → needed_blocks q rows ≡ blocks
+
+pub record WorkedBlocks : Type 0 where
+  -- `$top=5`, `$skip=4096&$top=1` and `$top=0`
+  pub first : Needs (record every { top = Some 5 }) (0 ∷ [])
+  pub skipped : Needs (record every { skip = 4_096; top = Some 1 }) (0 ∷ 1 ∷ [])
+  pub none : Needs (record every { top = Some 0 }) []
+  -- `$orderby=Pop desc&$top=1` and `$count=true&$top=5`
+  pub ordered : Needs (record every { order = (pop, true) ∷ []; top = Some 1 }) (0 ∷ 1 ∷ 2 ∷ [])
+  pub counted : Needs (record every { count = true; top = Some 5 }) (0 ∷ 1 ∷ 2 ∷ [])
+  -- `$filter=10 div (Id sub 1) gt 0&$top=0`
+  pub faulty : Needs (record every { filter = Some divided; top = Some 0 }) (0 ∷ 1 ∷ 2 ∷ [])

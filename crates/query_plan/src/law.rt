@@ -1,7 +1,7 @@
 //! The laws of filters and plans: each function is a theorem, and does nothing.
 
-ghost use Rattle.query_plan.specs.Laws.{BareScansReadAll, NeededBlocksAreRead, NodesInTurn, PlansNeedBlocks, QueriesAreTyped, QueriesFit, ResultsAreInputs, ResultsAreRows, RowsAreInGroups, RowsAreInOrder, ScansReadTableRows, TestsArePassed, TrueRowsPass, UnadmittedBlocksPassNone};
-ghost use Rattle.query_plan.specs.Worked.{WorkedQueries};
+ghost use Rattle.query_plan.specs.Laws.{BareScansReadAll, BlocksUpToTheStop, NeededBlocksAreRead, NodesInTurn, PlansNeedBlocks, QueriesAreTyped, QueriesFit, ResultsAreInputs, ResultsAreRows, RowsAreInGroups, RowsAreInOrder, ScansReadTableRows, TestsArePassed, TrueRowsPass, UnadmittedBlocksPassNone};
+ghost use Rattle.query_plan.specs.Worked.{WorkedBlocks, WorkedQueries};
 
 use row_eval::{bounds_hold, tables_are_inputs};
 
@@ -44,6 +44,11 @@ pub fn queries_are_typed()
 /// The plan of a query, rewritten, needs the blocks that the query needs.
 pub fn needed_blocks_are_read()
     ensures { NeededBlocksAreRead }
+{}
+
+/// A scan reads its admitted blocks in order, and none behind that of the row that its stop counts to.
+pub fn blocks_up_to_the_stop()
+    ensures { BlocksUpToTheStop }
 {}
 
 /// What a plan needs are blocks of the table, and no more than it has.
@@ -92,4 +97,9 @@ pub fn queries_fit()
 /// The answers of some queries, written by hand.
 pub fn worked_queries()
     ensures { WorkedQueries }
+{}
+
+/// The blocks that some queries need, written by hand.
+pub fn worked_blocks()
+    ensures { WorkedBlocks }
 {}

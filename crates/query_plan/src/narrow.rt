@@ -1,11 +1,11 @@
 //! The columns that the steps of a plan name.
-ghost use Rattle.std.specs.Prelude.{◌≡◌, ◌++◌, [], ℕ, IfOk, OnOk, is_some, map, nat_eq};
-ghost use Rattle.std.specs.List.{filter_map, list_all, list_any};
+ghost use Rattle.std.specs.Prelude.{◌≡◌, ◌++◌, [], IfOk, OnOk, map, nat_eq};
+ghost use Rattle.std.specs.List.{filter_map, list_any};
 ghost use Rattle.odata_types.specs.TypedTree.{typed_view};
 ghost use Rattle.odata_query.specs.Aggregate.{named_view};
 ghost use Rattle.odata_query.specs.Query.{optional_numbers, order_view};
 ghost use Rattle.query_plan.specs.Narrow.{aggregate_column, aggregate_columns, item_columns, keeps_columns, named_columns, node_columns, wanted_columns, with_columns};
-ghost use Rattle.query_plan.specs.Order.{plain_column};
+ghost use Rattle.query_plan.specs.Order.{are_plain, plain_column};
 ghost use Rattle.query_plan.specs.Plan.{node_view};
 
 use crate::plan::Node;
@@ -14,7 +14,7 @@ use odata_types::{DateExpr, DecimalExpr, IntegerExpr, TextExpr, TruthExpr, Typed
 use std::alloc::{AllocError, Global};
 
 /// The column that an expression is, where it is one.
-pub fn plain_column(expression: &TypedExpr) -> Option<usize>
+pub(crate) fn plain_column(expression: &TypedExpr) -> Option<usize>
     ensures { result ≡ plain_column (typed_view expression.now) }
 {
     match expression {
@@ -74,8 +74,7 @@ fn push_aggregate_columns(
 
 /// Whether each item is a column alone.
 pub fn are_plain(items: &[OrderBy]) -> bool
-    ensures { result ≡ list_all (λ item. is_some (plain_column item.0))
-        (map order_view items.now) }
+    ensures { result ≡ are_plain (map order_view items.now) }
 {
     for item in items {
         if plain_column(&item.expression).is_none() {

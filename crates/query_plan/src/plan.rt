@@ -7,6 +7,7 @@ ghost use Rattle.odata_query.specs.Query.{optional_numbers, order_view, query_ty
 ghost use Rattle.query_plan.specs.Fitting.{IsFitFor, IsTypedFor};
 ghost use Rattle.query_plan.specs.Types.{IsTypedPlan};
 ghost use Rattle.query_plan.specs.Plan.{apply_nodes, filter_nodes, naive_plan, node_view, order_nodes, plan_view, select_nodes, slice_nodes, slice_view, transformation_node, Adds, Means};
+ghost use Rattle.query_plan.specs.Rewrite.{room_of};
 
 use crate::law::{queries_are_typed, queries_fit};
 use crate::scan::Scan;
@@ -21,6 +22,22 @@ pub struct Slice {
     pub top: Option<u64>,
     /// Whether the number of the rows that come to this step, before any is left out, is the count of the result.
     pub counts: bool,
+}
+
+impl Slice {
+    /// Of how many first rows it is, which is none where it is empty: None, where it is of all, or counts them.
+    pub fn room(self) -> Option<u64>
+        ensures { result ≡ room_of self.skip self.top self.counts }
+    {
+        if self.counts {
+            return None;
+        }
+        match self.top {
+            None => None,
+            Some(0) => Some(0),
+            Some(top) => self.skip.checked_add(top),
+        }
+    }
 }
 
 /// A step of a plan, from a result to a result. Columns are their numbers in what comes to it.

@@ -6,9 +6,9 @@ ghost use Rattle.odata_types.specs.TypedTree.{truth_view};
 ghost use Rattle.query_plan.specs.Plan.{filtering, leading, node_view, plan_view, Adds};
 ghost use Rattle.query_plan.specs.Scan.{test_view};
 ghost use Rattle.query_plan.specs.Tests.{test_of as test_of_condition};
-ghost use Rattle.query_plan.specs.Push.{conjuncts, early_stop as early_stop_of, may_be_pushed as may_be_pushed_of, pushed as pushed_of, room_of as room, split_nodes as split_nodes_of};
+ghost use Rattle.query_plan.specs.Push.{conjuncts, early_stop as early_stop_of, may_be_pushed as may_be_pushed_of, pushed as pushed_of, split_nodes as split_nodes_of};
 
-use crate::plan::{Node, Plan, Slice};
+use crate::plan::{Node, Plan};
 use crate::scan::{ColumnTest, Scan};
 use crate::test::test_of;
 use odata_types::{TruthExpr, truth_can_fault};
@@ -31,20 +31,6 @@ fn filters_can_fault(nodes: &[Node]) -> bool
     false
 }
 
-/// Of how many first rows a piece is, which is none where it is empty: None, where it is of all.
-fn room_of(slice: &Slice) -> Option<u64>
-    ensures { result ≡ room slice.now.skip slice.now.top slice.now.counts }
-{
-    if slice.counts {
-        return None;
-    }
-    match slice.top {
-        None => None,
-        Some(0) => Some(0),
-        Some(top) => slice.skip.checked_add(top),
-    }
-}
-
 /// How many rows that pass the filters that come first are looked for: None, where all are.
 fn early_stop(nodes: &[Node]) -> Option<u64>
     ensures { result ≡ early_stop_of (map node_view nodes.now) }
@@ -52,7 +38,7 @@ fn early_stop(nodes: &[Node]) -> Option<u64>
     for node in nodes {
         match node {
             Node::Filter(_) => {}
-            Node::Slice(slice) => return room_of(slice),
+            Node::Slice(slice) => return slice.room(),
             _ => return None,
         }
     }

@@ -1,5 +1,5 @@
 //! Steps behind a selection of columns.
-ghost use Rattle.std.specs.Prelude.{◌≡◌, ℕ, IfOk, map};
+ghost use Rattle.std.specs.Prelude.{◌≡◌, IfOk, map};
 ghost use Rattle.odata_types.specs.TypedTree.{typed_view};
 ghost use Rattle.odata_query.specs.Aggregate.{aggregates_view};
 ghost use Rattle.odata_query.specs.Query.{order_view};

@@ -19,11 +19,8 @@ use std::alloc::{AllocError, Global};
 fn rows_needed(node: &Node) -> Option<u64>
     ensures { result ≡ rows_needed (node_view node.now) }
 {
-    let Node::Slice(slice) = node else {
-        return None;
-    };
-    match slice.top {
-        Some(top) if !slice.counts => slice.skip.checked_add(top),
+    match node {
+        Node::Slice(slice) => slice.room(),
         _ => None,
     }
 }
@@ -83,7 +80,8 @@ fn narrowed_nodes(alloc: Global, nodes: Vec<Node>) -> Result<Vec<Node>, AllocErr
 }
 
 /// A plan that gives the same result on the rows of any table that the plan was typed for. It reads only the blocks that its first filters ask
-/// for, and keeps of a whole sort only the rows that are asked for, and of the columns those that are named.
+/// for, and keeps of the columns those that are named, where no item of an order is computed, and of a whole sort only the rows that are asked
+/// for.
 pub fn rewrite(alloc: Global, plan: Plan) -> Result<Plan, AllocError>
     ensures rewritten { IfOk result (λ made. plan_view made ≡ rewritten (plan_view plan)) }
     ensures means { IfOk result (λ made. (schema : SchemaOf)
@@ -96,7 +94,7 @@ pub fn rewrite(alloc: Global, plan: Plan) -> Result<Plan, AllocError>
     tables_are_inputs();
     let plan = pushed(alloc, plan)?;
     let Plan { scan, nodes } = plan;
-    let nodes = with_best_rows(alloc, nodes)?;
     let nodes = narrowed_nodes(alloc, nodes)?;
+    let nodes = with_best_rows(alloc, nodes)?;
     Ok(Plan { scan, nodes })
 }

@@ -1,5 +1,5 @@
 //! Blocks of bytes and fields of files (RFC 4180, section 2).
-use csv_index::{Index, Raw};
+use csv_index::{Index, Raw, TextFault};
 use lane_class::{Classes, classify, load};
 use quote_parity::{prefix_xor, select};
 use std::alloc::{AllocError, Global};
@@ -113,4 +113,26 @@ fn passes_fields(rt: HostRuntime) -> Result<(), Fail> {
         assert!(rt; is_right && fields.next_field().is_none(), "{file}");
     }
     Ok(())
+}
+
+/// Files, and the first thing wrong with each.
+const FAULTS: &[(&[u8], TextFault)] = &[
+    (b"a\"b", TextFault::StrayQuote { at: 1 }),
+    (b"\"a\"b", TextFault::AfterQuote { at: 3 }),
+    (b"a\r", TextFault::Unfinished { at: 2 }),
+    (b"a\rb", TextFault::BareCr { at: 2 }),
+    (b"\"a", TextFault::Unfinished { at: 2 }),
+    (b"a,b\nc", TextFault::Width { row: 0 }),
+    (b"\xFF", TextFault::NotUtf8 { at: 0 }),
+    (b"\xEF\xBB\xBF", TextFault::NoHeader),
+];
+
+#[test]
+fn faults(rt: HostRuntime) {
+    for (file, fault) in FAULTS {
+        assert!(rt;
+            Index::build(rt.alloc(), file).err() == Some(*fault),
+            "{file:?}"
+        );
+    }
 }

@@ -3,7 +3,7 @@ ghost use Rattle.std.specs.Prelude.{◌≡◌};
 ghost use Rattle.reply_text.specs.Code.{code_name, message_of, status_of};
 
 /// The codes of errors (OData 4.01 JSON Format, section 21.1), each with its status, name and message.
-#[derive(Clone, Copy, Debug, PartialEq, Eq)]
+#[derive(Clone, Copy, PartialEq, Eq)]
 pub enum Code {
     /// The request cannot be read.
     BadRequest,

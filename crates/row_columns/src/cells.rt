@@ -1,5 +1,5 @@
 //! The values of a column, of its own kind.
-ghost use Rattle.std.specs.Prelude.{◌≡◌, ◌++◌, ◌∷◌, [], ◌<◌, ◌↔◌, IfOk, IfSome, IsSome, OnOk, Some, length, map, option_map, slice_get, slice_index_or};
+ghost use Rattle.std.specs.Prelude.{◌≡◌, [], ◌<◌, ◌↔◌, IfOk, IfSome, IsSome, OnOk, Some, length, map, option_map, slice_get, slice_index_or};
 ghost use Rattle.cell_types.specs.Datatype.{datatype_view};
 ghost use Rattle.cell_types.specs.Value.{value_view, decimal, integer, null};
 ghost use Rattle.std.specs.List.{All};

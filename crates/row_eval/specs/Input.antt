@@ -1,18 +1,13 @@
 -- The rows of an input, and the expressions that a query has.
-use Rattle.std.specs.Prelude.{ℕ, ◌+◌, ◌^◌, ◌≤◌, List, [], ◌∷◌, length, unsigned_abs}
+pub use Rattle.cell_types.specs.Rows.{IsShort, IsShortValue, IsTableRow}
+use Rattle.std.specs.Prelude.{ℕ, ◌+◌, ◌≤◌, List, [], ◌∷◌, length, unsigned_abs}
 use Rattle.cell_types.specs.Value.{CellValue, null, integer, text, boolean, date, decimal}
-use Rattle.cell_types.specs.Column.{ColumnOf}
-use Rattle.cell_types.specs.Laws.{IsOfColumn}
 use Rattle.odata_parse.specs.Tree as tree
 use Rattle.odata_parse.specs.Tree.{ExprOf, LiteralOf, OrderItemOf, order_item, TransformationOf, filter_by}
 use Rattle.odata_types.specs.declared.types.ColumnType.{ColumnType}
 use Rattle.odata_types.specs.declared.types.ColumnType.TheVariants as column
 use Rattle.odata_types.specs.declared.types.TheConstants.{MOST_SIZE}
 use Rattle.odata_types.specs.Columns.{InputOf}
-
--- a text of at most 2 to the 30 bytes
-abbrev pub IsShort : List ℕ → Type 0
-IsShort t = length t ≤ 2 ^ 30
 
 -- a day of the years up to 9999
 abbrev pub IsDay : ℕ → ℕ → ℕ → Type 0
@@ -33,16 +28,6 @@ abbrev pub IsRowOf : List InputOf → List CellValue → Type 0
 IsRowOf [] [] = Unit {0}
 IsRowOf (c ∷ cs) (v ∷ vs) = IsOfType c.column_type v × IsRowOf cs vs
 IsRowOf _ _ = ⊥
-
--- a value of a row of a table: one that its column may have, short where it is a text
-abbrev pub IsShortValue : CellValue → Type 0
-IsShortValue (text t) = IsShort t
-IsShortValue _ = Unit {0}
-
-abbrev pub IsTableRow : List ColumnOf → List CellValue → Type 0
-IsTableRow [] [] = Unit {0}
-IsTableRow (c ∷ cs) (v ∷ vs) = IsOfColumn c v × IsShortValue v × IsTableRow cs vs
-IsTableRow _ _ = ⊥
 
 -- the numbers of a column are not too large
 abbrev pub IsBounded : ColumnType → Type 0

@@ -3,7 +3,7 @@
 use std::alloc::AllocError;
 
 /// Why an expression has no value on a row.
-#[derive(Clone, Copy, Debug, PartialEq, Eq)]
+#[derive(Clone, Copy, PartialEq, Eq)]
 pub enum EvalFault {
     /// A number is divided by zero.
     DivisionByZero,

@@ -5,7 +5,7 @@ ghost use Rattle.std.specs.Prelude.{◌≡◌};
 ghost use Rattle.row_eval.specs.Logic.{greatest as greatest_of, least as least_of, opposite as opposite_of, option_of_truth, truth_of as truth_of_bool, truth_of_option};
 
 /// What a condition says of a row. The variants stand in their order.
-#[derive(Clone, Copy, Debug, PartialEq, Eq)]
+#[derive(Clone, Copy, PartialEq, Eq)]
 pub enum Truth {
     False,
     Null,

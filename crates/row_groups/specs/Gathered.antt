@@ -1,6 +1,7 @@
 -- The rows of `aggregate` and of `groupby` (OData Data Aggregation 4.0, sections 3.2.1 and 3.2.3), gathered while the rows come of which they are computed.
-use Rattle.std.specs.Prelude.{◌≡◌, ◌<◌, ◌+◌, ◌++◌, ℕ, List, [], ◌∷◌, Option, Some, None, IfSome, length, map}
+use Rattle.std.specs.Prelude.{◌≡◌, ◌<◌, ◌+◌, ◌++◌, ℕ, List, [], ◌∷◌, Option, Some, None, IfSome, length, map, option_map}
 use Rattle.std.specs.List.{All, AllByRecursion, AllZip}
+use Rattle.std.specs.Borrow.{Bor}
 use Rattle.cell_types.specs.Value.{CellValue, value_view}
 use Rattle.odata_query.specs.declared.aggregate.Aggregate.{Aggregate}
 use Rattle.odata_query.specs.Aggregate.{NamedAggregateOf}
@@ -55,6 +56,19 @@ abbrev pub Joins : Gathering → Gathering → List (List CellValue) → Type 0
 Joins old new more = (places : Option (List ℕ)) (aggregates : List NamedAggregateOf) (rows : List (List CellValue)) → Gathers old places aggregates rows
     → Gathers new places aggregates (rows ++ more)
 
+-- that many columns, and these rows, are what is gathered of all rows that joined
+abbrev pub HasGatheredWidth : Gathering → ℕ → Type 0
+HasGatheredWidth gathering width = (places : Option (List ℕ)) (aggregates : List NamedAggregateOf) (rows : List (List CellValue)) → Gathers gathering places aggregates rows
+    → width ≡ gathered_width places aggregates
+
+abbrev pub HasGatheredRows : Gathering → List (List CellValue) → Type 0
+HasGatheredRows gathering made = (places : Option (List ℕ)) (aggregates : List NamedAggregateOf) (rows : List (List CellValue)) → Gathers gathering places aggregates rows
+    → made ≡ gathered_rows places aggregates rows
+
+-- places that are lent, if so
+abbrev pub lent_places : Option (Bor (List ℕ)) → Option (List ℕ)
+lent_places places = option_map (λ p. p.now) places
+
 -- ---- inside
 
 pub record MayJoinGroups (places : Option (List ℕ)) (aggregates : List Aggregate) (width : ℕ) (old : Groups) (more : List (List CellValue)) : Type 0 where
@@ -84,3 +98,8 @@ key_width (Some places) = length places
 
 abbrev pub rows_gathered : Option (List ℕ) → List Aggregate → List (List CellValue) → List (List CellValue)
 rows_gathered places aggregates rows = map (λ key. key ++ map (computed_value (part_of places rows key)) aggregates) (keys_of places rows)
+
+-- those rows are made of the groups of any rows
+abbrev pub MakesRows : Groups → List Aggregate → List (List CellValue) → Type 0
+MakesRows groups aggregates made = (places : Option (List ℕ)) (rows : List (List CellValue)) → HasGroups places aggregates groups rows
+    → made ≡ rows_gathered places aggregates rows

@@ -50,6 +50,18 @@ pub record MayTally (aggregate : Aggregate) (width : ℕ) (old : Tally) (more : 
 abbrev pub Tallies : Aggregate → Tally → Tally → List (List CellValue) → Type 0
 Tallies aggregate old new more = (rows : List (List CellValue)) → IsTally aggregate rows old → IsTally aggregate (rows ++ more) new
 
+-- the least, or the greatest, of the values of some rows becomes that of these and of more
+abbrev pub JoinsExtreme : Aggregate → CellValue → CellValue → List (List CellValue) → Type 0
+JoinsExtreme aggregate old new more = (rows : List (List CellValue)) → old ≡ computed_value rows aggregate → new ≡ computed_value (rows ++ more) aggregate
+
+-- what has each of some values once has each of these and of more
+abbrev pub JoinsDistinct : List CellValue → List CellValue → List CellValue → Type 0
+JoinsDistinct old new more = (seen : List CellValue) → HasDistinct old seen → HasDistinct new (seen ++ more)
+
+-- so of the values of rows in a column
+abbrev pub JoinsValues : ℕ → List CellValue → List CellValue → List (List CellValue) → Type 0
+JoinsValues place old new more = (rows : List (List CellValue)) → HasDistinct old (values_in place rows) → HasDistinct new (values_in place (rows ++ more))
+
 -- the same of each aggregate
 pub record MayTallyEach (aggregates : List Aggregate) (width : ℕ) (old : List Tally) (more : List (List CellValue)) : Type 0 where
   pub rows : List (List CellValue)
@@ -58,3 +70,7 @@ pub record MayTallyEach (aggregates : List Aggregate) (width : ℕ) (old : List 
 
 abbrev pub TalliesEach : List Aggregate → List Tally → List Tally → List (List CellValue) → Type 0
 TalliesEach aggregates old new more = (rows : List (List CellValue)) → AreTallies aggregates rows old → AreTallies aggregates (rows ++ more) new
+
+-- behind the values of a key, what is computed of rows by their tallies
+abbrev pub IsRowOfTallies : List CellValue → List Aggregate → List Tally → List CellValue → Type 0
+IsRowOfTallies key aggregates tallies row = (rows : List (List CellValue)) → AreTallies aggregates rows tallies → row ≡ key ++ map (computed_value rows) aggregates

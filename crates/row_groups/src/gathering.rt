@@ -1,11 +1,11 @@
 //! Rows of `aggregate` and of `groupby` (OData Data Aggregation 4.0, sections 3.2.1 and 3.2.3), gathered while the rows come of which they
 //! are computed.
-ghost use Rattle.std.specs.Prelude.{◌≡◌, ◌<◌, ℕ, [], IfOk, IfSome, List, OnOk, Option, length, map, option_map};
+ghost use Rattle.std.specs.Prelude.{◌≡◌, ◌<◌, ℕ, [], IfOk, IfSome, List, OnOk, Option, length, map};
 ghost use Rattle.std.specs.List.{All};
 ghost use Rattle.cell_types.specs.Value.{CellValue};
 ghost use Rattle.odata_query.specs.Aggregate.{named_view, NamedAggregateOf};
 ghost use Rattle.row_columns.specs.Picked.{numbered};
-ghost use Rattle.row_groups.specs.Gathered.{gathered_rows, gathered_width, Gathers, Joins, MayJoin};
+ghost use Rattle.row_groups.specs.Gathered.{gathered_rows, gathered_width, lent_places, Gathers, HasGatheredRows, HasGatheredWidth, Joins, MayJoin};
 ghost use Rattle.row_groups.specs.Tallies.{FitsAll};
 
 use crate::groups::Groups;
@@ -29,7 +29,7 @@ impl Gathering {
         places: Option<&[usize]>,
         aggregates: &[NamedAggregate],
     ) -> Result<Gathering, AllocError>
-        ensures { IfOk result (λ made. Gathers made (option_map (λ places. places.now) places.entry)
+        ensures { IfOk result (λ made. Gathers made (lent_places places.entry)
             (map named_view aggregates.now) []) }
     {
         let aggregates = aggregates_of(alloc, aggregates)?;
@@ -77,14 +77,8 @@ impl Gathering {
     pub fn finish(self, alloc: Global) -> Result<Columns, AllocError>
         requires { (places : Option (List ℕ)) × (aggregates : List NamedAggregateOf)
             × (rows : List (List CellValue)) × Gathers self places aggregates rows }
-        ensures width { IfOk result (λ made. (places : Option (List ℕ))
-            (aggregates : List NamedAggregateOf) (rows : List (List CellValue))
-            → Gathers self places aggregates rows
-            → length made.kinds ≡ gathered_width places aggregates) }
-        ensures rows { IfOk result (λ made. (places : Option (List ℕ))
-            (aggregates : List NamedAggregateOf) (rows : List (List CellValue))
-            → Gathers self places aggregates rows
-            → made.rows ≡ gathered_rows places aggregates rows) }
+        ensures width { IfOk result (λ made. HasGatheredWidth self (length made.kinds)) }
+        ensures rows { IfOk result (λ made. HasGatheredRows self made.rows) }
     {
         let width = match &self.places {
             None => 0,
@@ -108,9 +102,9 @@ pub fn gathered(
     requires fits { All (λ a. FitsAll (length columns.now.kinds)
         (numbered numbers.now columns.now.rows) a.aggregate) (map named_view aggregates.now) }
     ensures width { IfOk result (λ made. length made.kinds
-        ≡ gathered_width (option_map (λ places. places.now) places.entry) (map named_view aggregates.now)) }
+        ≡ gathered_width (lent_places places.entry) (map named_view aggregates.now)) }
     ensures rows { IfOk result (λ made. made.rows
-        ≡ gathered_rows (option_map (λ places. places.now) places.entry) (map named_view aggregates.now)
+        ≡ gathered_rows (lent_places places.entry) (map named_view aggregates.now)
         (numbered numbers.now columns.now.rows)) }
 {
     let mut gathering = Gathering::new(alloc, places, aggregates)?;

@@ -1,12 +1,12 @@
 //! Groups of rows, by their values in some columns, while rows come.
-ghost use Rattle.std.specs.Prelude.{◌≡◌, ◌<◌, ◌+◌, ◌^◌, ◌∷◌, [], ℕ, IfOk, List, None, OnOk, Option, Some, length, map, replicate, slice_index_or};
-ghost use Rattle.std.specs.List.{All, AllByRecursion};
+ghost use Rattle.std.specs.Prelude.{◌≡◌, ◌<◌, ◌+◌, ◌^◌, [], ℕ, IfOk, List, None, OnOk, Option, Some, length, map, replicate, slice_index_or};
+ghost use Rattle.std.specs.List.{All};
 ghost use Rattle.cell_types.specs.Value.{CellValue, value_view};
 ghost use Rattle.odata_query.specs.declared.aggregate.Aggregate.{Aggregate};
 ghost use Rattle.query_plan.specs.Apply.{values_at};
 ghost use Rattle.row_columns.specs.Kinds.{any};
 ghost use Rattle.row_columns.specs.Picked.{numbered};
-ghost use Rattle.row_groups.specs.Gathered.{key_width, rows_gathered, HasGroups, JoinsGroups, JoinsRow, MayJoinGroups, MayJoinRow};
+ghost use Rattle.row_groups.specs.Gathered.{key_width, HasGroups, JoinsGroups, JoinsRow, MakesRows, MayJoinGroups, MayJoinRow};
 
 use crate::tallies::{join_each, row_of, tallies_of_none};
 use crate::tally::{Tally, owned};
@@ -134,9 +134,7 @@ impl Groups {
             × (key_width places ≡ width) }
         ensures kinds { IfOk result (λ made.
             made.kinds ≡ replicate (width + length aggregates.now) any) }
-        ensures rows { IfOk result (λ made. (places : Option (List ℕ)) (rows : List (List CellValue))
-            → HasGroups places aggregates.now self.now rows
-            → made.rows ≡ rows_gathered places aggregates.now rows) }
+        ensures rows { IfOk result (λ made. MakesRows self.now aggregates.now made.rows) }
     {
         let mut made = Columns::of_any(alloc, width + aggregates.len())?;
         let keys = self.keys.as_slice();

@@ -1,10 +1,9 @@
 //! What is computed of some rows, for each of some aggregates.
-ghost use Rattle.std.specs.Prelude.{◌≡◌, ◌<◌, ◌++◌, [], IfOk, List, OnOk, length, map};
+ghost use Rattle.std.specs.Prelude.{◌<◌, [], IfOk, List, OnOk, length, map};
 ghost use Rattle.std.specs.List.{All};
 ghost use Rattle.cell_types.specs.Value.{CellValue, value_view};
-ghost use Rattle.query_plan.specs.Apply.{computed_value};
 ghost use Rattle.row_columns.specs.Picked.{numbered};
-ghost use Rattle.row_groups.specs.Tallies.{AreTallies, MayTallyEach, TalliesEach};
+ghost use Rattle.row_groups.specs.Tallies.{AreTallies, IsRowOfTallies, MayTallyEach, TalliesEach};
 
 use crate::tally::{Tally, lent};
 use cell_types::Value;
@@ -54,9 +53,8 @@ pub(crate) fn row_of<'a>(
     aggregates: &[Aggregate],
 ) -> Result<Vec<Value<'a>>, AllocError>
     requires { (rows : List (List CellValue)) × AreTallies aggregates.now rows tallies.now.items }
-    ensures { IfOk result (λ row. (rows : List (List CellValue))
-        → AreTallies aggregates.now rows tallies.now.items
-        → map value_view row.items ≡ map value_view key.now ++ map (computed_value rows) aggregates.now) }
+    ensures { IfOk result (λ row. IsRowOfTallies (map value_view key.now) aggregates.now
+        tallies.now.items (map value_view row.items)) }
 {
     let mut row = Vec::with_capacity(alloc, key.len())?;
     for value in key {

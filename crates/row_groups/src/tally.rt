@@ -3,11 +3,11 @@ ghost use Rattle.std.specs.Prelude.{◌≡◌, ◌<◌, ◌++◌, ◌∷◌, [],
 ghost use Rattle.std.specs.List.{All};
 ghost use Rattle.cell_types.specs.Value.{CellValue, value_view};
 ghost use Rattle.odata_query.specs.declared.aggregate.Aggregate.TheVariants.{Max, Min};
-ghost use Rattle.query_plan.specs.Apply.{computed_value, is_value, values_in};
+ghost use Rattle.query_plan.specs.Apply.{computed_value, is_value};
 ghost use Rattle.row_columns.specs.Picked.{numbered};
 ghost use Rattle.row_groups.specs.Computed.{greater_value, lesser_value};
 ghost use Rattle.row_groups.specs.Sums.{numbers_in, sum_of, sums_joined, FitSums, MaySum};
-ghost use Rattle.row_groups.specs.Tallies.{HasDistinct, IsTally, MayTally, Tallies};
+ghost use Rattle.row_groups.specs.Tallies.{IsTally, JoinsDistinct, JoinsExtreme, JoinsValues, MayTally, Tallies};
 
 use crate::computed::{greatest, is_null, least};
 use crate::sums::{Summed, sum_of};
@@ -143,10 +143,8 @@ fn join_least(
 ) -> Result<(), AllocError>
     requires within { All (λ number. number < length columns.now.rows) numbers.now }
     requires place { place < length columns.now.kinds }
-    ensures { OnOk result ((rows : List (List CellValue))
-        → value_view value.old ≡ computed_value rows (Min place)
-        → value_view value.new
-        ≡ computed_value (rows ++ numbered numbers.now columns.now.rows) (Min place)) }
+    ensures { OnOk result (JoinsExtreme (Min place) (value_view value.old) (value_view value.new)
+        (numbered numbers.now columns.now.rows)) }
 {
     cell_types::values_are_ordered();
     let other = least(columns, numbers, place);
@@ -166,10 +164,8 @@ fn join_greatest(
 ) -> Result<(), AllocError>
     requires within { All (λ number. number < length columns.now.rows) numbers.now }
     requires place { place < length columns.now.kinds }
-    ensures { OnOk result ((rows : List (List CellValue))
-        → value_view value.old ≡ computed_value rows (Max place)
-        → value_view value.new
-        ≡ computed_value (rows ++ numbered numbers.now columns.now.rows) (Max place)) }
+    ensures { OnOk result (JoinsExtreme (Max place) (value_view value.old) (value_view value.new)
+        (numbered numbers.now columns.now.rows)) }
 {
     cell_types::values_are_ordered();
     let other = greatest(columns, numbers, place);
@@ -213,10 +209,8 @@ fn join_values(
 ) -> Result<(), AllocError>
     requires within { All (λ number. number < length columns.now.rows) numbers.now }
     requires place { place < length columns.now.kinds }
-    ensures { OnOk result ((rows : List (List CellValue))
-        → HasDistinct (map value_view values.old.keys) (values_in place rows)
-        → HasDistinct (map value_view values.new.keys)
-        (values_in place (rows ++ numbered numbers.now columns.now.rows))) }
+    ensures { OnOk result (JoinsValues place (map value_view values.old.keys)
+        (map value_view values.new.keys) (numbered numbers.now columns.now.rows)) }
 {
     for number in numbers {
         join_value(values, alloc, columns.value(*number, place))?;
@@ -230,10 +224,8 @@ fn join_value(
     alloc: Global,
     value: Value<'_>,
 ) -> Result<(), AllocError>
-    ensures { OnOk result ((seen : List CellValue)
-        → HasDistinct (map value_view values.old.keys) seen
-        → HasDistinct (map value_view values.new.keys)
-        (seen ++ filter is_value (value_view value.entry ∷ []))) }
+    ensures { OnOk result (JoinsDistinct (map value_view values.old.keys)
+        (map value_view values.new.keys) (filter is_value (value_view value.entry ∷ []))) }
 {
     cell_types::values_are_ordered();
     cell_types::values_compare_as_their_views();

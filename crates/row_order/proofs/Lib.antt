@@ -1,5 +1,7 @@
 pub mod StableLemmas
 pub mod ItemLemmas
+pub mod RepeatLemmas
+pub mod SortingLemmas
 pub mod KeyedLemmas
 pub mod PrefixLemmas
 pub mod TextKeyLemmas

@@ -1,6 +1,6 @@
 //! Conditions whose truth the ranges of a block tell, without a look at its rows.
 
-ghost use Rattle.std.specs.Prelude.{◌≡◌, IfSome};
+ghost use Rattle.std.specs.Prelude.{IfSome};
 ghost use Rattle.odata_types.specs.TypedTree.{compare_dates, compare_decimals, compare_integers, compare_texts, date_view, decimal_view, integer_view, text_view, truth_column, truth_view};
 ghost use Rattle.summary_eval.specs.Known.{IsKnown};
 

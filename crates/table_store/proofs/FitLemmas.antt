@@ -8,7 +8,7 @@ use Rattle.csv_grammar.specs.Files.{IsTable, mark_len}
 use Rattle.csv_grammar.specs.Records.{Field, IsLast, Line, LineBreak, content, crlf, doubled, lf, print_break, print_field, print_last, print_line, print_record, print_text, quoted, unquoted}
 use Rattle.csv_index.specs.Raw.{RawField, field_of, raw_content}
 use Rattle.csv_index.specs.Index.{RawTable}
-use Rattle.cell_types.specs.declared.cell.CellFault.TheVariants.{Missing}
+use Rattle.cell_types.specs.declared.fault.CellFault.TheVariants.{Missing}
 use Rattle.cell_types.specs.Cell.{is_null_text, null_reading, text_or_default, typed_value, value_of}
 use Rattle.cell_types.specs.Column.{ColumnOf}
 use Rattle.cell_types.specs.Datatype as datatype

@@ -12,4 +12,6 @@ pub mod CatalogLemmas
 pub mod OneMeaning
 pub mod SomeMeaning
 pub mod KeysOfTables
+pub mod FirstMismatch
+pub mod FirstBadCell
 pub mod SummaryLemmas

@@ -3,7 +3,7 @@ use Rattle.std.proofs.Common.{◌≡◌, ℕ, List, [], ◌∷◌, Option, Some,
 use Rattle.csv_grammar.specs.Records.{Field}
 use Rattle.csv_grammar.specs.Files.{FileCause, IsTable, IsFileFault}
 use Rattle.csv_grammar.specs.Laws.{OneTable, OneFileFault}
-use Rattle.cell_types.specs.declared.cell.CellFault.{CellFault}
+use Rattle.cell_types.specs.declared.fault.CellFault.{CellFault}
 use Rattle.cell_types.specs.Value.{CellValue}
 use Rattle.csvw_meta.specs.Document.{schemas_of}
 use Rattle.csvw_meta.specs.Fault.{MetaCause}

@@ -7,7 +7,7 @@ use Rattle.std.proofs.lemmas.Option.{get_or_from_slice_get, slice_get-map}
 use Rattle.std.specs.Result.{result_err}
 use Rattle.csv_index.specs.Raw.{RawField, raw_content, field_of}
 use Rattle.cell_types.specs.Value.{CellValue, null}
-use Rattle.cell_types.specs.declared.cell.CellFault.{CellFault}
+use Rattle.cell_types.specs.declared.fault.CellFault.{CellFault}
 use Rattle.cell_types.specs.Column.{ColumnOf, column_view, takes_all_texts}
 use Rattle.cell_types.specs.Cell.{value_of}
 use Rattle.cell_types.specs.Laws.{StringsHaveValues}

@@ -12,8 +12,8 @@ use Rattle.block_summary.specs.Laws.{RangesWiden}
 use Rattle.block_summary.specs.Ranges.{RangeOf, column_of, greater, is_null, lesser, no_range, widened, IsRangeOf}
 use Rattle.block_summary.specs.Reading.{packed_type_of}
 use Rattle.block_summary.specs.declared.block.TheConstants.{BLOCK_ROWS}
-use Rattle.cell_types.specs.declared.cell.CellFault.{CellFault}
-use Rattle.cell_types.specs.declared.cell.CellFault.TheVariants.{Missing}
+use Rattle.cell_types.specs.declared.fault.CellFault.{CellFault}
+use Rattle.cell_types.specs.declared.fault.CellFault.TheVariants.{Missing}
 use Rattle.cell_types.specs.Cell.{null_reading}
 use Rattle.cell_types.specs.declared.column.Column.{Column}
 use Rattle.cell_types.specs.Column.{ColumnOf, column_view}

@@ -1,4 +1,5 @@
 -- Blocks of rows: the rows of a table in their order, so many at a time.
+pub use Rattle.block_summary.specs.Blocks.{block_count}
 use Rattle.std.specs.Prelude.{◌≡◌, ◌+◌, ◌*◌, ◌-◌, ◌/◌, ◌≤◌, ◌^◌, ◌<◌, ℕ, min, List, length, take, drop, Option, Some, option_and_then, slice_get}
 use Rattle.block_summary.specs.Ranges.{column_of}
 use Rattle.cell_types.specs.Column.{ColumnOf}
@@ -7,10 +8,6 @@ use Rattle.typed_columns.specs.TypedColumn.{typed_cells}
 use Rattle.block_summary.specs.declared.block.TheConstants.{BLOCK_ROWS}
 use Rattle.table_store.specs.declared.block.Block.TheInside.{Inside}
 use Rattle.table_store.specs.Table.{TableOf}
-
--- how many blocks so many rows are
-abbrev pub block_count : ℕ → ℕ
-block_count rows = (rows + (BLOCK_ROWS - 1)) / BLOCK_ROWS
 
 -- some of the rows of a table
 abbrev pub part : TableOf → ℕ → ℕ → TableOf

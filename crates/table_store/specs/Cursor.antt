@@ -1,4 +1,4 @@
--- The rows that are left, of a table or a part of it.
+-- The rows that are left, of a part of a table.
 use Rattle.std.specs.Prelude.{◌≡◌, ◌-◌, ◌≤◌, ◌<◌, ℕ, List, Option, None, Some, length, drop, map, take, slice_index_or}
 use Rattle.csv_index.specs.Index.{row_fields}
 use Rattle.cell_types.specs.Column.{ColumnOf, column_view}

@@ -3,9 +3,9 @@ use Rattle.std.specs.Prelude.{ℕ, List, ◌++◌, codes, Option, None, Some, op
 use Rattle.std.specs.Fmt.{decimal}
 use Rattle.csv_grammar.specs.Files.{FileCause}
 use Rattle.csv_index.specs.Fault.{text_cause, text_fault_text}
-use Rattle.cell_types.specs.declared.cell.CellFault.{CellFault}
-use Rattle.cell_types.specs.declared.cell.CellFault.TheVariants as cell
-use Rattle.cell_types.specs.Cell.{cell_fault_name}
+use Rattle.cell_types.specs.declared.fault.CellFault.{CellFault}
+use Rattle.cell_types.specs.declared.fault.CellFault.TheVariants as cell
+use Rattle.cell_types.specs.Fault.{cell_fault_name}
 use Rattle.csvw_meta.specs.Fault.{MetaCause, meta_cause, meta_fault_text}
 use Rattle.table_store.specs.declared.fault.LoadFault.{LoadFault}
 use Rattle.table_store.specs.declared.fault.LoadFault.TheVariants.{Meta, FileMissing, FileTooLarge, Text, Header, Cell, KeyNull, KeyTwice, NoMemory}

@@ -7,8 +7,8 @@ use Rattle.csv_grammar.specs.Files.{IsFileFault}
 use Rattle.csv_index.specs.Raw.{RawField, field_of}
 use Rattle.csv_index.specs.Index.{RawTable, IsRawTable}
 use Rattle.csv_index.specs.Fault.{text_cause}
-use Rattle.cell_types.specs.declared.cell.CellFault.{CellFault}
-use Rattle.cell_types.specs.declared.cell.CellFault.TheVariants as cell
+use Rattle.cell_types.specs.declared.fault.CellFault.{CellFault}
+use Rattle.cell_types.specs.declared.fault.CellFault.TheVariants as cell
 use Rattle.cell_types.specs.Value.{CellValue}
 use Rattle.cell_types.specs.Column.{ColumnOf}
 use Rattle.csvw_meta.specs.declared.schema.Schema.{Schema}

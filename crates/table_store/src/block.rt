@@ -1,13 +1,12 @@
 //! The blocks of a table's rows.
 ghost use Rattle.std.specs.Prelude.{◌≡◌, ◌<◌, Some, IfOk, length, map, slice_get, option_and_then};
-ghost use Rattle.std.specs.List.{AllByRecursion};
 ghost use Rattle.std.specs.Option.{option_copied};
 ghost use Rattle.block_summary.specs.Cells.{AreUnpacked};
 ghost use Rattle.block_summary.specs.Ranges.{column_of, is_null};
 ghost use Rattle.block_summary.specs.Types.{numbers_of};
 ghost use Rattle.cell_types.specs.Value.{value_view};
 ghost use Rattle.csvw_meta.specs.Schema.{schema_view};
-ghost use Rattle.table_store.specs.Block.{packed_cells, HasNumbers};
+ghost use Rattle.table_store.specs.Block.{block_count, block_of, packed_cells, HasNumbers};
 ghost use Rattle.table_store.specs.Fits.{HasTableRows};
 ghost use Rattle.table_store.specs.Summaries.{IsSummaryOf};
 
@@ -40,6 +39,23 @@ impl<'t> Model for Block<'t> {
     ghost view = { block_view };
 
     ghost invariant = { IsWithin };
+}
+
+impl Table {
+    /// The block of a number, counted from 0.
+    pub fn block(&self, number: usize) -> Block<'_>
+        requires { number < block_count (length self.now.rows) }
+        ensures { result ≡ block_of self.now number }
+    {
+        let all = self.rows();
+        let first = number * BLOCK_ROWS;
+        let rows = (all - first).min(BLOCK_ROWS);
+        Block {
+            table: self,
+            first,
+            rows,
+        }
+    }
 }
 
 impl<'t> Block<'t> {

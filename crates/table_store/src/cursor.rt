@@ -1,4 +1,4 @@
-//! The rows of a table or a block, one after another.
+//! The rows of a block, one after another.
 ghost use Rattle.std.specs.Prelude.{◌≡◌, ◌≤◌, [], ◌∷◌, IfOk, OnOk, OnErr, MatchOption, length, take, drop, map};
 ghost use Rattle.cell_types.specs.Column.{column_view};
 ghost use Rattle.cell_types.specs.Value.{value_view};
@@ -11,7 +11,7 @@ use std::alloc::{AllocError, Global};
 use std::marker::Model;
 use typed_columns::{TypedColumn, column_at, field_value};
 
-/// The rows of a table or a block that are left, the next one first.
+/// The rows of a block that are left, the next one first.
 #[derive(Drop)]
 pub struct RowCursor<'t> {
     pub(crate) columns: &'t [Column],

@@ -71,7 +71,7 @@ impl LoadFault {
                 let cause = fault.text(alloc)?;
                 file_text(alloc, table.as_str(), cause.as_str())
             }
-            LoadFault::Header { table, col } => header_text(alloc, table.as_str(), *col),
+            LoadFault::Header { table, col } => text_at(alloc, table.as_str(), "Header col ", *col),
             LoadFault::Cell {
                 table,
                 row,
@@ -79,10 +79,10 @@ impl LoadFault {
                 fault,
             } => cell_text(alloc, table.as_str(), *row, *col, fault.name()),
             LoadFault::KeyNull { table, row } => {
-                row_text(alloc, table.as_str(), "KeyNull row ", *row)
+                text_at(alloc, table.as_str(), "KeyNull row ", *row)
             }
             LoadFault::KeyTwice { table, row } => {
-                row_text(alloc, table.as_str(), "KeyTwice row ", *row)
+                text_at(alloc, table.as_str(), "KeyTwice row ", *row)
             }
             LoadFault::NoMemory => String::from_str(alloc, "NoMemory"),
         }
@@ -118,15 +118,6 @@ fn file_text(alloc: Global, file: &str, cause: &str) -> Result<String, AllocErro
     Ok(text)
 }
 
-/// A table, and the place in its header that is refused.
-fn header_text(alloc: Global, table: &str, col: usize) -> Result<String, AllocError>
-    ensures { IfOk result
-        (λ text. string_bytes text ≡ file_text_of table.now (codes "Header col " ++ decimal col)) }
-{
-    let cause = format!(in alloc; "Header col {col}")?;
-    file_text(alloc, table, cause.as_str())
-}
-
 /// A table, the cell that has no value, and the name of the fault.
 fn cell_text(
     alloc: Global,
@@ -143,11 +134,11 @@ fn cell_text(
     file_text(alloc, table, cause.as_str())
 }
 
-/// A table, and what is wrong with the key of a row.
-fn row_text(alloc: Global, table: &str, cause: &str, row: usize) -> Result<String, AllocError>
+/// A table, what is wrong with it, and the row or the header cell where it is.
+fn text_at(alloc: Global, table: &str, cause: &str, place: usize) -> Result<String, AllocError>
     ensures { IfOk result
-        (λ text. string_bytes text ≡ file_text_of table.now (cause.now ++ decimal row)) }
+        (λ text. string_bytes text ≡ file_text_of table.now (cause.now ++ decimal place)) }
 {
-    let text = format!(in alloc; "{cause}{row}")?;
+    let text = format!(in alloc; "{cause}{place}")?;
     file_text(alloc, table, text.as_str())
 }

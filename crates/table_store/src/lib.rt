@@ -3,8 +3,6 @@
 //! [`Table::find`] the row with a key. The functions without a body are laws of the definitions: each is a theorem, and does nothing.
 #![tactic(auto)]
 
-ghost use Rattle.table_store.specs.Laws.{KeysOfTables, OneMeaning, SchemasOfTables};
-
 mod block;
 mod catalog;
 mod column_values;
@@ -12,6 +10,7 @@ mod cursor;
 mod fault;
 mod file;
 mod header;
+mod laws;
 mod loading;
 mod reading;
 mod summaries;
@@ -22,25 +21,8 @@ pub use catalog::Catalog;
 pub use cursor::RowCursor;
 pub use fault::LoadFault;
 pub use file::NamedFile;
+pub use laws::{
+    first_bad_cell_is_first, first_mismatch_is_first, keys_of_tables, one_meaning,
+    schemas_of_tables,
+};
 pub use table::Table;
-
-/// A folder has one meaning or one cause why it is refused, and never both.
-pub fn one_meaning()
-    ensures { OneMeaning }
-{
-    csv_grammar::table_or_fault();
-    csv_grammar::one_table();
-    csv_grammar::one_file_fault();
-}
-
-/// The tables of a folder have the schemas that its metadata says.
-pub fn schemas_of_tables()
-    ensures { SchemasOfTables }
-{}
-
-/// In the tables of a folder no two rows have one key, no part of a key is null, and the row with the key of a row is that row.
-pub fn keys_of_tables()
-    ensures { KeysOfTables }
-{
-    row_keys::keys_find_rows();
-}

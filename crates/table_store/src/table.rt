@@ -15,7 +15,6 @@ ghost use Rattle.table_store.specs.Loading.{table_cause, HasKeyColumns, IsRefuse
 ghost use Rattle.table_store.specs.Summaries.{AreSummariesOf};
 ghost use Rattle.table_store.specs.Table.{keys_of};
 
-use crate::block::Block;
 use crate::column_values::file_values;
 use crate::cursor::RowCursor;
 use crate::fault::LoadFault;
@@ -114,21 +113,6 @@ impl Table {
         self.summaries.as_slice()
     }
 
-    /// The block of a number, counted from 0.
-    pub fn block(&self, number: usize) -> Block<'_>
-        requires { number < block_count (length self.now.rows) }
-        ensures { result ≡ block_of self.now number }
-    {
-        let all = self.rows();
-        let first = number * BLOCK_ROWS;
-        let rows = (all - first).min(BLOCK_ROWS);
-        Block {
-            table: self,
-            first,
-            rows,
-        }
-    }
-
     /// The cells of a column in the block of a number; nothing for a column of texts.
     pub(crate) fn packed(&self, number: usize, col: usize) -> Option<&PackedColumn>
         requires number { number < block_count (length self.now.rows) }
@@ -139,13 +123,6 @@ impl Table {
             Some(column) => Some(column.block(number)),
             None => None,
         }
-    }
-
-    /// The rows, one after another, the first one first.
-    pub fn cursor(&self) -> RowCursor<'_>
-        ensures { result ≡ self.now.rows }
-    {
-        self.rows_from(0, self.rows())
     }
 
     /// So many rows, from the one with that number on.
@@ -191,7 +168,7 @@ impl Table {
     pub fn values_fit(&self)
         ensures { HasTableRows self.now }
     {
-        let _schema = &self.schema;
+        let _schema = &self.schema; // a look at a field brings the invariant into sight
     }
 
     /// The row, counted from 0, whose values in the columns of the key are those, in the order of the key (Metadata Vocabulary for

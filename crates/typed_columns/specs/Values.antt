@@ -3,7 +3,7 @@ use Rattle.std.specs.Prelude.{◌≡◌, List, [], ◌∷◌, length, map, Resul
 use Rattle.std.specs.List.{zip, AllByRecursion}
 use Rattle.csv_index.specs.Raw.{RawField, raw_content}
 use Rattle.csv_index.specs.Index.{RawTable}
-use Rattle.cell_types.specs.declared.cell.CellFault.{CellFault}
+use Rattle.cell_types.specs.declared.fault.CellFault.{CellFault}
 use Rattle.cell_types.specs.Value.{CellValue, null}
 use Rattle.cell_types.specs.Column.{ColumnOf}
 use Rattle.cell_types.specs.Cell.{value_of}

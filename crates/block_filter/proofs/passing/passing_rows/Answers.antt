@@ -1,9 +1,11 @@
-use Rattle.std.proofs.Common.{◌≡◌, ◌∙◌, ap, length, map, refl, replicate, sym, true}
-use Rattle.std.proofs.lemmas.List.{length-replicate}
+use Rattle.std.proofs.Common.{◌≡◌, ◌∙◌, ap, arith, drop, length, map, refl, replicate, subst, sym, true}
+use Rattle.std.specs.Prelude.{count_by}
+use Rattle.std.proofs.lemmas.List.{length-replicate, with_items_is}
 use Rattle.odata_types.specs.TypedTree.{boxed_truth}
 use Rattle.block_filter.specs.Conditions.{passing_all}
-use Rattle.block_filter.specs.Marks.{marked}
-use Rattle.block_filter.proofs.PassingLemmas.{all_marked}
+use Rattle.block_filter.specs.Lanes.{AreColumnsOf, AreTextsOf}
+use Rattle.block_filter.specs.Marks.{is_marked, marked}
+use Rattle.block_filter.proofs.PassingLemmas.{all_marked, none_wanted}
 use Rattle.block_filter.proofs.passing.passing_rows.Goals as goal
 
 pub loop-condition-init : goal.loop-condition-init
@@ -12,4 +14,23 @@ loop-condition-init c =
     let all : c.args.wanted.items ≡ replicate (length rows) true = c.requires in (
       ap length all ∙ length-replicate (length rows) true,
       ap (passing_all (map boxed_truth c.args.conditions.now)) (sym (ap (λ marks. marked marks rows) all ∙ all_marked (length rows) rows refl)),
+      c.forget.ensures rows,
+      c.in_ok-texts.ensures rows,
     )
+
+pub returns-then-count_of-eq0-clause-rows : goal.returns-then-count_of-eq0-clause-rows
+returns-then-count_of-eq0-clause-rows c =
+    let rows = c.args.block.now.rows in
+    let wanted = c.loop-condition.wanted.items in
+    let none : count_by is_marked wanted ≡ 0 = sym (ap (count_by is_marked) c.deref.ensures.value) ∙ sym c.count_of.ensures ∙ c.if-count_of-eq0.true in
+    c.loop-condition.invariant.1
+    ∙ none_wanted (map boxed_truth (drop c.loop-condition.condition-index c.args.conditions.now)) wanted rows c.loop-condition.invariant.0 none
+
+pub narrow_by-requires-clause-columns : goal.narrow_by-requires-clause-columns
+narrow_by-requires-clause-columns c =
+    let rows = c.args.block.now.rows in
+    let was = c.loop-condition.texts in
+    let now = c.read_named.new.texts in
+    let stay = with_items_is was now (omega (arith, c.read_named.auto.texts, c.as_mut_slice.ensures.len, was.ok.0)) in
+    let texts : AreTextsOf rows c.as_slice.result.now = subst (AreTextsOf rows) (sym (c.as_slice.ensures.value ∙ stay)) c.in_ok-read_named.ensures.texts in
+    subst (AreColumnsOf rows) (sym c.deref-in-loop-condition-3.ensures.value) (c.in_ok-columns.ensures rows c.in_ok-read_named.ensures.lanes texts)

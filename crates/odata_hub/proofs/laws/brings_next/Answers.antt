@@ -1,4 +1,4 @@
-use Rattle.odata_hub.proofs.AlikeLemmas.{brings_next}
+use Rattle.odata_hub.proofs.LawLemmas.{brings_next}
 use Rattle.odata_hub.proofs.laws.brings_next.Goals as goal
 
 pub returns : goal.returns

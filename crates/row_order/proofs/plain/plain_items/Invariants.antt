@@ -3,5 +3,6 @@ use Rattle.odata_query.specs.Query.{order_view}
 use Rattle.row_order.specs.Plain.{AreColumns}
 use Rattle.row_order.proofs.plain.plain_items.Given as goal
 
-abbrev pub invariant-loop-item : goal.invariant-loop-item
-invariant-loop-item l = AreColumns (map order_view (take l.item-index l.items)) l.plain.items
+-- the columns so far are those that decide of the first items
+abbrev pub invariant-loop-place : goal.invariant-loop-place
+invariant-loop-place l = AreColumns (map order_view (take l.place l.items)) l.plain.items

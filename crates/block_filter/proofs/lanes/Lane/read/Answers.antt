@@ -17,7 +17,7 @@ returns c =
     let columns = c.schema.result.now.columns.items in
     let column = c.index.result.now in
     let inside : c.args.col < length (map column_view columns) =
-    omega (arith, c.requires (c.if-not-is_named.false), ap (λ s. length s.columns) c.schema.ensures) in
+    omega (arith, c.requires, ap (λ s. length s.columns) c.schema.ensures) in
     let at : slice_get c.args.block.now.schema.columns c.args.col ≡ Some (column_view column) =
     ap (λ s. slice_get s.columns c.args.col) (sym c.schema.ensures)
     ∙ slice_get-get_or (map column_view columns) c.args.col (column_view column) inside

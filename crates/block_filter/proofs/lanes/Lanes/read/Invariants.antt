@@ -1,6 +1,6 @@
-use Rattle.block_filter.proofs.LaneLemmas.{AreRead}
+use Rattle.block_filter.specs.Lanes.{AreLanesOf}
 use Rattle.block_filter.proofs.lanes.Lanes.read.Given as goal
 
--- the first columns were read
+-- what was read is of this block
 abbrev pub invariant-loop-col : goal.invariant-loop-col
-invariant-loop-col l = AreRead l.block.rows l.self.lanes.items l.col
+invariant-loop-col l = AreLanesOf l.block.rows l.self.lanes.items

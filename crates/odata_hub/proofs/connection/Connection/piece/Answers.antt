@@ -14,6 +14,14 @@ returns-in-Err c = steps_on c.args.self.now c.fail.new.self (Piece c.args.catalo
     let failed = c.fail.ensures.failed in (
       None,
       piece_wants (conn_of c.args.self.now f) (conn_of c.fail.new.self None) _ _ c.if-self.false c.if-self-2.false c.if-self-3.false
-          (record { failed = failed.failed; output = failed.output }),
+          (record {
+            failed = failed.failed;
+            output = failed.output;
+            closed = failed.closed;
+            ended = failed.ended;
+            rest = failed.rest;
+            waiting = failed.waiting;
+            flight = refl;
+          }),
       none_in_flight c.fail.new.self.flight c.fail.ensures.flight,
     ))

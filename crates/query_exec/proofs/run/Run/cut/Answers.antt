@@ -30,6 +30,7 @@ returns c =
       };
       left_is = refl;
       room_is = refl;
+      count_is = refl;
       faulted_is = refl;
       useful_are =
           first_are_useful c.best_in_pieces.ensures c.args.self.now.steps.items node items most rows c.in_ok-self.field-0.rows at

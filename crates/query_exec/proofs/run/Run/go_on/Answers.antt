@@ -15,9 +15,9 @@ returns-in_err-made c =
     let rows_are : c.replace-kept.result.rows ≡ old.kept.rows = search rules in
     let gathering_is : c.take-gathering.result ≡ old.gathering = search rules in
     let each =
-    subst (λ rows. GivesOfGathered (map node_view old.steps.items) (map string_bytes old.names.items) old.gathering rows (Err fault)) rows_are
-    (subst (λ names. GivesOfGathered (map node_view old.steps.items) (map string_bytes names) old.gathering c.replace-kept.result.rows (Err fault)) names_are
-    (subst (λ steps. GivesOfGathered (map node_view steps) (map string_bytes c.replace-names.result.items) old.gathering c.replace-kept.result.rows (Err fault)) steps_are
-    (subst (λ gathering. GivesOfGathered (map node_view c.deref.result.now) (map string_bytes c.replace-names.result.items) gathering c.replace-kept.result.rows (Err fault)) gathering_is
+    subst (λ rows. GivesOfGathered (map node_view old.steps.items) (map string_bytes old.names.items) old.gathering rows old.count (Err fault)) rows_are
+    (subst (λ names. GivesOfGathered (map node_view old.steps.items) (map string_bytes names) old.gathering c.replace-kept.result.rows old.count (Err fault)) names_are
+    (subst (λ steps. GivesOfGathered (map node_view steps) (map string_bytes c.replace-names.result.items) old.gathering c.replace-kept.result.rows old.count (Err fault)) steps_are
+    (subst (λ gathering. GivesOfGathered (map node_view c.deref.result.now) (map string_bytes c.replace-names.result.items) gathering c.replace-kept.result.rows old.count (Err fault)) gathering_is
     c.in_err-made.ensures))) in
     fault_goes_on old _ fault c.from_residual.result c.from_residual.ensures.1 beyond c.if-self.false each

@@ -71,6 +71,7 @@ returns-clause-stands c = λ table schema rows summaries.
           c.in_ok-kept.ensures.kinds
           ∙ ap (λ cs. selected_kinds picked (kinds_of (map column_view cs))) c.as_slice-2.ensures.value
           ∙ ap (λ (s : SchemaOf). selected_kinds picked (kinds_of s.columns)) (sym schema);
+      count_is = λ works. refl;
       gone = [];
       gathered = record {
         gathers = subst (λ ns. GathersFor (map node_view ns) c.in_ok-gathering.gathering []) c.deref-2.ensures.value c.in_ok-gathering.ensures;

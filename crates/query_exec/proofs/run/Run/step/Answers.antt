@@ -4,7 +4,7 @@ use Rattle.query_exec.specs.declared.run.Run.{Run}
 use Rattle.query_exec.specs.Run.{wanted_block, GoesOn, IsReady}
 use Rattle.query_exec.proofs.FitLemmas.{block_fits, block_may_be_taken}
 use Rattle.query_exec.proofs.NeededLemmas.{is_block}
-use Rattle.query_exec.proofs.RunLemmas.{after_block, after_none, block_may_be_gathered, ready_behind_block, ready_behind_none}
+use Rattle.query_exec.proofs.RunLemmas.{after_block, after_none, block_may_be_counted, block_may_be_gathered, ready_behind_block, ready_behind_none}
 use Rattle.query_exec.proofs.run.Run.step.Goals as goal
 use Rattle.query_exec.proofs.run.Run.step.Goals.{in-Some+in_ok-take_in, in_default}
 
@@ -23,6 +23,10 @@ pub take_in-requires-clause-gathers : goal.take_in-requires-clause-gathers
 take_in-requires-clause-gathers c =
     block_may_be_gathered c.conditions_in_turn.ensures c.best_in_pieces.ensures c.nodes_in_turn.ensures c.scans_read_table_rows.ensures c.args.self.now c.in-Some.block
     c.requires.0 c.requires.1 c.requires.2 c.requires.3 (sym c.in-Some.is ∙ c.requires.4)
+
+pub take_in-requires-clause-count : goal.take_in-requires-clause-count
+take_in-requires-clause-count c =
+    block_may_be_counted c.scans_read_table_rows.ensures c.args.self.now c.in-Some.block c.requires.0 c.requires.1 c.requires.2 c.requires.3 (sym c.in-Some.is ∙ c.requires.4)
 
 pub go_on-requires : goal.go_on-requires
 go_on-requires c =

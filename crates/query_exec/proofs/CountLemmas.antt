@@ -1,0 +1,68 @@
+-- How many rows pass the conditions of a plan.
+use Rattle.std.proofs.Common.{◌≡◌, ℕ, ◌+◌, ◌≤◌, Bool, true, false, ◌&&◌, cond, Option, None, Some, List, [], ◌∷◌, ◌++◌, length, refl, sym, ap, ◌∙◌, arith}
+use Rattle.std.specs.Prelude.{count_by, filter, option_and_then, option_map}
+use Rattle.std.specs.List.{list_any}
+use Rattle.std.proofs.lemmas.List.{length-map}
+use Rattle.std.proofs.lemmas.List.Sums.{count_by-le-length, sum_by-append, sum_by-cons}
+use Rattle.cell_types.specs.Value.{CellValue}
+use Rattle.odata_types.specs.TypedTree.{TruthExprOf}
+use Rattle.query_plan.specs.Filter.{faults, passes}
+use Rattle.query_plan.specs.Scan.{passes_each}
+use Rattle.row_columns.specs.Picked.{values_at}
+use Rattle.block_filter.specs.Conditions.{passing_all}
+use Rattle.query_exec.specs.Picked.{selected_rows}
+use Rattle.query_exec.proofs.ConditionLemmas.{some_selected}
+
+-- of rows and of rows behind them
+pub counted_parts : (p : List CellValue → Bool) (front back whole : List (List CellValue)) → whole ≡ front ++ back → count_by p whole ≡ count_by p front + count_by p back
+counted_parts p front back whole is = ap (count_by p) is ∙ sum_by-append (λ row. cond (p row) 1 0) front back
+
+-- where there are no conditions all do
+all_counted : (rows : List (List CellValue)) → length rows ≡ count_by (passes_each []) rows
+all_counted [] = refl
+all_counted (row ∷ rows) =
+    let more : count_by (passes_each []) (row ∷ rows) ≡ 1 + count_by (passes_each []) rows = sum_by-cons (λ r. cond (passes_each [] r) 1 0) row rows in
+    let rest = all_counted rows in
+    omega (arith, more, rest)
+
+-- of the rows that pass a condition those pass others too that pass both
+module _ (p q : List CellValue → Bool) where
+  counted_with : (b : Bool) (row : List CellValue) (rows : List (List CellValue)) → count_by q (filter p rows) ≡ count_by (λ r. p r && q r) rows
+      → count_by q (cond b (row ∷ filter p rows) (filter p rows)) ≡ cond (b && q row) 1 0 + count_by (λ r. p r && q r) rows
+  counted_with true row rows e = sum_by-cons (λ r. cond (q r) 1 0) row (filter p rows) ∙ ap (λ n. cond (q row) 1 0 + n) e
+  counted_with false row rows e = omega (arith, e)
+
+  counted_filter : (rows : List (List CellValue)) → count_by q (filter p rows) ≡ count_by (λ r. p r && q r) rows
+  counted_filter [] = refl
+  counted_filter (row ∷ rows) = counted_with (p row) row rows (counted_filter rows) ∙ sym (sum_by-cons (λ r. cond (p r && q r) 1 0) row rows)
+
+counted_behind : (b : Bool) (es : List TruthExprOf) (rows kept : List (List CellValue))
+    → ((xs : List (List CellValue)) → passing_all es xs ≡ Some kept → length kept ≡ count_by (passes_each es) xs)
+    → option_and_then (passing_all es) (cond b None (Some rows)) ≡ Some kept → length kept ≡ count_by (passes_each es) rows
+counted_behind true es rows kept each is = absurd (cc)
+counted_behind false es rows kept each is = each rows is
+
+-- as many rows pass conditions in turn as these are all true on
+passed_count : (es : List TruthExprOf) (rows kept : List (List CellValue)) → passing_all es rows ≡ Some kept → length kept ≡ count_by (passes_each es) rows
+passed_count [] rows kept is = let same : rows ≡ kept = cc in ap length (sym same) ∙ all_counted rows
+passed_count (e ∷ es) rows kept is =
+    counted_behind (list_any (faults e) rows) es (filter (passes e) rows) kept (λ xs. passed_count es xs kept) is ∙ counted_filter (passes e) (passes_each es) rows
+
+selected_long : (picked : Option (List ℕ)) (rows : List (List CellValue)) → length (selected_rows picked rows) ≡ length rows
+selected_long None rows = refl
+selected_long (Some places) rows = length-map rows (values_at places)
+
+-- whichever columns are picked of them
+pub selected_count : (es : List TruthExprOf) (picked : Option (List ℕ)) (rows kept : List (List CellValue))
+    → option_map (selected_rows picked) (passing_all es rows) ≡ Some kept → length kept ≡ count_by (passes_each es) rows
+selected_count es picked rows kept is =
+    let some = some_selected picked (passing_all es rows) kept is in
+    ap length (sym some.2) ∙ selected_long picked some.0 ∙ passed_count es rows some.0 some.1
+
+-- no more rows pass than there are
+pub few_pass : (es : List TruthExprOf) (picked : Option (List ℕ)) (rows kept : List (List CellValue)) → option_map (selected_rows picked) (passing_all es rows) ≡ Some kept
+    → length kept ≤ length rows
+few_pass es picked rows kept is =
+    let same = selected_count es picked rows kept is in
+    let few = count_by-le-length (passes_each es) rows in
+    omega (arith, same, few)

@@ -1,0 +1,33 @@
+//! The laws of the definitions of tables: each function is a theorem, and does nothing.
+ghost use Rattle.table_store.specs.Laws.{FirstBadCellIsFirst, FirstMismatchIsFirst, KeysOfTables, OneMeaning, SchemasOfTables};
+
+/// A header matches the columns where each cell of it is called as its column is; else the place that is told is the first at which they differ.
+pub fn first_mismatch_is_first()
+    ensures { FirstMismatchIsFirst }
+{}
+
+/// Rows have values where each cell has one; else the cell that is told is the first, row by row, that has none.
+pub fn first_bad_cell_is_first()
+    ensures { FirstBadCellIsFirst }
+{}
+
+/// A folder has one meaning or one cause why it is refused, and never both.
+pub fn one_meaning()
+    ensures { OneMeaning }
+{
+    csv_grammar::table_or_fault();
+    csv_grammar::one_table();
+    csv_grammar::one_file_fault();
+}
+
+/// The tables of a folder have the schemas that its metadata says.
+pub fn schemas_of_tables()
+    ensures { SchemasOfTables }
+{}
+
+/// In the tables of a folder no two rows have one key, no part of a key is null, and the row with the key of a row is that row.
+pub fn keys_of_tables()
+    ensures { KeysOfTables }
+{
+    row_keys::keys_find_rows();
+}
