@@ -8,7 +8,6 @@ use Rattle.serde_json.specs.Data.{Data, null}
 use Rattle.serde_json.specs.Find.{as_object, as_str}
 use Rattle.cell_types.specs.Column.{ColumnOf}
 use Rattle.csvw_meta.specs.declared.limits.TheConstants.{MOST_METADATA_BYTES}
-use Rattle.csvw_meta.specs.Fault.{bad_default, bad_null, bad_required, no_tables, not_object, too_many_tables}
 use Rattle.csvw_meta.specs.Limits.{LimitsOf}
 use Rattle.csvw_meta.specs.Refusal.{each_conditions, ensure, first_cause}
 use Rattle.csvw_meta.specs.Members.{count_conditions, fits, member, nearest}
@@ -30,9 +29,9 @@ unfolding inherited_conditions
 level-short level h =
     let met : AllMet (inherited_conditions level) = record { none = h } in
     let datatype = datatype_member_conditions (member (codes "datatype") level) in
-    let default = ensure (fits is_short_text (member (codes "default") level)) bad_default ∷ ensure (fits is_truth (member (codes "required") level)) bad_required ∷ [] in
-    let behind = back_met datatype (ensure (fits is_texts (member (codes "null") level)) bad_null ∷ default) met in
-    ensured (fits is_short_text (member (codes "default") level)) bad_default (head_met (tail_met behind))
+    let default = ensure (fits is_short_text (member (codes "default") level)) (codes "BadDefault") ∷ ensure (fits is_truth (member (codes "required") level)) (codes "BadRequired") ∷ [] in
+    let behind = back_met datatype (ensure (fits is_texts (member (codes "null") level)) (codes "BadNull") ∷ default) met in
+    ensured (fits is_short_text (member (codes "default") level)) (codes "BadDefault") (head_met (tail_met behind))
 
 null-level : IsOfForm null
 unfolding inherited_conditions datatype_member_conditions
@@ -81,7 +80,7 @@ group-short : (limits : LimitsOf) (group : Data) → AllMet (group_conditions li
 unfolding group_conditions
 group-short limits group h =
     let tables = tables_in group in
-    let count = count_conditions limits.tables no_tables too_many_tables tables in
+    let count = count_conditions limits.tables (codes "NoTables") (codes "TooManyTables") tables in
     let each = each_conditions (table_conditions limits group) [] tables in
     let form = table-level group (back_met count (level_conditions group) (front_met (count ++ level_conditions group) each h)) in
     let met = back_met (count ++ level_conditions group) each h in
@@ -98,7 +97,7 @@ object-short limits d true e h = rw e (group-short limits d (rw e at h))
 object-short limits d false e h = rw e (lone_table-short limits d (rw e at h))
 
 metadata-short : (limits : LimitsOf) (d : Data) → AllMet (metadata_conditions limits d) → All HasShortDefaults (metadata_schemas d)
-metadata-short limits d h = object-short limits d (is_group d) refl (kind_met (is_some (as_object d)) not_object (object_conditions limits d) h)
+metadata-short limits d h = object-short limits d (is_group d) refl (kind_met (is_some (as_object d)) (codes "NotObject") (object_conditions limits d) h)
 
 value-short : (limits : LimitsOf) (value : Option Data) (schemas : List SchemaOf) → schemas_of_value limits value ≡ Ok schemas → All HasShortDefaults schemas
 unfolding schemas_of_value

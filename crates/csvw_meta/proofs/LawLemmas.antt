@@ -9,7 +9,7 @@ use Rattle.std.specs.List.{All, IsDistinct, list_any}
 use Rattle.std.specs.Str.{bytes_eq}
 use Rattle.serde_json.specs.Data.{Data, null, boolean, number, string, array, object}
 use Rattle.serde_json.specs.Find.{as_object}
-use Rattle.csvw_meta.specs.Fault.{MetaCause, not_object, bad_url, duplicate_url, no_tables, too_many_tables, no_columns, too_many_columns, bad_name, duplicate_name, bad_key}
+use Rattle.csvw_meta.specs.Fault.{MetaCause}
 use Rattle.csvw_meta.specs.Limits.{LimitsOf}
 use Rattle.csvw_meta.specs.Refusal.{Condition, ensure, first_cause, each_conditions}
 use Rattle.csvw_meta.specs.Members.{member, fits, absent, count_conditions}
@@ -105,21 +105,21 @@ count-met limit none many ds h =
 
 pub object_column : (earlier : List Data) (d : Data) → AllMet (column_conditions earlier d) → AllMet (object_column_conditions earlier d)
 unfolding column_conditions
-object_column earlier d h = kind_met (is_some (as_object d)) not_object (object_column_conditions earlier d) h
+object_column earlier d h = kind_met (is_some (as_object d)) (codes "NotObject") (object_column_conditions earlier d) h
 
 -- a column that is accepted has a name of its form
 pub column-form : (earlier : List Data) (d : Data) → AllMet (column_conditions earlier d) → is_column_name (name_of d) ≡ true
 unfolding object_column_conditions
 column-form earlier d h =
     let named = tail_met (tail_met (tail_met (object_column earlier d h))) in
-    ensured (is_column_name (name_of d)) bad_name (head_met named)
+    ensured (is_column_name (name_of d)) (codes "BadName") (head_met named)
 
 -- which none of the earlier ones has
 pub column-new : (earlier : List Data) (d : Data) → AllMet (column_conditions earlier d) → has_name earlier (name_of d) ≡ false
 unfolding object_column_conditions
 column-new earlier d h =
     let new = tail_met (tail_met (tail_met (tail_met (object_column earlier d h)))) in
-    not-true (has_name earlier (name_of d)) (ensured (not (has_name earlier (name_of d))) duplicate_name (head_met new))
+    not-true (has_name earlier (name_of d)) (ensured (not (has_name earlier (name_of d))) (codes "DuplicateName") (head_met new))
 
 -- the columns of a schema that is accepted
 pub record AreAcceptedColumns (limits : LimitsOf) (columns : List Data) : Type 0 where
@@ -132,12 +132,12 @@ unfolding object_schema_conditions
 columns-accepted limits schema h =
     let columns = columns_in schema in
     let first = absent (codes "separator") schema ∷ inherited_conditions schema in
-    let count = count_conditions limits.columns no_columns too_many_columns columns in
+    let count = count_conditions limits.columns (codes "NoColumns") (codes "TooManyColumns") columns in
     let each = each_conditions column_conditions [] columns in
     let met = front_met (first ++ count ++ each) _ h in
     let each_met = back_met (first ++ count) each met in
     record {
-      count = count-met limits.columns no_columns too_many_columns columns (back_met first count (front_met (first ++ count) each met));
+      count = count-met limits.columns (codes "NoColumns") (codes "TooManyColumns") columns (back_met first count (front_met (first ++ count) each met));
       names = each-all column_conditions (λ d. is_column_name (name_of d) ≡ true) column-form [] columns each_met;
       distinct = each-distinct column_conditions name_of column-new columns each_met;
     }
@@ -149,10 +149,10 @@ schema_key-accepted limits schema h =
     let columns = columns_in schema in
     let key = member (codes "primaryKey") schema in
     let first = absent (codes "separator") schema ∷ inherited_conditions schema in
-    let count = count_conditions limits.columns no_columns too_many_columns columns in
+    let count = count_conditions limits.columns (codes "NoColumns") (codes "TooManyColumns") columns in
     let each = each_conditions column_conditions [] columns in
-    let met = back_met (first ++ count ++ each) (ensure (fits (is_key columns) key) bad_key ∷ []) h in
-    key-accepted columns key (ensured (fits (is_key columns) key) bad_key (head_met met))
+    let met = back_met (first ++ count ++ each) (ensure (fits (is_key columns) key) (codes "BadKey") ∷ []) h in
+    key-accepted columns key (ensured (fits (is_key columns) key) (codes "BadKey") (head_met met))
 
 -- what a table has for a schema that is accepted is an object
 pub object_schema : (limits : LimitsOf) (schema : Option Data) → AllMet (schema_conditions limits schema) → AllMet (object_schema_conditions limits (unwrap_or schema null))
@@ -167,19 +167,19 @@ object_schema limits (Some (object ms)) h = h
 
 pub object_table : (limits : LimitsOf) (group : Data) (earlier : List Data) (d : Data) → AllMet (table_conditions limits group earlier d) → AllMet (object_table_conditions limits group earlier d)
 unfolding table_conditions
-object_table limits group earlier d h = kind_met (is_some (as_object d)) not_object (object_table_conditions limits group earlier d) h
+object_table limits group earlier d h = kind_met (is_some (as_object d)) (codes "NotObject") (object_table_conditions limits group earlier d) h
 
 -- a table that is accepted has a url of its form
 pub table-form : (limits : LimitsOf) (group : Data) (earlier : List Data) (d : Data) → AllMet (table_conditions limits group earlier d) → is_table_url (url_of d) ≡ true
 unfolding object_table_conditions
-table-form limits group earlier d h = ensured (is_table_url (url_of d)) bad_url (head_met (object_table limits group earlier d h))
+table-form limits group earlier d h = ensured (is_table_url (url_of d)) (codes "BadUrl") (head_met (object_table limits group earlier d h))
 
 -- which none of the earlier ones has
 pub table-new : (limits : LimitsOf) (group : Data) (earlier : List Data) (d : Data) → AllMet (table_conditions limits group earlier d) → has_url earlier (url_of d) ≡ false
 unfolding object_table_conditions
 table-new limits group earlier d h =
     let new = tail_met (object_table limits group earlier d h) in
-    not-true (has_url earlier (url_of d)) (ensured (not (has_url earlier (url_of d))) duplicate_url (head_met new))
+    not-true (has_url earlier (url_of d)) (ensured (not (has_url earlier (url_of d))) (codes "DuplicateUrl") (head_met new))
 
 -- and columns that are accepted
 accepted_columns : (limits : LimitsOf) (group : Data) (earlier : List Data) (d : Data) → AllMet (table_conditions limits group earlier d) → AreAcceptedColumns limits (table_columns group d)
@@ -219,10 +219,10 @@ pub tables-accepted : (limits : LimitsOf) (group : Data) → AllMet (group_condi
 unfolding group_conditions
 tables-accepted limits group h =
     let tables = tables_in group in
-    let count = count_conditions limits.tables no_tables too_many_tables tables in
+    let count = count_conditions limits.tables (codes "NoTables") (codes "TooManyTables") tables in
     let each = each_conditions (table_conditions limits group) [] tables in
     let each_met = back_met (count ++ level_conditions group) each h in
-    let counted = count-met limits.tables no_tables too_many_tables tables (front_met count (level_conditions group) (front_met (count ++ level_conditions group) each h)) in
+    let counted = count-met limits.tables (codes "NoTables") (codes "TooManyTables") tables (front_met count (level_conditions group) (front_met (count ++ level_conditions group) each h)) in
     let all = All-map (IsAccepted limits) (table_schema group) tables (each-all (table_conditions limits group) (λ d. IsAccepted limits (table_schema group d)) (table-accepted limits group) [] tables each_met) in
     let urls : IsDistinct bytes_eq (map (λ (schema : SchemaOf). schema.url) (group_schemas group)) = rw (map-map (λ (schema : SchemaOf). schema.url) (table_schema group) tables) (each-distinct (table_conditions limits group) url_of (table-new limits group) tables each_met) in
     record {
@@ -250,7 +250,7 @@ object_at limits d false e room h = rw e (lone_table-accepted limits d room (rw 
 
 -- what metadata says where all its conditions are met
 metadata-accepted : (limits : LimitsOf) (d : Data) → 1 ≤ limits.tables → AllMet (metadata_conditions limits d) → AreAccepted limits (metadata_schemas d)
-metadata-accepted limits d room h = object_at limits d (is_group d) refl room (kind_met (is_some (as_object d)) not_object (object_conditions limits d) h)
+metadata-accepted limits d room h = object_at limits d (is_group d) refl room (kind_met (is_some (as_object d)) (codes "NotObject") (object_conditions limits d) h)
 
 pub outcome : (limits : LimitsOf) (cause : Option MetaCause) (all schemas : List SchemaOf) → unless_cause cause all ≡ Ok schemas → (cause ≡ None) × (all ≡ schemas)
 outcome limits None all schemas h = (refl, cc)

@@ -4,7 +4,6 @@ use Rattle.std.specs.List.{All, flat_map}
 use Rattle.std.proofs.lemmas.List.Elements.{All-append, All-cons, All-head, All-nil, All-tail}
 use Rattle.serde_json.specs.Data.{Data, null}
 use Rattle.serde_json.specs.Find.{as_object}
-use Rattle.csvw_meta.specs.Fault.{not_object, no_columns, too_many_columns, no_tables, too_many_tables}
 use Rattle.csvw_meta.specs.Limits.{LimitsOf}
 use Rattle.csvw_meta.specs.Refusal.{each_conditions, first_cause}
 use Rattle.csvw_meta.specs.Members.{absent, count_conditions}
@@ -31,7 +30,7 @@ unfolding object_schema_conditions
 schema-levels limits schema h =
     let columns = columns_in schema in
     let first = absent (codes "separator") schema ∷ inherited_conditions schema in
-    let count = count_conditions limits.columns no_columns too_many_columns columns in
+    let count = count_conditions limits.columns (codes "NoColumns") (codes "TooManyColumns") columns in
     let each = each_conditions column_conditions [] columns in
     let met = front_met (first ++ count ++ each) _ h in
     let level = tail_met (front_met first count (front_met (first ++ count) each met)) in
@@ -55,7 +54,7 @@ group-levels : (limits : LimitsOf) (group : Data) → AllMet (group_conditions l
 unfolding group_conditions
 group-levels limits group h =
     let tables = tables_in group in
-    let count = count_conditions limits.tables no_tables too_many_tables tables in
+    let count = count_conditions limits.tables (codes "NoTables") (codes "TooManyTables") tables in
     let each = each_conditions (table_conditions limits group) [] tables in
     let level = back_met count (level_conditions group) (front_met (count ++ level_conditions group) each h) in
     let tables_met = back_met (count ++ level_conditions group) each h in
@@ -73,7 +72,7 @@ object-levels limits d true e h = rw e (group-levels limits d (rw e at h))
 object-levels limits d false e h = rw e (lone_table-levels limits d (rw e at h))
 
 metadata-levels : (limits : LimitsOf) (d : Data) → AllMet (metadata_conditions limits d) → All IsOfForm (levels_of d)
-metadata-levels limits d h = object-levels limits d (is_group d) refl (kind_met (is_some (as_object d)) not_object (object_conditions limits d) h)
+metadata-levels limits d h = object-levels limits d (is_group d) refl (kind_met (is_some (as_object d)) (codes "NotObject") (object_conditions limits d) h)
 
 pub text-levels : LevelsAreOfForm
 unfolding schemas_of_value

@@ -5,7 +5,7 @@ use Rattle.std.specs.Str.{bytes_eq}
 use Rattle.serde_json.specs.Data.{Data, boolean}
 use Rattle.serde_json.specs.Find.{as_object}
 use Rattle.cell_types.specs.Column.{ColumnOf}
-use Rattle.csvw_meta.specs.Fault.{not_object, unsupported, bad_name, duplicate_name, bad_titles}
+use Rattle.csvw_meta.specs.Fault.{unsupported}
 use Rattle.csvw_meta.specs.Refusal.{Condition, ensure}
 use Rattle.csvw_meta.specs.Members.{member, has, absent, fits, text_member, nearest}
 use Rattle.csvw_meta.specs.Forms.{is_column_name}
@@ -32,14 +32,14 @@ object_column_conditions earlier d =
     ensure (is_real (member (codes "virtual") d)) (unsupported (codes "virtual"))
     ∷ absent (codes "separator") d
     ∷ ensure (has (codes "name") d) (unsupported (codes "name"))
-    ∷ ensure (is_column_name (name_of d)) bad_name
-    ∷ ensure (not (has_name earlier (name_of d))) duplicate_name
-    ∷ ensure (fits is_titles (member (codes "titles") d)) bad_titles
+    ∷ ensure (is_column_name (name_of d)) (codes "BadName")
+    ∷ ensure (not (has_name earlier (name_of d))) (codes "DuplicateName")
+    ∷ ensure (fits is_titles (member (codes "titles") d)) (codes "BadTitles")
     ∷ inherited_conditions d
 
 -- the conditions on a column behind the earlier ones
 unfoldable pub column_conditions : List Data → Data → List Condition
-column_conditions earlier d = if is_some (as_object d) then object_column_conditions earlier d else Some not_object ∷ []
+column_conditions earlier d = if is_some (as_object d) then object_column_conditions earlier d else Some (codes "NotObject") ∷ []
 
 -- what a column says, where those levels are around it
 abbrev pub column_of : List Data → Data → ColumnOf

@@ -9,7 +9,7 @@ use Rattle.cell_types.specs.declared.datatype.DateForm.{DateForm}
 use Rattle.cell_types.specs.declared.datatype.DateForm.TheVariants.{YearMonthDay, Compact, DayMonthYear, MonthDayYear, Dotted}
 use Rattle.cell_types.specs.Datatype as cell
 use Rattle.cell_types.specs.Datatype.{DatatypeOf, boolean_view, pattern_of}
-use Rattle.csvw_meta.specs.Fault.{unsupported, bad_datatype, bad_format}
+use Rattle.csvw_meta.specs.Fault.{unsupported}
 use Rattle.csvw_meta.specs.Refusal.{Condition, ensure}
 use Rattle.csvw_meta.specs.Members.{member, has, absent}
 
@@ -88,11 +88,11 @@ constraint_conditions d =
 -- the conditions on what a level has for `datatype`
 unfoldable pub datatype_conditions : Data → List Condition
 datatype_conditions d =
-    ensure (is_some (datatype_name d)) bad_datatype
+    ensure (is_some (datatype_name d)) (codes "BadDatatype")
     ∷ ensure (is_some (base_in d)) (unsupported (unwrap_or (datatype_name d) []))
     ∷ constraint_conditions d
     ++ ensure (may_have_format d) (unsupported (codes "format"))
-    ∷ ensure (is_some (datatype_in d)) bad_format
+    ∷ ensure (is_some (datatype_in d)) (codes "BadFormat")
     ∷ []
 
 -- the conditions on it, none where it is absent

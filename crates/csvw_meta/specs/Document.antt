@@ -8,7 +8,7 @@ use Rattle.serde_json.specs.Find.{as_object}
 use Rattle.csv_grammar.specs.Files.{text_of}
 use Rattle.csvw_meta.specs.declared.document.Schemas.{Schemas}
 use Rattle.csvw_meta.specs.declared.limits.TheConstants.{MOST_METADATA_BYTES}
-use Rattle.csvw_meta.specs.Fault.{MetaCause, not_json, not_object, no_tables}
+use Rattle.csvw_meta.specs.Fault.{MetaCause}
 use Rattle.csvw_meta.specs.Limits.{LimitsOf}
 use Rattle.csvw_meta.specs.Refusal.{Condition, ensure, first_cause}
 use Rattle.csvw_meta.specs.Members.{has}
@@ -29,14 +29,14 @@ is_group d = has (codes "tables") d
 
 -- the conditions on a table that stands alone
 unfoldable pub lone_table_conditions : LimitsOf → Data → List Condition
-lone_table_conditions limits d = ensure (has (codes "url") d) no_tables ∷ table_conditions limits null [] d
+lone_table_conditions limits d = ensure (has (codes "url") d) (codes "NoTables") ∷ table_conditions limits null [] d
 
 unfoldable pub object_conditions : LimitsOf → Data → List Condition
 object_conditions limits d = if is_group d then group_conditions limits d else lone_table_conditions limits d
 
 -- the conditions on metadata
 abbrev pub metadata_conditions : LimitsOf → Data → List Condition
-metadata_conditions limits d = if is_some (as_object d) then object_conditions limits d else Some not_object ∷ []
+metadata_conditions limits d = if is_some (as_object d) then object_conditions limits d else Some (codes "NotObject") ∷ []
 
 -- what metadata says, table by table
 abbrev pub metadata_schemas : Data → List SchemaOf
@@ -49,7 +49,7 @@ unless_cause (Some cause) schemas = Err cause
 
 -- what a value says, or the first cause against it
 unfoldable pub schemas_of_value : LimitsOf → Option Data → Result (List SchemaOf) MetaCause
-schemas_of_value limits None = Err not_json
+schemas_of_value limits None = Err (codes "NotJson")
 schemas_of_value limits (Some d) = unless_cause (first_cause (metadata_conditions limits d)) (metadata_schemas d)
 
 -- the schemas of a metadata text, or the cause of the first condition that fails

@@ -1,7 +1,6 @@
 -- Groups of tables (Metadata Vocabulary for Tabular Data, section 5.3).
 use Rattle.std.specs.Prelude.{List, [], ◌++◌, map, codes}
 use Rattle.serde_json.specs.Data.{Data}
-use Rattle.csvw_meta.specs.Fault.{no_tables, too_many_tables}
 use Rattle.csvw_meta.specs.Limits.{LimitsOf}
 use Rattle.csvw_meta.specs.Refusal.{Condition, each_conditions}
 use Rattle.csvw_meta.specs.Members.{array_member, count_conditions}
@@ -15,7 +14,7 @@ tables_in d = array_member (codes "tables") d
 -- the conditions on a group
 unfoldable pub group_conditions : LimitsOf → Data → List Condition
 group_conditions limits d =
-    count_conditions limits.tables no_tables too_many_tables (tables_in d)
+    count_conditions limits.tables (codes "NoTables") (codes "TooManyTables") (tables_in d)
     ++ level_conditions d
     ++ each_conditions (table_conditions limits d) [] (tables_in d)
 

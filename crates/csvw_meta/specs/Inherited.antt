@@ -3,7 +3,6 @@ use Rattle.std.specs.Prelude.{ℕ, Bool, false, List, [], ◌∷◌, ◌++◌, l
 use Rattle.serde_json.specs.Data.{Data}
 use Rattle.serde_json.specs.Find.{as_str, as_bool}
 use Rattle.csvw_meta.specs.declared.limits.TheConstants.{MOST_METADATA_BYTES}
-use Rattle.csvw_meta.specs.Fault.{bad_null, bad_default, bad_required}
 use Rattle.csvw_meta.specs.Refusal.{Condition, ensure}
 use Rattle.csvw_meta.specs.Members.{member, fits}
 use Rattle.csvw_meta.specs.Texts.{is_texts, texts_in}
@@ -20,9 +19,9 @@ is_short_text d = unwrap_or (option_map (λ text. nat_le (length text) MOST_META
 unfoldable pub inherited_conditions : Data → List Condition
 inherited_conditions d =
     datatype_member_conditions (member (codes "datatype") d)
-    ++ ensure (fits is_texts (member (codes "null") d)) bad_null
-    ∷ ensure (fits is_short_text (member (codes "default") d)) bad_default
-    ∷ ensure (fits is_truth (member (codes "required") d)) bad_required
+    ++ ensure (fits is_texts (member (codes "null") d)) (codes "BadNull")
+    ∷ ensure (fits is_short_text (member (codes "default") d)) (codes "BadDefault")
+    ∷ ensure (fits is_truth (member (codes "required") d)) (codes "BadRequired")
     ∷ []
 
 -- the texts that stand for null: the empty one where no level says any

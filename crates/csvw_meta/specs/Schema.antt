@@ -4,7 +4,7 @@ use Rattle.serde_json.specs.Data.{Data, string}
 use Rattle.serde_json.specs.Find.{as_object}
 use Rattle.cell_types.specs.Column.{ColumnOf, column_view}
 use Rattle.csvw_meta.specs.declared.schema.Schema.{Schema}
-use Rattle.csvw_meta.specs.Fault.{unsupported, no_columns, too_many_columns, bad_key}
+use Rattle.csvw_meta.specs.Fault.{unsupported}
 use Rattle.csvw_meta.specs.Limits.{LimitsOf}
 use Rattle.csvw_meta.specs.Refusal.{Condition, ensure, each_conditions}
 use Rattle.csvw_meta.specs.Members.{member, absent, fits, array_member, count_conditions}
@@ -35,13 +35,13 @@ unfoldable pub object_schema_conditions : LimitsOf → Data → List Condition
 object_schema_conditions limits d =
     absent (codes "separator") d
     ∷ inherited_conditions d
-    ++ count_conditions limits.columns no_columns too_many_columns (columns_in d)
+    ++ count_conditions limits.columns (codes "NoColumns") (codes "TooManyColumns") (columns_in d)
     ++ each_conditions column_conditions [] (columns_in d)
-    ++ ensure (fits (is_key (columns_in d)) (member (codes "primaryKey") d)) bad_key
+    ++ ensure (fits (is_key (columns_in d)) (member (codes "primaryKey") d)) (codes "BadKey")
     ∷ []
 
 -- the conditions on what a table, or its group, has as `tableSchema`
 unfoldable pub schema_conditions : LimitsOf → Option Data → List Condition
-schema_conditions limits None = Some no_columns ∷ []
+schema_conditions limits None = Some (codes "NoColumns") ∷ []
 schema_conditions limits (Some (string s)) = Some (unsupported (codes "tableSchema")) ∷ []
-schema_conditions limits (Some d) = if is_some (as_object d) then object_schema_conditions limits d else Some no_columns ∷ []
+schema_conditions limits (Some d) = if is_some (as_object d) then object_schema_conditions limits d else Some (codes "NoColumns") ∷ []

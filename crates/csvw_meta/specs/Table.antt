@@ -4,7 +4,6 @@ use Rattle.std.specs.List.{list_any}
 use Rattle.std.specs.Str.{bytes_eq}
 use Rattle.serde_json.specs.Data.{Data, null}
 use Rattle.serde_json.specs.Find.{as_object}
-use Rattle.csvw_meta.specs.Fault.{not_object, bad_url, duplicate_url}
 use Rattle.csvw_meta.specs.Limits.{LimitsOf}
 use Rattle.csvw_meta.specs.Refusal.{Condition, ensure}
 use Rattle.csvw_meta.specs.Members.{member, absent, text_member, nearest}
@@ -36,14 +35,14 @@ level_conditions d =
 
 unfoldable pub object_table_conditions : LimitsOf → Data → List Data → Data → List Condition
 object_table_conditions limits group earlier d =
-    ensure (is_table_url (url_of d)) bad_url
-    ∷ ensure (not (has_url earlier (url_of d))) duplicate_url
+    ensure (is_table_url (url_of d)) (codes "BadUrl")
+    ∷ ensure (not (has_url earlier (url_of d))) (codes "DuplicateUrl")
     ∷ level_conditions d
     ++ schema_conditions limits (schema_in group d)
 
 -- the conditions on a table of that group behind the earlier ones; a table without a group is in one that is null
 unfoldable pub table_conditions : LimitsOf → Data → List Data → Data → List Condition
-table_conditions limits group earlier d = if is_some (as_object d) then object_table_conditions limits group earlier d else Some not_object ∷ []
+table_conditions limits group earlier d = if is_some (as_object d) then object_table_conditions limits group earlier d else Some (codes "NotObject") ∷ []
 
 -- the schema of a table; null, which has no columns, where it has none
 abbrev pub schema_or_null : Data → Data → Data

@@ -7,10 +7,11 @@ ghost use Rattle.csvw_meta.specs.Members.{member as member_of};
 ghost use Rattle.csvw_meta.specs.Column.{is_real as is_real_of, name_of as name_in, has_name as has_name_among, object_column_conditions, column_conditions, column_of};
 
 use crate::datatype::make_datatype;
+use crate::fault::MetaFault;
 use crate::forms::is_column_name;
 use crate::inherited::{check_inherited, is_required, make_default, make_nulls};
 use crate::members::{absent, has, member, nearest, text_member};
-use crate::refusal::{Refusal, ensure};
+use crate::refusal::{Refusal, ensure, ensure_served};
 use crate::texts::{is_titles, make_titles};
 use cell_types::Column;
 use serde_json::Value;
@@ -46,14 +47,17 @@ fn check_object<'v>(earlier: &'v [Value], column: &'v Value) -> Result<(), Refus
     ensures { condition_of result
         ≡ first_cause (object_column_conditions (map view earlier.now) (view column.now)) }
 {
-    ensure(is_real(column), Refusal::Unsupported("virtual"))?;
+    ensure_served(is_real(column), "virtual")?;
     absent(column, "separator")?;
-    ensure(has(column, "name"), Refusal::Unsupported("name"))?;
-    ensure(is_column_name(name_of(column)), Refusal::BadName)?;
-    ensure(!has_name(earlier, name_of(column)), Refusal::DuplicateName)?;
+    ensure_served(has(column, "name"), "name")?;
+    ensure(is_column_name(name_of(column)), MetaFault::BadName)?;
+    ensure(
+        !has_name(earlier, name_of(column)),
+        MetaFault::DuplicateName,
+    )?;
     ensure(
         member(column, "titles").is_none_or(is_titles),
-        Refusal::BadTitles,
+        MetaFault::BadTitles,
     )?;
     check_inherited(column)
 }
@@ -67,7 +71,7 @@ pub(crate) fn check_column<'v>(earlier: &'v [Value], column: &'v Value) -> Resul
     if column.is_object() {
         check_object(earlier, column)
     } else {
-        Err(Refusal::NotObject)
+        Err(Refusal::Fault(MetaFault::NotObject))
     }
 }
 

@@ -7,8 +7,9 @@ ghost use Rattle.csvw_meta.specs.Datatype.{base_in as base_of, boolean_of_texts,
 ghost use Rattle.csvw_meta.specs.Datatype.{datatype_in as datatype_in_of, datatype_member_conditions, datatype_name as datatype_name_of, datatype_named as datatype_named_of};
 ghost use Rattle.csvw_meta.specs.Datatype.{datatype_of, datatype_with, date_form as date_form_of, may_have_format as may_have_format_of};
 
+use crate::fault::MetaFault;
 use crate::members::{absent, has, member};
-use crate::refusal::{Refusal, ensure};
+use crate::refusal::{Refusal, ensure, ensure_served};
 use cell_types::{BooleanForm, Datatype, DateForm};
 use serde_json::Value;
 use std::alloc::{AllocError, Global};
@@ -140,14 +141,11 @@ fn check_present<'v>(datatype: &'v Value) -> Result<(), Refusal<'v>>
     ensures { condition_of result ≡ first_cause (datatype_conditions (view datatype.now)) }
 {
     let name = datatype_name(datatype);
-    ensure(name.is_some(), Refusal::BadDatatype)?;
-    ensure(
-        is_served(datatype),
-        Refusal::Unsupported(name.unwrap_or("")),
-    )?;
+    ensure(name.is_some(), MetaFault::BadDatatype)?;
+    ensure_served(is_served(datatype), name.unwrap_or(""))?;
     check_constraints(datatype)?;
-    ensure(may_have_format(datatype), Refusal::Unsupported("format"))?;
-    ensure(is_datatype(datatype), Refusal::BadFormat)
+    ensure_served(may_have_format(datatype), "format")?;
+    ensure(is_datatype(datatype), MetaFault::BadFormat)
 }
 
 /// The conditions on what a level has for `datatype`.

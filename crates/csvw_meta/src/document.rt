@@ -1,9 +1,9 @@
 //! The value of a JSON text behind a byte order mark, and the schemas that it says.
-ghost use Rattle.std.specs.Prelude.{◌≡◌, [], map, Ok, Err, Some, None, IfOk, IfErr, IfSome};
+ghost use Rattle.std.specs.Prelude.{◌≡◌, [], map, codes, Ok, Err, Some, None, IfOk, IfErr, IfSome};
 ghost use Rattle.serde_json.specs.Data.{null};
 ghost use Rattle.serde_json.specs.View.{view};
 ghost use Rattle.csv_grammar.specs.Files.{text_of};
-ghost use Rattle.csvw_meta.specs.Fault.{meta_cause, not_json};
+ghost use Rattle.csvw_meta.specs.Fault.{meta_cause};
 ghost use Rattle.csvw_meta.specs.Limits.{limits_view};
 ghost use Rattle.csvw_meta.specs.Refusal.{condition_of, first_cause};
 ghost use Rattle.csvw_meta.specs.Schema.{schema_view};
@@ -37,7 +37,7 @@ fn text(bytes: &[u8]) -> &[u8]
 fn read_document(alloc: Global, bytes: &[u8]) -> Result<Value, MetaFault>
     ensures value { IfOk result (λ value. document bytes.now ≡ Some (view value)) }
     ensures fault { IfErr result (λ e. IfSome (meta_cause e) (λ cause.
-        (cause ≡ not_json) × (document bytes.now ≡ None))) }
+        (cause ≡ codes "NotJson") × (document bytes.now ≡ None))) }
 {
     if bytes.len() > MOST_METADATA_BYTES {
         return Err(MetaFault::NotJson);
@@ -74,7 +74,7 @@ fn check_object<'v>(
     if is_group(metadata) {
         return check_group(limits, metadata);
     }
-    ensure(has(metadata, "url"), Refusal::NoTables)?;
+    ensure(has(metadata, "url"), MetaFault::NoTables)?;
     check_table(limits, no_group, &[], metadata)
 }
 
@@ -91,7 +91,7 @@ fn check_metadata<'v>(
     if metadata.is_object() {
         check_object(limits, no_group, metadata)
     } else {
-        Err(Refusal::NotObject)
+        Err(Refusal::Fault(MetaFault::NotObject))
     }
 }
 

@@ -7,6 +7,7 @@ ghost use Rattle.csvw_meta.specs.Schema.{schema_view};
 ghost use Rattle.csvw_meta.specs.Table.{table_conditions};
 ghost use Rattle.csvw_meta.specs.Group.{tables_in as tables_of, group_conditions, group_schemas};
 
+use crate::fault::MetaFault;
 use crate::limits::Limits;
 use crate::members::{array_member, check_count};
 use crate::refusal::Refusal;
@@ -47,8 +48,8 @@ pub(crate) fn check_group<'v>(limits: &Limits, group: &'v Value) -> Result<(), R
     let tables = tables_in(group);
     check_count(
         limits.tables,
-        Refusal::NoTables,
-        Refusal::TooManyTables,
+        MetaFault::NoTables,
+        MetaFault::TooManyTables,
         tables,
     )?;
     check_level(group)?;

@@ -5,6 +5,7 @@ ghost use Rattle.csvw_meta.specs.Refusal.{condition_of, first_cause};
 ghost use Rattle.csvw_meta.specs.Inherited.{inherited_conditions, is_short_text as is_short_text_of, nulls_of, default_of, required_of};
 
 use crate::datatype::check_datatype;
+use crate::fault::MetaFault;
 use crate::limits::MOST_METADATA_BYTES;
 use crate::members::member;
 use crate::refusal::{Refusal, ensure};
@@ -28,14 +29,17 @@ pub(crate) fn check_inherited<'v>(level: &'v Value) -> Result<(), Refusal<'v>>
     ensures { condition_of result ≡ first_cause (inherited_conditions (view level.now)) }
 {
     check_datatype(member(level, "datatype"))?;
-    ensure(member(level, "null").is_none_or(is_texts), Refusal::BadNull)?;
+    ensure(
+        member(level, "null").is_none_or(is_texts),
+        MetaFault::BadNull,
+    )?;
     ensure(
         member(level, "default").is_none_or(is_short_text),
-        Refusal::BadDefault,
+        MetaFault::BadDefault,
     )?;
     ensure(
         member(level, "required").is_none_or(Value::is_boolean),
-        Refusal::BadRequired,
+        MetaFault::BadRequired,
     )
 }
 

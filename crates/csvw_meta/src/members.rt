@@ -2,9 +2,11 @@
 ghost use Rattle.std.specs.Prelude.{◌≡◌, map, option_map};
 ghost use Rattle.serde_json.specs.View.{view};
 ghost use Rattle.csvw_meta.specs.Members.{member as member_of, has as has_of, text_member as text_member_of, array_member as array_member_of, absent as absent_of, nearest as nearest_of, count_conditions};
-ghost use Rattle.csvw_meta.specs.Refusal.{refusal_cause, condition_of, first_cause};
+ghost use Rattle.csvw_meta.specs.Fault.{meta_fault_text};
+ghost use Rattle.csvw_meta.specs.Refusal.{condition_of, first_cause};
 
-use crate::refusal::{Refusal, ensure};
+use crate::fault::MetaFault;
+use crate::refusal::{Refusal, ensure, ensure_served};
 use serde_json::Value;
 
 /// The value of that member, where there is one.
@@ -45,19 +47,19 @@ pub(crate) fn array_member<'v>(value: &'v Value, name: &str) -> &'v [Value]
 pub(crate) fn absent<'k>(value: &Value, name: &'k str) -> Result<(), Refusal<'k>>
     ensures { condition_of result ≡ absent_of name.now (view value.now) }
 {
-    ensure(!has(value, name), Refusal::Unsupported(name))
+    ensure_served(!has(value, name), name)
 }
 
 /// That there is a value, and that there are no more than the limit.
 #[tactic(auto, unfolding(crate::specs::Members::count_conditions))]
 pub(crate) fn check_count<'k>(
     limit: u32,
-    none: Refusal<'k>,
-    many: Refusal<'k>,
+    none: MetaFault,
+    many: MetaFault,
     values: &[Value],
 ) -> Result<(), Refusal<'k>>
     ensures { condition_of result
-        ≡ first_cause (count_conditions limit (refusal_cause none.entry) (refusal_cause many.entry)
+        ≡ first_cause (count_conditions limit (meta_fault_text none) (meta_fault_text many)
         (map view values.now)) }
 {
     ensure(!values.is_empty(), none)?;

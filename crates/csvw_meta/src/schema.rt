@@ -10,6 +10,7 @@ ghost use Rattle.csvw_meta.specs.Column.{column_conditions, column_of};
 ghost use Rattle.csvw_meta.specs.Schema.{columns_in as columns_of, object_schema_conditions, schema_conditions};
 
 use crate::column::{check_column, make_column};
+use crate::fault::MetaFault;
 use crate::inherited::check_inherited;
 use crate::key::{is_key, make_key};
 use crate::limits::Limits;
@@ -80,12 +81,12 @@ fn check_object<'v>(limits: &Limits, schema: &'v Value) -> Result<(), Refusal<'v
     check_inherited(schema)?;
     check_count(
         limits.columns,
-        Refusal::NoColumns,
-        Refusal::TooManyColumns,
+        MetaFault::NoColumns,
+        MetaFault::TooManyColumns,
         columns,
     )?;
     check_columns(columns)?;
-    ensure(has_key_or_none(schema, columns), Refusal::BadKey)
+    ensure(has_key_or_none(schema, columns), MetaFault::BadKey)
 }
 
 /// The conditions on what a table, or its group, has as `tableSchema`.
@@ -101,7 +102,7 @@ pub(crate) fn check_schema<'v>(
     match schema {
         Some(Value::String(_)) => Err(Refusal::Unsupported("tableSchema")),
         Some(schema) if schema.is_object() => check_object(limits, schema),
-        _ => Err(Refusal::NoColumns),
+        _ => Err(Refusal::Fault(MetaFault::NoColumns)),
     }
 }
 

@@ -6,6 +6,7 @@ ghost use Rattle.csvw_meta.specs.Refusal.{condition_of, first_cause};
 ghost use Rattle.csvw_meta.specs.Schema.{schema_view};
 ghost use Rattle.csvw_meta.specs.Table.{url_of as url_in, has_url as has_url_among, schema_in as schema_of, level_conditions, object_table_conditions, table_conditions, table_schema};
 
+use crate::fault::MetaFault;
 use crate::forms::{is_table_url, table_name};
 use crate::inherited::check_inherited;
 use crate::limits::Limits;
@@ -59,8 +60,8 @@ fn check_object<'v>(
         ≡ first_cause (object_table_conditions (limits_view limits.now) (view group.now)
         (map view earlier.now) (view table.now)) }
 {
-    ensure(is_table_url(url_of(table)), Refusal::BadUrl)?;
-    ensure(!has_url(earlier, url_of(table)), Refusal::DuplicateUrl)?;
+    ensure(is_table_url(url_of(table)), MetaFault::BadUrl)?;
+    ensure(!has_url(earlier, url_of(table)), MetaFault::DuplicateUrl)?;
     check_level(table)?;
     check_schema(limits, schema_in(group, table))
 }
@@ -80,7 +81,7 @@ pub(crate) fn check_table<'v>(
     if table.is_object() {
         check_object(limits, group, earlier, table)
     } else {
-        Err(Refusal::NotObject)
+        Err(Refusal::Fault(MetaFault::NotObject))
     }
 }
 
