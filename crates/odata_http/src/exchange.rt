@@ -6,7 +6,7 @@ ghost use Rattle.odata_http.specs.Exchange.{Answers, Begins, GivesReply, GoesOn,
 ghost use Rattle.odata_http.specs.Reply.{IsReply};
 
 use crate::work::Work;
-use http_heads::{Head, check_head};
+use http_heads::{Head, Method, check_head};
 use odata_request::request_of;
 use query_exec::Step;
 use std::alloc::{AllocError, Global};
@@ -16,7 +16,8 @@ use table_store::Catalog;
 /// The answering of a head. It owns what the head asks for and the run of its query, and borrows nothing of the catalog between two calls.
 #[derive(Drop)]
 pub struct Exchange {
-    method: Vec<u8>,
+    /// None where another method is refused.
+    method: Option<Method>,
     closes: bool,
     work: Work,
 }
@@ -36,7 +37,7 @@ impl Exchange {
         ensures { IfOk result (Begins catalog.now (head_view head.now)) }
     {
         let checks = check_head(head);
-        let method = head.method.clone()?;
+        let method = Method::of(head.method.as_slice());
         let request = request_of(alloc, catalog, checks.fault, head.target.as_slice())?;
         let work = Work::start(alloc, catalog, request)?;
         Ok(Exchange {
@@ -58,7 +59,7 @@ impl Exchange {
         ensures refused { OnErr result (HasFailed self.new) }
     {
         let work = mem::replace(&mut self.work, Work::Failed);
-        let work = work.go_on(alloc, catalog, self.method.as_slice(), self.closes)?;
+        let work = work.go_on(alloc, catalog, self.method, self.closes)?;
         let step = work.step();
         let _failed = mem::replace(&mut self.work, work);
         Ok(step)
