@@ -1,11 +1,11 @@
 -- The cut of a stream: it is one, and what follows a stream is cut as what follows its rest.
-use Rattle.std.proofs.Common.{◌≡◌, ◌+◌, ◌<◌, ◌≤◌, ◌⊎◌, inl, inr, ◌-◌, ℕ, suc, Bool, true, false, cond, List, [], ◌∷◌, ◌++◌, length, take, map, Option, Some, None, refl, sym, ap, ap₂, ◌∙◌, subst, arith, MatchBool, length-append, length-take}
-use Rattle.std.specs.List.{position_from}
+use Rattle.std.proofs.Common.{◌≡◌, ◌<◌, ◌≤◌, ◌⊎◌, inl, inr, ℕ, Bool, true, false, List, [], ◌∷◌, ◌++◌, length, take, refl, sym, ap, ap₂, ◌∙◌, subst, arith, MatchBool, length-take, append_assoc, append-nil}
 use Rattle.std.proofs.lemmas.Bool.{false≢true, cases_lt}
 use Rattle.std.proofs.lemmas.List.{take-append-le, take_all}
+use Rattle.http_heads.specs.declared.checks.Checks.{Checks}
 use Rattle.http_heads.specs.declared.head.TheConstants.{MAX_HEAD}
-use Rattle.http_heads.specs.Head.{HeadOf, BeginsWith, BeginsWithAll, HasNoHead}
-use Rattle.http_heads.specs.Checks.{closes}
+use Rattle.http_heads.specs.Head.{HeadOf, BeginsWith, HasNoHead}
+use Rattle.http_heads.specs.Checks.{checks_of, closes}
 use Rattle.http_heads.specs.Cut.{IsCut}
 use Rattle.http_heads.specs.Laws.{CutsJoin}
 use Rattle.http_heads.proofs.HeadLemmas.{begins-append, begins_unique, long_enough, short_front}
@@ -103,46 +103,44 @@ closed-append s p (h ∷ hs) rest a = by_bool (closes h)
 pub all_join : CutsJoin
 all_join = record { follows = cut_joins; closed = closed-append }
 
--- ---- the heads of a piece
+-- ---- the heads of a piece, one after another
 
--- the two cases of a choice
-choice : {X R : Type 0} (b : Bool) (x y z : X) → (b ≡ true → x ≡ z → R) → (b ≡ false → y ≡ z → R) → cond b x y ≡ z → R
-choice true x y z on off e = on refl e
-choice false x y z on off e = off refl e
+-- These heads stand before what is left of a stream, and none of them closes: what is cut off there is cut off behind them.
+abbrev pub StandBefore : List ℕ → List HeadOf → List ℕ → Type 0
+StandBefore s heads left = (others : List HeadOf) (rest : List ℕ) (closed : Bool) → IsCut left others rest closed → IsCut s (heads ++ others) rest closed
 
-place_later : {X : Type 0} (p : X → Bool) (i k : ℕ) (xs : List X) → position_from p i xs ≡ Some k → i ≤ k
-place_later p i k [] e = absurd (cc)
-place_later p i k (x ∷ xs) e = choice (p x) (Some i) (position_from p (i + 1) xs) (Some k)
-    (λ is here. let same : i ≡ k = cc in omega (arith, same))
-    (λ is behind. let later : i + 1 ≤ k = place_later p (i + 1) k xs behind in omega (arith, later))
-    e
+-- what the checks of a head tell
+told_of : (seen h : HeadOf) (checks : Checks) → seen ≡ h → checks ≡ checks_of seen → closes h ≡ checks.closes
+told_of seen h checks view told = sym (ap closes view) ∙ sym (ap (λ (x : Checks). x.closes) told)
 
--- none of the heads closes
-pub cut_of_open : {H : Type 0} (view : H → HeadOf) (i : ℕ) (s : List ℕ) (heads : List H) (left : List ℕ)
-    → BeginsWithAll s (map view heads) left → HasNoHead left → position_from (λ h. closes (view h)) i heads ≡ None
-    → IsCut s (map view heads) (take MAX_HEAD left) false
-cut_of_open view i s [] left a none e =
-    let P : List ℕ → Type 0 = λ x. HasNoHead x in (ap (take MAX_HEAD) a, refl, subst P a none)
-cut_of_open view i s (h ∷ hs) left a none e =
-    choice (closes (view h)) (Some i) (position_from (λ x. closes (view x)) (i + 1) hs) None
-    (λ is here. absurd (cc))
-    (λ is behind. cut_before s (view h) a.0 (map view hs) (take MAX_HEAD left) false a.1 is
-    (cut_of_open view (i + 1) a.0 hs left a.2 none behind))
-    e
+pub before_first : (s : List ℕ) → StandBefore s [] s
+before_first s = λ others rest closed cut. cut
 
--- one does: the first that does is the last
-pub cut_of_closing : {H : Type 0} (view : H → HeadOf) (i k n : ℕ) (s : List ℕ) (heads : List H) (left : List ℕ)
-    → BeginsWithAll s (map view heads) left → position_from (λ h. closes (view h)) i heads ≡ Some k → n ≡ k + 1 - i
-    → IsCut s (map view (take n heads)) [] true
-cut_of_closing view i k n s [] left a e size = absurd (cc)
-cut_of_closing view i k n s (h ∷ hs) left a e size =
-    choice (closes (view h)) (Some i) (position_from (λ x. closes (view x)) (i + 1) hs) (Some k)
-    (λ is here.
-    let same : i ≡ k = cc in
-    let one : n ≡ 1 = omega (arith, same, size) in
-    rw one (cut_last s (view h) a.0 a.1 is))
-    (λ is behind.
-    let later : i + 1 ≤ k = place_later (λ x. closes (view x)) (i + 1) k hs behind in
-    let more : n ≡ suc (k + 1 - (i + 1)) = omega (arith, later, size) in
-    rw more (cut_before s (view h) a.0 _ [] true a.1 is (cut_of_closing view (i + 1) k (k + 1 - (i + 1)) a.0 hs left a.2 behind refl)))
-    e
+-- one more head, which was checked, and behind which the connection stays open
+pub before_more : (s : List ℕ) (heads after : List HeadOf) (left : List ℕ) (seen h : HeadOf) (more : List ℕ) (checks : Checks)
+    → StandBefore s heads left → BeginsWith left h more → seen ≡ h → checks ≡ checks_of seen → checks.closes ≡ false → after ≡ heads ++ seen ∷ []
+    → StandBefore s after more
+before_more s heads after left seen h more checks before b view told stays pushed = λ others rest closed cut.
+    let P : List HeadOf → Type 0 = λ x. IsCut s x rest closed in
+    let open_behind : closes h ≡ false = told_of seen h checks view told ∙ stays in
+    let same : after ++ others ≡ heads ++ h ∷ others =
+    ap (λ hs. hs ++ others) (pushed ∙ ap (λ x. heads ++ x ∷ []) view) ∙ append_assoc heads (h ∷ []) others in
+    subst P (sym same) (before (h ∷ others) rest closed (cut_before left h more others rest closed b open_behind cut))
+
+-- the first that closes
+pub before_closing : (s : List ℕ) (heads after : List HeadOf) (left : List ℕ) (seen h : HeadOf) (more rest : List ℕ) (checks : Checks)
+    → StandBefore s heads left → BeginsWith left h more → seen ≡ h → checks ≡ checks_of seen → checks.closes ≡ true → after ≡ heads ++ seen ∷ []
+    → rest ≡ [] → IsCut s after rest checks.closes
+before_closing s heads after left seen h more rest checks before b view told shuts pushed none =
+    let P : List HeadOf → Type 0 = λ x. IsCut s x rest checks.closes in
+    let Q : List ℕ → Type 0 = λ x. IsCut s (heads ++ h ∷ []) x checks.closes in
+    let R : Bool → Type 0 = λ x. IsCut s (heads ++ h ∷ []) [] x in
+    let shut_behind : closes h ≡ true = told_of seen h checks view told ∙ shuts in
+    subst P (sym (pushed ∙ ap (λ x. heads ++ x ∷ []) view))
+    (subst Q (sym none) (subst R (sym shuts) (before (h ∷ []) [] true (cut_last left h more b shut_behind))))
+
+-- no head is left
+pub before_rest : (s : List ℕ) (heads : List HeadOf) (left : List ℕ) → StandBefore s heads left → HasNoHead left → IsCut s heads (take MAX_HEAD left) false
+before_rest s heads left before none =
+    let P : List HeadOf → Type 0 = λ x. IsCut s x (take MAX_HEAD left) false in
+    subst P (append-nil heads) (before [] (take MAX_HEAD left) false (refl, refl, none))

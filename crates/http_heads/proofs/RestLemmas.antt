@@ -1,13 +1,14 @@
 -- The rest of a stream, and the pieces that can't end a head behind it.
-use Rattle.std.proofs.Common.{◌≡◌, ◌≢◌, ◌+◌, ◌-◌, ◌<◌, ◌≤◌, ◌⊎◌, inl, inr, ℕ, Bool, true, false, ◌==◌, ◌||◌, List, [], ◌∷◌, ◌++◌, length, take, drop, map, Option, Some, None, cond, refl, sym, ap, ◌∙◌, subst, arith, length-append, length-take, append_assoc, append-nil}
-use Rattle.std.specs.List.{list_any, flat_map, position_from}
+use Rattle.std.proofs.Common.{◌≡◌, ◌+◌, ◌≤◌, inl, inr, ℕ, Bool, true, false, ◌==◌, ◌||◌, List, [], ◌∷◌, ◌++◌, length, take, drop, refl, sym, ap, ◌∙◌, subst, arith, MatchBool, length-append, length-take, append_assoc}
+use Rattle.std.specs.List.{list_any, flat_map}
 use Rattle.std.proofs.lemmas.Bool.{false≢true, cases_lt}
-use Rattle.std.proofs.lemmas.List.{take-append-le, drop-append-le, take_all, take-append-drop}
-use Rattle.std.proofs.lemmas.List.Folds.{list_any-append}
+use Rattle.std.proofs.lemmas.List.{take-append-le, drop-append-le, take_all}
 use Rattle.std.proofs.Math.Seq.{drop-append_seam}
-use Rattle.httparse.specs.Grammar.{LineEnd, crlf, lf, print_end, RequestHead, print_request, print_blank, print_version, print_field}
+use Rattle.httparse.specs.Grammar.{LineEnd, crlf, lf, print_end, RequestHead, print_request, print_field}
 use Rattle.http_heads.specs.declared.head.TheConstants.{MAX_HEAD}
-use Rattle.http_heads.specs.Head.{HeadOf, BeginsWith, HasNoHead, IsRest}
+use Rattle.http_heads.specs.Checks.{closes}
+use Rattle.http_heads.specs.Cut.{IsCut}
+use Rattle.http_heads.specs.Head.{HeadOf, HasNoHead, IsRest}
 use Rattle.http_heads.specs.Splitter.{Splits}
 use Rattle.http_heads.proofs.HeadLemmas.{nothing_first, first_none, front_within, long_enough}
 
@@ -18,16 +19,26 @@ rest_kept left none = record { short = omega (arith, length-take MAX_HEAD left);
 pub rest_empty : IsRest []
 rest_empty = record { short = omega arith; none = nothing_first }
 
+-- what a cut leaves is a rest
+kept_behind : (b : Bool) (more : List ℕ) (heads : List HeadOf) (rest : List ℕ) (closed : Bool) → (IsCut more heads rest closed → IsRest rest)
+    → MatchBool b ((heads ≡ []) × (rest ≡ []) × (closed ≡ true)) (IsCut more heads rest closed) → IsRest rest
+kept_behind true more heads rest closed on cut = let P : List ℕ → Type 0 = λ x. IsRest x in subst P (sym cut.1) rest_empty
+kept_behind false more heads rest closed on cut = on cut
+
+pub cut_kept : (s : List ℕ) (heads : List HeadOf) (rest : List ℕ) (closed : Bool) → IsCut s heads rest closed → IsRest rest
+cut_kept s [] rest closed cut = let P : List ℕ → Type 0 = λ x. IsRest x in subst P (sym cut.0) (rest_kept s cut.2)
+cut_kept s (h ∷ heads) rest closed cut = kept_behind (closes h) cut.0 heads rest closed (cut_kept cut.0 heads rest closed) cut.2
+
 -- a piece that makes no head
 pub splits_none : (rest piece kept : List ℕ) → HasNoHead (rest ++ piece) → kept ≡ take MAX_HEAD (rest ++ piece) → Splits rest piece [] kept
 splits_none rest piece kept none same = record { left = rest ++ piece; begins = refl; none = none; kept_is = same }
 
 -- behind as many bytes as a head may have
-pub splits_full : (rest piece : List ℕ) → IsRest rest → length rest ≡ MAX_HEAD → Splits rest piece [] rest
-splits_full rest piece is full =
+pub full_adds : (rest piece : List ℕ) → IsRest rest → length rest ≡ MAX_HEAD → (rest ≡ take MAX_HEAD (rest ++ piece)) × HasNoHead (rest ++ piece)
+full_adds rest piece is full =
     let long : MAX_HEAD ≤ length rest = omega (arith, full) in
     let same : take MAX_HEAD rest ≡ rest = take_all MAX_HEAD rest (omega (arith, full)) in
-    splits_none rest piece rest (long_enough rest piece long is.none) (sym same ∙ sym (take-append-le MAX_HEAD rest piece long))
+    (sym same ∙ sym (take-append-le MAX_HEAD rest piece long), long_enough rest piece long is.none)
 
 -- ---- a head ends in a line feed
 

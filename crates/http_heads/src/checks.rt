@@ -6,6 +6,7 @@ ghost use Rattle.http_heads.specs.Head.{head_view};
 use crate::fields::{has_host, is_coded, is_last, is_without_length};
 use crate::head::Head;
 use crate::method::Method;
+use std::marker::Model;
 
 /// What is wrong with a head, whatever its target is. The first of these is told.
 #[derive(Clone, Copy, PartialEq, Eq)]
@@ -61,9 +62,45 @@ pub fn check_head(head: &Head) -> Checks
     Checks { fault, closes }
 }
 
-/// Whether the connection closes behind the reply to a head.
-pub fn closes(head: &Head) -> bool
-    ensures { result ≡ closes (head_view head.now) }
-{
-    check_head(head).closes
+/// A head, and what it says whatever its target is: it was checked once, and need not be again. It is seen as the head.
+#[derive(Drop)]
+pub struct CheckedHead {
+    head: Head,
+    checks: Checks,
+}
+
+impl Model for CheckedHead {
+    ghost use Rattle.std.specs.Prelude.{◌≡◌};
+    ghost use Rattle.http_heads.specs.Checks.{checks_of};
+    ghost use Rattle.http_heads.specs.Head.{HeadOf, head_view};
+
+    ghost Value = { HeadOf };
+
+    ghost view = { λ checked. head_view checked.head };
+
+    ghost invariant = { λ checked. checked.checks ≡ checks_of (head_view checked.head) };
+}
+
+impl CheckedHead {
+    /// Checks a head.
+    pub fn of(head: Head) -> CheckedHead
+        ensures { result ≡ head_view head }
+    {
+        let checks = check_head(&head);
+        CheckedHead { head, checks }
+    }
+
+    /// The head.
+    pub fn head(&self) -> &Head
+        ensures { head_view result.now ≡ self.now }
+    {
+        &self.head
+    }
+
+    /// What it says whatever its target is.
+    pub fn checks(&self) -> Checks
+        ensures { result ≡ checks_of self.now }
+    {
+        self.checks
+    }
 }

@@ -61,7 +61,7 @@ fn copy_fields(
 }
 
 /// The head at the front of the bytes with its length, if they begin with one.
-fn first_head(alloc: Global, bytes: &[u8]) -> Result<Option<(Head, usize)>, AllocError>
+pub(crate) fn first_head(alloc: Global, bytes: &[u8]) -> Result<Option<(Head, usize)>, AllocError>
     ensures within { IfOk result (λ found. IfSome found (λ first. first.1 ≤ length bytes.now)) }
     ensures head { IfOk result (λ found. MatchOption found (HasNoHead bytes.now)
         (λ first. BeginsWith bytes.now (head_view first.0) (drop first.1 bytes.now))) }

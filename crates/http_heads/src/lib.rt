@@ -9,7 +9,7 @@ mod laws;
 mod method;
 mod splitter;
 
-pub use checks::{Checks, HeadFault, check_head, closes};
+pub use checks::{CheckedHead, Checks, HeadFault, check_head};
 pub use head::{Field, Head, MAX_FIELDS, MAX_HEAD};
 pub use laws::{cuts_join, head_limits, one_cut};
 pub use method::Method;

@@ -1,12 +1,12 @@
 //! A stream of requests, cut into heads as its pieces come.
-ghost use Rattle.std.specs.Prelude.{◌≡◌, ◌↔◌, ◌<◌, ◌++◌, [], IfOk, IsSome, OnErr, length, map, position};
-ghost use Rattle.http_heads.specs.Checks.{closes};
+ghost use Rattle.std.specs.Prelude.{◌≡◌, ◌↔◌, ◌<◌, ◌≤◌, ◌++◌, [], IfOk, IsSome, OnErr, drop, length, map, take};
 ghost use Rattle.http_heads.specs.Cut.{IsCut};
-ghost use Rattle.http_heads.specs.Head.{head_view};
-ghost use Rattle.http_heads.specs.Splitter.{Splits};
+ghost use Rattle.http_heads.specs.Head.{IsRest, head_view};
+ghost use Rattle.http_heads.specs.Splitter.{IsAdded, Splits};
+ghost use Rattle.http_heads.specs.declared.head.TheConstants.{MAX_HEAD};
 
-use crate::checks::closes;
-use crate::head::{Head, MAX_HEAD, cut_heads};
+use crate::checks::CheckedHead;
+use crate::head::{Head, MAX_HEAD, cut_heads, first_head};
 use std::alloc::{AllocError, Global};
 use std::marker::Model;
 
@@ -17,7 +17,7 @@ pub struct Unreadable;
 /// The heads that a piece made whole, none behind one that closes.
 #[derive(Drop)]
 pub struct Cut {
-    pub heads: Vec<Head>,
+    pub heads: Vec<CheckedHead>,
     /// Whether the last of them closes.
     pub closed: bool,
 }
@@ -40,11 +40,48 @@ impl Model for Splitter {
     ghost invariant = { λ splitter. IsRest splitter.rest.items };
 }
 
-/// The place of the first head that closes.
-fn closing_place(heads: &[Head]) -> Option<usize>
-    ensures { result ≡ position (λ head. closes (head_view head)) heads.now }
+/// Adds a piece to a rest. How long the rest was, where a head can end in the piece; where none can, no more is added than is kept: the
+/// piece has no line feed, or stands behind a rest of 8,192 bytes.
+fn add(rest: &mut Vec<u8>, piece: &[u8]) -> Result<Option<usize>, AllocError>
+    requires { IsRest rest.old.items }
+    ensures ok { IfOk result (IsAdded rest.old.items piece.now rest.new.items) }
+    ensures unchanged { OnErr result (rest.new.items ≡ rest.old.items) }
 {
-    heads.iter().position(|head| closes(head))
+    let before = rest.len();
+    if before == MAX_HEAD {
+        return Ok(None);
+    }
+    rest.extend_from_slice(piece)?;
+    if !piece.contains(&b'\n') {
+        rest.truncate(MAX_HEAD);
+        return Ok(None);
+    }
+    Ok(Some(before))
+}
+
+/// The heads at the front of the bytes, up to one that closes, and how many bytes are done with: behind one that closes all.
+fn cut_checked(alloc: Global, bytes: &[u8]) -> Result<(Cut, usize), AllocError>
+    ensures within { IfOk result (λ cut. cut.1 ≤ length bytes.now) }
+    ensures cut { IfOk result (λ cut. IsCut bytes.now cut.0.heads.items
+        (take MAX_HEAD (drop cut.1 bytes.now)) cut.0.closed) }
+{
+    let mut heads = Vec::new(alloc);
+    let mut at = 0;
+    while let Some((head, len)) = first_head(alloc, &bytes[at..])? {
+        let head = CheckedHead::of(head);
+        let closed = head.checks().closes;
+        heads.push(head)?;
+        if closed {
+            let all = bytes.len(); // nothing behind it is read
+            return Ok((Cut { heads, closed }, all));
+        }
+        at += len;
+    }
+    let cut = Cut {
+        heads,
+        closed: false,
+    };
+    Ok((cut, at))
 }
 
 impl Splitter {
@@ -64,15 +101,9 @@ impl Splitter {
             (λ heads. Splits self.old piece.now (map head_view heads.items) self.new) }
         ensures unchanged { OnErr result (self.new ≡ self.old) }
     {
-        let before = self.rest.len();
-        if before == MAX_HEAD {
+        let Some(before) = add(&mut self.rest, piece)? else {
             return Ok(Vec::new(alloc));
-        }
-        self.rest.extend_from_slice(piece)?;
-        if !piece.contains(&b'\n') {
-            self.rest.truncate(MAX_HEAD);
-            return Ok(Vec::new(alloc));
-        }
+        };
         match cut_heads(alloc, self.rest.as_slice()) {
             Ok((heads, at)) => {
                 self.rest.drain(..at);
@@ -86,25 +117,30 @@ impl Splitter {
         }
     }
 
-    /// The heads that are whole with this piece, up to one that closes. Behind that nothing is kept. Where memory ran out, nothing changed.
+    /// The heads that are whole with this piece, up to one that closes, each checked once. Behind that nothing is kept. Where memory ran out,
+    /// nothing changed. The rest is read again as [`Splitter::feed`] reads it.
     pub fn cut(&mut self, alloc: Global, piece: &[u8]) -> Result<Cut, AllocError>
         ensures ok { IfOk result (λ cut.
-            IsCut (self.old ++ piece.now) (map head_view cut.heads.items) self.new cut.closed) }
+            IsCut (self.old ++ piece.now) cut.heads.items self.new cut.closed) }
         ensures unchanged { OnErr result (self.new ≡ self.old) }
     {
-        let mut heads = self.feed(alloc, piece)?;
-        let Some(place) = closing_place(heads.as_slice()) else {
+        let Some(before) = add(&mut self.rest, piece)? else {
             return Ok(Cut {
-                heads,
+                heads: Vec::new(alloc),
                 closed: false,
             });
         };
-        heads.truncate(place + 1);
-        self.rest.clear(); // nothing behind it is read
-        Ok(Cut {
-            heads,
-            closed: true,
-        })
+        match cut_checked(alloc, self.rest.as_slice()) {
+            Ok((cut, at)) => {
+                self.rest.drain(..at);
+                self.rest.truncate(MAX_HEAD);
+                Ok(cut)
+            }
+            Err(fault) => {
+                self.rest.truncate(before);
+                Err(fault)
+            }
+        }
     }
 
     /// The end of the stream: whether a rest was left. There is none afterwards.

@@ -1,10 +1,9 @@
 -- How the answers to heads join.
-use Rattle.std.proofs.Common.{◌≡◌, ◌+◌, ◌<◌, inl, inr, ℕ, true, false, List, [], ◌∷◌, ◌++◌, length, take, drop, map, get_or, suc, Result, Ok, Err, Option, Some, None, ◌↔◌, refl, sym, ap, ◌∙◌, subst, arith, drop-cons, add-one}
+use Rattle.std.proofs.Common.{◌≡◌, ◌+◌, ◌<◌, inl, inr, ℕ, true, false, List, [], ◌∷◌, ◌++◌, length, take, drop, get_or, suc, Result, Ok, Err, Option, Some, None, ◌↔◌, refl, sym, ap, ◌∙◌, subst, arith, drop-cons, add-one}
 use Rattle.std.specs.Prelude.{IsSome}
 use Rattle.std.proofs.lemmas.Bool.{false≢true}
-use Rattle.std.proofs.lemmas.List.{take-append-drop, map-append, map_more}
-use Rattle.http_heads.specs.declared.head.Head.{Head}
-use Rattle.http_heads.specs.Head.{HeadOf, head_view}
+use Rattle.std.proofs.lemmas.List.{take-append-drop, take_more}
+use Rattle.http_heads.specs.Head.{HeadOf}
 use Rattle.http_heads.specs.Laws.{OneCut}
 use Rattle.odata_http.specs.declared.answer.AnswerFault.{AnswerFault}
 use Rattle.odata_http.specs.declared.answer.AnswerFault.TheVariants.{NoMemory}
@@ -32,20 +31,18 @@ all_more {S} {R} {T} {heads} {head} {reply} {a} {b} {d} so_far is took = record 
 }
 
 -- the heads before a place, the one at it and those behind it
-pub heads_at : (heads : List Head) (k : ℕ) (head : Head) → k < length heads → head ≡ get_or heads k head
-    → map head_view heads ≡ map head_view (take k heads) ++ head_view head ∷ map head_view (drop (k + 1) heads)
+pub heads_at : (heads : List HeadOf) (k : ℕ) (head : HeadOf) → k < length heads → head ≡ get_or heads k head
+    → heads ≡ take k heads ++ head ∷ drop (k + 1) heads
 heads_at heads k head within at =
-    ap (map head_view) (sym (take-append-drop k heads) ∙ ap (λ rest. take k heads ++ rest) (at_place heads k head within at))
-    ∙ map-append head_view (take k heads) (head ∷ drop (k + 1) heads)
+    sym (take-append-drop k heads) ∙ ap (λ rest. take k heads ++ rest) (at_place heads k head within at)
   where
-    at_place : (hs : List Head) (i : ℕ) (h : Head) → i < length hs → h ≡ get_or hs i h → drop i hs ≡ h ∷ drop (i + 1) hs
+    at_place : (hs : List HeadOf) (i : ℕ) (h : HeadOf) → i < length hs → h ≡ get_or hs i h → drop i hs ≡ h ∷ drop (i + 1) hs
     at_place hs i h less e = rw add-one (drop-cons hs i h less ∙ ap (λ x. x ∷ drop (suc i) hs) (sym e))
 
--- the views of one more head
-pub views_more : (heads : List Head) (k : ℕ) (head : Head) → k < length heads → head ≡ get_or heads k head
-    → map head_view (take (k + 1) heads) ≡ map head_view (take k heads) ++ head_view head ∷ []
-views_more heads k head within at =
-    map_more head_view heads k head within ∙ ap (λ last. map head_view (take k heads) ++ head_view last ∷ []) (sym at)
+-- one head more
+pub heads_more : (heads : List HeadOf) (k : ℕ) (head : HeadOf) → k < length heads → head ≡ get_or heads k head
+    → take (k + 1) heads ≡ take k heads ++ head ∷ []
+heads_more heads k head within at = take_more heads k head within ∙ ap (λ last. take k heads ++ last ∷ []) (sym at)
 
 -- memory ran out before the reply to a head was made
 pub stops_unmade : {S : Type 0} {R : HeadOf → List ℕ → Type 0} {T : S → List ℕ → Result (Unit {0}) AnswerFault → S → Type 0} {heads before : List HeadOf}

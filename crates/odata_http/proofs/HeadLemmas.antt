@@ -1,11 +1,10 @@
 -- The heads of a cut have small targets.
-use Rattle.std.proofs.Common.{◌≡◌, ◌<◌, ◌≤◌, ℕ, zero, suc, Bool, true, false, List, [], ◌∷◌, ◌++◌, length, map, get_or, MatchBool, arith, sym, ap, subst, length-append}
+use Rattle.std.proofs.Common.{◌≡◌, ◌<◌, ◌≤◌, ℕ, zero, suc, Bool, true, false, List, [], ◌∷◌, ◌++◌, length, get_or, MatchBool, arith, sym, ap, subst, length-append}
 use Rattle.httparse.specs.Grammar.{RequestHead, print_blank, print_end, print_request, print_section, print_version}
-use Rattle.http_heads.specs.declared.head.Head.{Head}
 use Rattle.http_heads.specs.declared.head.TheConstants.{MAX_HEAD}
 use Rattle.http_heads.specs.Checks.{closes}
 use Rattle.http_heads.specs.Cut.{IsCut}
-use Rattle.http_heads.specs.Head.{BeginsWith, HeadOf, head_view}
+use Rattle.http_heads.specs.Head.{BeginsWith, HeadOf}
 use Rattle.odata_http.specs.Answer.{AreSmall}
 
 part_within : (a b t v e s : List ℕ) (n : ℕ) → length (((((a ++ b) ++ (32 ∷ t)) ++ (32 ∷ v)) ++ e) ++ s) ≤ n → length t ≤ n
@@ -38,8 +37,8 @@ cut_small limit stream (head ∷ heads) rest closed c =
     (begins_small stream head c.0 limit c.1, behind_small (closes head) c.0 heads rest closed (cut_small limit c.0 heads rest closed) c.2)
 
 -- the head at a place
-pub small_at : (heads : List Head) (k : ℕ) (head : Head) → k < length heads → head ≡ get_or heads k head → AreSmall (map head_view heads)
-    → length head.target.items ≤ 8_192
+pub small_at : (heads : List HeadOf) (k : ℕ) (head : HeadOf) → k < length heads → head ≡ get_or heads k head → AreSmall heads
+    → length head.target ≤ 8_192
 small_at [] k head less at small = absurd (omega (arith, less))
-small_at (h ∷ heads) zero head less at small = let same = ap (λ (x : Head). length x.target.items) at in let first = small.0 in omega (arith, same, first)
+small_at (h ∷ heads) zero head less at small = let same = ap (λ (x : HeadOf). length x.target) at in let first = small.0 in omega (arith, same, first)
 small_at (h ∷ heads) (suc k) head less at small = small_at heads k head (omega (arith, less)) at small.1

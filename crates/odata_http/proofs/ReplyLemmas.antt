@@ -3,7 +3,9 @@ use Rattle.std.proofs.Common.{◌≡◌, ℕ, Bool, Option, Some, None, if◌the
 use Rattle.table_store.specs.Catalog.{CatalogOf}
 use Rattle.table_store.specs.Table.{TableOf}
 use Rattle.odata_http.specs.declared.media.Media.{Media}
+use Rattle.http_heads.specs.declared.method.Method.{Method}
 use Rattle.http_heads.specs.Checks.{head_fault, closes}
+use Rattle.http_heads.specs.Method.{method_of}
 use Rattle.query_plan.specs.Meaning.{query_meaning}
 use Rattle.odata_request.specs.Laws.{OneRequest}
 use Rattle.odata_request.specs.Request.{RequestOf, refused, rows, service}
@@ -22,7 +24,7 @@ three_written (Ok x) start a b d p q s one two three = rw (three, two, one) (sim
 three_written (Err x) start a b d p q s one two three = tt
 
 -- a reply laid together from two parts
-pub two_parts : {X E : Type 0} (view : X → List ℕ) (r : Result X E) (head body method content : List ℕ) (status size : ℕ) (media : Media) (closing : Bool)
+pub two_parts : {X E : Type 0} (view : X → List ℕ) (r : Result X E) (head body : List ℕ) (method : Option Method) (content : List ℕ) (status size : ℕ) (media : Media) (closing : Bool)
     → IfOk r (λ x. view x ≡ head ++ body) → head ≡ reply_lines status media size closing → size ≡ length content → body ≡ body_for method content
     → IfOk r (λ x. view x ≡ reply_with method status media content closing)
 two_parts view (Ok x) head body method content status size media closing all first counted second = rw (all, first, counted, second) refl
@@ -44,4 +46,4 @@ pub one_reply : OneRequest → (catalog : CatalogOf) → OneReply (IsReply catal
 one_reply law catalog head reply other x y =
     let request = law catalog (head_fault head) head.target x.request y.request x.asks y.asks in
     let response = response_one catalog y.request x.response y.response (rw request at x.responds) y.responds in
-    x.reply_is ∙ ap (λ r. reply_of head.method r (closes head)) response ∙ sym y.reply_is
+    x.reply_is ∙ ap (λ r. reply_of (method_of head.method) r (closes head)) response ∙ sym y.reply_is

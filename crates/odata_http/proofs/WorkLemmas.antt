@@ -9,6 +9,7 @@ use Rattle.http_heads.specs.Head.{HeadOf}
 use Rattle.query_exec.specs.declared.run.Step.{Step}
 use Rattle.query_exec.specs.declared.run.Step.TheVariants.{More, Done}
 use Rattle.odata_request.specs.Request.{IsRowsInside, RequestOf, RowsRequestOf, refused, rows, service}
+use Rattle.http_heads.specs.declared.method.Method.{Method}
 use Rattle.odata_http.specs.declared.exchange.Exchange.{Exchange}
 use Rattle.odata_http.specs.declared.finding.Finding.{Finding}
 use Rattle.odata_http.specs.declared.reading.Reached.{Reached}
@@ -52,7 +53,7 @@ pub starts_run : (catalog : CatalogOf) (asked : RowsRequestOf) (reading : Readin
     → StartsWork catalog (rows asked) (Read reading)
 starts_run catalog asked reading unkeyed starts = (starts.0, subst (λ (k : Option (List CellValue)). QueryTakes catalog asked k starts.0) (sym unkeyed) starts.1, starts.2)
 
-pub works_refuse : (catalog : CatalogOf) (method : List ℕ) (closing : Bool) (request : RequestOf) (left : ℕ) (work : Work) (code : Code) (response : ResponseOf) (bytes : Vec ℕ Global)
+pub works_refuse : (catalog : CatalogOf) (method : Option Method) (closing : Bool) (request : RequestOf) (left : ℕ) (work : Work) (code : Code) (response : ResponseOf) (bytes : Vec ℕ Global)
     → work ≡ Refuse code → response ≡ error_response code → bytes.items ≡ reply_of method response closing → IsWork catalog request left work
     → WorksOn catalog method closing request left (Replied bytes)
 works_refuse catalog method closing request left work code response bytes at made reply is =
@@ -63,7 +64,7 @@ works_refuse catalog method closing request left work code response bytes at mad
     of service h = absurd h
     of (rows asked) h = absurd h
 
-pub works_list : (catalog : CatalogOf) (method : List ℕ) (closing : Bool) (request : RequestOf) (left : ℕ) (work : Work) (response : ResponseOf) (bytes : Vec ℕ Global)
+pub works_list : (catalog : CatalogOf) (method : Option Method) (closing : Bool) (request : RequestOf) (left : ℕ) (work : Work) (response : ResponseOf) (bytes : Vec ℕ Global)
     → work ≡ ListTables → response ≡ service_response catalog → bytes.items ≡ reply_of method response closing → IsWork catalog request left work
     → WorksOn catalog method closing request left (Replied bytes)
 works_list catalog method closing request left work response bytes at made reply is =
@@ -74,7 +75,7 @@ works_list catalog method closing request left work response bytes at made reply
     of service h = (h, response, made, reply)
     of (rows asked) h = absurd h
 
-pub works_find : (catalog : CatalogOf) (method : List ℕ) (closing : Bool) (request : RequestOf) (left : ℕ) (work : Work) (finding : Finding) (response : ResponseOf) (bytes : Vec ℕ Global)
+pub works_find : (catalog : CatalogOf) (method : Option Method) (closing : Bool) (request : RequestOf) (left : ℕ) (work : Work) (finding : Finding) (response : ResponseOf) (bytes : Vec ℕ Global)
     → work ≡ Find finding → ((asked : RowsRequestOf) → IsFinding catalog asked finding → RespondsWithRows catalog asked response)
     → bytes.items ≡ reply_of method response closing → IsWork catalog request left work → WorksOn catalog method closing request left (Replied bytes)
 works_find catalog method closing request left work finding response bytes at responds reply is =
@@ -85,7 +86,7 @@ works_find catalog method closing request left work finding response bytes at re
     of service h = absurd h
     of (rows asked) h = (h.1, response, responds asked h.0, reply)
 
-pub works_over : (catalog : CatalogOf) (method : List ℕ) (closing : Bool) (request : RequestOf) (left : ℕ) (work : Work) (reading : Reading) (reached : Reached) (response : Response)
+pub works_over : (catalog : CatalogOf) (method : Option Method) (closing : Bool) (request : RequestOf) (left : ℕ) (work : Work) (reading : Reading) (reached : Reached) (response : Response)
     (bytes : Vec ℕ Global) → work ≡ Read reading → reached ≡ Over response → ((asked : RowsRequestOf) (n : ℕ) → IsReading catalog asked n reading → ReadsOn catalog asked n reached)
     → bytes.items ≡ reply_of method (response_view response) closing → IsWork catalog request left work → WorksOn catalog method closing request left (Replied bytes)
 works_over catalog method closing request left work reading reached response bytes at over reads reply is =
@@ -102,7 +103,7 @@ abbrev with_work : Exchange → Work → Exchange
 with_work exchange work = record exchange { work = work }
 
 pub goes_on : (catalog : CatalogOf) (head : HeadOf) (left : ℕ) (old : Exchange) (work : Work) → (a : Answers catalog head left old)
-    → WorksOn catalog old.method.items old.closes a.request left work → GoesOn catalog head left (with_work old work) (Ok (step_of work))
+    → WorksOn catalog old.method old.closes a.request left work → GoesOn catalog head left (with_work old work) (Ok (step_of work))
 goes_on catalog head left old (Replied bytes) a w = (
   w.0,
   bytes.items,
@@ -111,7 +112,7 @@ goes_on catalog head left old (Replied bytes) a w = (
     asks = a.asks;
     response = w.1;
     responds = w.2;
-    reply_is = w.3 ∙ ap₂ (λ (m : List ℕ) (b : Bool). reply_of m w.1 b) a.method_is a.closes_is;
+    reply_is = w.3 ∙ ap₂ (λ (m : Option Method) (b : Bool). reply_of m w.1 b) a.method_is a.closes_is;
   },
   refl,
 )
@@ -123,7 +124,7 @@ goes_on catalog head left old Failed a w = (w.0, record { method_is = a.method_i
 
 -- the same of an exchange that was given the work
 pub goes_to : (catalog : CatalogOf) (head : HeadOf) (left : ℕ) (old : Exchange) (work given : Work) (step : Step) → given ≡ work → step ≡ step_of work
-    → (a : Answers catalog head left old) → WorksOn catalog old.method.items old.closes a.request left work → GoesOn catalog head left (with_work old given) (Ok step)
+    → (a : Answers catalog head left old) → WorksOn catalog old.method old.closes a.request left work → GoesOn catalog head left (with_work old given) (Ok step)
 goes_to catalog head left old work given step same told a w =
     let here = subst (λ (x : Work). GoesOn catalog head left (with_work old x) (Ok (step_of work))) (sym same) (goes_on catalog head left old work a w) in
     subst (λ (s : Step). GoesOn catalog head left (with_work old given) (Ok s)) (sym told) here

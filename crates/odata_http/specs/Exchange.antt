@@ -15,6 +15,7 @@ use Rattle.query_plan.specs.Needed.{needed_blocks}
 use Rattle.query_exec.specs.Run.{StandsFor, run_length}
 use Rattle.http_heads.specs.Head.{HeadOf}
 use Rattle.http_heads.specs.Checks.{head_fault, closes}
+use Rattle.http_heads.specs.Method.{method_of}
 use Rattle.odata_request.specs.Request.{AsksFor, RequestOf, RowsRequestOf, refused, rows, service}
 use Rattle.odata_http.specs.declared.finding.Finding.{Finding}
 use Rattle.odata_http.specs.declared.reading.Reading.{Reading}
@@ -95,7 +96,7 @@ most_calls work = 1
 
 -- The exchange stands for a head under a catalog, so many calls before its reply.
 pub record Answers (catalog : CatalogOf) (head : HeadOf) (left : ℕ) (exchange : Exchange) : Type 0 where
-  pub method_is : exchange.method.items ≡ head.method
+  pub method_is : exchange.method ≡ method_of head.method
   pub closes_is : exchange.closes ≡ closes head
   pub request : RequestOf
   pub asks : AsksFor catalog (head_fault head) head.target request

@@ -1,6 +1,5 @@
 -- The reply to the head of a request (RFC 9112, section 4; OData 4.01 Part 1, section 8).
 use Rattle.std.specs.Prelude.{◌≡◌, ℕ, Bool, true, List, [], ◌∷◌, ◌++◌, ◌==◌, length, codes, if◌then◌else◌, unwrap_or, Option, None, Some, slice_get}
-use Rattle.std.specs.Str.{bytes_eq}
 use Rattle.std.specs.Fmt.{decimal}
 use Rattle.http.specs.StatusCode.{reason_phrase}
 use Rattle.cell_types.specs.Value.{CellValue}
@@ -16,7 +15,10 @@ use Rattle.odata_parse.specs.declared.format.Format.{Format}
 use Rattle.odata_parse.specs.declared.format.Format.TheVariants.{Json, Csv}
 use Rattle.reply_text.specs.Code.{status_of}
 use Rattle.odata_http.specs.declared.response.TheConstants.{OK}
+use Rattle.http_heads.specs.declared.method.Method.{Method}
+use Rattle.http_heads.specs.declared.method.Method.TheVariants.{Head}
 use Rattle.http_heads.specs.Head.{HeadOf}
+use Rattle.http_heads.specs.Method.{method_of}
 use Rattle.http_heads.specs.Checks.{head_fault, closes}
 use Rattle.odata_http.specs.declared.media.Media.{Media}
 use Rattle.odata_http.specs.declared.media.Media.TheVariants as media
@@ -58,11 +60,12 @@ reply_lines status media size closes =
     ++ line_end
 
 -- the body is left out of the reply to a HEAD (RFC 9110, section 9.3.2)
-abbrev pub body_for : List ℕ → List ℕ → List ℕ
-body_for method body = if bytes_eq method (codes "HEAD") then [] else body
+abbrev pub body_for : Option Method → List ℕ → List ℕ
+body_for (Some Head) body = []
+body_for method body = body
 
--- the reply with that status and a body of that media type, to a request of that method
-abbrev pub reply_with : List ℕ → ℕ → Media → List ℕ → Bool → List ℕ
+-- the reply with that status and a body of that media type, to a request of that method, where it is a served one
+abbrev pub reply_with : Option Method → ℕ → Media → List ℕ → Bool → List ℕ
 reply_with method status media body closes = reply_lines status media (length body) closes ++ body_for method body
 
 -- a response: its status, and its body with the media type
@@ -126,7 +129,7 @@ RespondsWith catalog service response = response ≡ service_response catalog
 RespondsWith catalog (rows asked) response = RespondsWithRows catalog asked response
 
 -- a response to a request of that method
-abbrev pub reply_of : List ℕ → ResponseOf → Bool → List ℕ
+abbrev pub reply_of : Option Method → ResponseOf → Bool → List ℕ
 reply_of method response closing = reply_with method response.status response.media response.body closing
 
 -- The bytes are the reply to the head: a response to what it asks for. Whether the connection closes behind it hangs on the head alone.
@@ -135,8 +138,8 @@ pub record IsReply (catalog : CatalogOf) (head : HeadOf) (reply : List ℕ) : Ty
   pub asks : AsksFor catalog (head_fault head) head.target request
   pub response : ResponseOf
   pub responds : RespondsWith catalog request response
-  pub reply_is : reply ≡ reply_of head.method response (closes head)
+  pub reply_is : reply ≡ reply_of (method_of head.method) response (closes head)
 
 -- the reply to a rest that is no head, which closes; no method is known, so it has its body
 unfoldable pub rest_reply : List ℕ
-rest_reply = reply_with [] (status_of BadRequest) media.Json (error_text BadRequest) true
+rest_reply = reply_with None (status_of BadRequest) media.Json (error_text BadRequest) true

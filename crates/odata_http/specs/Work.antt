@@ -9,6 +9,7 @@ use Rattle.query_exec.specs.declared.run.Step.{Step}
 use Rattle.query_exec.specs.declared.run.Step.TheVariants.{More, Done}
 use Rattle.query_exec.specs.Run.{StandsFor}
 use Rattle.http_heads.specs.declared.checks.HeadFault.{HeadFault}
+use Rattle.http_heads.specs.declared.method.Method.{Method}
 use Rattle.odata_request.specs.Request.{AsksFor, RequestOf, RowsRequestOf}
 use Rattle.odata_http.specs.declared.response.Response.{Response}
 use Rattle.odata_http.specs.declared.finding.Finding.{Finding}
@@ -62,7 +63,7 @@ MayWork catalog (Read reading) = MayRead catalog reading
 MayWork catalog work = ⊤
 
 -- the work goes on, or it was the last call, and the reply is there
-abbrev pub WorksOn : CatalogOf → List ℕ → Bool → RequestOf → ℕ → Work → Type 0
+abbrev pub WorksOn : CatalogOf → Option Method → Bool → RequestOf → ℕ → Work → Type 0
 WorksOn catalog method closing request left (Replied bytes) =
     (left ≡ 1) × (response : ResponseOf) × RespondsWith catalog request response × (bytes.items ≡ reply_of method response closing)
 WorksOn catalog method closing request left work = (1 < left) × IsWork catalog request (left - 1) work

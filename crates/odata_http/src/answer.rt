@@ -1,6 +1,5 @@
 //! The engine: a piece of a stream is cut into heads, and these are answered in turn, one reply made and given away before the next.
-ghost use Rattle.std.specs.Prelude.{◌≡◌, ◌++◌, [], ℕ, List, Result, ⊤, map};
-ghost use Rattle.http_heads.specs.Head.{head_view};
+ghost use Rattle.std.specs.Prelude.{◌≡◌, ◌++◌, [], ℕ, List, Result, ⊤};
 ghost use Rattle.odata_http.specs.declared.answer.AnswerFault.{AnswerFault};
 ghost use Rattle.odata_http.specs.Answer.{AreSmall, IsAnswered, IsRestAnswered, IsSent, IsTakenIn};
 ghost use Rattle.odata_http.specs.Reply.{IsReply};
@@ -8,7 +7,7 @@ ghost use Rattle.odata_http.specs.Reply.{IsReply};
 use crate::device::{Sink, send};
 use crate::exchange::reply_to;
 use crate::reply::reply_to_rest;
-use http_heads::{Head, Splitter, Unreadable, head_limits, one_cut};
+use http_heads::{CheckedHead, Splitter, Unreadable, head_limits, one_cut};
 use std::alloc::{AllocError, Global};
 use table_store::Catalog;
 
@@ -56,12 +55,11 @@ impl<W: Sink> Outlet for W {
 fn answer_heads<O: Outlet>(
     alloc: Global,
     catalog: &Catalog,
-    heads: &[Head],
+    heads: &[CheckedHead],
     out: &mut O,
 ) -> Result<(), AnswerFault>
-    requires { AreSmall (map head_view heads.now) }
-    ensures { IsAnswered (IsReply catalog.now) O.takes
-        (map head_view heads.now) out.old out.new result }
+    requires { AreSmall heads.now }
+    ensures { IsAnswered (IsReply catalog.now) O.takes heads.now out.old out.new result }
 {
     for head in heads {
         let reply = reply_to(alloc, catalog, head)?;

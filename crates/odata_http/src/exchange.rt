@@ -1,12 +1,13 @@
 //! The exchange of a head for its reply, block by block.
 ghost use Rattle.std.specs.Prelude.{◌≡◌, ◌≤◌, ℕ, List, IfOk, IsErr, Ok, OnErr, length};
 ghost use Rattle.query_exec.specs.declared.run.Step.TheVariants.{Done};
+ghost use Rattle.http_heads.specs.Checks.{checks_of};
 ghost use Rattle.http_heads.specs.Head.{HeadOf, head_view};
 ghost use Rattle.odata_http.specs.Exchange.{Answers, Begins, GivesReply, GoesOn, HasFailed, IsDone, MayGoOn};
 ghost use Rattle.odata_http.specs.Reply.{IsReply};
 
 use crate::work::Work;
-use http_heads::{Head, check_head};
+use http_heads::{CheckedHead, Checks, Head, Method, check_head};
 use odata_request::request_of;
 use query_exec::Step;
 use std::alloc::{AllocError, Global};
@@ -16,7 +17,8 @@ use table_store::Catalog;
 /// The answering of a head. It owns what the head asks for and the run of its query, and borrows nothing of the catalog between two calls.
 #[derive(Drop)]
 pub struct Exchange {
-    method: Vec<u8>,
+    /// None where another method is refused.
+    method: Option<Method>,
     closes: bool,
     work: Work,
 }
@@ -27,16 +29,34 @@ impl Exchange {
         requires { length head.target.items ≤ 8192 }
         ensures { IfOk result (Begins catalog.now (head_view head)) }
     {
-        Exchange::begin_for(alloc, catalog, &head)
+        let checks = check_head(&head);
+        Exchange::begin_with(alloc, catalog, &head, checks)
     }
 
-    /// The same for a head that is kept.
-    fn begin_for(alloc: Global, catalog: &Catalog, head: &Head) -> Result<Exchange, AllocError>
-        requires { length head.now.target.items ≤ 8192 }
+    /// The same for a head that was checked before.
+    pub fn begin_checked(
+        alloc: Global,
+        catalog: &Catalog,
+        head: &CheckedHead,
+    ) -> Result<Exchange, AllocError>
+        requires { length head.now.target ≤ 8192 }
+        ensures { IfOk result (Begins catalog.now head.now) }
+    {
+        Exchange::begin_with(alloc, catalog, head.head(), head.checks())
+    }
+
+    /// The same for a head with its checks.
+    fn begin_with(
+        alloc: Global,
+        catalog: &Catalog,
+        head: &Head,
+        checks: Checks,
+    ) -> Result<Exchange, AllocError>
+        requires small { length head.now.target.items ≤ 8192 }
+        requires checked { checks ≡ checks_of (head_view head.now) }
         ensures { IfOk result (Begins catalog.now (head_view head.now)) }
     {
-        let checks = check_head(head);
-        let method = head.method.clone()?;
+        let method = Method::of(head.method.as_slice());
         let request = request_of(alloc, catalog, checks.fault, head.target.as_slice())?;
         let work = Work::start(alloc, catalog, request)?;
         Ok(Exchange {
@@ -58,7 +78,7 @@ impl Exchange {
         ensures refused { OnErr result (HasFailed self.new) }
     {
         let work = mem::replace(&mut self.work, Work::Failed);
-        let work = work.go_on(alloc, catalog, self.method.as_slice(), self.closes)?;
+        let work = work.go_on(alloc, catalog, self.method, self.closes)?;
         let step = work.step();
         let _failed = mem::replace(&mut self.work, work);
         Ok(step)
@@ -78,11 +98,11 @@ impl Exchange {
 }
 
 /// The reply to a head: what the engine calls, head by head.
-pub fn reply_to(alloc: Global, catalog: &Catalog, head: &Head) -> Result<Vec<u8>, AllocError>
-    requires { length head.now.target.items ≤ 8192 }
-    ensures { IfOk result (λ reply. IsReply catalog.now (head_view head.now) reply.items) }
+pub fn reply_to(alloc: Global, catalog: &Catalog, head: &CheckedHead) -> Result<Vec<u8>, AllocError>
+    requires { length head.now.target ≤ 8192 }
+    ensures { IfOk result (λ reply. IsReply catalog.now head.now reply.items) }
 {
-    let mut exchange = Exchange::begin_for(alloc, catalog, head)?;
+    let mut exchange = Exchange::begin_checked(alloc, catalog, head)?;
     for _call in 0..exchange.work.most_calls() {
         match exchange.advance(alloc, catalog)? {
             Step::More => {}

@@ -20,7 +20,7 @@ mod work;
 pub use counted::Counted;
 pub use device::{DeviceFault, Sink, Source, send};
 pub use exchange::{Exchange, reply_to};
-pub use http_heads::{Field, Head, MAX_FIELDS, MAX_HEAD, Splitter, Unreadable};
+pub use http_heads::{CheckedHead, Field, Head, MAX_FIELDS, MAX_HEAD, Splitter, Unreadable};
 pub use laws::{joins, one_length, one_reading, one_reply, statuses};
 pub use query_exec::Step;
 pub use reply::reply_to_rest;

@@ -5,6 +5,7 @@ ghost use Rattle.odata_http.specs.Reply.{allow_line, body_for, closing_line, fie
 
 use crate::media::Media;
 use http::StatusCode;
+use http_heads::Method;
 use itoa::Buffer;
 use reply_text::{Code, error_body};
 use std::alloc::{AllocError, Global};
@@ -122,20 +123,19 @@ fn laid_before(head: &[u8], body: Vec<u8>) -> Result<Vec<u8>, AllocError>
 }
 
 /// The body, which is left out if the method is HEAD (RFC 9110, section 9.3.2).
-fn body_for(alloc: Global, method: &[u8], body: Vec<u8>) -> Vec<u8>
-    ensures { result.items ≡ body_for method.now body.items }
+fn body_for(alloc: Global, method: Option<Method>, body: Vec<u8>) -> Vec<u8>
+    ensures { result.items ≡ body_for method body.items }
 {
-    if method == b"HEAD".as_slice() {
-        Vec::new(alloc)
-    } else {
-        body
+    match method {
+        Some(Method::Head) => Vec::new(alloc),
+        Some(Method::Get) | None => body,
     }
 }
 
-/// The reply with that status and a body of that media type, to a request of that method.
+/// The reply with that status and a body of that media type, to a request of that method, where it is a served one.
 pub(crate) fn reply_with(
     alloc: Global,
-    method: &[u8],
+    method: Option<Method>,
     status: u16,
     media: Media,
     body: Vec<u8>,
@@ -143,7 +143,7 @@ pub(crate) fn reply_with(
 ) -> Result<Vec<u8>, AllocError>
     requires { IsStatusCode status }
     ensures { IfOk result
-        (λ reply. reply.items ≡ reply_with method.now status media body.items closes) }
+        (λ reply. reply.items ≡ reply_with method status media body.items closes) }
 {
     let head = lines_before(alloc, status, media, body.len(), closes)?;
     laid_before(head.as_slice(), body_for(alloc, method, body))
@@ -157,7 +157,7 @@ pub fn reply_to_rest(alloc: Global) -> Result<Vec<u8>, AllocError>
     let body = error_body(alloc, Code::BadRequest)?;
     reply_with(
         alloc,
-        b"",
+        None,
         Code::BadRequest.status(),
         Media::Json,
         body,

@@ -9,6 +9,7 @@ ghost use Rattle.odata_http.specs.Work.{response_view};
 
 use crate::media::Media;
 use crate::reply::reply_with;
+use http_heads::Method;
 use odata_parse::Format;
 use query_exec::Rows;
 use reply_text::{Code, csv_body, error_body, json_body, number_body, row_body, service_body};
@@ -150,13 +151,13 @@ pub(crate) fn row_response(
 /// The reply with that response, to a request of that method.
 pub(crate) fn reply_of(
     alloc: Global,
-    method: &[u8],
+    method: Option<Method>,
     response: Response,
     closes: bool,
 ) -> Result<Vec<u8>, AllocError>
     requires { IsStatusCode response.status }
     ensures { IfOk result
-        (λ reply. reply.items ≡ reply_of method.now (response_view response) closes) }
+        (λ reply. reply.items ≡ reply_of method (response_view response) closes) }
 {
     reply_with(
         alloc,

@@ -8,6 +8,7 @@ ghost use Rattle.odata_http.specs.Work.{IsAsked, MayWork, StartsWork, WorksOn, s
 use crate::finding::Finding;
 use crate::reading::{Reached, Reading};
 use crate::response::{error_response, reply_of, service_response};
+use http_heads::Method;
 use odata_request::{Request, RowsRequest, keys_stand_alone};
 use query_exec::Step;
 use reply_text::Code;
@@ -106,13 +107,13 @@ impl Work {
         self,
         alloc: Global,
         catalog: &Catalog,
-        method: &[u8],
+        method: Option<Method>,
         closes: bool,
     ) -> Result<Work, AllocError>
         requires { MayWork catalog.now self }
         ensures works { (request : RequestOf) (left : ℕ)
             → IsWork catalog.now request left self
-            → IfOk result (WorksOn catalog.now method.now closes request left) }
+            → IfOk result (WorksOn catalog.now method closes request left) }
         ensures replied { (reply : List ℕ) → IsReplied self reply
             → IsOkAnd result (λ work. IsReplied work reply) }
         ensures failed { self ≡ Failed → IsErr result }

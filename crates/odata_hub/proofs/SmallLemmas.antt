@@ -1,12 +1,11 @@
 -- The heads of a cut have small targets, and wait one after another.
-use Rattle.std.proofs.Common.{◌≡◌, ◌≤◌, ℕ, Bool, true, false, List, [], ◌∷◌, ◌++◌, length, map, MatchBool, Option, refl, arith, sym, ap, subst, ◌∙◌, append_assoc, append-nil, length-append}
+use Rattle.std.proofs.Common.{◌≡◌, ◌≤◌, ℕ, Bool, true, false, List, [], ◌∷◌, ◌++◌, length, MatchBool, Option, refl, arith, sym, ap, subst, ◌∙◌, append_assoc, append-nil, length-append}
 use Rattle.httparse.specs.Grammar.{RequestHead, print_blank, print_end, print_request, print_section, print_version}
 use Rattle.table_store.specs.Catalog.{CatalogOf}
-use Rattle.http_heads.specs.declared.head.Head.{Head}
 use Rattle.http_heads.specs.declared.head.TheConstants.{MAX_HEAD}
 use Rattle.http_heads.specs.Checks.{closes}
 use Rattle.http_heads.specs.Cut.{IsCut}
-use Rattle.http_heads.specs.Head.{BeginsWith, HeadOf, head_view}
+use Rattle.http_heads.specs.Head.{BeginsWith, HeadOf}
 use Rattle.odata_hub.specs.declared.connection.Connection.{Connection}
 use Rattle.odata_hub.specs.Streams.{Asked, asked}
 use Rattle.odata_hub.specs.Connections.{ConnOf, Done, FlightOf, IsFed, Piece}
@@ -45,28 +44,27 @@ cut_small limit stream (head ∷ heads) rest closed c =
     (begins_small stream head c.0 limit c.1, behind_small (closes head) c.0 heads rest closed (cut_small limit c.0 heads rest closed) c.2)
 
 -- the next of small heads is small, and so are the others
-pub next_small : (heads rest : List Head) (head : Head) → heads ≡ head ∷ rest → AreSmall (map head_view heads)
-    → (length head.target.items ≤ 8_192) × AreSmall (map head_view rest)
-next_small heads rest head e small = let P : List Head → Type 0 = λ hs. AreSmall (map head_view hs) in subst P e small
+pub next_small : (heads rest : List HeadOf) (head : HeadOf) → heads ≡ head ∷ rest → AreSmall heads → (length head.target ≤ 8_192) × AreSmall rest
+next_small heads rest head e small = subst AreSmall e small
 
 -- it waits behind the others
-pub waits_next : (catalog : CatalogOf) (heads rest : List Head) (head : Head) (waiting more all : List Asked) → heads ≡ head ∷ rest
-    → waiting ++ asked catalog (map head_view heads) ≡ all → more ≡ waiting ++ record { catalog = catalog; head = head_view head } ∷ []
-    → more ++ asked catalog (map head_view rest) ≡ all
+pub waits_next : (catalog : CatalogOf) (heads rest : List HeadOf) (head : HeadOf) (waiting more all : List Asked) → heads ≡ head ∷ rest
+    → waiting ++ asked catalog heads ≡ all → more ≡ waiting ++ record { catalog = catalog; head = head } ∷ []
+    → more ++ asked catalog rest ≡ all
 waits_next catalog heads rest head waiting more all e so_far is =
-    let a : Asked = record { catalog = catalog; head = head_view head } in
-    ap (λ (w : List Asked). w ++ asked catalog (map head_view rest)) is ∙ append_assoc waiting (a ∷ []) (asked catalog (map head_view rest))
-    ∙ ap (λ (hs : List Head). waiting ++ asked catalog (map head_view hs)) (sym e) ∙ so_far
+    let a : Asked = record { catalog = catalog; head = head } in
+    ap (λ (w : List Asked). w ++ asked catalog rest) is ∙ append_assoc waiting (a ∷ []) (asked catalog rest)
+    ∙ ap (λ (hs : List HeadOf). waiting ++ asked catalog hs) (sym e) ∙ so_far
 
-nothing_left : (heads : List Head) → length heads ≡ 0 → heads ≡ []
+nothing_left : (heads : List HeadOf) → length heads ≡ 0 → heads ≡ []
 nothing_left [] e = refl
 nothing_left (h ∷ heads) e = absurd (omega (arith, e))
 
 -- all of them wait
-pub waits_all : (catalog : CatalogOf) (heads : List Head) (waiting all : List Asked) → length heads ≡ 0
-    → waiting ++ asked catalog (map head_view heads) ≡ all → waiting ≡ all
+pub waits_all : (catalog : CatalogOf) (heads : List HeadOf) (waiting all : List Asked) → length heads ≡ 0
+    → waiting ++ asked catalog heads ≡ all → waiting ≡ all
 waits_all catalog heads waiting all e so_far =
-    sym (append-nil waiting) ∙ ap (λ (hs : List Head). waiting ++ asked catalog (map head_view hs)) (sym (nothing_left heads e)) ∙ so_far
+    sym (append-nil waiting) ∙ ap (λ (hs : List HeadOf). waiting ++ asked catalog hs) (sym (nothing_left heads e)) ∙ so_far
 
 -- what a piece makes of a connection
 fed_into : (old new : Connection) (f : Option FlightOf) (catalog : CatalogOf) (piece : List ℕ)

@@ -1,13 +1,12 @@
 //! Heads that wait, and the exchange in flight.
-ghost use Rattle.std.specs.Prelude.{◌≡◌, ◌++◌, ◌≤◌, IfOk, length, map};
-ghost use Rattle.http_heads.specs.Head.{head_view};
+ghost use Rattle.std.specs.Prelude.{◌≡◌, ◌++◌, ◌≤◌, IfOk};
 ghost use Rattle.odata_hub.specs.Connections.{FlightOf};
 ghost use Rattle.odata_hub.specs.Held.{IsFlight};
 ghost use Rattle.odata_hub.specs.Pieces.{AreSmall, IsCutInto};
 ghost use Rattle.odata_hub.specs.Streams.{asked};
 ghost use Rattle.odata_hub.specs.Work.{BeginsFlight, GoesOnTo};
 
-use http_heads::{Head, Splitter, head_limits};
+use http_heads::{CheckedHead, Splitter, head_limits};
 use odata_http::{Exchange, Step};
 use std::alloc::{AllocError, Global};
 use std::collections::VecDeque;
@@ -15,23 +14,22 @@ use std::marker::Model;
 use std::rc::Rc;
 use table_store::Catalog;
 
-/// A head that waits, and the tables that were current as its last byte came.
+/// A head that waits with its checks, and the tables that were current as its last byte came.
 #[derive(Drop)]
 pub(crate) struct Waiting {
-    head: Head,
+    head: CheckedHead,
     catalog: Rc<Catalog>,
 }
 
 impl Model for Waiting {
     ghost use Rattle.std.specs.Prelude.{◌≤◌, length};
-    ghost use Rattle.http_heads.specs.Head.{head_view};
     ghost use Rattle.odata_hub.specs.Streams.{Asked};
 
     ghost Value = { Asked };
 
-    ghost view = { λ waiting. record { catalog = waiting.catalog.value; head = head_view waiting.head } };
+    ghost view = { λ waiting. record { catalog = waiting.catalog.value; head = waiting.head } };
 
-    ghost invariant = { λ waiting. length waiting.head.target.items ≤ 8192 };
+    ghost invariant = { λ waiting. length waiting.head.target ≤ 8192 };
 }
 
 /// The exchange in flight, and the tables that were current as the last byte of its head came.
@@ -75,7 +73,7 @@ impl Waiting {
         ensures { IfOk result (BeginsFlight self) }
     {
         let Waiting { head, catalog } = self;
-        let exchange = Exchange::begin(alloc, &catalog, head)?;
+        let exchange = Exchange::begin_checked(alloc, &catalog, &head)?;
         Ok(Flight { exchange, catalog })
     }
 }
@@ -100,11 +98,11 @@ impl Flight {
 fn wait_all(
     waiting: &mut VecDeque<Waiting>,
     catalog: &Rc<Catalog>,
-    heads: Vec<Head>,
+    heads: Vec<CheckedHead>,
 ) -> Result<(), AllocError>
-    requires { AreSmall (map head_view heads.items) }
+    requires { AreSmall heads.items }
     ensures { IfOk result (λ _. waiting.new.items
-        ≡ waiting.old.items ++ asked catalog.now.value (map head_view heads.items)) }
+        ≡ waiting.old.items ++ asked catalog.now.value heads.items) }
 {
     for head in heads {
         let tables = catalog.clone()?;

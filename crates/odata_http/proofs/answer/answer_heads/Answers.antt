@@ -1,5 +1,5 @@
 use Rattle.std.proofs.lemmas.Result.{err_from_is_err_and}
-use Rattle.odata_http.proofs.AnswerLemmas.{all_none, all_more, heads_at, views_more, stops_unmade, stops_untaken}
+use Rattle.odata_http.proofs.AnswerLemmas.{all_none, all_more, heads_at, heads_more, stops_unmade, stops_untaken}
 use Rattle.odata_http.proofs.HeadLemmas.{small_at}
 use Rattle.odata_http.proofs.answer.answer_heads.Goals as goal
 
@@ -23,5 +23,5 @@ returns-in_err-put g c =
 
 pub loop-head-preserved : goal.loop-head-preserved
 loop-head-preserved g c =
-    let more = views_more c.args.heads.now c.loop-head.head-index c.head-item.result c.loop-head-test.true c.head-item.is in
+    let more = heads_more c.args.heads.now c.loop-head.head-index c.head-item.result c.loop-head-test.true c.head-item.is in
     rw more (all_more c.loop-head.invariant c.in_ok-reply.ensures (rw c.as_slice.ensures.value at c.in_ok-put.ensures))

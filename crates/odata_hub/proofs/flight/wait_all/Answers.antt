@@ -1,6 +1,5 @@
-use Rattle.std.proofs.Common.{◌++◌, ap, arith, length, map, sym, ◌∙◌}
+use Rattle.std.proofs.Common.{◌++◌, ap, arith, length, sym, ◌∙◌}
 use Rattle.std.specs.Vec.Iter.{into_iter_items}
-use Rattle.http_heads.specs.Head.{head_view}
 use Rattle.odata_hub.specs.Streams.{asked}
 use Rattle.odata_hub.proofs.SmallLemmas.{next_small, waits_all, waits_next}
 use Rattle.odata_hub.proofs.flight.wait_all.Goals as goal
@@ -25,4 +24,4 @@ returns c =
     let at = c.loop-head in
     let none = c.in-None.ensures.steps in
     waits_all c.args.catalog.now.value (into_iter_items at.head-iterator) at.waiting.items _ (sym at.invariant.0 ∙ none.0) at.invariant.2
-    ∙ ap (λ hs. c.args.waiting.now.items ++ asked c.args.catalog.now.value (map head_view hs)) c.into_iter-head-iterator.ensures.into_iter_gives.0
+    ∙ ap (λ hs. c.args.waiting.now.items ++ asked c.args.catalog.now.value hs) c.into_iter-head-iterator.ensures.into_iter_gives.0

@@ -1,28 +1,16 @@
-use Rattle.std.proofs.Common.{◌∙◌, sym, arith}
-use Rattle.std.proofs.lemmas.Iterator.Adapters.{position_from-zero}
-use Rattle.http_heads.specs.declared.head.Head.{Head}
-use Rattle.http_heads.specs.Checks.{closes}
-use Rattle.http_heads.specs.Head.{head_view}
-use Rattle.http_heads.proofs.CutLemmas.{cut_of_open, cut_of_closing}
-use Rattle.http_heads.proofs.RestLemmas.{rest_empty}
+use Rattle.std.proofs.Common.{refl}
+use Rattle.http_heads.proofs.RestLemmas.{cut_kept, rest_kept}
 use Rattle.http_heads.proofs.splitter.Splitter.cut.Goals as goal
+
+pub invariant_of-self-in_default : goal.invariant_of-self-in_default
+invariant_of-self-in_default c =
+    let none = rw c.in_default.is at c.in_ok-before.ensures.ok in rw none.0 (rest_kept _ none.1)
 
 pub returns-in_default-clause-ok : goal.returns-in_default-clause-ok
 returns-in_default-clause-ok c =
-    let heads = c.in_ok-heads.heads.items in
-    let split = c.in_ok-heads.ensures.heads in
-    let place = rw (c.as_slice.ensures.value) at c.closing_place.ensures in
-    rw split.kept_is (cut_of_open head_view 0 _ heads split.left split.begins split.none
-    (sym (position_from-zero (λ (h : Head). closes (head_view h)) heads) ∙ sym place ∙ c.in_default.is))
+    let none = rw c.in_default.is at c.in_ok-before.ensures.ok in rw (c.new.ensures.items, ← c.self.view_is) (none.0, refl, none.1)
 
-pub invariant_of-self : goal.invariant_of-self
-invariant_of-self c = rw c.clear.ensures.items rest_empty
-
-pub returns-clause-ok : goal.returns-clause-ok
-returns-clause-ok c =
-    let heads = c.in_ok-heads.heads.items in
-    let split = c.in_ok-heads.ensures.heads in
-    let place = rw (c.as_slice.ensures.value) at c.closing_place.ensures in
-    rw (c.clear.ensures.items, c.truncate.ensures.items)
-    (cut_of_closing head_view 0 c.in-Some.place _ _ heads split.left split.begins
-    (sym (position_from-zero (λ (h : Head). closes (head_view h)) heads) ∙ sym place ∙ c.in-Some.is) (omega arith))
+pub invariant_of-self-in-Ok : goal.invariant_of-self-in-Ok
+invariant_of-self-in-Ok c =
+    rw (c.truncate.ensures.items, c.drop-drain.ensures.items, c.drain.ensures.kept)
+    (cut_kept _ _ _ _ (rw c.as_slice.ensures.value at c.in-Ok.ensures.cut))

@@ -3,5 +3,5 @@ use Rattle.odata_http.proofs.exchange.Exchange.advance.Goals as goal
 
 pub returns-clause-goes_on : goal.returns-clause-goes_on
 returns-clause-goes_on c = λ head left a.
-    let works = rw c.as_slice.ensures.value at (c.in_ok-work.ensures.works a.request left (rw c.replace-work.ensures.value a.work)) in
+    let works = c.in_ok-work.ensures.works a.request left (rw c.replace-work.ensures.value a.work) in
     goes_to c.args.catalog.now head left c.args.self.now c.in_ok-work.work c.replace-failed.new.dest c.step-step.result c.replace-failed.ensures.after c.step-step.ensures a works

@@ -1,4 +1,4 @@
-use Rattle.std.proofs.Common.{◌≡◌, Some, ap, refl, sym, ◌∙◌}
+use Rattle.std.proofs.Common.{◌≡◌, Some, refl}
 use Rattle.odata_query.specs.Query.{optional_values, values_view}
 use Rattle.odata_request.specs.Request.{rows_view}
 use Rattle.odata_http.proofs.WorkLemmas.{starts_finding}
