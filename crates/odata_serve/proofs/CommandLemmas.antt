@@ -86,7 +86,7 @@ kept_answers name hub before after fault refused (Ok line) kept = λ h stands. r
   stands = stands;
   text_is = kept.1;
 }
-kept_answers name hub before after fault refused (Err NoMemory) kept = tt
+kept_answers name hub before after fault refused (Err NoMemory) kept = inr (name, refl, inr (fault, refused))
 kept_answers name hub before after fault refused (Err (Folder same)) kept = (
   name,
   refl,

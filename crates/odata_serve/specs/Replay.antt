@@ -156,7 +156,21 @@ pub record FailsToWrite (p : Playing) : Type 0 where
   pub count : ℕ
   pub failed : HasFailed p.sink p.sink_after (bytes ++ take count (outcome_line outcome))
 
--- memory ran out: some first lines were played, and what they came to was written
+-- a folder was loaded once: it means a catalog, or gave none
+abbrev pub LoadsOnce : List ℕ → FoldersOf → FoldersOf → Type 0
+LoadsOnce folder old new =
+    ((catalog : CatalogOf) × IsLoaded (loading folder old new) catalog) ⊎ ((fault : FolderFault) × IsFolderFault (loading folder old new) fault)
+
+-- the folders are as they were, or the line asks for a folder, which was loaded once
+abbrev pub MayLoad : List ℕ → FoldersOf → FoldersOf → Type 0
+MayLoad line old new = (new ≡ old) ⊎ ((folder : List ℕ) × IsCommand line (command.Reload folder) × LoadsOnce folder old new)
+
+-- the same of the next line, where there is one
+abbrev pub MayLoadNext : List (List ℕ) → FoldersOf → FoldersOf → Type 0
+MayLoadNext [] old new = new ≡ old
+MayLoadNext (line ∷ lines) old new = MayLoad line old new
+
+-- memory ran out: some first lines were played, and what they came to was written; a folder that the next line asks for may have been loaded
 pub record RunsOut (p : Playing) : Type 0 where
   pub before : List (List ℕ)
   pub behind : List (List ℕ)
@@ -164,6 +178,7 @@ pub record RunsOut (p : Playing) : Type 0 where
   pub end : Stage
   pub bytes : List ℕ
   pub plays : PlaysTo p before end bytes
+  pub folders : MayLoadNext behind end.folders p.folders_after
   pub written : HasWritten p.sink p.sink_after bytes
 
 -- a line asks for a folder that gave no catalog, and is not refused: a file could not be read, which none was before, or memory ran out
@@ -253,10 +268,14 @@ pub record ComesTo (c : CommandOf) (old : Stage) (hub : Hub) (folders : FoldersO
   pub stands : StandsFor hub new
   pub text_is : text ≡ outcome_line outcome
 
+-- a command leaves the folders as they were, or asks for a folder, which was loaded once
+abbrev pub MayAsk : CommandOf → FoldersOf → FoldersOf → Type 0
+MayAsk c old new = (new ≡ old) ⊎ ((folder : List ℕ) × (c ≡ command.Reload folder) × LoadsOnce folder old new)
+
 -- how a command was answered: by a line; or memory ran out; or it asked for a folder that gave no catalog and is not refused
 abbrev pub IsAnswered : {A : Type 0} → CommandOf → Hub → FoldersOf → Hub → FoldersOf → Result (Vec ℕ A) ProgramFault → Type 0
 IsAnswered c old before new after (Ok line) = (h : HubOf) → StandsFor old h → ComesTo c (stage h before) new after line.items
-IsAnswered c old before new after (Err NoMemory) = ⊤
+IsAnswered c old before new after (Err NoMemory) = MayAsk c before after
 IsAnswered c old before new after (Err (Folder fault)) = (folder : List ℕ) × (c ≡ command.Reload folder) × Lacks folder before after fault
 IsAnswered c old before new after (Err fault) = ⊥
 
@@ -276,7 +295,7 @@ IsLinePlayed line number old new (Err (Script n)) =
 IsLinePlayed line number old new (Err Device) = (h : HubOf) → StandsFor old.hub h
     → (c : CommandOf) × IsCommand line c × (bytes : List ℕ) × ComesTo c (stage h old.folders) new.hub new.folders bytes
     × (n : ℕ) × HasFailed old.sink new.sink (take n bytes)
-IsLinePlayed line number old new (Err NoMemory) = new.sink ≡ old.sink
+IsLinePlayed line number old new (Err NoMemory) = (new.sink ≡ old.sink) × MayLoad line old.folders new.folders
 IsLinePlayed line number old new (Err (Folder fault)) =
     (folder : List ℕ) × IsCommand line (command.Reload folder) × Lacks folder old.folders new.folders fault × (new.sink ≡ old.sink)
 IsLinePlayed line number old new (Err fault) = ⊥

@@ -179,6 +179,10 @@ fn take_folder<R: Files>(
     ensures { IfOk result (λ taken. IfSome taken (λ folder.
         AreTaken folder.0.items (map file_view folder.1.items))) }
 {
+    // the empty name is that of no folder, and not of the root of all
+    if folder.is_empty() {
+        return Ok(None);
+    }
     let Some(meta) = take_file(alloc, files, folder, METADATA)? else {
         return Ok(None);
     };
