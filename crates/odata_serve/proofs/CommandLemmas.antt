@@ -1,5 +1,5 @@
 -- What a command came to.
-use Rattle.std.proofs.Common.{◌≡◌, ◌≢◌, ◌∙◌, ℕ, List, None, Result, Ok, Err, refl, sym, ap, subst, inl, inr}
+use Rattle.std.proofs.Common.{◌≡◌, ◌≢◌, ℕ, List, None, Result, Ok, Err, refl, sym, ap, subst, inl, inr}
 use Rattle.std.specs.Prelude.{⊤, Vec}
 use Rattle.event_scripts.specs.Command.{CommandOf}
 use Rattle.event_scripts.specs.Command as command

@@ -1,5 +1,5 @@
 -- What the lines of a script come to, one after another, and how replaying a script ended.
-use Rattle.std.specs.Prelude.{◌≡◌, ◌≢◌, ◌⊎◌, ◌+◌, ⊤, ℕ, List, [], ◌∷◌, ◌++◌, length, take, replicate, Option, None, Result, Ok, Err, Vec}
+use Rattle.std.specs.Prelude.{◌≡◌, ◌≢◌, ◌⊎◌, ◌+◌, ⊤, ℕ, List, [], ◌∷◌, ◌++◌, length, take, replicate, None, Result, Ok, Err, Vec}
 use Rattle.std.specs.List.{flat_map}
 use Rattle.event_scripts.specs.Answers.{line_of}
 use Rattle.event_scripts.specs.Command.{CommandOf, IsCommand}
@@ -12,7 +12,7 @@ use Rattle.odata_http.specs.Answer.{HasWritten, HasFailed}
 use Rattle.odata_hub.specs.declared.hub.Hub.{Hub}
 use Rattle.odata_hub.specs.Connections.{Answer, Done, Piece, End, Turn, Take}
 use Rattle.odata_hub.specs.Schedules.{Event, Open, On, Drop, Reload, Happening, HubOf, HubRun, HubStep, reload}
-use Rattle.odata_hub.specs.Stands.{IsHubStep, StandsFor}
+use Rattle.odata_hub.specs.Stands.{StandsFor}
 use Rattle.odata_serve.specs.declared.folders.FolderFault.{FolderFault}
 use Rattle.odata_serve.specs.declared.program.ProgramFault.{ProgramFault}
 use Rattle.odata_serve.specs.declared.program.ProgramFault.TheVariants.{Folder, Script, Device, NoMemory}
@@ -97,8 +97,6 @@ schedule_of (Kept fault ∷ outcomes) = schedule_of outcomes
 abbrev pub PlaysSchedule : Type 0
 PlaysSchedule = (lines : List (List ℕ)) (old new : Stage) (outcomes : List Outcome) → Plays lines old outcomes new
     → HubRun old.hub (schedule_of outcomes) new.hub
-
--- ---- a script
 
 -- a script that is played from a stage: the folders behind it, and the sink before and behind it
 pub record Playing : Type 0 where

@@ -1,4 +1,4 @@
-use Rattle.std.proofs.Common.{◌≡◌, List, ℕ, map, take}
+use Rattle.std.proofs.Common.{◌≡◌, map, take}
 use Rattle.std.specs.Prelude.{string_bytes}
 use Rattle.odata_serve.specs.Words.{texts}
 use Rattle.odata_serve.proofs.words.line_of.Given as goal
