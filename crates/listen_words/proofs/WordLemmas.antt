@@ -1,12 +1,10 @@
--- What `clap` says of the program's command, and what its getters say of numbers and flags.
-use Rattle.std.proofs.Common.{◌≡◌, ◌⊎◌, ◌∙◌, ℕ, Bool, List, [], Option, Some, None, Result, Ok, Err, inl, inr, refl, ap, subst, codes, true, false}
-use Rattle.std.specs.Str.Parse.{ParsesUnsigned}
-use Rattle.clap.specs.Words.{App, IsAmong, ReadsOne, Text, fault_of, is_simple, is_simple_and_free, matches_of}
+-- What `clap` says of the program's command, and what its getter says of flags.
+use Rattle.std.proofs.Common.{◌≡◌, ◌⊎◌, ◌∙◌, Bool, List, [], Option, Some, None, inl, inr, refl, ap, subst, codes, true, false}
+use Rattle.clap.specs.Words.{App, IsAmong, Text, fault_of, is_simple, is_simple_and_free, matches_of}
 use Rattle.clap.specs.Kinds.{Kinds}
 use Rattle.clap.specs.declared.error.ErrorKind.{ErrorKind}
 use Rattle.clap.specs.declared.error.ErrorKind.TheVariants.{OutOfMemory}
 use Rattle.clap.proofs.OnLiterals.{clap_on_literals}
-use Rattle.odata_serve.specs.Words.{ReadsNumber}
 use Rattle.listen_words.specs.Words.{HasFlag, listen_app}
 
 -- a kind other than want of memory is one of the kinds, so there are some
@@ -34,16 +32,7 @@ free_at a e = ap is_simple_and_free e ∙ is_free
 pub simple_at : (a : App) → a ≡ listen_app → is_simple a ≡ true
 simple_at a e = ap is_simple e ∙ is_plain
 
--- what a typed getter says of a number
-module _ {E : Type 0} (bits : ℕ) (gives : List ℕ → Result ℕ E → Type 0)
-    (only : (bs : List ℕ) (r : Result ℕ E) → gives bs r → ParsesUnsigned bits 10 bs r) where
-  pub reads_number : (o : Option Text) (r : Option ℕ) → (o ≡ None → r ≡ None) → ((t : Text) → o ≡ Some t → ReadsOne gives t r) → ReadsNumber bits o r
-  reads_number None None a b = λ n h. h
-  reads_number None (Some n) a b = let bad : Some n ≡ None = a refl in absurd (cc bad)
-  reads_number (Some t) None a b = λ n h. let e = b t refl in only t (Err e.0) e.1 h.0
-  reads_number (Some t) (Some n) a b = only t (Ok n) (b t refl)
-
--- and of a flag
+-- what a typed getter says of a flag
 pub has_flag : (o : Option Text) (b : Bool) → (o ≡ None → b ≡ false) → (o ≡ Some (codes "true") → b ≡ true) → (o ≡ Some (codes "false") → b ≡ false)
     → HasFlag o b
 has_flag None b none on off = none refl

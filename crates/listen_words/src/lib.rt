@@ -3,4 +3,6 @@
 
 mod words;
 
-pub use words::{ADDRESS, HEAD_SECONDS, IDLE_SECONDS, MOST_PLACES, PLACES, Words, read_words};
+pub use words::{
+    ADDRESS, HEAD_SECONDS, IDLE_SECONDS, MOST_PLACES, PLACES, Words, read_words, sizes,
+};

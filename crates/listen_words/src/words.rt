@@ -1,13 +1,15 @@
 //! The words of the command line, read by `clap` as one command. What is read is `clap`'s reading of that command, with the profile's numbers where
 //! an option is left out.
-ghost use Rattle.std.specs.Prelude.{◌≡◌, IfErr, IfNone, IfOk, IfSome, codes, false, option_map};
-ghost use Rattle.clap.specs.Words.{app_of, first_of, found_of, one_of, rows_of, rule_of};
-ghost use Rattle.odata_serve.specs.Words.{ReadsNumber, port_rule, required_rule, texts};
+ghost use Rattle.std.specs.Prelude.{◌≡◌, IfErr, IfNone, IfOk, IfSome, false};
+ghost use Rattle.clap.specs.Words.{app_of, found_of, one_of, rows_of, rule_of};
+ghost use Rattle.odata_serve.specs.Words.{texts};
+ghost use Rattle.listen_words.specs.Laws.{Sizes};
 ghost use Rattle.listen_words.specs.Words.{AreWords, HasFlag, ReadsNumberOr, Says, flag_rule, folder_and_port, listen_app, number_rule, text_rule, with_numbers, with_plain};
 
 use clap::error::ErrorKind;
 use clap::{Arg, ArgAction, ArgMatches, Command, value_parser};
 use odata_serve::WordsFault;
+use odata_serve::words::{number, port, port_option, required, text};
 use std::alloc::{AllocError, Global};
 
 /// The address where none is asked for.
@@ -25,6 +27,11 @@ pub const HEAD_SECONDS: u32 = 30;
 /// The seconds of a connection that stands still where none are asked for.
 pub const IDLE_SECONDS: u32 = 60;
 
+/// The numbers of the command line.
+pub fn sizes()
+    ensures { Sizes }
+{}
+
 /// What the program is asked to do: to serve a folder at a port of an address over so many places, and to log.
 #[derive(Clone, Copy, Debug)]
 pub struct Words<'a> {
@@ -35,23 +42,6 @@ pub struct Words<'a> {
     pub head_seconds: u32,
     pub idle_seconds: u32,
     pub log: bool,
-}
-
-/// An argument that has to be there.
-fn required<'a>(alloc: Global, id: &'a str) -> Arg<'a>
-    ensures rule { rule_of result ≡ required_rule id.entry.now }
-    ensures local { result.global ≡ false }
-{
-    Arg::new(alloc, id).required(true)
-}
-
-/// The option `--port P`.
-fn port_option<'a>(alloc: Global) -> Arg<'a>
-    ensures rule { rule_of result ≡ port_rule }
-    ensures local { result.global ≡ false }
-{
-    let option = required(alloc, "port").long("port");
-    option.value_parser(value_parser!(u16))
 }
 
 /// An option with a number of 32 bits.
@@ -106,27 +96,6 @@ fn program_command<'a>(alloc: Global) -> Result<Command<'a>, AllocError>
         .arg(number_option(alloc, "connections"))?
         .arg(number_option(alloc, "head-seconds"))?
         .arg(number_option(alloc, "idle-seconds"))
-}
-
-/// The text of an argument.
-fn text<'a>(matches: &ArgMatches<'a>, id: &str) -> Option<&'a str>
-    ensures { option_map (λ s. s.now) result ≡ first_of id.now (rows_of (found_of matches.now)) }
-{
-    matches.get_str(id)
-}
-
-/// The number behind `--port`.
-fn port<'a>(matches: &ArgMatches<'a>) -> Option<u16>
-    ensures { ReadsNumber 16 (one_of (codes "port") (rows_of (found_of matches.now))) result }
-{
-    matches.get_one::<u16>("port")
-}
-
-/// The number behind an option.
-fn number<'a>(matches: &ArgMatches<'a>, id: &str) -> Option<u32>
-    ensures { ReadsNumber 32 (one_of id.now (rows_of (found_of matches.now))) result }
-{
-    matches.get_one::<u32>(id)
 }
 
 /// Whether an option without a value is there.

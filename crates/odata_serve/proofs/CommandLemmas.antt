@@ -1,5 +1,5 @@
 -- What a command came to.
-use Rattle.std.proofs.Common.{◌≡◌, ◌≢◌, ◌∙◌, ℕ, List, None, Result, Ok, Err, refl, sym, ap, subst, inl, inr}
+use Rattle.std.proofs.Common.{◌≡◌, ◌≢◌, ℕ, List, None, Result, Ok, Err, refl, sym, ap, subst, inl, inr}
 use Rattle.std.specs.Prelude.{⊤, Vec}
 use Rattle.event_scripts.specs.Command.{CommandOf}
 use Rattle.event_scripts.specs.Command as command
@@ -86,7 +86,7 @@ kept_answers name hub before after fault refused (Ok line) kept = λ h stands. r
   stands = stands;
   text_is = kept.1;
 }
-kept_answers name hub before after fault refused (Err NoMemory) kept = tt
+kept_answers name hub before after fault refused (Err NoMemory) kept = inr (name, refl, inr (fault, refused))
 kept_answers name hub before after fault refused (Err (Folder same)) kept = (
   name,
   refl,

@@ -1,5 +1,5 @@
 -- The ends of commands that run no script.
-use Rattle.std.proofs.Common.{◌≡◌, ◌≢◌, ℕ, Bool, true, false, if◌then◌else◌, Result, Ok, Err, inl, inr, arith}
+use Rattle.std.proofs.Common.{◌≢◌, ℕ, Bool, true, false, if◌then◌else◌, Result, Ok, Err, inl, inr, arith}
 use Rattle.std.specs.Prelude.{⊤, is_none}
 use Rattle.table_store.specs.Fault.{load_cause}
 use Rattle.odata_http.specs.declared.runs.RunFault.TheVariants as run

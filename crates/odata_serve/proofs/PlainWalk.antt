@@ -6,7 +6,7 @@ use Rattle.std.specs.Str.{bytes_eq, chars}
 use Rattle.std.proofs.lemmas.List.{append-nil}
 use Rattle.clap.specs.Lexer.{long_of, short_of}
 use Rattle.clap.specs.Facts.{unwrap_or_range}
-use Rattle.clap.specs.Walk.{Held, Outcome, Row, Rule, Text, Waiting, action_of, after_flag, arg_by_id, arg_by_long, arg_by_short, attached_value, bundle_met, done, has_row, idle, long_met, long_or_other, option, option_met, plain as no_flag, plain_word, positional, reacted, reading_by, refused, settled, short_met, short_or_plain, takes_values, used, used_as, used_by_id, settled_rows, bundle, bundle_step, flag_met, has_long, has_short, option_word, values_or_missing, value, waits, with_values, without, more_values}
+use Rattle.clap.specs.Walk.{Held, Outcome, Row, Rule, Text, Waiting, action_of, after_flag, arg_by_id, arg_by_long, arg_by_short, attached_value, bundle_met, done, has_row, idle, long_met, long_or_other, option, option_met, plain as no_flag, plain_word, positional, reacted, reading_by, refused, settled, short_met, short_or_plain, takes_values, used, used_as, used_by_id, settled_rows, bundle, bundle_step, flag_met, has_long, has_short, option_word, values_or_missing, waits, with_values, without, more_values}
 use Rattle.clap.specs.Kinds.{Kinds, or_else, range_kinds}
 use Rattle.clap.specs.Faults.{action_fault, bundle_fault, bundle_step_fault, flag_word_fault, flags_fault, long_fault, option_fault, react_fault, set_fault, settle_fault, short_fault, use_fault}
 use Rattle.clap.specs.declared.builder.range.ValueRange.{ValueRange}

@@ -1,5 +1,5 @@
 -- Lines that were played, one after another.
-use Rattle.std.proofs.Common.{◌≡◌, ◌∙◌, ◌+◌, ◌++◌, ℕ, List, [], ◌∷◌, length, take, Result, Ok, Err, refl, sym, ap, subst, inr, append_assoc, append-nil, length-append, arith}
+use Rattle.std.proofs.Common.{◌≡◌, ◌∙◌, ◌+◌, ◌++◌, ℕ, List, [], ◌∷◌, length, take, Result, Ok, Err, refl, sym, ap, subst, inl, inr, append_assoc, append-nil, length-append, arith}
 use Rattle.std.specs.Prelude.{⊤}
 use Rattle.std.specs.Io.KnownBytes.{Appends}
 use Rattle.std.proofs.KnownBytes.{Appends-trans}
@@ -14,7 +14,7 @@ use Rattle.odata_serve.specs.declared.program.ProgramFault.{ProgramFault}
 use Rattle.odata_serve.specs.declared.program.ProgramFault.TheVariants.{Folder, Run, Script, Device, NoMemory}
 use Rattle.odata_serve.specs.Folders.{FoldersOf}
 use Rattle.odata_serve.specs.Program.{IsLoaded, loading}
-use Rattle.odata_serve.specs.Replay.{Stage, stage, Outcome, Happened, Kept, outcome_line, outcome_lines, LineComes, Plays, schedule_of, Playing, playing, free_hub, IsPlayed, IsReplay, Replay, Replays, Place, IsLinePlayed}
+use Rattle.odata_serve.specs.Replay.{Stage, stage, Outcome, Happened, Kept, outcome_line, outcome_lines, LineComes, Plays, schedule_of, Playing, playing, free_hub, IsPlayed, IsReplay, MayLoadNext, Replay, Replays, Place, IsLinePlayed}
 use Rattle.odata_serve.proofs.LineLemmas.{no_lines}
 use Rattle.odata_serve.proofs.CommandLemmas.{StepOf, comes_device, comes_step}
 
@@ -146,13 +146,14 @@ module _ {script : List ℕ} {start : Stage} {rest : List ℕ} {number : ℕ} {s
           failed = rw to.written.failed at failed.failed;
         };
       }
-  played_fault next NoMemory same = record {
+  played_fault next NoMemory (same, may) = record {
     before = to.before;
-    behind = script_lines rest;
-    lines = to.lines;
+    behind = line ∷ script_lines behind;
+    lines = lines_here;
     end = stage to.hub now.folders;
     bytes = outcome_lines to.outcomes;
     plays = record { outcomes = to.outcomes; plays = to.plays; bytes_are = refl };
+    folders = may;
     written = same_sink next same;
   }
   played_fault next (Folder fault) (name, asks, lacks, same) = record {
@@ -191,10 +192,14 @@ played_all {script} {start} {now = now} to none =
 
 -- ---- a script over a folder
 
+may_load_none : (lines : List (List ℕ)) (old new : FoldersOf) → new ≡ old → MayLoadNext lines old new
+may_load_none [] old new same = same
+may_load_none (line ∷ lines) old new same = inl same
+
 module _ (r : Replay) (catalog : CatalogOf) (folders : FoldersOf) (loaded : IsLoaded (loading r.name r.folders folders) catalog) where
   -- memory ran out before the first line
-  pub lacks_hub : r.sink_after ≡ r.sink → Replays r (Err NoMemory)
-  lacks_hub same = record {
+  pub lacks_hub : r.folders_after ≡ folders → r.sink_after ≡ r.sink → Replays r (Err NoMemory)
+  lacks_hub still same = record {
     catalog = catalog;
     folders = folders;
     loaded = loaded;
@@ -205,6 +210,7 @@ module _ (r : Replay) (catalog : CatalogOf) (folders : FoldersOf) (loaded : IsLo
       end = stage (free_hub catalog) folders;
       bytes = [];
       plays = record { outcomes = []; plays = refl; bytes_are = refl };
+      folders = may_load_none (script_lines r.script) folders r.folders_after still;
       written = subst (λ (s : SinkOf). HasWritten r.sink s []) (sym same) (no_lines r.sink);
     };
   }

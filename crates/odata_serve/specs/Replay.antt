@@ -1,5 +1,5 @@
 -- What the lines of a script come to, one after another, and how replaying a script ended.
-use Rattle.std.specs.Prelude.{◌≡◌, ◌≢◌, ◌⊎◌, ◌+◌, ⊤, ℕ, List, [], ◌∷◌, ◌++◌, length, take, replicate, Option, None, Result, Ok, Err, Vec}
+use Rattle.std.specs.Prelude.{◌≡◌, ◌≢◌, ◌⊎◌, ◌+◌, ⊤, ℕ, List, [], ◌∷◌, ◌++◌, length, take, replicate, None, Result, Ok, Err, Vec}
 use Rattle.std.specs.List.{flat_map}
 use Rattle.event_scripts.specs.Answers.{line_of}
 use Rattle.event_scripts.specs.Command.{CommandOf, IsCommand}
@@ -12,7 +12,7 @@ use Rattle.odata_http.specs.Answer.{HasWritten, HasFailed}
 use Rattle.odata_hub.specs.declared.hub.Hub.{Hub}
 use Rattle.odata_hub.specs.Connections.{Answer, Done, Piece, End, Turn, Take}
 use Rattle.odata_hub.specs.Schedules.{Event, Open, On, Drop, Reload, Happening, HubOf, HubRun, HubStep, reload}
-use Rattle.odata_hub.specs.Stands.{IsHubStep, StandsFor}
+use Rattle.odata_hub.specs.Stands.{StandsFor}
 use Rattle.odata_serve.specs.declared.folders.FolderFault.{FolderFault}
 use Rattle.odata_serve.specs.declared.program.ProgramFault.{ProgramFault}
 use Rattle.odata_serve.specs.declared.program.ProgramFault.TheVariants.{Folder, Script, Device, NoMemory}
@@ -98,8 +98,6 @@ abbrev pub PlaysSchedule : Type 0
 PlaysSchedule = (lines : List (List ℕ)) (old new : Stage) (outcomes : List Outcome) → Plays lines old outcomes new
     → HubRun old.hub (schedule_of outcomes) new.hub
 
--- ---- a script
-
 -- a script that is played from a stage: the folders behind it, and the sink before and behind it
 pub record Playing : Type 0 where
   pub script : List ℕ
@@ -156,7 +154,21 @@ pub record FailsToWrite (p : Playing) : Type 0 where
   pub count : ℕ
   pub failed : HasFailed p.sink p.sink_after (bytes ++ take count (outcome_line outcome))
 
--- memory ran out: some first lines were played, and what they came to was written
+-- a folder was loaded once: it means a catalog, or gave none
+abbrev pub LoadsOnce : List ℕ → FoldersOf → FoldersOf → Type 0
+LoadsOnce folder old new =
+    ((catalog : CatalogOf) × IsLoaded (loading folder old new) catalog) ⊎ ((fault : FolderFault) × IsFolderFault (loading folder old new) fault)
+
+-- the folders are as they were, or the line asks for a folder, which was loaded once
+abbrev pub MayLoad : List ℕ → FoldersOf → FoldersOf → Type 0
+MayLoad line old new = (new ≡ old) ⊎ ((folder : List ℕ) × IsCommand line (command.Reload folder) × LoadsOnce folder old new)
+
+-- the same of the next line, where there is one
+abbrev pub MayLoadNext : List (List ℕ) → FoldersOf → FoldersOf → Type 0
+MayLoadNext [] old new = new ≡ old
+MayLoadNext (line ∷ lines) old new = MayLoad line old new
+
+-- memory ran out: some first lines were played, and what they came to was written; a folder that the next line asks for may have been loaded
 pub record RunsOut (p : Playing) : Type 0 where
   pub before : List (List ℕ)
   pub behind : List (List ℕ)
@@ -164,6 +176,7 @@ pub record RunsOut (p : Playing) : Type 0 where
   pub end : Stage
   pub bytes : List ℕ
   pub plays : PlaysTo p before end bytes
+  pub folders : MayLoadNext behind end.folders p.folders_after
   pub written : HasWritten p.sink p.sink_after bytes
 
 -- a line asks for a folder that gave no catalog, and is not refused: a file could not be read, which none was before, or memory ran out
@@ -253,10 +266,14 @@ pub record ComesTo (c : CommandOf) (old : Stage) (hub : Hub) (folders : FoldersO
   pub stands : StandsFor hub new
   pub text_is : text ≡ outcome_line outcome
 
+-- a command leaves the folders as they were, or asks for a folder, which was loaded once
+abbrev pub MayAsk : CommandOf → FoldersOf → FoldersOf → Type 0
+MayAsk c old new = (new ≡ old) ⊎ ((folder : List ℕ) × (c ≡ command.Reload folder) × LoadsOnce folder old new)
+
 -- how a command was answered: by a line; or memory ran out; or it asked for a folder that gave no catalog and is not refused
 abbrev pub IsAnswered : {A : Type 0} → CommandOf → Hub → FoldersOf → Hub → FoldersOf → Result (Vec ℕ A) ProgramFault → Type 0
 IsAnswered c old before new after (Ok line) = (h : HubOf) → StandsFor old h → ComesTo c (stage h before) new after line.items
-IsAnswered c old before new after (Err NoMemory) = ⊤
+IsAnswered c old before new after (Err NoMemory) = MayAsk c before after
 IsAnswered c old before new after (Err (Folder fault)) = (folder : List ℕ) × (c ≡ command.Reload folder) × Lacks folder before after fault
 IsAnswered c old before new after (Err fault) = ⊥
 
@@ -276,7 +293,7 @@ IsLinePlayed line number old new (Err (Script n)) =
 IsLinePlayed line number old new (Err Device) = (h : HubOf) → StandsFor old.hub h
     → (c : CommandOf) × IsCommand line c × (bytes : List ℕ) × ComesTo c (stage h old.folders) new.hub new.folders bytes
     × (n : ℕ) × HasFailed old.sink new.sink (take n bytes)
-IsLinePlayed line number old new (Err NoMemory) = new.sink ≡ old.sink
+IsLinePlayed line number old new (Err NoMemory) = (new.sink ≡ old.sink) × MayLoad line old.folders new.folders
 IsLinePlayed line number old new (Err (Folder fault)) =
     (folder : List ℕ) × IsCommand line (command.Reload folder) × Lacks folder old.folders new.folders fault × (new.sink ≡ old.sink)
 IsLinePlayed line number old new (Err fault) = ⊥

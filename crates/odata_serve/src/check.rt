@@ -25,9 +25,7 @@ fn write_lines<W: Sink>(alloc: Global, tables: &[Table], out: &mut W) -> Result<
     ensures { AreListed tables.now (W.sink out.old) (W.sink out.new) result }
 {
     for table in tables {
-        let Ok(line) = line_of(alloc, table) else {
-            return Err(ProgramFault::NoMemory);
-        };
+        let line = line_of(alloc, table)?;
         match send(out, line.as_bytes()) {
             Ok(()) => {}
             Err(_) => return Err(ProgramFault::Device),

@@ -13,12 +13,12 @@ use crate::program::{ProgramFault, answer, request_to};
 use crate::replay::replay_script;
 use crate::script_file::read_script;
 use crate::serving::serve;
-use crate::words::{Words, WordsFault, read_words};
+use crate::words::{Words, WordsFault, line_of, read_words, system_words};
 use odata_http::Counted;
 use std::io::ErrorKind;
 use std::net::{Net, TcpListener, TcpStream};
 use std::rt::{Env, Files};
-use std::{env, fs, io};
+use std::{fs, io};
 
 /// The exit status where all was done.
 pub const DONE: u8 = 0;
@@ -215,14 +215,8 @@ where
         + Eprint
         + AllocGlobal,
 {
-    let mut words = Vec::new(rt.alloc());
-    for word in env::args(rt)? {
-        words.push(word)?;
-    }
-    let mut line = Vec::new(rt.alloc());
-    for word in words.iter() {
-        line.push(word.as_str())?;
-    }
+    let words = system_words(rt)?;
+    let line = line_of(rt.alloc(), words.as_slice())?;
     Ok(line_status(rt, line.as_slice()))
 }
 

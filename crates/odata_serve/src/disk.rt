@@ -11,10 +11,9 @@ ghost use Rattle.odata_serve.specs.Folders.{greatest_limits, unasked};
 use crate::folders::{FolderFault, Folders};
 use csvw_meta::{Limits, MOST_FILE_BYTES, MetaFault, Schema, Schemas};
 use std::alloc::{AllocError, Global};
-use std::fs::OpenFile;
-use std::io::{ErrorKind, Read};
+use std::fs::{self, OpenFile};
+use std::io::{self, ErrorKind, Read};
 use std::rt::Files;
-use std::{fs, io};
 use table_store::{Catalog, NamedFile};
 
 /// The name of the file that has the metadata of a folder.
@@ -51,7 +50,6 @@ enum TakeFault {
 }
 
 impl From<AllocError> for TakeFault {
-    ghost use Rattle.std.specs.Prelude.{◌≡◌};
     ghost use Rattle.odata_serve.specs.declared.disk.TakeFault.TheVariants.{NoMemory};
 
     ghost from_gives = { λ _ fault. fault ≡ NoMemory };
@@ -179,6 +177,10 @@ fn take_folder<R: Files>(
     ensures { IfOk result (λ taken. IfSome taken (λ folder.
         AreTaken folder.0.items (map file_view folder.1.items))) }
 {
+    // the empty name is that of no folder, and not of the root of all
+    if folder.is_empty() {
+        return Ok(None);
+    }
     let Some(meta) = take_file(alloc, files, folder, METADATA)? else {
         return Ok(None);
     };

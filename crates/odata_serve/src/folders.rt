@@ -22,16 +22,6 @@ pub enum FolderFault {
     NoMemory,
 }
 
-impl From<AllocError> for FolderFault {
-    ghost use Rattle.odata_serve.specs.declared.folders.FolderFault.TheVariants.{NoMemory};
-
-    ghost from_gives = { λ _ fault. fault ≡ NoMemory };
-
-    fn from(_error: AllocError) -> FolderFault {
-        FolderFault::NoMemory
-    }
-}
-
 /// Where folders are loaded from, by their names.
 pub trait Folders {
     /// What the last load under a name took, where that is told; and the counts of loads and of two answers.

@@ -13,7 +13,7 @@ mod program;
 mod replay;
 mod script_file;
 mod serving;
-mod words;
+pub mod words;
 
 pub use check::check_folder;
 pub use command::{
@@ -21,9 +21,9 @@ pub use command::{
 };
 pub use disk::Disk;
 pub use fault_text::{DEVICE, MEMORY, REFUSED, USAGE, fault_line};
-pub use folders::{BuiltIn, FolderFault, Folders, NOTES, NOTES_BYTES, NOTES_FILE, NOTES_METADATA};
+pub use folders::{BuiltIn, FolderFault, Folders, NOTES};
 pub use listener::{CountedListener, Listener};
-pub use program::{MAX_READS, ProgramFault, answer, request_to, sizes};
-pub use replay::{PLACES, plays_schedule, replay_script};
+pub use program::{ProgramFault, answer, request_to, sizes};
+pub use replay::{plays_schedule, replay_script};
 pub use serving::serve;
 pub use words::{Words, WordsFault, read_words};

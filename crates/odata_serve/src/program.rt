@@ -69,8 +69,5 @@ pub fn answer<F: Folders, R: Source, W: Sink>(
 pub fn request_to(alloc: Global, target: &str) -> Result<String, AllocError>
     ensures { IfOk result (λ request. string_bytes request ≡ request_to target.now) }
 {
-    let request = format!(in alloc;
-        "GET {target} HTTP/1.1\r\nHost: localhost\r\nConnection: close\r\n\r\n"
-    )?;
-    Ok(request)
+    format!(in alloc; "GET {target} HTTP/1.1\r\nHost: localhost\r\nConnection: close\r\n\r\n")
 }

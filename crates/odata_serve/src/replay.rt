@@ -98,12 +98,10 @@ fn play_line<F: Folders, W: Sink>(
         Err(CommandFault::Bad) => return Err(ProgramFault::Script { line: number }),
         Err(CommandFault::NoMemory) => return Err(ProgramFault::NoMemory),
     };
-    match command_line(alloc, folders, hub, &command) {
-        Ok(text) => match send(out, text.as_slice()) {
-            Ok(()) => Ok(()),
-            Err(_) => Err(ProgramFault::Device),
-        },
-        Err(fault) => Err(fault),
+    let text = command_line(alloc, folders, hub, &command)?;
+    match send(out, text.as_slice()) {
+        Ok(()) => Ok(()),
+        Err(_) => Err(ProgramFault::Device),
     }
 }
 

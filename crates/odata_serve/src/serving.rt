@@ -20,9 +20,7 @@ fn write_port<L: Listener, W: Sink>(
     let Ok(port) = listener.port() else {
         return Err(ProgramFault::Device);
     };
-    let Ok(line) = format!(in alloc; "listening 127.0.0.1:{port}\n") else {
-        return Err(ProgramFault::NoMemory);
-    };
+    let line = format!(in alloc; "listening 127.0.0.1:{port}\n")?;
     match send(out, line.as_bytes()) {
         Ok(()) => Ok(()),
         Err(_) => Err(ProgramFault::Device),

@@ -1,6 +1,6 @@
 //! The words of the program's command line, read by `clap` as one command with a subcommand for each thing that the program does.
-//! What is read is `clap`'s reading of that command, no more and no less.
-ghost use Rattle.std.specs.Prelude.{◌≡◌, IfOk, IfErr, IfNone, IfSome, codes, option_map, false, Some};
+//! What is read is `clap`'s reading of that command, no more and no less. The arguments that another program over folders has too are public.
+ghost use Rattle.std.specs.Prelude.{◌≡◌, IfOk, IfErr, IfNone, IfSome, codes, map, option_map, false, string_bytes, Some};
 ghost use Rattle.clap.specs.Words.{app_of, first_of, found_of, one_of, rows_of, rule_of, subcommand_rows_of, with_subcommand};
 ghost use Rattle.clap.specs.declared.Command.TheViews.{out-Command};
 ghost use Rattle.odata_serve.specs.Words.{AreWords, IsTaken, ReadsNumber, Says, SaysNothing, connections_rule, folder_app, folder_and_app, port_rule, program_app, required_rule, serve_app, texts};
@@ -8,6 +8,8 @@ ghost use Rattle.odata_serve.specs.Words.{AreWords, IsTaken, ReadsNumber, Says, 
 use clap::error::ErrorKind;
 use clap::{Arg, ArgMatches, Command, value_parser};
 use std::alloc::{AllocError, Global};
+use std::rt::Env;
+use std::{env, io};
 
 /// What the program is asked to do.
 #[derive(Clone, Copy)]
@@ -61,7 +63,7 @@ impl From<AllocError> for WordsFault {
 }
 
 /// An argument that has to be there.
-fn required<'a>(alloc: Global, id: &'a str) -> Arg<'a>
+pub fn required<'a>(alloc: Global, id: &'a str) -> Arg<'a>
     ensures rule { rule_of result ≡ required_rule id.entry.now }
     ensures local { result.global ≡ false }
 {
@@ -69,7 +71,7 @@ fn required<'a>(alloc: Global, id: &'a str) -> Arg<'a>
 }
 
 /// The option `--port P`.
-fn port_option<'a>(alloc: Global) -> Arg<'a>
+pub fn port_option<'a>(alloc: Global) -> Arg<'a>
     ensures rule { rule_of result ≡ port_rule }
     ensures local { result.global ≡ false }
 {
@@ -142,25 +144,24 @@ fn program_command<'a>(alloc: Global) -> Result<Command<'a>, AllocError>
 }
 
 /// The text of an argument.
-fn text<'a>(matches: &ArgMatches<'a>, id: &str) -> Option<&'a str>
+pub fn text<'a>(matches: &ArgMatches<'a>, id: &str) -> Option<&'a str>
     ensures { option_map (λ s. s.now) result ≡ first_of id.now (rows_of (found_of matches.now)) }
 {
     matches.get_str(id)
 }
 
 /// The number behind `--port`.
-fn port<'a>(matches: &ArgMatches<'a>) -> Option<u16>
+pub fn port<'a>(matches: &ArgMatches<'a>) -> Option<u16>
     ensures { ReadsNumber 16 (one_of (codes "port") (rows_of (found_of matches.now))) result }
 {
     matches.get_one::<u16>("port")
 }
 
-/// The number behind `--connections`.
-fn connections<'a>(matches: &ArgMatches<'a>) -> Option<u32>
-    ensures { ReadsNumber 32
-        (one_of (codes "connections") (rows_of (found_of matches.now))) result }
+/// The number of 32 bits behind an option.
+pub fn number<'a>(matches: &ArgMatches<'a>, id: &str) -> Option<u32>
+    ensures { ReadsNumber 32 (one_of id.now (rows_of (found_of matches.now))) result }
 {
-    matches.get_one::<u32>("connections")
+    matches.get_one::<u32>(id)
 }
 
 /// What a subcommand with these arguments asks for.
@@ -193,7 +194,7 @@ fn subcommand_words<'a>(name: &'a str, inner: &ArgMatches<'a>) -> Option<Words<'
         "serve" => {
             let folder = text(inner, "folder")?;
             let port = port(inner)?;
-            let connections = connections(inner)?;
+            let connections = number(inner, "connections")?;
             Some(Words::Serve {
                 folder,
                 port,
@@ -213,6 +214,26 @@ fn matches_words<'a>(matches: &ArgMatches<'a>) -> Option<Words<'a>>
         None => Some(Words::Nothing),
         Some((name, inner)) => subcommand_words(name, inner),
     }
+}
+
+/// The words that the system hands over, the first of which is the program's own name. Which these are no clause says.
+pub fn system_words<R: Env + AllocGlobal>(rt: &R) -> io::Result<Vec<String>> {
+    let mut words = Vec::new(rt.alloc());
+    for word in env::args(rt)? {
+        words.push(word)?;
+    }
+    Ok(words)
+}
+
+/// Words as a line of texts.
+pub fn line_of<'a>(alloc: Global, words: &'a [String]) -> Result<Vec<&'a str>, AllocError>
+    ensures { IfOk result (λ line. texts line.items ≡ map string_bytes words.now) }
+{
+    let mut line = Vec::new(alloc);
+    for word in words {
+        line.push(word.as_str())?;
+    }
+    Ok(line)
 }
 
 /// What the words of the command line ask for, the first of which is the program's own name: `Usage` exactly where `clap` does not take them, or they ask for help.

@@ -6,7 +6,7 @@ use Rattle.odata_serve.proofs.check.write_lines.Goals as goal
 
 pub returns-in-Err : goal.returns-in-Err
 returns-in-Err g c =
-    let is : c.as_bytes.result.now ≡ table_line c.table-item.result = c.as_bytes.ensures.value ∙ c.in-Ok.ensures in
+    let is : c.as_bytes.result.now ≡ table_line c.table-item.result = c.as_bytes.ensures.value ∙ c.in_ok-line.ensures in
     let before = g.W.Sink.sink c.loop-table.out in
     let after = g.W.Sink.sink c.send.new.out in
     let Front : List ℕ → Type 0 = λ line. (n : ℕ) × (n ≤ length line) × Appends before.taken after.taken (take n line) in
@@ -15,8 +15,8 @@ returns-in-Err g c =
 
 pub loop-table-preserved : goal.loop-table-preserved
 loop-table-preserved g c =
-    let is : c.as_bytes.result.now ≡ table_line c.table-item.result = c.as_bytes.ensures.value ∙ c.in-Ok.ensures in
+    let is : c.as_bytes.result.now ≡ table_line c.table-item.result = c.as_bytes.ensures.value ∙ c.in_ok-line.ensures in
     let before = g.W.Sink.sink c.loop-table.out in
     let after = g.W.Sink.sink c.send.new.out in
     listed_more c.args.tables.now c.loop-table.table-index c.table-item.result c.loop-table-test.true c.table-item.is c.loop-table.invariant
-    (subst (λ (line : List ℕ). Appends before.taken after.taken line) is c.in-Ok-send.ensures.ok) c.in-Ok-send.ensures.failed
+    (subst (λ (line : List ℕ). Appends before.taken after.taken line) is c.in-Ok.ensures.ok) c.in-Ok.ensures.failed

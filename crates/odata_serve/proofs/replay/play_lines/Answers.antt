@@ -1,4 +1,4 @@
-use Rattle.std.proofs.Common.{arith, length}
+use Rattle.std.proofs.Common.{arith}
 use Rattle.odata_serve.proofs.ReplayLemmas.{played_fault, played_more, played_none}
 use Rattle.odata_serve.proofs.replay.play_lines.Goals as goal
 

@@ -1,4 +1,4 @@
-use Rattle.std.proofs.Common.{◌≡◌, ap, subst}
+use Rattle.std.proofs.Common.{subst}
 use Rattle.table_store.specs.Catalog.{CatalogOf}
 use Rattle.odata_hub.specs.Connections.{Done}
 use Rattle.odata_hub.specs.Schedules.{Reload}

@@ -7,11 +7,11 @@ use Rattle.odata_serve.proofs.replay.replay_script.Goals as goal
 
 pub returns-in_default : goal.returns-in_default
 returns-in_default g c =
-    lacks_hub _ c.in-Ok.catalog (g.F.Folders.folders c.load.new.self) (record { load = c.in-Ok.ensures.load; means = c.in-Ok.ensures.tables; counts = c.in-Ok.ensures.counts }) refl
+    lacks_hub _ c.in-Ok.catalog (g.F.Folders.folders c.load.new.self) (record { load = c.in-Ok.ensures.load; means = c.in-Ok.ensures.tables; counts = c.in-Ok.ensures.counts }) refl refl
 
 pub returns-in-Err-new : goal.returns-in-Err-new
 returns-in-Err-new g c =
-    lacks_hub _ c.in-Ok.catalog (g.F.Folders.folders c.load.new.self) (record { load = c.in-Ok.ensures.load; means = c.in-Ok.ensures.tables; counts = c.in-Ok.ensures.counts }) refl
+    lacks_hub _ c.in-Ok.catalog (g.F.Folders.folders c.load.new.self) (record { load = c.in-Ok.ensures.load; means = c.in-Ok.ensures.tables; counts = c.in-Ok.ensures.counts }) refl refl
 
 pub returns-in-Ok-new-2 : goal.returns-in-Ok-new-2
 returns-in-Ok-new-2 g c =

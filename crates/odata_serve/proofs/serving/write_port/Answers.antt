@@ -5,7 +5,7 @@ use Rattle.odata_serve.proofs.serving.write_port.Goals as goal
 
 pub returns : goal.returns
 returns g c =
-    let is : c.as_bytes.result.now ≡ port_line c.in-Ok.port = c.as_bytes.ensures.value ∙ c.in-Ok-format.ensures.ok in
+    let is : c.as_bytes.result.now ≡ port_line c.in-Ok.port = c.as_bytes.ensures.value ∙ c.in_ok-line.ensures.ok in
     let front = c.in-Err.ensures.err in
     let Front : List ℕ → Type 0 = λ line. Appends (g.W.Sink.sink c.args.out.now).taken (g.W.Sink.sink c.send.new.out).taken (take front.0 line) in
     inr (

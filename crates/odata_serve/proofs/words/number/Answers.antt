@@ -1,10 +1,10 @@
 use Rattle.std.proofs.Common.{Option, subst}
-use Rattle.std.specs.Str.Parse.{ExplainsUnsignedError, HasUnsignedDigitsIfOk, ParsesUnsigned}
+use Rattle.std.specs.Str.Parse.{ParsesUnsigned, ExplainsUnsignedError, HasUnsignedDigitsIfOk}
 use Rattle.clap.specs.Words.{Text, found_of, one_text}
 use Rattle.clap.proofs.WalkLemmas.{one_text-rows}
 use Rattle.odata_serve.specs.Words.{ReadsNumber}
-use Rattle.listen_words.proofs.WordLemmas.{reads_number}
-use Rattle.listen_words.proofs.words.number.Goals as goal
+use Rattle.odata_serve.proofs.Numbers.{reads_number}
+use Rattle.odata_serve.proofs.words.number.Goals as goal
 
 pub returns : goal.returns
 returns c =
