@@ -6,6 +6,7 @@ use crate::serving::serve;
 use crate::slow::Limits;
 use listen_words::{MOST_PLACES, Words, read_words};
 use mio::net::TcpListener;
+use odata_serve::words::{line_of, system_words};
 use odata_serve::{
     DONE, Disk, Folders, MEMORY, ProgramFault, WordsFault, error_status, report, unread_status,
     usage_status,
@@ -13,7 +14,7 @@ use odata_serve::{
 use std::net::{IpAddr, Net, SocketAddr};
 use std::rc::Rc;
 use std::rt::{Clock, Env, Files};
-use std::{env, io};
+use std::io;
 use table_store::Catalog;
 
 /// Tells where it listens, and serves.
@@ -75,14 +76,8 @@ fn words_status<R>(rt: &R) -> io::Result<u8>
 where
     R: Env + Net + Clock + Files + Print + Eprint + AllocGlobal + Clone + Drop,
 {
-    let mut words = Vec::new(rt.alloc());
-    for word in env::args(rt)? {
-        words.push(word)?;
-    }
-    let mut line = Vec::new(rt.alloc());
-    for word in words.iter() {
-        line.push(word.as_str())?;
-    }
+    let words = system_words(rt)?;
+    let line = line_of(rt.alloc(), words.as_slice())?;
     let status = match read_words(rt.alloc(), line.as_slice()) {
         Ok(words) => serve_folder(rt, &words),
         Err(WordsFault::Usage) => usage_status(rt),
