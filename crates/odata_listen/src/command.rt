@@ -11,10 +11,10 @@ use odata_serve::{
     DONE, Disk, Folders, MEMORY, ProgramFault, WordsFault, error_status, report, unread_status,
     usage_status,
 };
+use std::io;
 use std::net::{IpAddr, Net, SocketAddr};
 use std::rc::Rc;
 use std::rt::{Clock, Env, Files};
-use std::io;
 use table_store::Catalog;
 
 /// Tells where it listens, and serves.
@@ -54,9 +54,8 @@ fn serve_folder<R>(rt: &R, words: &Words<'_>) -> u8
 where
     R: Net + Clock + Files + Print + Eprint + AllocGlobal + Clone + Drop,
 {
-    let address: IpAddr = match words.address.parse() {
-        Ok(address) => address,
-        Err(_) => return usage_status(rt),
+    let Ok(address) = words.address.parse::<IpAddr>() else {
+        return usage_status(rt);
     };
     if words.places == 0 || words.places > MOST_PLACES {
         return usage_status(rt);
@@ -78,12 +77,11 @@ where
 {
     let words = system_words(rt)?;
     let line = line_of(rt.alloc(), words.as_slice())?;
-    let status = match read_words(rt.alloc(), line.as_slice()) {
-        Ok(words) => serve_folder(rt, &words),
-        Err(WordsFault::Usage) => usage_status(rt),
-        Err(WordsFault::NoMemory) => MEMORY,
-    };
-    Ok(status)
+    match read_words(rt.alloc(), line.as_slice()) {
+        Ok(words) => Ok(serve_folder(rt, &words)),
+        Err(WordsFault::Usage) => Ok(usage_status(rt)),
+        Err(WordsFault::NoMemory) => Ok(MEMORY),
+    }
 }
 
 /// Does what the command line asks for, and gives the exit status.

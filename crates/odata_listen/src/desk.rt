@@ -101,14 +101,10 @@ impl Desk {
         ensures peer { IfOk result (λ conn.
             IsPut conn.0 peer self.old.sockets.slots.items self.new.sockets.slots.items) }
     {
-        match self.hub.open() {
-            Ok(conn) => {
-                clear_seat(&mut self.seats, conn.0);
-                self.sockets.put(conn.0, peer);
-                Ok(conn)
-            }
-            Err(fault) => Err(fault),
-        }
+        let conn = self.hub.open()?;
+        clear_seat(&mut self.seats, conn.0);
+        self.sockets.put(conn.0, peer);
+        Ok(conn)
     }
 
     /// Frees a place, and closes its socket: where it lingers, once its peer has closed too, or after a while.

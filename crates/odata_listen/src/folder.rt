@@ -23,8 +23,7 @@ pub struct Folder<'a> {
 fn push_state(text: &mut String, found: &Metadata) -> Result<(), AllocError> {
     write!(
         text,
-        "{} {} {} {} {} {}
-",
+        "{} {} {} {} {} {}\n",
         found.ino(),
         found.len(),
         found.mtime(),

@@ -134,8 +134,7 @@ fn settle<R: Print + Eprint + AllocGlobal>(
     ensures { Settles (stepped_at desk.old.seats.items place) place desk.old.hub desk.new.hub }
 {
     match desk.stepped(place) {
-        Stepped::Free => {}
-        Stepped::Rests => {}
+        Stepped::Free | Stepped::Rests => {}
         Stepped::Worked => desk.sockets.note_work(place, now),
         Stepped::Answered => part(desk, place, journal),
         Stepped::Lost => end(desk, place, Why::Lost, journal),

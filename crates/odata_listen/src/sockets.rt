@@ -121,12 +121,9 @@ impl Sockets {
     pub fn close(&mut self, place: u32, room: &mut [u8]) -> Option<Peer>
         ensures len { length room.new ≡ length room.old }
     {
-        if let Some(slot) = self.slots.get_mut(place as usize) {
-            if let Some(mut peer) = slot.peer.take() {
-                if peer.close(room) {
-                    return Some(peer);
-                }
-            }
+        let mut peer = self.slots.get_mut(place as usize)?.peer.take()?;
+        if peer.close(room) {
+            return Some(peer);
         }
         None
     }
