@@ -13,7 +13,9 @@ use Rattle.odata_rounds.specs.declared.answers.Stepped.TheVariants.{Free, Rests,
 use Rattle.odata_rounds.specs.Comes.{MayHappen, ServingRun}
 use Rattle.odata_rounds.specs.Laws.{RoundMoves}
 use Rattle.odata_rounds.specs.Rounds.{Rounds, SightOf}
-use Rattle.odata_listen.specs.Serving.{Frees, MayFree, MayReload, RunsTo, Settles}
+use Rattle.odata_listen.specs.declared.slow.Due.{Due}
+use Rattle.odata_listen.specs.declared.slow.Due.TheVariants as slow
+use Rattle.odata_listen.specs.Serving.{EndsSlow, Frees, MayReload, RunsTo, Settles}
 use Rattle.odata_listen.specs.Watch.{HandsOver}
 
 pub runs_none : (a : Hub) → RunsTo a a
@@ -48,9 +50,10 @@ runs_same a b e = let P : Hub → Type 0 = λ x. RunsTo a x in subst P (sym e) (
 pub runs_free : (place : ℕ) (a b : Hub) → Frees place a b → RunsTo a b
 runs_free place a b f = runs_step a b (Drop place) f.answer f.step (λ h. tt)
 
-pub runs_may_free : (place : ℕ) (a b : Hub) → MayFree place a b → RunsTo a b
-runs_may_free place a b (inl e) = runs_same a b e
-runs_may_free place a b (inr f) = runs_free place a b f
+pub runs_slow : (due : Due) (place : ℕ) (a b : Hub) → EndsSlow due place a b → RunsTo a b
+runs_slow slow.Nothing place a b e = runs_same a b e
+runs_slow slow.End place a b e = runs_same a b e
+runs_slow slow.Drop place a b f = runs_free place a b f
 
 pub runs_settled : (stepped : Stepped) (place : ℕ) (a b : Hub) → Settles stepped place a b → RunsTo a b
 runs_settled Free place a b e = runs_same a b e

@@ -22,6 +22,11 @@ due_by limits waits now times None = still_due limits now times
 abbrev pub due_of : Limits → Bool → ℕ → Times → Due
 due_of limits waits now times = due_by limits waits now times times.head
 
+-- what is due of a connection with these times; nothing where there is none
+abbrev pub due_where : Limits → Bool → ℕ → Option Times → Due
+due_where limits waits now None = Nothing
+due_where limits waits now (Some times) = due_of limits waits now times
+
 -- the first bytes of a head tell when it began; later ones change nothing
 abbrev pub head_since : Option ℕ → ℕ → Option ℕ
 head_since None now = Some now

@@ -1,5 +1,7 @@
 -- What the system's sockets tell and count.
-use Rattle.std.specs.Prelude.{ℕ, ◌-◌, ◌^◌, List, Option, None, Some, slice_get}
+use Rattle.std.specs.Prelude.{◌≡◌, ℕ, ◌-◌, ◌^◌, List, Option, None, Some, MatchOption, slice_get, slice_set}
+use Rattle.odata_listen.specs.declared.peer.Peer.{Peer}
+use Rattle.odata_listen.specs.declared.slow.Times.{Times}
 use Rattle.odata_listen.specs.declared.sockets.Slot.{Slot}
 use Rattle.odata_rounds.specs.Peers.{WireOf}
 
@@ -17,3 +19,23 @@ wire_of (Some slot) = slot_wire slot
 
 abbrev pub wire_at : List Slot → ℕ → WireOf
 wire_at slots place = wire_of (slice_get slots place)
+
+-- a place with no socket, at which nothing was counted
+abbrev pub free_slot : Slot
+free_slot = record { peer = None; waits = 0; losses = 0 }
+
+-- this socket was put at a place, where there is such a place; the others are as they were
+abbrev pub IsPut : ℕ → Peer → List Slot → List Slot → Type 0
+IsPut place peer old new = MatchOption (slice_get old place) (new ≡ old) (λ slot. new ≡ slice_set old place (record slot { peer = Some peer }))
+
+-- the times of the connection at a place, where there is one
+abbrev pub peer_times : Option Peer → Option Times
+peer_times None = None
+peer_times (Some peer) = Some peer.times
+
+abbrev pub slot_times : Option Slot → Option Times
+slot_times None = None
+slot_times (Some slot) = peer_times slot.peer
+
+abbrev pub times_at : List Slot → ℕ → Option Times
+times_at slots place = slot_times (slice_get slots place)

@@ -1,5 +1,5 @@
 -- When a folder is loaded anew, and what is done with what was loaded.
-use Rattle.std.specs.Prelude.{◌≡◌, ◌≢◌, ⊤, ℕ, List, Result, Ok, Err}
+use Rattle.std.specs.Prelude.{◌≡◌, ◌≢◌, ⊤, ℕ, Bool, true, false, not, List, is_none, Result, Ok, Err}
 use Rattle.table_store.specs.Catalog.{CatalogOf}
 use Rattle.odata_hub.specs.declared.hub.Hub.{Hub}
 use Rattle.odata_hub.specs.Connections.{Done}
@@ -8,6 +8,7 @@ use Rattle.odata_hub.specs.Stands.{IsHubStep}
 use Rattle.odata_serve.specs.declared.folders.FolderFault.{FolderFault}
 use Rattle.odata_serve.specs.declared.program.ProgramFault.{ProgramFault}
 use Rattle.odata_serve.specs.declared.program.ProgramFault.TheVariants.{Folder, NoMemory}
+use Rattle.odata_serve.specs.Folders.{folder_cause}
 use Rattle.odata_listen.specs.declared.watch.Look.{Look}
 use Rattle.odata_listen.specs.declared.watch.Look.TheVariants.{Same, Moves, Changed}
 
@@ -23,3 +24,10 @@ HandsOver (Ok catalog) old new (Ok u) = IsHubStep old (Reload catalog) Done new
 HandsOver (Ok catalog) old new (Err fault) = (fault ≡ NoMemory) × (new ≡ old)
 HandsOver (Err fault) old new (Ok u) = ⊥
 HandsOver (Err fault) old new (Err other) = (other ≡ Folder fault) × (new ≡ old)
+
+-- Whether a reload comes to the same end as long as the folder stays: its tables were taken up, or it is refused. A device that failed, and memory that
+-- ran out, may be there again.
+abbrev pub is_final : Result ⊤ ProgramFault → Bool
+is_final (Ok u) = true
+is_final (Err (Folder fault)) = not (is_none (folder_cause fault))
+is_final (Err fault) = false

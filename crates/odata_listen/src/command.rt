@@ -6,14 +6,15 @@ use crate::serving::serve;
 use crate::slow::Limits;
 use listen_words::{MOST_PLACES, Words, read_words};
 use mio::net::TcpListener;
+use odata_serve::words::{line_of, system_words};
 use odata_serve::{
     DONE, Disk, Folders, MEMORY, ProgramFault, WordsFault, error_status, report, unread_status,
     usage_status,
 };
+use std::io;
 use std::net::{IpAddr, Net, SocketAddr};
 use std::rc::Rc;
 use std::rt::{Clock, Env, Files};
-use std::{env, io};
 use table_store::Catalog;
 
 /// Tells where it listens, and serves.
@@ -53,9 +54,8 @@ fn serve_folder<R>(rt: &R, words: &Words<'_>) -> u8
 where
     R: Net + Clock + Files + Print + Eprint + AllocGlobal + Clone + Drop,
 {
-    let address: IpAddr = match words.address.parse() {
-        Ok(address) => address,
-        Err(_) => return usage_status(rt),
+    let Ok(address) = words.address.parse::<IpAddr>() else {
+        return usage_status(rt);
     };
     if words.places == 0 || words.places > MOST_PLACES {
         return usage_status(rt);
@@ -75,20 +75,13 @@ fn words_status<R>(rt: &R) -> io::Result<u8>
 where
     R: Env + Net + Clock + Files + Print + Eprint + AllocGlobal + Clone + Drop,
 {
-    let mut words = Vec::new(rt.alloc());
-    for word in env::args(rt)? {
-        words.push(word)?;
+    let words = system_words(rt)?;
+    let line = line_of(rt.alloc(), words.as_slice())?;
+    match read_words(rt.alloc(), line.as_slice()) {
+        Ok(words) => Ok(serve_folder(rt, &words)),
+        Err(WordsFault::Usage) => Ok(usage_status(rt)),
+        Err(WordsFault::NoMemory) => Ok(MEMORY),
     }
-    let mut line = Vec::new(rt.alloc());
-    for word in words.iter() {
-        line.push(word.as_str())?;
-    }
-    let status = match read_words(rt.alloc(), line.as_slice()) {
-        Ok(words) => serve_folder(rt, &words),
-        Err(WordsFault::Usage) => usage_status(rt),
-        Err(WordsFault::NoMemory) => MEMORY,
-    };
-    Ok(status)
 }
 
 /// Does what the command line asks for, and gives the exit status.

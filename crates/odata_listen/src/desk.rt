@@ -1,5 +1,6 @@
 //! The hub with its places: what is kept of each, and its socket.
-ghost use Rattle.std.specs.Prelude.{◌≡◌, ◌<◌, ◌^◌, length};
+ghost use Rattle.std.specs.Prelude.{◌≡◌, ◌<◌, ◌^◌, length, slice_set};
+ghost use Rattle.odata_listen.specs.Serving.{free_seat};
 
 use crate::partings::Partings;
 use crate::peer::Peer;
@@ -15,14 +16,16 @@ use table_store::Catalog;
 /// The most bytes that are read at once.
 pub const READ_BYTES: usize = 16_384;
 
-/// Nothing waits at a place any more.
+/// Nothing waits at a place any more, and nothing became of it.
 fn clear_seat(seats: &mut [Seat], place: u32)
     ensures len { length seats.new ≡ length seats.old }
+    ensures cleared { seats.new ≡ slice_set seats.old place free_seat }
 {
     let at = place as usize;
     if at < seats.len() {
-        seats[at].waits.clear();
-        seats[at].stepped = Stepped::Free;
+        let seat = &mut seats[at];
+        seat.waits.clear();
+        seat.stepped = Stepped::Free;
     }
 }
 
@@ -39,16 +42,21 @@ pub struct Desk {
 }
 
 impl Desk {
+    ghost use Rattle.std.specs.Prelude.{[], IfOk, slice_get};
     ghost use Rattle.std.specs.List.{list_any};
+    ghost use Rattle.odata_rounds.specs.Laws.{waits_at};
     ghost use Rattle.odata_rounds.specs.Rounds.{Rounds, is_working, sight};
     ghost use Rattle.odata_hub.specs.Connections.{Done, Opened, answer_of};
     ghost use Rattle.odata_hub.specs.Schedules.{Drop, Open};
     ghost use Rattle.odata_hub.specs.Stands.{IsHubStep};
-    ghost use Rattle.odata_listen.specs.Serving.{RunsTo, stepped_at};
-    ghost use Rattle.odata_listen.specs.Sockets.{wire_at};
+    ghost use Rattle.odata_listen.specs.Serving.{AreFree, RunsTo, due_at, has_waiting, stepped_at};
+    ghost use Rattle.odata_listen.specs.Sockets.{IsPut, wire_at};
 
     /// So many places, all of them free, over these tables.
-    pub fn new(alloc: Global, catalog: Rc<Catalog>, places: u32) -> Result<Desk, AllocError> {
+    pub fn new(alloc: Global, catalog: Rc<Catalog>, places: u32) -> Result<Desk, AllocError>
+        ensures { IfOk result (λ desk. AreFree catalog.value places
+            desk.hub desk.seats.items desk.sockets.slots.items) }
+    {
         let mut seats = Vec::with_capacity(alloc, places as usize)?;
         for _place in 0..places {
             seats.push(Seat {
@@ -83,18 +91,20 @@ impl Desk {
         has_worked(&self.seats)
     }
 
-    /// Seats a connection at the least free place, and answers which; none where there is no free place.
+    /// Seats a connection at the least free place, and answers which; none where there is no free place. Nothing waits there for its socket.
     pub fn open(&mut self, peer: Peer) -> Result<Conn, HubFault>
-        ensures { IsHubStep self.old.hub Open (answer_of (λ conn. Opened conn.0) result)
+        ensures step { IsHubStep self.old.hub Open (answer_of (λ conn. Opened conn.0) result)
             self.new.hub }
+        ensures waits { IfOk result (λ conn. waits_at self.new.seats.items conn.0 ≡ []) }
+        ensures seats { IfOk result (λ conn.
+            self.new.seats.items ≡ slice_set self.old.seats.items conn.0 free_seat) }
+        ensures peer { IfOk result (λ conn.
+            IsPut conn.0 peer self.old.sockets.slots.items self.new.sockets.slots.items) }
     {
-        match self.hub.open() {
-            Ok(conn) => {
-                self.sockets.put(conn.0, peer);
-                Ok(conn)
-            }
-            Err(fault) => Err(fault),
-        }
+        let conn = self.hub.open()?;
+        clear_seat(&mut self.seats, conn.0);
+        self.sockets.put(conn.0, peer);
+        Ok(conn)
     }
 
     /// Frees a place, and closes its socket: where it lingers, once its peer has closed too, or after a while.
@@ -133,14 +143,23 @@ impl Desk {
         }
     }
 
-    /// What is due of the connection at a place.
-    pub fn due(&self, place: u32, limits: &Limits, now: u64) -> Due {
-        let waits = match self.seats.get(place as usize) {
+    /// Whether bytes wait for the socket at a place.
+    fn has_waiting(&self, place: u32) -> bool
+        ensures { result ≡ has_waiting (slice_get self.now.seats.items place) }
+    {
+        match self.seats.get(place as usize) {
             Some(seat) => !seat.waits.is_empty(),
             None => false,
-        };
+        }
+    }
+
+    /// What is due of the connection at a place.
+    pub fn due(&self, place: u32, limits: &Limits, now: u64) -> Due
+        ensures { result ≡ due_at limits.now now self.now.seats.items
+            self.now.sockets.slots.items place }
+    {
         match self.sockets.times(place) {
-            Some(times) => times.due(limits, waits, now),
+            Some(times) => times.due(limits, self.has_waiting(place), now),
             None => Due::Nothing,
         }
     }

@@ -1,6 +1,6 @@
 //! A folder that is looked at, and taken up where it changed.
 use crate::journal::Journal;
-use crate::watch::{Look, hand_over, look_of};
+use crate::watch::{Look, hand_over, is_final, look_of};
 use odata_hub::Hub;
 use odata_serve::{Disk, Folders};
 use std::alloc::AllocError;
@@ -15,14 +15,15 @@ pub struct Folder<'a> {
     name: &'a str,
     taken: String,
     seen: String,
+    /// The last reload came to nothing since a device failed or memory ran out. That was told, and it is tried again.
+    wants: bool,
 }
 
 /// Adds to a text what tells one state of a file from another: its number, its length, and the times of its last write and change.
 fn push_state(text: &mut String, found: &Metadata) -> Result<(), AllocError> {
     write!(
         text,
-        "{} {} {} {} {} {}
-",
+        "{} {} {} {} {} {}\n",
         found.ino(),
         found.len(),
         found.mtime(),
@@ -60,11 +61,13 @@ impl<'a> Folder<'a> {
             name,
             taken: state_of(rt, name),
             seen: String::new(rt.alloc()),
+            wants: false,
         }
     }
 
+    /// Loads the folder; where it is behind that as it was at the last look, the hub has its tables from now on. Where a device failed or memory ran out, the
+    /// folder counts as it was taken before, so that the next look finds it changed again.
     #[tactic(auto, using(crate::proofs::HubLemmas::may_hand_over))]
-    /// Loads the folder; where it is behind that as it was at the last look, the hub has its tables from now on.
     fn take_up<R: Files + Print + Eprint + AllocGlobal + Clone + Drop>(
         &mut self,
         rt: &R,
@@ -76,9 +79,15 @@ impl<'a> Folder<'a> {
         let loaded = Disk::new(rt).load(rt.alloc(), self.name);
         let after = state_of(rt, self.name);
         if look_of(&self.seen, &self.seen, &after) == Look::Same {
-            self.taken = after;
             let end = hand_over(rt.alloc(), hub, loaded);
-            journal.reloaded(end);
+            let holds = is_final(&end);
+            if holds {
+                self.taken = after;
+            }
+            if holds || !self.wants {
+                journal.reloaded(end);
+            }
+            self.wants = !holds;
         }
     }
 

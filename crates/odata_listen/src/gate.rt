@@ -36,15 +36,6 @@ fn mark(sockets: &mut Sockets, events: &Events) -> bool {
     accepts
 }
 
-/// How long to wait for an event.
-fn wait_of(busy: bool) -> Duration {
-    if busy {
-        Duration::ZERO
-    } else {
-        Duration::from_millis(TICK)
-    }
-}
-
 /// The system's part of the service: where connections come from, what it says of them, and since when.
 #[derive(Drop)]
 pub struct Gate {
@@ -81,7 +72,8 @@ impl Gate {
 
     /// Waits for events, and gives the second that it is then.
     pub fn wait<R: Clock>(&mut self, rt: &R, sockets: &mut Sockets, busy: bool) -> io::Result<u64> {
-        self.poll.poll(&mut self.events, Some(wait_of(busy)))?;
+        let wait = Duration::from_millis(if busy { 0 } else { TICK });
+        self.poll.poll(&mut self.events, Some(wait))?;
         self.accepts = mark(sockets, &self.events) || self.accepts;
         Ok(Instant::now(rt)?.duration_since(self.start).as_secs())
     }

@@ -100,11 +100,8 @@ impl<'a, R: Print + Eprint + AllocGlobal> Journal<'a, R> {
     /// Tells that a changed folder was taken up; and on standard error why it was not.
     pub fn reloaded(&mut self, end: Result<(), ProgramFault>) {
         match end {
-            Ok(()) => {
-                if self.open {
-                    self.line(String::from_str(self.rt.alloc(), "reloaded"));
-                }
-            }
+            Ok(()) if self.open => self.line(String::from_str(self.rt.alloc(), "reloaded")),
+            Ok(()) => {}
             Err(fault) => {
                 let _ = match refused_line(self.rt.alloc(), &fault) {
                     Ok(line) => self.rt.eprintln(line),

@@ -48,12 +48,11 @@ impl Partings {
         for slot in 0..self.slots.len() {
             match &self.slots[slot] {
                 None => return slot,
-                Some(parting) => {
-                    if parting.seconds < least {
-                        least = parting.seconds;
-                        at = slot;
-                    }
+                Some(parting) if parting.seconds < least => {
+                    least = parting.seconds;
+                    at = slot;
                 }
+                Some(_) => {}
             }
         }
         at

@@ -87,9 +87,7 @@ impl Peer {
             match self.stream.read(room) {
                 Ok(0) => return false,
                 Ok(_) => {}
-                Err(error) => {
-                    return matches!(error.kind(), ErrorKind::WouldBlock | ErrorKind::Interrupted);
-                }
+                Err(error) => return fault_of(error.kind()) == PeerFault::Waits,
             }
         }
         true
@@ -152,8 +150,7 @@ impl Peer {
 /// What an error of the system means for a socket.
 fn fault_of(kind: ErrorKind) -> PeerFault {
     match kind {
-        ErrorKind::WouldBlock => PeerFault::Waits,
-        ErrorKind::Interrupted => PeerFault::Waits,
+        ErrorKind::WouldBlock | ErrorKind::Interrupted => PeerFault::Waits,
         _ => PeerFault::Lost,
     }
 }

@@ -1,6 +1,6 @@
 //! The service: connections are taken in as places are free, each tick has some rounds, and once a second slow peers are ended and the folder is
 //! looked at. Whatever that does with the hub is a schedule of its calls, so what holds of a hub in every schedule holds of the service.
-ghost use Rattle.odata_listen.specs.Serving.{Frees, MayFree, RunsTo, Settles, stepped_at};
+ghost use Rattle.odata_listen.specs.Serving.{EndsSlow, Frees, RunsTo, Settles, due_at, stepped_at};
 
 use crate::desk::Desk;
 use crate::folder::Folder;
@@ -134,8 +134,7 @@ fn settle<R: Print + Eprint + AllocGlobal>(
     ensures { Settles (stepped_at desk.old.seats.items place) place desk.old.hub desk.new.hub }
 {
     match desk.stepped(place) {
-        Stepped::Free => {}
-        Stepped::Rests => {}
+        Stepped::Free | Stepped::Rests => {}
         Stepped::Worked => desk.sockets.note_work(place, now),
         Stepped::Answered => part(desk, place, journal),
         Stepped::Lost => end(desk, place, Why::Lost, journal),
@@ -165,7 +164,8 @@ fn end_slow<R: Print + Eprint + AllocGlobal>(
     now: u64,
     journal: &mut Journal<'_, R>,
 )
-    ensures { MayFree place desk.old.hub desk.new.hub }
+    ensures { EndsSlow (due_at limits.now now desk.old.seats.items
+        desk.old.sockets.slots.items place) place desk.old.hub desk.new.hub }
 {
     match desk.due(place, limits, now) {
         Due::Nothing => {}

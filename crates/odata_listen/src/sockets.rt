@@ -19,7 +19,7 @@ pub struct Slot {
 
 impl Slot {
     ghost use Rattle.odata_rounds.specs.Peers.{CountsFault, IsRead, IsWrite};
-    ghost use Rattle.odata_listen.specs.Sockets.{slot_wire};
+    ghost use Rattle.odata_listen.specs.Sockets.{peer_times, slot_wire};
 
     /// Counts what a socket answered.
     fn count(&mut self, answer: Result<usize, PeerFault>)
@@ -55,6 +55,16 @@ impl Slot {
         }
     }
 
+    /// The times of the socket, where there is one.
+    fn times(&self) -> Option<Times>
+        ensures { result ≡ peer_times self.now.peer }
+    {
+        match &self.peer {
+            Some(peer) => Some(peer.times),
+            None => None,
+        }
+    }
+
     fn write(&mut self, bytes: &[u8]) -> Result<usize, PeerFault>
         ensures { IsWrite (slot_wire self.old) (slot_wire self.new) bytes.now result }
     {
@@ -79,8 +89,13 @@ pub struct Sockets {
 }
 
 impl Sockets {
+    ghost use Rattle.std.specs.Prelude.{IfOk, replicate};
+    ghost use Rattle.odata_listen.specs.Sockets.{IsPut, free_slot, times_at};
+
     /// So many places, at none of which is a socket.
-    pub fn new(alloc: Global, places: u32) -> Result<Sockets, AllocError> {
+    pub fn new(alloc: Global, places: u32) -> Result<Sockets, AllocError>
+        ensures { IfOk result (λ sockets. sockets.slots.items ≡ replicate places free_slot) }
+    {
         let mut slots = Vec::with_capacity(alloc, places as usize)?;
         for _place in 0..places {
             slots.push(Slot {
@@ -93,9 +108,12 @@ impl Sockets {
     }
 
     /// Puts a socket at a place.
-    pub fn put(&mut self, place: u32, peer: Peer) {
-        if let Some(slot) = self.slots.get_mut(place as usize) {
-            slot.peer = Some(peer);
+    pub fn put(&mut self, place: u32, peer: Peer)
+        ensures { IsPut place peer self.old.slots.items self.new.slots.items }
+    {
+        let place = place as usize;
+        if place < self.slots.len() {
+            self.slots[place].peer = Some(peer);
         }
     }
 
@@ -103,12 +121,9 @@ impl Sockets {
     pub fn close(&mut self, place: u32, room: &mut [u8]) -> Option<Peer>
         ensures len { length room.new ≡ length room.old }
     {
-        if let Some(slot) = self.slots.get_mut(place as usize) {
-            if let Some(mut peer) = slot.peer.take() {
-                if peer.close(room) {
-                    return Some(peer);
-                }
-            }
+        let mut peer = self.slots.get_mut(place as usize)?.peer.take()?;
+        if peer.close(room) {
+            return Some(peer);
         }
         None
     }
@@ -148,12 +163,11 @@ impl Sockets {
     }
 
     /// The times of the socket at a place.
-    pub fn times(&self, place: u32) -> Option<Times> {
+    pub fn times(&self, place: u32) -> Option<Times>
+        ensures { result ≡ times_at self.now.slots.items place }
+    {
         match self.slots.get(place as usize) {
-            Some(slot) => match &slot.peer {
-                Some(peer) => Some(peer.times),
-                None => None,
-            },
+            Some(slot) => slot.times(),
             None => None,
         }
     }

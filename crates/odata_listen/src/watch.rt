@@ -1,6 +1,6 @@
 //! When a folder is loaded anew, and what is done with what was loaded.
 ghost use Rattle.std.specs.Prelude.{◌≡◌};
-ghost use Rattle.odata_listen.specs.Watch.{HandsOver, Looks};
+ghost use Rattle.odata_listen.specs.Watch.{HandsOver, Looks, is_final};
 
 use odata_hub::Hub;
 use odata_serve::{FolderFault, ProgramFault};
@@ -32,8 +32,8 @@ pub fn look_of(taken: &str, seen: &str, found: &str) -> Look
     }
 }
 
-#[tactic(auto, using(crate::proofs::ReloadLemmas::reload_step))]
 /// Hands the tables of a folder to the hub; where the folder was refused, the hub keeps those that it has.
+#[tactic(auto, using(crate::proofs::ReloadLemmas::reload_step))]
 pub fn hand_over(
     alloc: Global,
     hub: &mut Hub,
@@ -50,5 +50,17 @@ pub fn hand_over(
             Ok(())
         }
         Err(fault) => Err(ProgramFault::Folder(fault)),
+    }
+}
+
+/// Whether a reload comes to the same end as long as the folder stays: not where a device failed, or memory ran out.
+pub fn is_final(end: &Result<(), ProgramFault>) -> bool
+    ensures { result ≡ is_final end.now }
+{
+    match end {
+        Ok(()) => true,
+        Err(ProgramFault::Folder(FolderFault::NoMetadata)) => true,
+        Err(ProgramFault::Folder(FolderFault::Load(fault))) => !fault.is_memory(),
+        Err(_) => false,
     }
 }

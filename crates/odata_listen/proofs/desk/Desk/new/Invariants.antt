@@ -1,6 +1,7 @@
-use Rattle.std.proofs.Common.{◌≡◌, length}
+use Rattle.std.proofs.Common.{◌≡◌, replicate}
+use Rattle.odata_listen.specs.Serving.{free_seat}
 use Rattle.odata_listen.proofs.desk.Desk.new.Given as goal
 
--- so many places were made
+-- so many free places were made
 abbrev pub invariant-loop-place : goal.invariant-loop-place
-invariant-loop-place l = length l.seats.items ≡ l._place
+invariant-loop-place l = l.seats.items ≡ replicate l._place free_seat
