@@ -1,4 +1,8 @@
 //! The folder `examples/base`, and requests of the folder that is built in.
+use odata_serve::{BuiltIn, Folders, NOTES};
+use std::alloc::Global;
+use std::test::Fail;
+use table_store::Catalog;
 
 /// The files of the folder, by their names, and a script that plays a request over it.
 pub(crate) const BASE: [(&str, &str); 5] = [
@@ -25,3 +29,31 @@ pub(crate) const NOTES_REQUEST: &str =
 /// Its reply.
 pub(crate) const NOTES_REPLY: &str =
     "HTTP/1.1 200 OK\r\nContent-Type: application/json;odata.metadata=none\r\nOData-Version: 4.0\r\nContent-Length: 62\r\nConnection: close\r\n\r\n{\"value\":[{\"Id\":\"1\",\"Text\":\"hello\"},{\"Id\":\"2\",\"Text\":\"a, b\"}]}";
+
+/// Two requests of the number of rows of `notes`, of 39 bytes each.
+pub(crate) const COUNTS: &str =
+    "GET /notes/$count HTTP/1.1\r\nHost: h\r\n\r\nGET /notes/$count HTTP/1.1\r\nHost: h\r\n\r\n";
+
+/// The reply to one.
+pub(crate) const COUNT_REPLY: &str =
+    "HTTP/1.1 200 OK\r\nContent-Type: text/plain;charset=utf-8\r\nOData-Version: 4.0\r\nContent-Length: 1\r\n\r\n2";
+
+/// The replies to both.
+pub(crate) const COUNT_REPLIES: &str =
+    "HTTP/1.1 200 OK\r\nContent-Type: text/plain;charset=utf-8\r\nOData-Version: 4.0\r\nContent-Length: 1\r\n\r\n2HTTP/1.1 200 OK\r\nContent-Type: text/plain;charset=utf-8\r\nOData-Version: 4.0\r\nContent-Length: 1\r\n\r\n2";
+
+/// A head that closes, with one behind it.
+pub(crate) const CLOSING: &str =
+    "GET /notes/$count HTTP/1.1\r\nHost: h\r\nConnection: close\r\n\r\nGET / HTTP/1.1\r\nHost: h\r\n\r\n";
+
+/// The reply to the one that closes.
+pub(crate) const CLOSING_REPLY: &str =
+    "HTTP/1.1 200 OK\r\nContent-Type: text/plain;charset=utf-8\r\nOData-Version: 4.0\r\nContent-Length: 1\r\nConnection: close\r\n\r\n2";
+
+/// The tables of the folder that is built in.
+pub(crate) fn notes(alloc: Global) -> Result<Catalog, Fail> {
+    let tables = BuiltIn::new()
+        .load(alloc, NOTES)
+        .or(Err("a refused folder"))?;
+    Ok(tables)
+}

@@ -1,7 +1,7 @@
 //! Connections over the loopback device, in one activity: a client sends all of its stream before it is answered, and reads then.
-use crate::base::{NOTES_REPLY, NOTES_REQUEST};
+use crate::base::{NOTES_REPLY, NOTES_REQUEST, notes};
 use odata_http::Counted;
-use odata_serve::{BuiltIn, CountedListener, Folders, Listener, NOTES, serve};
+use odata_serve::{CountedListener, Listener, serve};
 use std::io;
 use std::io::{ErrorKind, Read, Write};
 use std::net::{Ipv4Addr, Net, Shutdown, TcpListener, TcpStream};
@@ -26,9 +26,7 @@ fn client<R: Net<Listener = TcpListener, Stream = TcpStream>>(
 #[test]
 fn loopback(rt: HostRuntime) -> Result<(), Fail> {
     let alloc = rt.alloc();
-    let catalog = BuiltIn::new()
-        .load(alloc, NOTES)
-        .or(Err("a refused folder"))?;
+    let catalog = notes(alloc)?;
     let mut listener = CountedListener::bind(&rt, 0)?;
     let port = listener.port()?;
     // no other address of the machine is listened on

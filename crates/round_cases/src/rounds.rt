@@ -69,7 +69,7 @@ fn notes(alloc: Global, bytes: &str) -> Result<Vec<NamedFile>, AllocError> {
 }
 
 /// The tables where that has these bytes: such a folder is refused for want of memory alone.
-fn tables(alloc: Global, bytes: &str) -> Result<Rc<Catalog>, AllocError> {
+pub(crate) fn tables(alloc: Global, bytes: &str) -> Result<Rc<Catalog>, AllocError> {
     let files = notes(alloc, bytes)?;
     let meta = Vec::from_slice(alloc, META.as_bytes())?;
     let catalog = Catalog::load(alloc, Limits::greatest(), meta, files).map_err(|_| AllocError)?;
