@@ -10,13 +10,13 @@ use table_store::Catalog;
 
 /// Gives a stream, one byte a read. The read behind so many is interrupted.
 #[derive(Drop)]
-struct Drips<'a> {
-    rest: &'a [u8],
+struct Drips {
+    rest: &'static [u8],
     reads: u32,
     most: u32,
 }
 
-impl<'a> Read for Drips<'a> {
+impl Read for Drips {
     fn read(&mut self, buf: &mut [u8]) -> io::Result<usize> {
         let is_over = self.reads >= self.most;
         self.reads = self.reads.saturating_add(1);
@@ -62,7 +62,7 @@ impl Write for Sips {
 const READS: u32 = 79;
 
 /// The stream, of which so many reads are given.
-fn stream(most: u32) -> Drips<'static> {
+fn stream(most: u32) -> Drips {
     Drips {
         rest: COUNTS.as_bytes(),
         reads: 0,
@@ -74,7 +74,7 @@ fn stream(most: u32) -> Drips<'static> {
 fn end_of(
     alloc: Global,
     catalog: &Catalog,
-    input: &mut Drips<'_>,
+    input: &mut Drips,
     out: &mut Sips,
     limit: u32,
 ) -> Result<(), RunFault> {
