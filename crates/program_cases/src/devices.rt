@@ -8,27 +8,27 @@ use std::io::{ErrorKind, Read, Write};
 use std::test::Fail;
 use table_store::Catalog;
 
-/// Gives a stream, one byte a read. The read behind so many is interrupted.
+/// Gives the stream of two requests, one byte a read. The read behind so many is interrupted.
 #[derive(Drop)]
 struct Drips {
-    rest: &'static [u8],
     reads: u32,
     most: u32,
 }
 
 impl Read for Drips {
     fn read(&mut self, buf: &mut [u8]) -> io::Result<usize> {
-        let is_over = self.reads >= self.most;
-        self.reads = self.reads.saturating_add(1);
-        if is_over {
+        let at = self.reads;
+        self.reads = at.saturating_add(1);
+        if at >= self.most {
             return Err(io::Error::from(ErrorKind::Interrupted));
         }
-        let rest = self.rest;
-        let count = rest.len().min(buf.len()).min(1);
-        let (front, back) = rest.split_at(count);
-        buf[..count].copy_from_slice(front);
-        self.rest = back;
-        Ok(count)
+        match (COUNTS.as_bytes().get(at as usize), buf.first_mut()) {
+            (Some(byte), Some(room)) => {
+                *room = *byte;
+                Ok(1)
+            }
+            _ => Ok(0),
+        }
     }
 }
 
@@ -63,11 +63,7 @@ const READS: u32 = 79;
 
 /// The stream, of which so many reads are given.
 fn stream(most: u32) -> Drips {
-    Drips {
-        rest: COUNTS.as_bytes(),
-        reads: 0,
-        most,
-    }
+    Drips { reads: 0, most }
 }
 
 /// How a run ends over devices that are counted.
