@@ -1,13 +1,15 @@
 -- What holds of every metadata text.
-use Rattle.std.specs.Prelude.{◌≡◌, ◌≢◌, ℕ, ◌+◌, ◌^◌, ◌<◌, ◌≤◌, nat_eq, List, ◌∷◌, ◌++◌, map, length, true, false, ◌⊎◌, None, Some, Ok, Err, if◌then◌else◌}
+use Rattle.std.specs.Prelude.{◌≡◌, ◌≢◌, ℕ, ◌+◌, ◌^◌, ◌<◌, ◌≤◌, nat_eq, List, ◌∷◌, ◌++◌, map, length, true, false, ◌⊎◌, None, Some, Ok, Err, if◌then◌else◌, string_bytes}
 use Rattle.std.specs.List.{All, IsDistinct, flat_map, starts_with}
 use Rattle.std.specs.Str.{bytes_eq}
 use Rattle.serde_json.specs.Data.{Data, null}
 use Rattle.csv_grammar.specs.Bytes.{byte_order_mark}
 use Rattle.cell_types.specs.Column.{ColumnOf}
+use Rattle.csvw_meta.specs.declared.fault.MetaFault.{MetaFault}
+use Rattle.csvw_meta.specs.declared.fault.MetaFault.TheVariants.{Unsupported}
 use Rattle.csvw_meta.specs.declared.forms.TheConstants.{MOST_NAME_BYTES, MOST_URL_BYTES}
 use Rattle.csvw_meta.specs.declared.limits.TheConstants.{MOST_FILE_BYTES, MOST_METADATA_BYTES, MOST_TABLES, MOST_COLUMNS, MOST_TRANSFORMATIONS}
-use Rattle.csvw_meta.specs.Fault.{MetaCause}
+use Rattle.csvw_meta.specs.Fault.{MetaCause, meta_fault_text}
 use Rattle.csvw_meta.specs.Limits.{LimitsOf}
 use Rattle.csvw_meta.specs.Refusal.{first_cause}
 use Rattle.csvw_meta.specs.Members.{member, nearest}
@@ -48,6 +50,15 @@ pub record SchemasOrCause : Type 0 where
       → ((schemas : List SchemaOf) × (schemas_of limits bytes ≡ Ok schemas)) ⊎ ((cause : MetaCause) × (schemas_of limits bytes ≡ Err cause))
   pub only : (limits : LimitsOf) (bytes : List ℕ) (schemas : List SchemaOf) (cause : MetaCause)
       → schemas_of limits bytes ≡ Ok schemas → schemas_of limits bytes ≢ Err cause
+
+-- the same fault, wherever the name of what is not served lies
+abbrev pub IsSameFault : MetaFault → MetaFault → Type 0
+IsSameFault (Unsupported key) (Unsupported other) = string_bytes key ≡ string_bytes other
+IsSameFault a b = a ≡ b
+
+-- two faults with the same text are the same
+abbrev pub TextsTellFaultsApart : Type 0
+TextsTellFaultsApart = (a b : MetaFault) → meta_fault_text a ≡ meta_fault_text b → IsSameFault a b
 
 -- one byte order mark in front of a text changes nothing, where there is room for it
 abbrev pub MarkIsDropped : Type 0

@@ -1,5 +1,5 @@
 //! The laws of the definitions that [`crate::Schemas::read`] cites: each is a theorem, and does nothing.
-ghost use Rattle.csvw_meta.specs.Laws.{AcceptedSchemas, DefaultsAreShort, LevelsAreOfForm, MarkIsDropped, NearestLevel, SchemasOrCause, Sizes};
+ghost use Rattle.csvw_meta.specs.Laws.{AcceptedSchemas, DefaultsAreShort, LevelsAreOfForm, MarkIsDropped, NearestLevel, SchemasOrCause, Sizes, TextsTellFaultsApart};
 
 /// Accepted metadata has at least one table and no more than the limit, with different urls of their form and different names, each with
 /// at least one column and no more than the limit, with different names of their form, and with a key of places of columns, each once.
@@ -10,6 +10,11 @@ pub fn accepted_schemas()
 /// A metadata text has schemas or a cause why it has none, and not both.
 pub fn schemas_or_cause()
     ensures { SchemasOrCause }
+{}
+
+/// Two faults with the same text are the same: so a cause, which is the text of a fault, tells which.
+pub fn texts_tell_faults_apart()
+    ensures { TextsTellFaultsApart }
 {}
 
 /// One byte order mark in front of a metadata text counts for nothing.
