@@ -10,6 +10,7 @@ mod AlikeLemmas
 mod HubLemmas
 mod CatalogLemmas
 mod LifeLemmas
+mod MomentLemmas
 mod BringLemmas
 mod LawLemmas
 mod StepLemmas
