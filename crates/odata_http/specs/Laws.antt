@@ -1,14 +1,20 @@
--- What holds of the replies of every stream, and of the calls that each takes.
+-- What holds of the heads and the replies of every stream, and of the calls that each takes.
 use Rattle.std.specs.Prelude.{◌≡◌, ◌<◌, ◌≤◌, ℕ, Bool, true, false, List, ◌++◌, Some, length, max, slice_get}
 use Rattle.table_store.specs.Block.{block_count}
 use Rattle.table_store.specs.Catalog.{CatalogOf}
 use Rattle.table_store.specs.Table.{TableOf}
 use Rattle.http_heads.specs.Checks.{head_fault}
+use Rattle.http_heads.specs.Cut.{IsCut}
 use Rattle.http_heads.specs.Head.{HeadOf}
 use Rattle.odata_request.specs.Request.{AsksFor, RequestOf, refused, rows, service}
+use Rattle.odata_http.specs.Answer.{AreSmall}
 use Rattle.odata_http.specs.Exchange.{HeadTakes}
 use Rattle.odata_http.specs.Reply.{IsReply}
 use Rattle.odata_http.specs.Replies.{IsCertain, AreReplies}
+
+-- no head that is cut off a stream has a target longer than a head may be
+abbrev pub CutsAreSmall : Type 0
+CutsAreSmall = (stream : List ℕ) (heads : List HeadOf) (rest : List ℕ) (closed : Bool) → IsCut stream heads rest closed → AreSmall heads
 
 -- no head has two
 abbrev pub OneReply : (HeadOf → List ℕ → Type 0) → Type 0

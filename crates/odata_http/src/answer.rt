@@ -6,8 +6,9 @@ ghost use Rattle.odata_http.specs.Reply.{IsReply};
 
 use crate::device::{Sink, send};
 use crate::exchange::reply_to;
+use crate::laws::cuts_are_small;
 use crate::reply::reply_to_rest;
-use http_heads::{CheckedHead, Splitter, Unreadable, head_limits, one_cut};
+use http_heads::{CheckedHead, Splitter, Unreadable, one_cut};
 use std::alloc::{AllocError, Global};
 use table_store::Catalog;
 
@@ -79,7 +80,7 @@ pub(crate) fn take_in<O: Outlet>(
     ensures { IsTakenIn (IsReply catalog.now) O.takes
         (splitter.old ++ piece.now) splitter.new out.old out.new result }
 {
-    head_limits();
+    cuts_are_small();
     one_cut();
     let cut = splitter.cut(alloc, piece)?;
     answer_heads(alloc, catalog, cut.heads.as_slice(), out)?;

@@ -1,6 +1,6 @@
-//! What holds of the replies of every stream, and of the calls that each takes. The functions here are theorems, and do nothing.
+//! What holds of the heads and the replies of every stream, and of the calls that each takes. The functions here are theorems, and do nothing.
 ghost use Rattle.std.specs.Prelude.{◌≡◌};
-ghost use Rattle.odata_http.specs.Laws.{Joins, OneLength, OneReading, OneReply, UnderTables};
+ghost use Rattle.odata_http.specs.Laws.{CutsAreSmall, Joins, OneLength, OneReading, OneReply, UnderTables};
 
 use crate::response::OK;
 
@@ -8,6 +8,13 @@ use crate::response::OK;
 pub fn statuses()
     ensures { OK ≡ 200 }
 {}
+
+/// No head that is cut off a stream has a target of more bytes than a head may have.
+pub fn cuts_are_small()
+    ensures { CutsAreSmall }
+{
+    http_heads::head_limits();
+}
 
 /// Under some tables a head has one reply at most. That it has one is not said here: whether tokens have a tree is known where they are parsed.
 pub fn one_reply()

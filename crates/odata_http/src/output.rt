@@ -1,15 +1,15 @@
-//! The output of a session: bytes that wait to be taken.
-ghost use Rattle.std.specs.Prelude.{◌≡◌, ◌++◌, drop, length, min, take};
+//! The output of a session or a connection: bytes that wait to be taken.
+ghost use Rattle.std.specs.Prelude.{◌≡◌, ◌++◌, ◌==◌, [], drop, if◌then◌else◌, is_ok, length, min, take};
 ghost use Rattle.odata_http.specs.Output.{IsPushed};
 
 use crate::answer::{AnswerFault, Outlet};
-use std::alloc::Global;
+use std::alloc::{AllocError, Global};
 use std::marker::Model;
 
 /// Bytes that wait, behind `at` that were taken. It is seen as those that wait. The memory of what was taken is given back once that is half of
 /// all, so that each byte is moved once or twice.
 #[derive(Drop)]
-pub(crate) struct Output {
+pub struct Output {
     bytes: Vec<u8>,
     at: usize,
 }
@@ -28,20 +28,34 @@ impl Outlet for Output {
     ghost takes = { λ old reply result new. IsPushed old reply result new };
 
     fn put(&mut self, reply: &[u8]) -> Result<(), AnswerFault> {
-        self.bytes.extend_from_slice(reply)?;
+        self.add(reply)?;
         Ok(())
     }
 }
 
 impl Output {
-    /// Nothing waits.
-    pub(crate) fn new(alloc: Global) -> Output
-        ensures { length result ≡ 0 }
+    /// Nothing waits. It takes no memory.
+    pub fn new(alloc: Global) -> Output
+        ensures { result ≡ [] }
     {
         Output {
             bytes: Vec::new(alloc),
             at: 0,
         }
+    }
+
+    /// Whether nothing waits.
+    pub fn is_empty(&self) -> bool
+        ensures { result ≡ (length self.now == 0) }
+    {
+        self.at == self.bytes.len()
+    }
+
+    /// Adds the bytes of a whole reply behind those that wait. At an `Err` memory ran out, and none of them was added.
+    pub fn add(&mut self, reply: &[u8]) -> Result<(), AllocError>
+        ensures { self.new ≡ (if is_ok result then self.old ++ reply.now else self.old) }
+    {
+        self.bytes.extend_from_slice(reply)
     }
 
     /// Gives back the memory of what was taken, if that is half of all.
@@ -55,8 +69,8 @@ impl Output {
         }
     }
 
-    /// Moves the first bytes into the front of a buffer, as many as wait or fit.
-    pub(crate) fn take(&mut self, buf: &mut [u8]) -> usize
+    /// Moves the first bytes into the front of a buffer, as many as wait or fit, and answers how many. The rest of the buffer stays as it is.
+    pub fn take(&mut self, buf: &mut [u8]) -> usize
         ensures count { result ≡ min (length self.old) (length buf.old) }
         ensures bytes { buf.new ≡ take result self.old ++ drop result buf.old }
         ensures left { self.new ≡ drop result self.old }

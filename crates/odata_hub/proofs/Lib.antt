@@ -17,4 +17,5 @@ mod StepLemmas
 mod PlaceLemmas
 mod FlightLemmas
 mod WorkLemmas
-mod SmallLemmas
+mod PieceLemmas
+mod TakeLemmas

@@ -1,9 +1,8 @@
 //! One connection.
 use crate::answers::{HubFault, Turned};
 use crate::flight::{Flight, Gone, Waiting, cut_into};
-use crate::output::Output;
 use http_heads::{Splitter, Unreadable};
-use odata_http::reply_to_rest;
+use odata_http::{Output, reply_to_rest};
 use std::alloc::{AllocError, Global};
 use std::collections::VecDeque;
 use std::rc::Rc;
@@ -108,7 +107,7 @@ impl Connection {
         match flight.go_on(alloc)? {
             Gone::On(flight) => self.flight = Some(flight),
             Gone::Replied(reply) => {
-                self.output.put(reply.as_slice())?;
+                self.output.add(reply.as_slice())?;
                 self.flight = None;
             }
         }
@@ -129,7 +128,7 @@ impl Connection {
             None => Ok(Turned::Idle),
             Some(Unreadable) => {
                 let reply = reply_to_rest(alloc)?;
-                self.output.put(reply.as_slice())?;
+                self.output.add(reply.as_slice())?;
                 Ok(Turned::Worked)
             }
         }

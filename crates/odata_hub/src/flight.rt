@@ -1,13 +1,14 @@
 //! Heads that wait, and the exchange in flight.
 ghost use Rattle.std.specs.Prelude.{◌≡◌, ◌++◌, ◌≤◌, IfOk};
+ghost use Rattle.odata_http.specs.Answer.{AreSmall};
 ghost use Rattle.odata_hub.specs.Connections.{FlightOf};
 ghost use Rattle.odata_hub.specs.Held.{IsFlight};
-ghost use Rattle.odata_hub.specs.Pieces.{AreSmall, IsCutInto};
+ghost use Rattle.odata_hub.specs.Pieces.{IsCutInto};
 ghost use Rattle.odata_hub.specs.Streams.{asked};
 ghost use Rattle.odata_hub.specs.Work.{BeginsFlight, GoesOnTo};
 
-use http_heads::{CheckedHead, Splitter, head_limits};
-use odata_http::{Exchange, Step};
+use http_heads::{CheckedHead, Splitter};
+use odata_http::{Exchange, Step, cuts_are_small};
 use std::alloc::{AllocError, Global};
 use std::collections::VecDeque;
 use std::marker::Model;
@@ -125,7 +126,7 @@ pub(crate) fn cut_into(
     ensures { IfOk result (IsCutInto catalog.now.value (splitter.old ++ piece.now)
         waiting.old.items waiting.new.items splitter.new) }
 {
-    head_limits();
+    cuts_are_small();
     let cut = splitter.cut(alloc, piece)?;
     wait_all(waiting, catalog, cut.heads)?;
     Ok(cut.closed)

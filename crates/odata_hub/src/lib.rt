@@ -7,7 +7,6 @@ mod connection;
 mod flight;
 mod hub;
 pub mod laws;
-mod output;
 mod places;
 
 pub use answers::{HubFault, Turned};

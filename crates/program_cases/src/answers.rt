@@ -4,10 +4,11 @@ use odata_http::Counted;
 use odata_serve::{BuiltIn, DONE, Disk, Folders, NOTES, answer, line_status, request_to};
 use std::alloc::Global;
 use std::fs;
+use std::rt::Files;
 use std::test::Fail;
 
 /// Targets, and the bodies of the replies to a GET.
-const BODIES: [(&str, &str); 8] = [
+const BODIES: &[(&str, &str)] = &[
     (
         "/",
         "{\"value\":[{\"name\":\"cities\",\"kind\":\"EntitySet\",\"url\":\"cities\"},{\"name\":\"people\",\"kind\":\"EntitySet\",\"url\":\"people\"},{\"name\":\"codes\",\"kind\":\"EntitySet\",\"url\":\"codes\"}]}",
@@ -37,7 +38,7 @@ const BODIES: [(&str, &str); 8] = [
 ];
 
 /// Lines of words over the folder where the test stands.
-const LINES: [&[&str]; 2] = [&["p", "check", "."], &["p", "replay", ".", "script"]];
+const LINES: &[&[&str]] = &[&["p", "check", "."], &["p", "replay", ".", "script"]];
 
 /// What a stream over a folder is answered with.
 fn answered<F: Folders>(
@@ -58,15 +59,20 @@ fn answered<F: Folders>(
     Ok(written)
 }
 
+/// Whether a GET of a target over the folder where the test stands has a reply with this body.
+fn has_body(rt: &(impl Files + AllocGlobal), target: &str, body: &str) -> Result<bool, Fail> {
+    let request = request_to(rt.alloc(), target)?;
+    let reply = answered(rt.alloc(), &mut Disk::new(rt), ".", request.as_str())?;
+    Ok(reply.ends_with(body.as_bytes()))
+}
+
 #[test]
 fn replies(rt: HostRuntime) -> Result<(), Fail> {
     for (name, text) in BASE {
-        fs::write(&rt, name, text)?;
+        fs::write(&rt, *name, *text)?;
     }
     for (target, body) in BODIES {
-        let request = request_to(rt.alloc(), target)?;
-        let reply = answered(rt.alloc(), &mut Disk::new(&rt), ".", request.as_str())?;
-        assert!(rt; reply.ends_with(body.as_bytes()), "{target}");
+        assert!(rt; has_body(&rt, target, body)?, "{target}");
     }
     let reply = answered(rt.alloc(), &mut BuiltIn::new(), NOTES, NOTES_REQUEST)?;
     assert!(rt; reply.as_slice() == NOTES_REPLY.as_bytes());

@@ -5,7 +5,7 @@ use std::test::Fail;
 use table_store::Catalog;
 
 /// The files of the folder, by their names, and a script that plays a request over it.
-pub(crate) const BASE: [(&str, &str); 5] = [
+pub(crate) const BASE: &[(&str, &str)] = &[
     (
         "csv-metadata.json",
         "{\"@context\":\"http://www.w3.org/ns/csvw\",\"tables\":[\n{\"url\":\"cities.csv\",\"tableSchema\":{\"columns\":[{\"name\":\"Id\",\"datatype\":\"integer\"},{\"name\":\"Name\"},{\"name\":\"Pop\",\"datatype\":\"integer\"},{\"name\":\"Open\",\"datatype\":\"boolean\"},{\"name\":\"Since\",\"datatype\":\"date\"}],\"primaryKey\":\"Id\"}},\n{\"url\":\"people.csv\",\"tableSchema\":{\"columns\":[{\"name\":\"Name\",\"titles\":\"Full name\"},{\"name\":\"Age\",\"datatype\":\"integer\"}],\"primaryKey\":[\"Name\"]}},\n{\"url\":\"codes.csv\",\"tableSchema\":{\"columns\":[{\"name\":\"Id\",\"datatype\":\"integer\"},{\"name\":\"Code\",\"null\":\"NA\"}],\"primaryKey\":\"Id\"}}]}\n",

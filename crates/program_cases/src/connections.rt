@@ -23,30 +23,37 @@ fn client<R: Net<Listener = TcpListener, Stream = TcpStream>>(
     Ok(client)
 }
 
+/// What is told of the port, and the reply to the second of two connections. The first client is gone before it is answered: its system refuses the first
+/// reply, so the write of the second fails.
+fn serve_two<R>(
+    rt: &R,
+    listener: &mut CountedListener,
+    port: u16,
+) -> Result<(Vec<u8>, Vec<u8>), Fail>
+where
+    R: Net<Listener = TcpListener, Stream = TcpStream> + AllocGlobal,
+{
+    let catalog = notes(rt.alloc())?;
+    drop(client(rt, port, THREE_REQUESTS)?);
+    let mut second = client(rt, port, NOTES_REQUEST)?;
+    let mut line = Vec::new(rt.alloc());
+    let mut out = Counted::new(&mut line);
+    let end = serve(rt.alloc(), &catalog, listener, 2, &mut out);
+    end.or(Err("connections that are not served"))?;
+    let mut reply = Vec::new(rt.alloc());
+    second.read_to_end(&mut reply)?;
+    Ok((line, reply))
+}
+
 #[test]
 fn loopback(rt: HostRuntime) -> Result<(), Fail> {
-    let alloc = rt.alloc();
-    let catalog = notes(alloc)?;
     let mut listener = CountedListener::bind(&rt, 0)?;
     let port = listener.port()?;
     // no other address of the machine is listened on
     let refusal = TcpStream::connect(&rt, (Ipv4Addr::new(127, 0, 0, 2), port)).map(drop);
     assert!(rt; refusal.is_err_and(|error| error.kind() == ErrorKind::ConnectionRefused));
-    // the first client is gone before it is answered: its system refuses the first reply, so the write of the second fails
-    drop(client(&rt, port, THREE_REQUESTS)?);
-    let mut second = client(&rt, port, NOTES_REQUEST)?;
-    let mut line = Vec::new(alloc);
-    let end = serve(
-        alloc,
-        &catalog,
-        &mut listener,
-        2,
-        &mut Counted::new(&mut line),
-    );
-    let mut reply = Vec::new(alloc);
-    second.read_to_end(&mut reply)?;
-    let wanted = format!(in alloc; "listening 127.0.0.1:{port}\n")?;
-    assert!(rt; end.is_ok() && line.as_slice() == wanted.as_bytes());
-    assert!(rt; reply.as_slice() == NOTES_REPLY.as_bytes());
+    let (line, reply) = serve_two(&rt, &mut listener, port)?;
+    let wanted = format!(in rt.alloc(); "listening 127.0.0.1:{port}\n")?;
+    assert!(rt; line.as_slice() == wanted.as_bytes() && reply.as_slice() == NOTES_REPLY.as_bytes());
     Ok(())
 }

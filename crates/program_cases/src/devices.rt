@@ -83,65 +83,97 @@ fn end_of(
     )
 }
 
+/// What a run that is given so many reads within a limit comes to, and behind how many reads.
+#[derive(Clone, Copy)]
+struct Reading {
+    given: u32,
+    limit: u32,
+    end: Result<(), RunFault>,
+    reads: u32,
+}
+
+/// Whether it comes to that, with these replies written.
+fn is_reading(alloc: Global, catalog: &Catalog, wanted: &Reading, replies: &str) -> bool {
+    let mut input = stream(wanted.given);
+    let mut out = Sips {
+        taken: Vec::new(alloc),
+        most: usize::MAX,
+        interrupts: false,
+    };
+    let end = end_of(alloc, catalog, &mut input, &mut out, wanted.limit);
+    end == wanted.end && input.reads == wanted.reads && out.taken.as_slice() == replies.as_bytes()
+}
+
+/// A read is interrupted behind so many.
+fn with_interrupt(most: u32) -> Reading {
+    Reading {
+        given: most,
+        limit: READS,
+        end: Err(RunFault::Read),
+        reads: most.saturating_add(1),
+    }
+}
+
+/// No more reads are allowed.
+fn with_limit(most: u32) -> Reading {
+    Reading {
+        given: READS,
+        limit: most,
+        end: Err(RunFault::TooManyReads),
+        reads: most,
+    }
+}
+
+/// All reads are given.
+const WHOLE: Reading = Reading {
+    given: READS,
+    limit: READS,
+    end: Ok(()),
+    reads: READS,
+};
+
 #[test]
 fn reads(rt: HostRuntime) -> Result<(), Fail> {
     let catalog = notes(rt.alloc())?;
-    for most in 0..=READS {
+    for most in 0..READS {
         let replies = match most / 39 {
             0 => "",
             1 => COUNT_REPLY,
             _ => COUNT_REPLIES,
         };
-        // a read is interrupted behind so many, or no more are allowed
-        for (given, limit, fault, more) in [
-            (most, READS, RunFault::Read, 1),
-            (READS, most, RunFault::TooManyReads, 0),
-        ] {
-            let mut input = stream(given);
-            let mut out = Sips {
-                taken: Vec::new(rt.alloc()),
-                most: usize::MAX,
-                interrupts: false,
-            };
-            let end = end_of(rt.alloc(), &catalog, &mut input, &mut out, limit);
-            let (wanted, reads) = if most == READS {
-                (Ok(()), READS)
-            } else {
-                (Err(fault), most.saturating_add(more))
-            };
-            let is_right = out.taken.as_slice() == replies.as_bytes();
-            assert!(rt;
-                end == wanted && input.reads == reads && is_right,
-                "{most} of {limit}"
-            );
-        }
+        let is_right = is_reading(rt.alloc(), &catalog, &with_interrupt(most), replies)
+            && is_reading(rt.alloc(), &catalog, &with_limit(most), replies);
+        assert!(rt; is_right, "{most} reads");
     }
+    assert!(rt; is_reading(rt.alloc(), &catalog, &WHOLE, COUNT_REPLIES));
     Ok(())
+}
+
+/// Whether a run fails where its output takes so many bytes, with these bytes of the replies written; and ends well where that takes all.
+fn is_writing(alloc: Global, catalog: &Catalog, most: usize, interrupts: bool) -> bool {
+    let wanted = if most == COUNT_REPLIES.len() {
+        Ok(())
+    } else {
+        Err(RunFault::Write)
+    };
+    let mut out = Sips {
+        taken: Vec::new(alloc),
+        most,
+        interrupts,
+    };
+    let end = end_of(alloc, catalog, &mut stream(READS), &mut out, READS);
+    end == wanted
+        && COUNT_REPLIES.as_bytes().starts_with(out.taken.as_slice())
+        && out.taken.len() == most
 }
 
 #[test]
 fn writes(rt: HostRuntime) -> Result<(), Fail> {
     let catalog = notes(rt.alloc())?;
     for most in 0..=COUNT_REPLIES.len() {
-        let wanted = if most == COUNT_REPLIES.len() {
-            Ok(())
-        } else {
-            Err(RunFault::Write)
-        };
-        for interrupts in [true, false] {
-            let taken = Vec::new(rt.alloc());
-            let mut out = Sips {
-                taken,
-                most,
-                interrupts,
-            };
-            let end = end_of(rt.alloc(), &catalog, &mut stream(READS), &mut out, READS);
-            let is_front = COUNT_REPLIES.as_bytes().starts_with(out.taken.as_slice());
-            assert!(rt;
-                end == wanted && is_front && out.taken.len() == most,
-                "{most} bytes"
-            );
-        }
+        let is_right = is_writing(rt.alloc(), &catalog, most, true)
+            && is_writing(rt.alloc(), &catalog, most, false);
+        assert!(rt; is_right, "{most} bytes");
     }
     Ok(())
 }

@@ -93,7 +93,7 @@ fn folders(rt: HostRuntime) -> Result<(), Fail> {
 }
 
 /// Targets, and the bodies of the replies where one transformation is the most.
-const APPLIES: [(&str, &str); 2] = [
+const APPLIES: &[(&str, &str)] = &[
     (
         "/a?$apply=aggregate($count%20as%20N)",
         "{\"value\":[{\"N\":1}]}",

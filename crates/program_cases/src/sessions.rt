@@ -7,7 +7,7 @@ use std::test::Fail;
 use table_store::Catalog;
 
 /// Streams, one with the rest of a head, and their replies: empty lines before a head belong to it, and what follows a reply that closes is taken and not answered.
-const STREAMS: [(&str, &str); 4] = [
+const STREAMS: &[(&str, &str)] = &[
     ("", ""),
     (
         "\r\n\nGET /notes/$count HTTP/1.1\r\nHost: h\r\n\r\nGET /nope HTTP/1.1\r\nHost: h\r\n\r\nGET /n",

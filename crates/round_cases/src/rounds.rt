@@ -4,7 +4,6 @@ use csvw_meta::Limits;
 use odata_hub::{Conn, Hub};
 use odata_rounds::{Outbox, Seat, Stepped, round};
 use std::alloc::{AllocError, Global};
-use std::process::Abort;
 use std::rc::Rc;
 use std::test::Fail;
 use table_store::{Catalog, NamedFile};
@@ -40,7 +39,7 @@ const REST: &str =
     "HTTP/1.1 400 Bad Request\r\nContent-Type: application/json;odata.metadata=none\r\nOData-Version: 4.0\r\nContent-Length: 70\r\nConnection: close\r\n\r\n{\"error\":{\"code\":\"BadRequest\",\"message\":\"the request cannot be read\"}}";
 
 /// A peer, what it is given in all, and what became of its place last.
-#[derive(Clone, Copy, Debug)]
+#[derive(Clone, Copy)]
 struct Case {
     script: Script<'static>,
     given: &'static str,
@@ -76,6 +75,24 @@ pub(crate) fn tables(alloc: Global, bytes: &str) -> Result<Rc<Catalog>, AllocErr
     Rc::new(alloc, catalog).map_err(|_| AllocError)
 }
 
+/// A hub over a table of two rows, with a connection for each case.
+fn hub_of(alloc: Global, cases: &[Case]) -> Result<Hub, AllocError> {
+    let mut hub = Hub::new(alloc, tables(alloc, "Id\n1\n2\n")?, PLACES)?;
+    for _case in cases {
+        let _ = hub.open();
+    }
+    Ok(hub)
+}
+
+/// Their peers.
+fn peers_of(alloc: Global, cases: &[Case]) -> Result<Scripts<'static>, AllocError> {
+    let mut peers = Vec::new(alloc);
+    for case in cases {
+        peers.push(Peer::new(alloc, case.script))?;
+    }
+    Ok(Scripts { peers })
+}
+
 fn free_seat(alloc: Global) -> Result<Seat, AllocError> {
     Ok(Seat {
         waits: Outbox::new(alloc)?,
@@ -83,17 +100,9 @@ fn free_seat(alloc: Global) -> Result<Seat, AllocError> {
     })
 }
 
-/// Gives the peers rounds, with other tables before one of them, counted from 0; and what became of each place last. A place whose connection is
-/// over or lost is given back.
-fn play(
-    alloc: Global,
-    peers: &mut Scripts<'_>,
-    rounds: u32,
-    reload_at: u32,
-) -> Result<[Stepped; 8], Fail> {
-    let mut hub = Hub::new(alloc, tables(alloc, "Id\n1\n2\n")?, PLACES)?;
-    let newer = tables(alloc, "Id\n1\n2\n3\n")?;
-    let mut seats = [
+/// The places, at none of which something waits.
+fn free_seats(alloc: Global) -> Result<[Seat; 8], AllocError> {
+    Ok([
         free_seat(alloc)?,
         free_seat(alloc)?,
         free_seat(alloc)?,
@@ -102,39 +111,44 @@ fn play(
         free_seat(alloc)?,
         free_seat(alloc)?,
         free_seat(alloc)?,
-    ];
-    for _peer in peers.peers.iter() {
-        let _ = hub.open();
-    }
-    let mut ends = [Stepped::Free; 8];
-    let mut room = [0u8; 64];
-    for turn in 0..rounds {
-        if turn == reload_at {
-            hub.reload(newer.clone()?);
-        }
-        round(&mut hub, &mut seats, peers, &mut room);
-        settle(&mut hub, &mut seats, &mut ends);
-    }
-    Ok(ends)
+    ])
 }
 
-/// Notes what became of each place, and gives back those whose connections are over or lost.
-fn settle(hub: &mut Hub, seats: &mut [Seat], ends: &mut [Stepped]) {
-    for (place, (seat, end)) in (0..PLACES).zip(seats.iter_mut().zip(ends.iter_mut())) {
-        match seat.stepped {
-            Stepped::Free => {}
-            Stepped::Answered | Stepped::Lost => {
-                *end = seat.stepped;
-                seat.waits.clear();
-                let _ = hub.drop_conn(Conn(place));
-            }
-            _ => *end = seat.stepped,
+/// Gives the peers rounds, and notes what became of each place last. A place whose connection is over or lost is given back.
+fn play(
+    hub: &mut Hub,
+    seats: &mut [Seat; 8],
+    peers: &mut Scripts<'_>,
+    ends: &mut [Stepped; 8],
+    rounds: u32,
+) {
+    let mut room = [0u8; 64];
+    for _turn in 0..rounds {
+        round(hub, seats, peers, &mut room);
+        for place in 0..PLACES {
+            settle(
+                hub,
+                place,
+                &mut seats[place as usize],
+                &mut ends[place as usize],
+            );
         }
+    }
+}
+
+/// Notes what became of a place, and gives it back where its connection is over or lost.
+fn settle(hub: &mut Hub, place: u32, seat: &mut Seat, end: &mut Stepped) {
+    if seat.stepped != Stepped::Free {
+        *end = seat.stepped;
+    }
+    if seat.stepped == Stepped::Answered || seat.stepped == Stepped::Lost {
+        seat.waits.clear();
+        let _ = hub.drop_conn(Conn(place));
     }
 }
 
 /// Peers beside one another, each of which is given what it is given alone.
-const CASES: [Case; 8] = [
+const CASES: &[Case] = &[
     Case {
         script: PLAIN,
         given: REPLY,
@@ -201,8 +215,8 @@ const CASES: [Case; 8] = [
     },
 ];
 
-/// Other tables come before the 50th round: behind the first head of the one stream, and while the other's reply is written.
-const RELOADED: [Case; 2] = [
+/// Other tables come behind 50 rounds: behind the first head of the one stream, and while the other's reply is written.
+const RELOADED: &[Case] = &[
     Case {
         script: Script {
             sends: COUNTS,
@@ -219,29 +233,37 @@ const RELOADED: [Case; 2] = [
     },
 ];
 
-/// Plays cases, and checks what their peers took and how their places ended.
-fn check_cases(
-    rt: &(impl Abort + AllocGlobal),
+/// The first case whose peer took something else, or whose place ended otherwise, where a table of three rows comes between rounds.
+fn first_wrong(
+    alloc: Global,
     cases: &[Case],
-    rounds: u32,
-    reload_at: u32,
-) -> Result<(), Fail> {
-    let mut peers = Scripts {
-        peers: Vec::new(rt.alloc()),
-    };
-    for case in cases {
-        peers.peers.push(Peer::new(rt.alloc(), case.script))?;
+    before: u32,
+    behind: u32,
+) -> Result<Option<usize>, AllocError> {
+    let newer = tables(alloc, "Id\n1\n2\n3\n")?;
+    let mut hub = hub_of(alloc, cases)?;
+    let mut peers = peers_of(alloc, cases)?;
+    let mut seats = free_seats(alloc)?;
+    let mut ends = [Stepped::Free; 8];
+    play(&mut hub, &mut seats, &mut peers, &mut ends, before);
+    hub.reload(newer);
+    play(&mut hub, &mut seats, &mut peers, &mut ends, behind);
+    Ok(wrong_place(&peers.peers, &ends, cases))
+}
+
+/// The first case whose peer took something else, or whose place ended otherwise.
+fn wrong_place(peers: &[Peer<'_>], ends: &[Stepped], cases: &[Case]) -> Option<usize> {
+    for (at, (peer, (end, case))) in peers.iter().zip(ends.iter().zip(cases)).enumerate() {
+        if *end != case.end || peer.taken.as_slice() != case.given.as_bytes() {
+            return Some(at);
+        }
     }
-    let ends = play(rt.alloc(), &mut peers, rounds, reload_at)?;
-    for ((peer, end), case) in peers.peers.iter().zip(ends.iter()).zip(cases) {
-        assert_eq!(rt; *end, case.end, "{case:?}");
-        assert!(rt; peer.taken.as_slice() == case.given.as_bytes(), "{case:?}");
-    }
-    Ok(())
+    None
 }
 
 #[test]
 fn scripted_peers(rt: HostRuntime) -> Result<(), Fail> {
-    check_cases(&rt, &CASES, 400, u32::MAX)?;
-    check_cases(&rt, &RELOADED, 150, 50)
+    assert_eq!(rt; first_wrong(rt.alloc(), CASES, 400, 0)?, None);
+    assert_eq!(rt; first_wrong(rt.alloc(), RELOADED, 50, 100)?, None);
+    Ok(())
 }

@@ -8,7 +8,7 @@ use std::alloc::Global;
 
 /// What a peer sends; how many bytes it sends and takes at once, where 0 takes nothing; whether it waits at each other call; and at which call it is
 /// lost, counted from 1.
-#[derive(Clone, Copy, Debug)]
+#[derive(Clone, Copy)]
 pub(crate) struct Script<'a> {
     pub(crate) sends: &'a str,
     pub(crate) drips: usize,

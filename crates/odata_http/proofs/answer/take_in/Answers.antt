@@ -1,12 +1,11 @@
 use Rattle.std.proofs.Common.{[], ◌++◌}
 use Rattle.std.proofs.lemmas.Result.{err_from_is_err_and}
 use Rattle.odata_http.proofs.AnswerLemmas.{taken_uncut}
-use Rattle.odata_http.proofs.HeadLemmas.{cut_small}
 use Rattle.odata_http.proofs.answer.take_in.Goals as goal
 
 pub answer_heads-requires : goal.answer_heads-requires
 answer_heads-requires g c =
-    rw c.as_slice.ensures.value (cut_small c.head_limits.ensures.0 (c.args.splitter.now ++ c.args.piece.now) _ _ _ c.in_ok-cut.ensures.ok)
+    rw c.as_slice.ensures.value (c.cuts_are_small.ensures (c.args.splitter.now ++ c.args.piece.now) _ _ _ c.in_ok-cut.ensures.ok)
 
 pub returns-in_err-cut : goal.returns-in_err-cut
 returns-in_err-cut g c =

@@ -1,7 +1,7 @@
 use Rattle.std.proofs.Common.{◌++◌, ap, arith, length, sym, ◌∙◌}
 use Rattle.std.specs.Vec.Iter.{into_iter_items}
 use Rattle.odata_hub.specs.Streams.{asked}
-use Rattle.odata_hub.proofs.SmallLemmas.{next_small, waits_all, waits_next}
+use Rattle.odata_hub.proofs.PieceLemmas.{next_small, waits_all, waits_next}
 use Rattle.odata_hub.proofs.flight.wait_all.Goals as goal
 
 pub invariant_of-push_back : goal.invariant_of-push_back

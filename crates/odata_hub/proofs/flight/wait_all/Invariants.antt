@@ -1,6 +1,6 @@
 use Rattle.std.proofs.Common.{◌≡◌, ◌++◌, length}
 use Rattle.std.specs.Vec.Iter.{into_iter_items, into_iter_len}
-use Rattle.odata_hub.specs.Pieces.{AreSmall}
+use Rattle.odata_http.specs.Answer.{AreSmall}
 use Rattle.odata_hub.specs.Streams.{asked}
 use Rattle.odata_hub.proofs.flight.wait_all.Given as goal
 

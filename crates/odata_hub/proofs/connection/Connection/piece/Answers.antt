@@ -1,7 +1,7 @@
 use Rattle.std.proofs.Common.{None, refl}
 use Rattle.odata_hub.specs.Connections.{Piece}
 use Rattle.odata_hub.specs.Stands.{conn_of}
-use Rattle.odata_hub.proofs.SmallLemmas.{piece_in}
+use Rattle.odata_hub.proofs.PieceLemmas.{piece_in}
 use Rattle.odata_hub.proofs.StepLemmas.{none_in_flight, piece_wants, steps_on}
 use Rattle.odata_hub.proofs.connection.Connection.piece.Goals as goal
 
