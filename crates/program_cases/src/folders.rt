@@ -3,7 +3,6 @@ use csvw_meta::{Limits, MOST_COLUMNS, MOST_FILE_BYTES};
 use odata_http::{Counted, run};
 use odata_serve::request_to;
 use std::alloc::{AllocError, Global};
-use std::process::Abort;
 use std::test::Fail;
 use table_store::{Catalog, LoadFault, NamedFile};
 
@@ -26,30 +25,40 @@ type Case = (
     u32,
     u32,
     &'static [&'static str],
-    Result<(usize, usize), &'static str>,
+    &'static str,
 );
 
 const FOLDERS: &[Case] = &[
-    (META, 9, 2, &["Id,Since\n"], Ok((0, 0))),
-    (META, 9, 2, &["Id,Since\n\""], Err("a.csv: FileTooLarge")),
-    (META, 100, 2, &[ROW, ""], Ok((1, 1))),
-    (META, 100, 2, &["", ROW], Err("a.csv: NoHeader")),
-    (META, 100, 2, &[], Err("a.csv: FileMissing")),
-    (
-        META,
-        100,
-        1,
-        &[ROW],
-        Err("csv-metadata.json: TooManyColumns"),
-    ),
+    (META, 9, 2, &["Id,Since\n"], "0 0"),
+    (META, 9, 2, &["Id,Since\n\""], "a.csv: FileTooLarge"),
+    (META, 100, 2, &[ROW, ""], "1 1"),
+    (META, 100, 2, &["", ROW], "a.csv: NoHeader"),
+    (META, 100, 2, &[], "a.csv: FileMissing"),
+    (META, 100, 1, &[ROW], "csv-metadata.json: TooManyColumns"),
     (
         TWO_TABLES,
         100,
         2,
         &["Id\n"],
-        Err("csv-metadata.json: TooManyTables"),
+        "csv-metadata.json: TooManyTables",
     ),
 ];
+
+/// A file of the table's name.
+fn file_of(alloc: Global, text: &str) -> Result<NamedFile, AllocError> {
+    let name = String::from_str(alloc, "a.csv")?;
+    let bytes = Vec::from_slice(alloc, text.as_bytes())?;
+    Ok(NamedFile { name, bytes })
+}
+
+/// The files of these bytes.
+fn files(alloc: Global, texts: &[&str]) -> Result<Vec<NamedFile>, AllocError> {
+    let mut files = Vec::new(alloc);
+    for text in texts {
+        files.push(file_of(alloc, text)?)?;
+    }
+    Ok(files)
+}
 
 /// The tables of a folder whose files have the table's name, where there are one table and one transformation at most.
 fn load(
@@ -59,35 +68,39 @@ fn load(
     columns: u32,
     texts: &[&str],
 ) -> Result<Result<Catalog, LoadFault>, AllocError> {
-    let mut files = Vec::new(alloc);
-    for text in texts {
-        files.push(NamedFile {
-            name: String::from_str(alloc, "a.csv")?,
-            bytes: Vec::from_slice(alloc, text.as_bytes())?,
-        })?;
-    }
     let limits = Limits {
         file: most.clamp(1, MOST_FILE_BYTES),
         tables: 1,
         columns: columns.clamp(1, MOST_COLUMNS),
         transformations: 1,
     };
+    let files = files(alloc, texts)?;
     let meta = Vec::from_slice(alloc, meta.as_bytes())?;
     Ok(Catalog::load(alloc, limits, meta, files))
 }
 
+/// The number of a table's rows and blocks. It has the name of its file, and names differ in case.
+fn table_text(alloc: Global, catalog: &Catalog) -> Result<String, AllocError> {
+    match (catalog.table("a"), catalog.table("A")) {
+        (Some(table), None) => format!(in alloc; "{} {}", table.rows(), table.blocks()),
+        _ => String::from_str(alloc, "no table"),
+    }
+}
+
+/// What a folder comes to.
+fn folder_text(alloc: Global, case: &Case) -> Result<String, AllocError> {
+    let (meta, most, columns, texts, _) = case;
+    match load(alloc, meta, *most, *columns, texts)? {
+        Ok(catalog) => table_text(alloc, &catalog),
+        Err(fault) => fault.text(alloc),
+    }
+}
+
 #[test]
 fn folders(rt: HostRuntime) -> Result<(), Fail> {
-    for (meta, most, columns, texts, wanted) in FOLDERS {
-        let is_right = match load(rt.alloc(), meta, *most, *columns, texts)? {
-            Ok(catalog) => {
-                // a table has the name of its file, and names differ in case
-                let table = catalog.table("a").ok_or("no table")?;
-                *wanted == Ok((table.rows(), table.blocks())) && catalog.table("A").is_none()
-            }
-            Err(fault) => *wanted == Err(fault.text(rt.alloc())?.as_str()),
-        };
-        assert!(rt; is_right, "{texts:?}");
+    for case in FOLDERS {
+        let text = folder_text(rt.alloc(), case)?;
+        assert!(rt; text.as_str() == case.4, "{text}");
     }
     Ok(())
 }
@@ -104,23 +117,30 @@ const APPLIES: &[(&str, &str)] = &[
     ),
 ];
 
+/// Whether a GET of a target has a reply with this body.
+fn has_body(
+    alloc: Global,
+    catalog: &Catalog,
+    target: &str,
+    body: &str,
+) -> Result<bool, AllocError> {
+    let request = request_to(alloc, target)?;
+    let mut written = Vec::new(alloc);
+    let end = run(
+        alloc,
+        catalog,
+        &mut Counted::new(request.as_bytes()),
+        &mut Counted::new(&mut written),
+        9,
+    );
+    Ok(end.is_ok() && written.ends_with(body.as_bytes()))
+}
+
 #[test]
 fn transformations(rt: HostRuntime) -> Result<(), Fail> {
     let catalog = load(rt.alloc(), META, 100, 2, &[ROW])?.or(Err("a refused folder"))?;
     for (target, body) in APPLIES {
-        let request = request_to(rt.alloc(), target)?;
-        let mut written = Vec::new(rt.alloc());
-        let end = run(
-            rt.alloc(),
-            &catalog,
-            &mut Counted::new(request.as_bytes()),
-            &mut Counted::new(&mut written),
-            9,
-        );
-        assert!(rt;
-            end.is_ok() && written.ends_with(body.as_bytes()),
-            "{target}"
-        );
+        assert!(rt; has_body(rt.alloc(), &catalog, target, body)?, "{target}");
     }
     Ok(())
 }

@@ -1,7 +1,7 @@
 //! Sessions and heads: a stream in pieces is answered with the same bytes, however it is cut.
 use crate::base::{CLOSING, CLOSING_REPLY, NOTES_REPLY, NOTES_REQUEST, notes};
-use odata_http::{Session, SessionFault, Splitter, Unreadable};
-use std::alloc::Global;
+use odata_http::{Field, Head, Session, SessionFault, Splitter, Unreadable};
+use std::alloc::{AllocError, Global};
 use std::process::Abort;
 use std::test::Fail;
 use table_store::Catalog;
@@ -17,25 +17,48 @@ const STREAMS: &[(&str, &str)] = &[
     (CLOSING, CLOSING_REPLY),
 ];
 
-/// What a session answers to a stream in two pieces, taken a few bytes at a time, whether it closed, and what it answers to a piece behind the end.
-fn answered(
+/// Gives a session a stream in two pieces, and its end.
+fn give(
+    session: &mut Session,
     alloc: Global,
     catalog: &Catalog,
     first: &str,
     second: &str,
-) -> Result<(Vec<u8>, bool, Option<SessionFault>), Fail> {
-    let mut session = Session::new(alloc);
+) -> Result<(), SessionFault> {
     session.feed(alloc, catalog, first.as_bytes())?;
     session.feed(alloc, catalog, second.as_bytes())?;
-    session.end(alloc)?;
-    let refusal = session.feed(alloc, catalog, b"x").err();
+    session.end(alloc)
+}
+
+/// The output of a session, taken a few bytes at a time.
+fn output(session: &mut Session, alloc: Global) -> Result<Vec<u8>, AllocError> {
     let mut taken = Vec::new(alloc);
     let mut buf = [0u8; 7];
     for _call in 0..100 {
         let n = session.take(&mut buf);
         taken.extend_from_slice(&buf[..n])?;
     }
-    Ok((taken, session.closed(), refusal))
+    Ok(taken)
+}
+
+/// Whether a session answers a stream in two pieces so, closes where there is a stream, and takes no piece behind the end.
+fn has_replies(
+    alloc: Global,
+    catalog: &Catalog,
+    first: &str,
+    second: &str,
+    replies: &str,
+) -> Result<bool, Fail> {
+    let mut session = Session::new(alloc);
+    give(&mut session, alloc, catalog, first, second)?;
+    let refusal = session.feed(alloc, catalog, b"x");
+    let taken = output(&mut session, alloc)?;
+    let is_empty = first.is_empty() && second.is_empty();
+    Ok(
+        taken.as_slice() == replies.as_bytes()
+            && refusal == Err(SessionFault::Ended)
+            && session.closed() != is_empty,
+    )
 }
 
 #[test]
@@ -44,32 +67,45 @@ fn sessions_answer_streams(rt: HostRuntime) -> Result<(), Fail> {
     for (stream, replies) in STREAMS {
         for cut in 0..=stream.len() {
             let (first, second) = stream.split_at_checked(cut).ok_or("no cut")?;
-            let (taken, closed, refusal) = answered(rt.alloc(), &catalog, first, second)?;
-            let is_over = closed != stream.is_empty() && refusal == Some(SessionFault::Ended);
-            assert!(rt;
-                is_over && taken.as_slice() == replies.as_bytes(),
-                "cut at {cut}"
-            );
+            let is_right = has_replies(rt.alloc(), &catalog, first, second, replies)?;
+            assert!(rt; is_right, "cut at {cut}");
         }
     }
     Ok(())
 }
 
+/// Whether this is the head of the stream, with its one field.
+fn is_head(head: Option<&Head>) -> bool {
+    match head {
+        Some(head) => is_request(head) && head.fields.len() == 1 && is_host(head.fields.first()),
+        None => false,
+    }
+}
+
+/// Whether the line of a head is that of the stream.
+fn is_request(head: &Head) -> bool {
+    head.method.as_slice() == b"GET".as_slice()
+        && head.target.as_slice() == b"/x?a=b".as_slice()
+        && head.minor == 0
+}
+
+/// Whether this is the field of the stream.
+fn is_host(field: Option<&Field>) -> bool {
+    match field {
+        Some(field) => {
+            field.name.as_slice() == b"Host".as_slice() && field.value.as_slice() == b"h".as_slice()
+        }
+        None => false,
+    }
+}
+
 #[test]
 fn heads_and_rests(rt: HostRuntime) -> Result<(), Fail> {
-    let alloc = rt.alloc();
-    let mut splitter = Splitter::new(alloc);
-    let none = splitter.feed(alloc, b"GET /x?a=b HT")?;
-    let heads = splitter.feed(alloc, b"TP/1.0\r\nHost:  h \r\n\r\nGET /n")?;
-    let head = heads.first().ok_or("no head")?;
-    let field = head.fields.first().ok_or("no field")?;
-    let is_head = head.method.as_slice() == b"GET".as_slice()
-        && head.target.as_slice() == b"/x?a=b".as_slice()
-        && head.minor == 0;
-    let is_field = field.name.as_slice() == b"Host".as_slice()
-        && field.value.as_slice() == b"h".as_slice();
-    let counts = (none.len(), heads.len(), head.fields.len());
-    assert!(rt; is_head && is_field && counts == (0, 1, 1));
-    assert!(rt; splitter.end() == Some(Unreadable) && splitter.end().is_none());
+    let mut splitter = Splitter::new(rt.alloc());
+    let none = splitter.feed(rt.alloc(), b"GET /x?a=b HT")?;
+    let heads = splitter.feed(rt.alloc(), b"TP/1.0\r\nHost:  h \r\n\r\nGET /n")?;
+    let is_one = none.is_empty() && heads.len() == 1 && is_head(heads.first());
+    let is_rest = splitter.end() == Some(Unreadable) && splitter.end().is_none();
+    assert!(rt; is_one && is_rest);
     Ok(())
 }
