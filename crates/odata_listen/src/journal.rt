@@ -7,7 +7,7 @@ use odata_serve::{ProgramFault, fault_line};
 use std::alloc::{AllocError, Global};
 
 /// Why a connection ended.
-#[derive(Clone, Copy, Debug, PartialEq, Eq)]
+#[derive(Clone, Copy)]
 pub enum Why {
     /// Its stream was over, and all replies were written.
     Answered,

@@ -41,7 +41,7 @@ fn seat<R: Print + Eprint + AllocGlobal>(
 }
 
 /// What came of one try to take a connection in.
-#[derive(Clone, Copy, Debug, PartialEq, Eq)]
+#[derive(Clone, Copy)]
 enum Taken {
     /// One was taken in.
     One,

@@ -3,21 +3,21 @@ ghost use Rattle.std.specs.Prelude.{◌≡◌, None};
 ghost use Rattle.odata_listen.specs.Slow.{due_of, times_after_read, times_after_turn, times_after_write};
 
 /// The most seconds that a head may take, and those that a connection may stand still.
-#[derive(Clone, Copy, Debug, PartialEq, Eq)]
+#[derive(Clone, Copy)]
 pub struct Limits {
     pub head: u32,
     pub idle: u32,
 }
 
 /// When a connection last got on, and when the first byte of a head came that is not whole yet. Both are seconds of one clock.
-#[derive(Clone, Copy, Debug, PartialEq, Eq)]
+#[derive(Clone, Copy)]
 pub struct Times {
     pub active: u64,
     pub head: Option<u64>,
 }
 
 /// What is due of a connection.
-#[derive(Clone, Copy, Debug, PartialEq, Eq)]
+#[derive(Clone, Copy)]
 pub enum Due {
     /// Nothing.
     Nothing,

@@ -9,7 +9,7 @@ use std::rc::Rc;
 use table_store::Catalog;
 
 /// What a look at a folder says.
-#[derive(Clone, Copy, Debug, PartialEq, Eq)]
+#[derive(Clone, Copy, PartialEq, Eq)]
 pub enum Look {
     /// It is as it was taken.
     Same,
