@@ -143,7 +143,7 @@ marked_count marks xs h = marked_filtered marks xs h ∙ length-filter is_marked
 
 -- ---- conditions in turn
 
-no_rows : {X : Type 0} (xs : List X) → length xs ≡ 0 → xs ≡ []
+pub no_rows : {X : Type 0} (xs : List X) → length xs ≡ 0 → xs ≡ []
 no_rows [] h = refl
 no_rows (x ∷ xs) h = absurd (omega (arith, h))
 

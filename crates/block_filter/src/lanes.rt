@@ -1,9 +1,10 @@
 //! The columns of a block that are read for conditions, or for an order.
-ghost use Rattle.std.specs.Prelude.{◌≡◌, ◌<◌, ℕ, List, OnOk, IfOk, IfSome, IsTrue, length, map, option_map};
+ghost use Rattle.std.specs.Prelude.{◌≡◌, ◌<◌, ℕ, List, OnOk, IfOk, IfSome, length, map, option_map};
 ghost use Rattle.cell_types.specs.Value.{CellValue, value_view};
 ghost use Rattle.table_store.specs.Block.{HasNumbers};
 ghost use Rattle.block_filter.specs.Lanes.{AreColumnsOf, AreKeysIn, AreKeysOf, AreLanesOf, AreTextsOf, IsLaneOf, IsMadeOf, LieBetween};
 
+use crate::named::is_marked;
 use crate::texts::texts_at;
 use block_eval::Column;
 use block_summary::{Bounds, PackedType, packed_type_of};
@@ -115,16 +116,6 @@ impl Lane {
             }),
             _ => None,
         }
-    }
-}
-
-/// Whether a place is marked.
-pub(crate) fn is_marked(marks: &[bool], place: usize) -> bool
-    ensures { IsTrue result → place < length marks.now }
-{
-    match marks.get(place) {
-        Some(is_marked) => *is_marked,
-        None => false,
     }
 }
 

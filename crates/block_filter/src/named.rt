@@ -1,8 +1,19 @@
 //! The columns that a condition names.
+ghost use Rattle.std.specs.Prelude.{◌<◌, IsTrue, length};
 
 use block_summary::Summary;
 use odata_types::{DateExpr, DecimalExpr, IntegerExpr, TextExpr, TruthExpr};
 use summary_eval::known_truth;
+
+/// Whether a place is marked.
+pub(crate) fn is_marked(marks: &[bool], place: usize) -> bool
+    ensures { IsTrue result → place < length marks.now }
+{
+    match marks.get(place) {
+        Some(is_marked) => *is_marked,
+        None => false,
+    }
+}
 
 fn mark(place: usize, named: &mut [bool]) {
     if place < named.len() {

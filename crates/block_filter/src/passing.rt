@@ -107,8 +107,8 @@ pub(crate) fn count_of(wanted: &[bool]) -> usize
     count
 }
 
-/// Which rows of a block pass conditions, in turn, of all that are marked. Each column is read once, and none for a condition that comes to no row. Where it
-/// falls back, the rows are to be taken one by one: so it is where a condition divides by zero.
+/// Which rows of a block pass conditions, in turn, of all that are marked. Each column is read once, and none for a condition that comes to no row; without
+/// conditions no room is made. Where it falls back, the rows are to be taken one by one: so it is where a condition divides by zero.
 pub(crate) fn passing_rows(
     alloc: Global,
     conditions: &[Box<TruthExpr>],
@@ -122,6 +122,9 @@ pub(crate) fn passing_rows(
     ensures long { IfOk result (λ wanted. length wanted.items ≡ length block.now.rows) }
 {
     lanes.forget();
+    if conditions.is_empty() {
+        return Ok(wanted);
+    }
     let mut texts = no_texts(alloc, block.schema().columns.len())?;
     for condition in conditions {
         if count_of(&wanted) == 0 {

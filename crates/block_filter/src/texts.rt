@@ -3,7 +3,7 @@ ghost use Rattle.std.specs.Prelude.{◌≡◌, ◌<◌, List, IfOk, OnOk, length
 ghost use Rattle.cell_types.specs.Value.{CellValue, value_view};
 ghost use Rattle.block_filter.specs.Lanes.{texts_view, AreTextsOf, AreValuesOf};
 
-use crate::lanes::is_marked;
+use crate::named::is_marked;
 use cell_types::{Datatype, Value};
 use std::alloc::{AllocError, Global};
 use table_store::Block;

@@ -1,12 +1,12 @@
-//! The first rows of an order, kept in place of all.
+//! How a run takes in a block: of an order the first rows are kept in place of all, and rows that are gathered are not kept.
 ghost use Rattle.std.specs.Prelude.{◌≡◌, IfOk, OnOk, map, take, true};
 ghost use Rattle.std.specs.List.{All};
 ghost use Rattle.odata_query.specs.Query.{order_view};
 ghost use Rattle.query_plan.specs.Order.{rows_cmp, sorted};
 ghost use Rattle.block_filter.specs.Conditions.{ConditionsFit};
 ghost use Rattle.query_exec.specs.Gathers.{MayGather};
-ghost use Rattle.query_exec.specs.Run.{conditions_of, steps_of};
-ghost use Rattle.query_exec.specs.Taking.{taken_rows, HasCut, HasTakenIn, MayCount, MayTake};
+ghost use Rattle.query_exec.specs.Run.{conditions_of, rows_so_far, steps_of};
+ghost use Rattle.query_exec.specs.Taking.{taken_rows, HasCut, HasGathered, HasTakenIn, MayCount, MayTake};
 ghost use Rattle.query_exec.specs.Useful.{are_plain};
 
 use crate::run::Run;
@@ -52,6 +52,23 @@ impl Run {
             return Ok(());
         }
         self.kept = best_rows(alloc, &self.kept, items, *most)?;
+        Ok(())
+    }
+
+    /// The rows that are kept join those that were gathered, where rows are.
+    fn gather(&mut self, alloc: Global) -> Result<(), AllocError>
+        requires { MayGather (steps_of self.old) self.old (rows_so_far self.old) }
+        ensures { OnOk result (HasGathered self.old self.new) }
+    {
+        if self.faulted {
+            return Ok(());
+        }
+        let Some(gathering) = &mut self.gathering else {
+            return Ok(());
+        };
+        let numbers = all_numbers(alloc, self.kept.len())?;
+        gathering.join(alloc, &self.kept, &numbers)?;
+        self.kept = self.kept.in_order(alloc, &[])?;
         Ok(())
     }
 

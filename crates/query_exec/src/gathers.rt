@@ -1,15 +1,12 @@
 //! Rows that the first step makes aggregates or groups of: they are gathered block by block, and none is kept.
-ghost use Rattle.std.specs.Prelude.{◌≡◌, ◌+◌, ◌++◌, [], IfOk, OnOk, length, map, string_bytes};
+ghost use Rattle.std.specs.Prelude.{◌≡◌, ◌+◌, ◌++◌, [], IfOk, length, map, string_bytes};
 ghost use Rattle.odata_query.specs.Aggregate.{named_view};
 ghost use Rattle.query_plan.specs.Plan.{node_view};
-ghost use Rattle.query_exec.specs.Gathers.{GathersFor, GivesOfGathered, IsMade, KeepsNone, MakesOfGathered, MayBeFirst, MayBeMade, MayGather};
-ghost use Rattle.query_exec.specs.Run.{rows_so_far, steps_of};
-ghost use Rattle.query_exec.specs.Taking.{HasGathered};
+ghost use Rattle.query_exec.specs.Gathers.{GathersFor, GivesOfGathered, IsMade, KeepsNone, MakesOfGathered, MayBeFirst, MayBeMade};
 
 use crate::names::{picked_names, push_aliases};
-use crate::run::Run;
 use crate::steps::{apply_all, apply_to_all};
-use crate::underway::{Underway, all_numbers};
+use crate::underway::Underway;
 use odata_query::NamedAggregate;
 use query_plan::Node;
 use row_columns::Columns;
@@ -98,24 +95,5 @@ pub(crate) fn made_of(
             apply_all(alloc, others, made)
         }
         [] => unreachable!(),
-    }
-}
-
-impl Run {
-    /// The rows that are kept join those that were gathered, where rows are.
-    pub(crate) fn gather(&mut self, alloc: Global) -> Result<(), AllocError>
-        requires { MayGather (steps_of self.old) self.old (rows_so_far self.old) }
-        ensures { OnOk result (HasGathered self.old self.new) }
-    {
-        if self.faulted {
-            return Ok(());
-        }
-        let Some(gathering) = &mut self.gathering else {
-            return Ok(());
-        };
-        let numbers = all_numbers(alloc, self.kept.len())?;
-        gathering.join(alloc, &self.kept, &numbers)?;
-        self.kept = self.kept.in_order(alloc, &[])?;
-        Ok(())
     }
 }

@@ -5,10 +5,11 @@ ghost use Rattle.cell_types.specs.Value.{value_view};
 ghost use Rattle.csvw_meta.specs.Schema.{schema_view};
 ghost use Rattle.row_eval.specs.Row.{row_view};
 ghost use Rattle.query_exec.specs.Rows.{rows_of_row};
+ghost use Rattle.query_exec.specs.Underway.{underway_view, IsUnderway};
 
 use crate::names::names_of;
 use crate::steps::project;
-use crate::underway::Underway;
+use crate::underway::{Underway, are_all};
 use cell_types::Value;
 use csvw_meta::Schema;
 use row_columns::Columns;
@@ -33,6 +34,34 @@ impl Model for Rows {
     ghost view = { rows_view };
 
     ghost invariant = { AreUnderNames };
+}
+
+impl Underway {
+    /// The rows in columns of their own.
+    pub(crate) fn into_rows(self, alloc: Global) -> Result<Rows, AllocError>
+        requires { IsUnderway self }
+        ensures { IfOk result (λ rows. rows ≡ underway_view self) }
+    {
+        let Underway {
+            names,
+            columns,
+            numbers,
+            count,
+        } = self;
+        if are_all(&numbers, columns.len()) {
+            return Ok(Rows {
+                names,
+                columns,
+                count,
+            });
+        }
+        let columns = columns.in_order(alloc, &numbers)?;
+        Ok(Rows {
+            names,
+            columns,
+            count,
+        })
+    }
 }
 
 impl Rows {

@@ -2,7 +2,6 @@
 ghost use Rattle.std.specs.Prelude.{◌≡◌, ◌≤◌, IfOk, IsTrue, length, map, string_bytes};
 ghost use Rattle.query_exec.specs.Underway.{underway_view, AreAll, AreBetween, IsUnderway};
 
-use crate::rows::Rows;
 use row_columns::Columns;
 use std::alloc::{AllocError, Global};
 
@@ -40,7 +39,7 @@ pub(crate) fn all_numbers(alloc: Global, len: usize) -> Result<Vec<usize>, Alloc
 }
 
 /// Whether these are the numbers of so many rows, all of them and in their order.
-fn are_all(numbers: &[usize], len: usize) -> bool
+pub(crate) fn are_all(numbers: &[usize], len: usize) -> bool
     ensures { IsTrue result → AreAll numbers.now len }
 {
     for (place, number) in numbers.iter().enumerate() {
@@ -72,32 +71,6 @@ impl Underway {
             names,
             columns,
             numbers,
-            count,
-        })
-    }
-
-    /// The rows in columns of their own.
-    pub(crate) fn into_rows(self, alloc: Global) -> Result<Rows, AllocError>
-        requires { IsUnderway self }
-        ensures { IfOk result (λ rows. rows ≡ underway_view self) }
-    {
-        let Underway {
-            names,
-            columns,
-            numbers,
-            count,
-        } = self;
-        if are_all(&numbers, columns.len()) {
-            return Ok(Rows {
-                names,
-                columns,
-                count,
-            });
-        }
-        let columns = columns.in_order(alloc, &numbers)?;
-        Ok(Rows {
-            names,
-            columns,
             count,
         })
     }

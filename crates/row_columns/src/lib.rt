@@ -11,3 +11,4 @@ mod texts;
 mod values;
 
 pub use columns::Columns;
+pub use values::{lent, owned};

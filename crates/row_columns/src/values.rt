@@ -60,7 +60,7 @@ pub(crate) fn decimal_value<'a>(number: Option<i64>) -> Value<'a>
 }
 
 /// The value, whose text is lent.
-pub(crate) fn lent<'a>(value: &'a Value<'static>) -> Value<'a>
+pub fn lent<'a>(value: &'a Value<'static>) -> Value<'a>
     ensures { value_view result ≡ value_view value.now }
 {
     match value {
@@ -74,7 +74,7 @@ pub(crate) fn lent<'a>(value: &'a Value<'static>) -> Value<'a>
 }
 
 /// A copy of a value that lives on its own.
-pub(crate) fn owned(alloc: Global, value: &Value<'_>) -> Result<Value<'static>, AllocError>
+pub fn owned(alloc: Global, value: &Value<'_>) -> Result<Value<'static>, AllocError>
     ensures { IfOk result (λ copy. value_view copy ≡ value_view value.now) }
 {
     Ok(match value {

@@ -9,11 +9,11 @@ ghost use Rattle.row_columns.specs.Picked.{numbered};
 ghost use Rattle.row_groups.specs.Gathered.{key_width, HasGroups, JoinsGroups, JoinsRow, MakesRows, MayJoinGroups, MayJoinRow};
 
 use crate::tallies::{join_each, row_of, tallies_of_none};
-use crate::tally::{Tally, owned};
+use crate::tally::Tally;
 use cell_types::Value;
 use indexmap::IndexSet;
 use odata_query::Aggregate;
-use row_columns::Columns;
+use row_columns::{Columns, owned};
 use std::alloc::{AllocError, Global};
 
 /// Groups in the order of their first rows.

@@ -5,10 +5,10 @@ ghost use Rattle.cell_types.specs.Value.{CellValue, value_view};
 ghost use Rattle.row_columns.specs.Picked.{numbered};
 ghost use Rattle.row_groups.specs.Tallies.{AreTallies, IsRowOfTallies, MayTallyEach, TalliesEach};
 
-use crate::tally::{Tally, lent};
+use crate::tally::Tally;
 use cell_types::Value;
 use odata_query::Aggregate;
-use row_columns::Columns;
+use row_columns::{Columns, lent};
 use std::alloc::{AllocError, Global};
 
 /// Of no rows.

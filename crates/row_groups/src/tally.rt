@@ -1,5 +1,5 @@
 //! What is computed of a column of some rows, to which more may join (OData Data Aggregation 4.0, section 3.1.3): nulls are passed over.
-ghost use Rattle.std.specs.Prelude.{◌≡◌, ◌<◌, ◌++◌, ◌∷◌, [], IfOk, filter, List, OnOk, if◌then◌else◌, length, map};
+ghost use Rattle.std.specs.Prelude.{◌≡◌, ◌<◌, ◌++◌, ◌∷◌, [], filter, List, OnOk, if◌then◌else◌, length, map};
 ghost use Rattle.std.specs.List.{All};
 ghost use Rattle.cell_types.specs.Value.{CellValue, value_view};
 ghost use Rattle.odata_query.specs.declared.aggregate.Aggregate.TheVariants.{Max, Min};
@@ -14,9 +14,8 @@ use crate::sums::{Summed, sum_of};
 use cell_types::Value;
 use indexmap::IndexSet;
 use odata_query::Aggregate;
-use row_columns::Columns;
+use row_columns::{Columns, lent, owned};
 use std::alloc::{AllocError, Global};
-use std::borrow::CowStr;
 
 /// What is computed of some rows, as far as more rows need it.
 #[derive(Drop)]
@@ -237,32 +236,4 @@ fn join_value(
     }
     values.insert(owned(alloc, &value)?)?;
     Ok(())
-}
-
-/// The value, whose text is lent.
-pub(crate) fn lent<'a>(value: &'a Value<'static>) -> Value<'a>
-    ensures { value_view result ≡ value_view value.now }
-{
-    match value {
-        Value::Null => Value::Null,
-        Value::Int(number) => Value::Int(*number),
-        Value::Text(text) => Value::Text(CowStr::Borrowed(text.as_str())),
-        Value::Bool(truth) => Value::Bool(*truth),
-        Value::Date(date) => Value::Date(*date),
-        Value::Decimal(millionths) => Value::Decimal(*millionths),
-    }
-}
-
-/// A copy of a value that lives on its own.
-pub(crate) fn owned(alloc: Global, value: &Value<'_>) -> Result<Value<'static>, AllocError>
-    ensures { IfOk result (λ copy. value_view copy ≡ value_view value.now) }
-{
-    Ok(match value {
-        Value::Null => Value::Null,
-        Value::Int(number) => Value::Int(*number),
-        Value::Text(text) => Value::Text(CowStr::Owned(String::from_str(alloc, text.as_str())?)),
-        Value::Bool(truth) => Value::Bool(*truth),
-        Value::Date(date) => Value::Date(*date),
-        Value::Decimal(millionths) => Value::Decimal(*millionths),
-    })
 }

@@ -10,7 +10,7 @@ ghost use Rattle.row_keys.specs.Numbers.{integer_key};
 ghost use Rattle.typed_columns.specs.Values.{values_in};
 ghost use Rattle.row_keys.specs.Keys.{keys_view, AreColumns, AreKeysOf, HasKeyFault, HasRead, HasRoomFor, HaveRead, Suits, TakesKey};
 
-use crate::numbers::{NumberKeys, NumberReader};
+use crate::numbers::{NumberKeys, NumberReader, order_of, set_of};
 use crate::values::ValueReader;
 use cell_types::{Datatype, Value};
 use csvw_meta::Schema;
@@ -165,6 +165,31 @@ impl ReadKeys {
             ReadKeys::Values(reader) => match reader.repeated {
                 Some(row) => Ok(Err(row)),
                 None => Ok(Ok(Keys::Values(reader.keys))),
+            },
+        }
+    }
+}
+
+impl NumberReader {
+    /// The numbers as keys; or the first row whose number is that of an earlier row.
+    pub(crate) fn finish(self, alloc: Global) -> Result<Result<Keys, usize>, AllocError>
+        ensures keys { IfOk result (λ found.
+            IfOk found (λ keys. keys_view keys ≡ map integer_key self.numbers)) }
+        ensures distinct { IfOk result (λ found.
+            IfOk found (λ keys. repeated_row (map integer_key self.numbers) ≡ None)) }
+        ensures repeated { IfOk result (λ found.
+            IfErr found (λ row. repeated_row (map integer_key self.numbers) ≡ Some row)) }
+    {
+        let numbers = self.numbers;
+        if self.rising {
+            let order = Vec::new(alloc);
+            return Ok(Ok(Keys::Numbers(NumberKeys { numbers, order })));
+        }
+        match order_of(alloc, numbers.as_slice())? {
+            Some(order) => Ok(Ok(Keys::Numbers(NumberKeys { numbers, order }))),
+            None => match set_of(alloc, numbers.as_slice())? {
+                Ok(set) => Ok(Ok(Keys::Integers(set))),
+                Err(row) => Ok(Err(row)),
             },
         }
     }

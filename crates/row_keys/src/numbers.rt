@@ -1,12 +1,10 @@
 //! Keys of one integer each. The numbers stand row by row; where they do not rise from row to row, an order of the rows beside them does.
-ghost use Rattle.std.specs.Prelude.{◌≡◌, ◌<◌, ◌≤◌, ◌+◌, ◌-◌, ℕ, true, pos, None, Some, IfOk, IfErr, IfSome, OnOk, [], ◌∷◌, ◌++◌, length, map, position, slice_index_or};
+ghost use Rattle.std.specs.Prelude.{◌≡◌, ◌<◌, ◌≤◌, ◌+◌, ◌-◌, true, None, Some, IfOk, IfErr, IfSome, OnOk, [], ◌∷◌, ◌++◌, length, map, position, slice_index_or};
 ghost use Rattle.std.specs.List.{range_with_len};
 ghost use Rattle.std.specs.Ordering.{int_eq};
 ghost use Rattle.row_keys.specs.Key.{repeated_row};
-ghost use Rattle.row_keys.specs.Keys.{keys_view};
 ghost use Rattle.row_keys.specs.Numbers.{integer_key, number_of, Above, IsOrderOf, RisesAlong};
 
-use crate::keys::Keys;
 use indexmap::IndexSet;
 use std::alloc::{AllocError, Global};
 use std::marker::Model;
@@ -15,9 +13,9 @@ use std::marker::Model;
 #[derive(Drop)]
 pub struct NumberKeys {
     /// That of each row.
-    numbers: Vec<i64>,
+    pub(crate) numbers: Vec<i64>,
     /// The rows in the order of their numbers; none, where those rise from row to row.
-    order: Vec<u32>,
+    pub(crate) order: Vec<u32>,
 }
 
 impl Model for NumberKeys {
@@ -35,9 +33,9 @@ impl Model for NumberKeys {
 /// Numbers that are read one after another.
 #[derive(Drop)]
 pub struct NumberReader {
-    numbers: Vec<i64>,
+    pub(crate) numbers: Vec<i64>,
     /// Whether each is above the one before it.
-    rising: bool,
+    pub(crate) rising: bool,
 }
 
 impl Model for NumberReader {
@@ -75,29 +73,6 @@ impl NumberReader {
         }
         self.numbers.push(number)?;
         Ok(())
-    }
-
-    /// The numbers as keys; or the first row whose number is that of an earlier row.
-    pub(crate) fn finish(self, alloc: Global) -> Result<Result<Keys, usize>, AllocError>
-        ensures keys { IfOk result (λ found.
-            IfOk found (λ keys. keys_view keys ≡ map integer_key self.numbers)) }
-        ensures distinct { IfOk result (λ found.
-            IfOk found (λ keys. repeated_row (map integer_key self.numbers) ≡ None)) }
-        ensures repeated { IfOk result (λ found.
-            IfErr found (λ row. repeated_row (map integer_key self.numbers) ≡ Some row)) }
-    {
-        let numbers = self.numbers;
-        if self.rising {
-            let order = Vec::new(alloc);
-            return Ok(Ok(Keys::Numbers(NumberKeys { numbers, order })));
-        }
-        match order_of(alloc, numbers.as_slice())? {
-            Some(order) => Ok(Ok(Keys::Numbers(NumberKeys { numbers, order }))),
-            None => match set_of(alloc, numbers.as_slice())? {
-                Ok(set) => Ok(Ok(Keys::Integers(set))),
-                Err(row) => Ok(Err(row)),
-            },
-        }
     }
 }
 
@@ -178,7 +153,7 @@ fn rise_along(numbers: &[i64], order: &[u32]) -> bool
 }
 
 /// The rows of numbers in the order of those; none, where two are one, or there are more rows than fit.
-fn order_of(alloc: Global, numbers: &[i64]) -> Result<Option<Vec<u32>>, AllocError>
+pub(crate) fn order_of(alloc: Global, numbers: &[i64]) -> Result<Option<Vec<u32>>, AllocError>
     ensures { IfOk result (λ order. IfSome order (λ order. IsOrderOf order.items numbers.now)) }
 {
     if numbers.len() > u32::MAX as usize {
@@ -194,7 +169,10 @@ fn order_of(alloc: Global, numbers: &[i64]) -> Result<Option<Vec<u32>>, AllocErr
 }
 
 /// Numbers as a set; or the first row whose number is that of an earlier row.
-fn set_of(alloc: Global, numbers: &[i64]) -> Result<Result<IndexSet<i128>, usize>, AllocError>
+pub(crate) fn set_of(
+    alloc: Global,
+    numbers: &[i64],
+) -> Result<Result<IndexSet<i128>, usize>, AllocError>
     ensures set { IfOk result (λ found. IfOk found (λ set. set.keys ≡ numbers.now)) }
     ensures distinct { IfOk result
         (λ found. IfOk found (λ set. repeated_row (map integer_key numbers.now) ≡ None)) }
