@@ -4,6 +4,7 @@ use csvw_meta::Limits;
 use odata_hub::{Conn, Hub};
 use odata_rounds::{Outbox, Seat, Stepped, round};
 use std::alloc::{AllocError, Global};
+use std::array;
 use std::rc::Rc;
 use std::test::Fail;
 use table_store::{Catalog, NamedFile};
@@ -102,48 +103,24 @@ fn free_seat(alloc: Global) -> Result<Seat, AllocError> {
 
 /// The places, at none of which something waits.
 fn free_seats(alloc: Global) -> Result<[Seat; 8], AllocError> {
-    Ok([
-        free_seat(alloc)?,
-        free_seat(alloc)?,
-        free_seat(alloc)?,
-        free_seat(alloc)?,
-        free_seat(alloc)?,
-        free_seat(alloc)?,
-        free_seat(alloc)?,
-        free_seat(alloc)?,
-    ])
+    array::try_from_fn(|_| free_seat(alloc))
 }
 
-/// Gives the peers rounds, and notes what became of each place last. A place whose connection is over or lost is given back.
-fn play(
-    hub: &mut Hub,
-    seats: &mut [Seat; 8],
-    peers: &mut Scripts<'_>,
-    ends: &mut [Stepped; 8],
-    rounds: u32,
-) {
+/// Gives the peers rounds, and notes what became of the place of each last. A place whose connection is over or lost is given back.
+fn play(hub: &mut Hub, seats: &mut [Seat; 8], peers: &mut Scripts<'_>, rounds: u32) {
     let mut room = [0u8; 64];
     for _turn in 0..rounds {
         round(hub, seats, peers, &mut room);
         for place in 0..PLACES {
-            settle(
-                hub,
-                place,
-                &mut seats[place as usize],
-                &mut ends[place as usize],
-            );
+            let seat = &mut seats[place as usize];
+            if seat.stepped != Stepped::Free {
+                peers.note(place, seat.stepped);
+            }
+            if seat.stepped == Stepped::Answered || seat.stepped == Stepped::Lost {
+                seat.waits.clear();
+                let _ = hub.drop_conn(Conn(place));
+            }
         }
-    }
-}
-
-/// Notes what became of a place, and gives it back where its connection is over or lost.
-fn settle(hub: &mut Hub, place: u32, seat: &mut Seat, end: &mut Stepped) {
-    if seat.stepped != Stepped::Free {
-        *end = seat.stepped;
-    }
-    if seat.stepped == Stepped::Answered || seat.stepped == Stepped::Lost {
-        seat.waits.clear();
-        let _ = hub.drop_conn(Conn(place));
     }
 }
 
@@ -233,6 +210,14 @@ const RELOADED: &[Case] = &[
     },
 ];
 
+/// Whether a peer took what it is given, and its place ended so.
+fn is_right(peer: Option<&Peer<'_>>, case: &Case) -> bool {
+    match peer {
+        Some(peer) => peer.end == case.end && peer.taken.as_slice() == case.given.as_bytes(),
+        None => false,
+    }
+}
+
 /// The first case whose peer took something else, or whose place ended otherwise, where a table of three rows comes between rounds.
 fn first_wrong(
     alloc: Global,
@@ -244,26 +229,21 @@ fn first_wrong(
     let mut hub = hub_of(alloc, cases)?;
     let mut peers = peers_of(alloc, cases)?;
     let mut seats = free_seats(alloc)?;
-    let mut ends = [Stepped::Free; 8];
-    play(&mut hub, &mut seats, &mut peers, &mut ends, before);
+    play(&mut hub, &mut seats, &mut peers, before);
     hub.reload(newer);
-    play(&mut hub, &mut seats, &mut peers, &mut ends, behind);
-    Ok(wrong_place(&peers.peers, &ends, cases))
-}
-
-/// The first case whose peer took something else, or whose place ended otherwise.
-fn wrong_place(peers: &[Peer<'_>], ends: &[Stepped], cases: &[Case]) -> Option<usize> {
-    for (at, (peer, (end, case))) in peers.iter().zip(ends.iter().zip(cases)).enumerate() {
-        if *end != case.end || peer.taken.as_slice() != case.given.as_bytes() {
-            return Some(at);
+    play(&mut hub, &mut seats, &mut peers, behind);
+    for (at, case) in cases.iter().enumerate() {
+        if !is_right(peers.peers.get(at), case) {
+            return Ok(Some(at));
         }
     }
-    None
+    Ok(None)
 }
 
 #[test]
 fn scripted_peers(rt: HostRuntime) -> Result<(), Fail> {
-    assert_eq!(rt; first_wrong(rt.alloc(), CASES, 400, 0)?, None);
-    assert_eq!(rt; first_wrong(rt.alloc(), RELOADED, 50, 100)?, None);
+    let alone = first_wrong(rt.alloc(), CASES, 400, 0)?;
+    let reloaded = first_wrong(rt.alloc(), RELOADED, 50, 100)?;
+    assert_eq!(rt; (alone, reloaded), (None, None));
     Ok(())
 }

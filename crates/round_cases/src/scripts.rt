@@ -3,7 +3,7 @@
 ghost use Rattle.std.specs.Io.{ReadsAtMost, WritesAtMost};
 ghost use Rattle.odata_http.specs.Device.{TakesSome};
 
-use odata_rounds::{PeerFault, Peers};
+use odata_rounds::{PeerFault, Peers, Stepped};
 use std::alloc::Global;
 
 /// What a peer sends; how many bytes it sends and takes at once, where 0 takes nothing; whether it waits at each other call; and at which call it is
@@ -17,13 +17,14 @@ pub(crate) struct Script<'a> {
     pub(crate) lost_at: u32,
 }
 
-/// A peer, with what it has not sent yet and what it took.
+/// A peer, with what it has not sent yet, what it took, and what became of its place last.
 #[derive(Drop)]
 pub(crate) struct Peer<'a> {
     script: Script<'a>,
     rest: &'a [u8],
     calls: u32,
     pub(crate) taken: Vec<u8>,
+    pub(crate) end: Stepped,
 }
 
 impl<'a> Peer<'a> {
@@ -33,6 +34,7 @@ impl<'a> Peer<'a> {
             rest: script.sends.as_bytes(),
             calls: 0,
             taken: Vec::new(alloc),
+            end: Stepped::Free,
         }
     }
 
@@ -81,6 +83,15 @@ impl<'a> Peer<'a> {
 #[derive(Drop)]
 pub(crate) struct Scripts<'a> {
     pub(crate) peers: Vec<Peer<'a>>,
+}
+
+impl<'a> Scripts<'a> {
+    /// Notes what became of a place.
+    pub(crate) fn note(&mut self, place: u32, stepped: Stepped) {
+        if let Some(peer) = self.peers.get_mut(place as usize) {
+            peer.end = stepped;
+        }
+    }
 }
 
 impl<'a> Peers for Scripts<'a> {
