@@ -33,7 +33,7 @@ pub fn sizes()
 {}
 
 /// What the program is asked to do: to serve a folder at a port of an address over so many places, and to log.
-#[derive(Clone, Copy, Debug)]
+#[derive(Clone, Copy)]
 pub struct Words<'a> {
     pub folder: &'a str,
     pub port: u16,

@@ -5,7 +5,7 @@ ghost use Rattle.std.specs.Io.KnownBytes.{Appends, ReadConsumes, WriteAppends};
 ghost use Rattle.odata_http.specs.Device.{Counts, CountsEnd, CountsFailure, SinkOf, SourceOf, TakesSome};
 
 /// A device gave or took nothing.
-#[derive(Clone, Copy, Debug, PartialEq, Eq)]
+#[derive(Clone, Copy, PartialEq, Eq)]
 pub struct DeviceFault;
 
 /// What bytes are read from.

@@ -14,7 +14,7 @@ use table_store::Catalog;
 const PIECE: usize = 4096;
 
 /// Why a run ended early.
-#[derive(Clone, Copy, Debug, PartialEq, Eq)]
+#[derive(Clone, Copy, PartialEq, Eq)]
 pub enum RunFault {
     /// Memory ran out.
     NoMemory,

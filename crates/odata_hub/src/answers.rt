@@ -1,7 +1,7 @@
 //! What the calls of a hub answer.
 
 /// Why a call of a hub is refused.
-#[derive(Clone, Copy, Debug, PartialEq, Eq)]
+#[derive(Clone, Copy, PartialEq, Eq)]
 pub enum HubFault {
     /// Every place is taken.
     Full,
@@ -16,7 +16,7 @@ pub enum HubFault {
 }
 
 /// What a turn did.
-#[derive(Clone, Copy, Debug, PartialEq, Eq)]
+#[derive(Clone, Copy, PartialEq, Eq)]
 pub enum Turned {
     /// Nothing was left to do.
     Idle,

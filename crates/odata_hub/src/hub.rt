@@ -9,7 +9,7 @@ use std::rc::Rc;
 use table_store::Catalog;
 
 /// The number of a place.
-#[derive(Clone, Copy, Debug, PartialEq, Eq)]
+#[derive(Clone, Copy, PartialEq, Eq)]
 pub struct Conn(pub u32);
 
 /// Connections that are answered in turns. Each call is one step of the hub that this one stands for.

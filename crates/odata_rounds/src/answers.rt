@@ -1,7 +1,7 @@
 //! What a socket answers where it moves no bytes, and what became of a place.
 
 /// Why a socket moved no bytes.
-#[derive(Clone, Copy, Debug, PartialEq, Eq)]
+#[derive(Clone, Copy, PartialEq, Eq)]
 pub enum PeerFault {
     /// It takes nothing, or has nothing, for now.
     Waits,
@@ -10,7 +10,7 @@ pub enum PeerFault {
 }
 
 /// What became of a place.
-#[derive(Clone, Copy, Debug, PartialEq, Eq)]
+#[derive(Clone, Copy, PartialEq, Eq)]
 pub enum Stepped {
     /// No connection is there.
     Free,

@@ -4,7 +4,7 @@ use row_eval::EvalFault;
 use std::alloc::AllocError;
 
 /// Why a run has no answer.
-#[derive(Clone, Copy, Debug, PartialEq, Eq)]
+#[derive(Clone, Copy, PartialEq, Eq)]
 pub enum ExecFault {
     /// A number is divided by zero.
     DivisionByZero,

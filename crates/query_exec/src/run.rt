@@ -30,7 +30,7 @@ use std::mem;
 use table_store::Block;
 
 /// Whether a run goes on.
-#[derive(Clone, Copy, Debug, PartialEq, Eq)]
+#[derive(Clone, Copy, PartialEq, Eq)]
 pub enum Step {
     More,
     Done,
