@@ -47,8 +47,8 @@ where
 
 #[test]
 fn loopback(rt: HostRuntime) -> Result<(), Fail> {
-    let mut listener = CountedListener::bind(&rt, 0)?;
-    let port = listener.port()?;
+    let mut listener = CountedListener::bind(&rt, 0).or(Err("no port that is free"))?;
+    let port = listener.port().or(Err("a port that is not told"))?;
     // no other address of the machine is listened on
     let refusal = TcpStream::connect(&rt, (Ipv4Addr::new(127, 0, 0, 2), port)).map(drop);
     assert!(rt; refusal.is_err_and(|error| error.kind() == ErrorKind::ConnectionRefused));
