@@ -1,4 +1,4 @@
-//! Lists of values on the rows of a block (`in`, OData 4.01 URL Conventions, section 5.1.1.1.12): a value is in a list where it equals one
+//! Lists of values on the rows of a block (`in`, OData 4.01 URL Conventions, section 5.1.1.1.11): a value is in a list where it equals one
 //! of the items. The value is evaluated once.
 
 ghost use Rattle.std.specs.Prelude.{◌≡◌, ℕ, Option, IfOk, length, map, option_map};

@@ -1,4 +1,4 @@
--- Booleans (Metadata Vocabulary for Tabular Data, sections 5.11.2 and 6.4.3).
+-- Booleans (Metadata Vocabulary for Tabular Data, section 5.11.2; Model for Tabular Data and Metadata on the Web, section 6.4.3).
 use Rattle.std.specs.Prelude.{ℕ, Bool, List, Option, Some, None, true, false, if◌then◌else◌, Result, Ok, Err}
 use Rattle.std.specs.List.{list_any}
 use Rattle.std.specs.Str.{bytes_eq}

@@ -1,4 +1,4 @@
--- Dates (Metadata Vocabulary for Tabular Data, section 6.4.4), of the years 1 to 9999 of the calendar.
+-- Dates (Model for Tabular Data and Metadata on the Web, section 6.4.4), of the years 1 to 9999 of the calendar.
 use Rattle.std.specs.Prelude.{◌≡◌, ℕ, List, length, [], ◌∷◌, ◌++◌, ◌+◌, ◌-◌, ◌*◌, ◌/◌, ◌%◌, ◌<◌, ◌&&◌, Bool, true, ℤ, pos, fold, take, drop, codes, if◌then◌else◌, Result, Ok, Err}
 use Rattle.std.specs.Int.{is_in_range}
 use Rattle.std.specs.Str.{bytes_eq}

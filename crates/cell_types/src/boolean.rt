@@ -1,4 +1,4 @@
-//! Booleans (Metadata Vocabulary for Tabular Data, section 6.4.3): one of the texts of true, or one of those of false.
+//! Booleans (Model for Tabular Data and Metadata on the Web, section 6.4.3): one of the texts of true, or one of those of false.
 ghost use Rattle.std.specs.Prelude.{◌≡◌};
 ghost use Rattle.cell_types.specs.Datatype.{boolean_view};
 ghost use Rattle.cell_types.specs.Boolean.{truth_reading};

@@ -1,5 +1,5 @@
-//! Dates (Metadata Vocabulary for Tabular Data, section 6.4.4): just the digits of each part, and a day of the calendar in the years 1 to
-//! 9999.
+//! Dates (Model for Tabular Data and Metadata on the Web, section 6.4.4): just the digits of each part, and a day of the calendar in the
+//! years 1 to 9999.
 ghost use Rattle.std.specs.Prelude.{◌≡◌, ◌≢◌, ◌<◌, ℕ, MatchOption};
 ghost use Rattle.cell_types.specs.Cell.{reading_view};
 ghost use Rattle.cell_types.specs.Date.{HasDate, HasNoDate, HasNoNumbers, HasNoParts, HasNumbers, HasParts, date_of, four_digits, two_digits};

@@ -1,4 +1,4 @@
--- Datatypes and their formats (Metadata Vocabulary for Tabular Data, sections 5.11 and 6.4).
+-- Datatypes and their formats (Metadata Vocabulary for Tabular Data, section 5.11; Model for Tabular Data and Metadata on the Web, section 6.4).
 use Rattle.std.specs.Prelude.{ℕ, Bool, false, true, not, ◌&&◌, ◌||◌, ◌==◌, List, [], ◌∷◌, ◌++◌, length, nat_lt, codes, Option, None, Some, option_map, option_and_then, is_some, unwrap_or, if◌then◌else◌}
 use Rattle.std.specs.List.{list_any, find, before_first, after_first}
 use Rattle.std.specs.Str.{bytes_eq}
@@ -71,7 +71,7 @@ datatype_with base (Some d) = Some base
 abbrev pub datatype_in : Data → Option DatatypeOf
 datatype_in d = option_and_then (λ base. datatype_with base (member (codes "format") d)) (base_in d)
 
--- the constraints of section 5.11.1, which are not served
+-- the constraints of section 5.11.2, which are not served
 unfoldable pub constraint_conditions : Data → List Condition
 constraint_conditions d =
     absent (codes "length") d

@@ -1,4 +1,4 @@
--- A text, an array of texts, and a language map of such (Metadata Vocabulary for Tabular Data, sections 5.1.3 and 5.1.6).
+-- A text, an array of texts, and a language map of such (Metadata Vocabulary for Tabular Data, sections 5.1.1 and 5.1.6).
 use Rattle.std.specs.Prelude.{ℕ, Bool, not, ◌||◌, List, [], ◌∷◌, Option, None, Some, option_map, unwrap_or, is_some}
 use Rattle.std.specs.List.{list_all, filter_map, flat_map}
 use Rattle.serde_json.specs.Data.{Data, Members, no_members, member}

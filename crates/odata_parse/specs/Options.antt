@@ -1,4 +1,4 @@
--- The grammar of `$orderby`, `$select` and keys (OData 4.01 URL Conventions, sections 5.1.6, 5.1.3 and 4.3.1).
+-- The grammar of `$orderby`, `$select` and keys (OData 4.01 URL Conventions, sections 5.1.5, 5.1.4 and 4.3.1).
 use Rattle.std.specs.Prelude.{◌≡◌, ℕ, true, false, List, [], ◌∷◌, codes}
 use Rattle.odata_lex.specs.Token.{TokenOf}
 use Rattle.odata_lex.specs.declared.token.TokenKind.TheVariants.{Word, Comma, Star, EqualsSign}

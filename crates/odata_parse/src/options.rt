@@ -1,4 +1,4 @@
-//! `$orderby`, `$select` and keys (OData 4.01 URL Conventions, sections 5.1.6, 5.1.3 and 4.3.1; OData ABNF Construction Rules,
+//! `$orderby`, `$select` and keys (OData 4.01 URL Conventions, sections 5.1.5, 5.1.4 and 4.3.1; OData ABNF Construction Rules,
 //! section 1).
 
 ghost use Rattle.std.specs.Prelude.{◌↔◌, IsTrue};

@@ -88,20 +88,20 @@ pub enum Expr {
     Name(String),
     Unary(UnaryOperator, Box<Expr>),
     Binary(BinaryOperator, Box<Expr>, Box<Expr>),
-    /// Whether a value is one of a list (section 5.1.1.1.12). The list is not empty.
+    /// Whether a value is one of a list (section 5.1.1.1.11). The list is not empty.
     In(Box<Expr>, Vec<Literal>),
     UnaryCall(UnaryFunction, Box<Expr>),
     BinaryCall(BinaryFunction, Box<Expr>, Box<Expr>),
 }
 
-/// An item of `$orderby` (section 5.1.6): ascending without `desc`.
+/// An item of `$orderby` (section 5.1.5): ascending without `desc`.
 #[derive(Drop)]
 pub struct OrderItem {
     pub expression: Expr,
     pub descending: bool,
 }
 
-/// An item of `$select` (section 5.1.3).
+/// An item of `$select` (section 5.1.4).
 #[derive(Drop)]
 pub enum SelectItem {
     /// `*`

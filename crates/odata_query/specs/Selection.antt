@@ -1,4 +1,4 @@
--- The columns that `$select` asks for (OData 4.01 URL Conventions, section 5.1.3).
+-- The columns that `$select` asks for (OData 4.01 URL Conventions, section 5.1.4).
 use Rattle.std.specs.Prelude.{ℕ, ◌+◌, Bool, true, List, [], ◌∷◌, Option, Some, None, Result, Ok, Err, if◌then◌else◌}
 use Rattle.std.specs.List.{list_all, list_any}
 use Rattle.std.specs.Str.{bytes_eq}

@@ -1,4 +1,4 @@
-//! The columns that `$select` asks for (OData 4.01 URL Conventions, section 5.1.3).
+//! The columns that `$select` asks for (OData 4.01 URL Conventions, section 5.1.4).
 
 ghost use Rattle.std.specs.Prelude.{◌≡◌, IfOk, map, option_map};
 ghost use Rattle.std.specs.List.{list_all, list_any};

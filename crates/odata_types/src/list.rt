@@ -1,4 +1,4 @@
-//! `in` and its list of values (OData 4.01 URL Conventions, section 5.1.1.1.12).
+//! `in` and its list of values (OData 4.01 URL Conventions, section 5.1.1.1.11).
 
 ghost use Rattle.std.specs.Prelude.{◌≡◌, map, IfOk};
 ghost use Rattle.std.specs.List.{list_all};

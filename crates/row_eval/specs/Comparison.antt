@@ -1,4 +1,4 @@
--- Comparisons (OData 4.01 URL Conventions, sections 5.1.1.1.1 to 5.1.1.1.6 and 5.1.1.1.12), which are never null.
+-- Comparisons (OData 4.01 URL Conventions, sections 5.1.1.1.1 to 5.1.1.1.6 and 5.1.1.1.11), which are never null.
 use Rattle.std.specs.Prelude.{Bool, true, false, ◌||◌, not, List, Option, Some, None}
 use Rattle.std.specs.declared.cmp.Ordering.{Ordering}
 use Rattle.std.specs.declared.cmp.Ordering.TheVariants.{Less, Equal, Greater}

@@ -1,4 +1,4 @@
-//! Comparisons (OData 4.01 URL Conventions, sections 5.1.1.1.1 to 5.1.1.1.6 and 5.1.1.1.12). They are never null.
+//! Comparisons (OData 4.01 URL Conventions, sections 5.1.1.1.1 to 5.1.1.1.6 and 5.1.1.1.11). They are never null.
 
 ghost use Rattle.std.specs.Prelude.{◌≡◌, map, option_map};
 ghost use Rattle.std.specs.Cmp.Lexicographic.{slice_cmp};

@@ -1,5 +1,5 @@
 //! What a condition says of operands that are no truths themselves: comparisons, `in` lists and `contains`, `startswith` and `endswith`
-//! (OData 4.01 URL Conventions, sections 5.1.1.1.1 to 5.1.1.1.6, 5.1.1.1.12 and 5.1.1.5). The left operand is evaluated first, then the right one.
+//! (OData 4.01 URL Conventions, sections 5.1.1.1.1 to 5.1.1.1.6, 5.1.1.1.11 and 5.1.1.5). The left operand is evaluated first, then the right one.
 
 ghost use Rattle.std.specs.Prelude.{◌≡◌, map, option_map};
 ghost use Rattle.std.specs.Cow.{cow_str_bytes};
