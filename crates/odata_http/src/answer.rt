@@ -37,15 +37,15 @@ pub(crate) trait Outlet {
     ghost takes: { Self → List ℕ → Result ⊤ AnswerFault → Self → Type 0 };
 
     /// Gives it a reply.
-    fn put(&mut self, reply: &[u8]) -> Result<(), AnswerFault>
-        ensures { takes self.old reply.now result self.new };
+    fn put(&mut self, reply: Vec<u8>) -> Result<(), AnswerFault>
+        ensures { takes self.old reply.items result self.new };
 }
 
 impl<W: Sink> Outlet for W {
     ghost takes = { λ old reply result new. IsSent (W.sink old) reply result (W.sink new) };
 
-    fn put(&mut self, reply: &[u8]) -> Result<(), AnswerFault> {
-        match send(self, reply) {
+    fn put(&mut self, reply: Vec<u8>) -> Result<(), AnswerFault> {
+        match send(self, reply.as_slice()) {
             Ok(()) => Ok(()),
             Err(_) => Err(AnswerFault::Write),
         }
@@ -64,7 +64,7 @@ fn answer_heads<O: Outlet>(
 {
     for head in heads {
         let reply = reply_to(alloc, catalog, head)?;
-        out.put(reply.as_slice())?;
+        out.put(reply)?;
     }
     Ok(())
 }
@@ -100,7 +100,7 @@ pub(crate) fn answer_rest<O: Outlet>(
         None => Ok(false),
         Some(Unreadable) => {
             let reply = reply_to_rest(alloc)?;
-            out.put(reply.as_slice())?;
+            out.put(reply)?;
             Ok(true)
         }
     }

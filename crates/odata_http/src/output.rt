@@ -1,5 +1,5 @@
 //! The output of a session or a connection: bytes that wait to be taken.
-ghost use Rattle.std.specs.Prelude.{◌≡◌, ◌++◌, ◌==◌, [], drop, if◌then◌else◌, is_ok, length, min, take};
+ghost use Rattle.std.specs.Prelude.{◌≡◌, ◌≢◌, ◌++◌, ◌==◌, [], drop, if◌then◌else◌, is_ok, length, min, take, IsErr};
 ghost use Rattle.odata_http.specs.Output.{IsPushed};
 
 use crate::answer::{AnswerFault, Outlet};
@@ -27,8 +27,8 @@ impl Model for Output {
 impl Outlet for Output {
     ghost takes = { λ old reply result new. IsPushed old reply result new };
 
-    fn put(&mut self, reply: &[u8]) -> Result<(), AnswerFault> {
-        self.add(reply)?;
+    fn put(&mut self, reply: Vec<u8>) -> Result<(), AnswerFault> {
+        self.give(reply)?;
         Ok(())
     }
 }
@@ -56,6 +56,20 @@ impl Output {
         ensures { self.new ≡ (if is_ok result then self.old ++ reply.now else self.old) }
     {
         self.bytes.extend_from_slice(reply)
+    }
+
+    /// Adds a whole reply behind the bytes that wait. Where none wait it stays in its own buffer, and no memory is taken. At an `Err` memory ran out, and
+    /// none of it was added.
+    pub fn give(&mut self, reply: Vec<u8>) -> Result<(), AllocError>
+        ensures added { self.new ≡ (if is_ok result then self.old ++ reply.items else self.old) }
+        ensures memory { IsErr result → self.old ≢ [] }
+    {
+        if self.is_empty() {
+            self.bytes = reply;
+            self.at = 0;
+            return Ok(());
+        }
+        self.add(reply.as_slice())
     }
 
     /// Gives back the memory of what was taken, if that is half of all.

@@ -26,10 +26,10 @@ worked_on old held gone f goes e =
     record { next = Some next; stands = on.1; turned = subst M (sym more) refl; went_is = refl }
 
 -- its last call: the reply is added to the output
-pub worked_over : (old : Connection) (gone : Gone) (reply : Vec ℕ Global) (bytes output : List ℕ) (f : FlightOf) → GoesOnTo f gone
-    → gone ≡ Replied reply → bytes ≡ reply.items → output ≡ old.output ++ bytes
+pub worked_over : (old : Connection) (gone : Gone) (reply : Vec ℕ Global) (output : List ℕ) (f : FlightOf) → GoesOnTo f gone
+    → gone ≡ Replied reply → output ≡ old.output ++ reply.items
     → IsWorked old (Some f) Worked (record old { flight = None; output = output })
-worked_over old gone reply bytes output f goes e same added =
+worked_over old gone reply output f goes e added =
     let P : Gone → Type 0 = λ g. GoesOnTo f g in
     let over : GoesOnTo f (Replied reply) = subst P e goes in
     let last : nat_le f.left 1 ≡ true = ap (λ (n : ℕ). nat_le n 1) over.0 in
@@ -38,8 +38,7 @@ worked_over old gone reply bytes output f goes e same added =
     let adds : AddsReply was f.asked now = record {
       reply = reply.items;
       is = over.1;
-      new_is =
-          ap (λ (o : List ℕ). record was { flight = None; output = o }) (added ∙ ap (λ (b : List ℕ). old.output ++ b) same);
+      new_is = ap (λ (o : List ℕ). record was { flight = None; output = o }) added;
     } in
     let M : Bool → Type 0 = λ b. MatchBool b (AddsReply was f.asked now) (now ≡ record was { flight = Some (record { asked = f.asked; left = f.left - 1 }) }) in
     record { next = None; stands = tt; turned = subst M (sym last) adds; went_is = refl }

@@ -107,7 +107,7 @@ impl Connection {
         match flight.go_on(alloc)? {
             Gone::On(flight) => self.flight = Some(flight),
             Gone::Replied(reply) => {
-                self.output.add(reply.as_slice())?;
+                self.output.give(reply)?;
                 self.flight = None;
             }
         }
@@ -128,7 +128,7 @@ impl Connection {
             None => Ok(Turned::Idle),
             Some(Unreadable) => {
                 let reply = reply_to_rest(alloc)?;
-                self.output.add(reply.as_slice())?;
+                self.output.give(reply)?;
                 Ok(Turned::Worked)
             }
         }

@@ -4,7 +4,7 @@ use crate::watch::{Look, hand_over, is_final, look_of};
 use odata_hub::Hub;
 use odata_serve::{Disk, Folders};
 use std::alloc::AllocError;
-use std::fs::Metadata;
+use std::fs::{DirEntry, Metadata};
 use std::os::unix::fs::MetadataExt;
 use std::rt::Files;
 use std::{fs, io};
@@ -15,7 +15,7 @@ pub struct Folder<'a> {
     name: &'a str,
     taken: String,
     seen: String,
-    /// The last reload came to nothing since a device failed or memory ran out. That was told, and it is tried again.
+    /// The last reload came to nothing since a device failed or memory ran out. That was told, and it is tried again as long as the folder is not as it was taken.
     wants: bool,
 }
 
@@ -33,13 +33,23 @@ fn push_state(text: &mut String, found: &Metadata) -> Result<(), AllocError> {
     )
 }
 
-/// The state of a folder and of the files in it.
+/// What the system tells of an entry of a folder.
+fn metadata_of<R: Files + AllocGlobal + Clone + Drop>(
+    rt: &R,
+    entry: io::Result<DirEntry<R>>,
+) -> io::Result<Metadata> {
+    fs::metadata(rt, entry?.path())
+}
+
+/// The state of a folder and of the files in it. Of an entry of which the system tells nothing, as a link to what is not there, only that there is one.
 fn read_state<R: Files + AllocGlobal + Clone + Drop>(rt: &R, name: &str) -> io::Result<String> {
     let mut text = String::new(rt.alloc());
     push_state(&mut text, &fs::metadata(rt, name)?)?;
     for entry in fs::read_dir(rt, name)? {
-        let found = fs::metadata(rt, entry?.path())?;
-        push_state(&mut text, &found)?;
+        match metadata_of(rt, entry) {
+            Ok(found) => push_state(&mut text, &found)?,
+            Err(_) => text.push_str("untold\n")?,
+        }
     }
     Ok(text)
 }
@@ -103,8 +113,10 @@ impl<'a> Folder<'a> {
         let found = state_of(rt, self.name);
         let says = look_of(&self.taken, &self.seen, &found);
         self.seen = found;
-        if says == Look::Changed {
-            self.take_up(rt, hub, journal);
+        match says {
+            Look::Same => self.wants = false,
+            Look::Moves => {}
+            Look::Changed => self.take_up(rt, hub, journal),
         }
     }
 }

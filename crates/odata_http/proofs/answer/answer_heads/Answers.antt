@@ -19,9 +19,9 @@ pub returns-in_err-put : goal.returns-in_err-put
 returns-in_err-put g c =
     let p = err_from_is_err_and c.from_residual-in_err-put.result c.from_residual-in_err-put.ensures.1 in
     let at = heads_at c.args.heads.now c.loop-head.head-index c.head-item.result c.loop-head-test.true c.head-item.is in
-    rw (p.1, p.2) (stops_untaken _ at c.loop-head.invariant c.in_ok-reply.ensures (rw c.as_slice.ensures.value at c.in_err-put.ensures))
+    rw (p.1, p.2) (stops_untaken _ at c.loop-head.invariant c.in_ok-reply.ensures c.in_err-put.ensures)
 
 pub loop-head-preserved : goal.loop-head-preserved
 loop-head-preserved g c =
     let more = heads_more c.args.heads.now c.loop-head.head-index c.head-item.result c.loop-head-test.true c.head-item.is in
-    rw more (all_more c.loop-head.invariant c.in_ok-reply.ensures (rw c.as_slice.ensures.value at c.in_ok-put.ensures))
+    rw more (all_more c.loop-head.invariant c.in_ok-reply.ensures c.in_ok-put.ensures)
