@@ -34,10 +34,7 @@ fn push_state(text: &mut String, found: &Metadata) -> Result<(), AllocError> {
 }
 
 /// What the system tells of an entry of a folder.
-fn metadata_of<R: Files + AllocGlobal + Clone + Drop>(
-    rt: &R,
-    entry: io::Result<DirEntry<R>>,
-) -> io::Result<Metadata> {
+fn metadata_of<R: Files + Drop>(rt: &R, entry: io::Result<DirEntry<R>>) -> io::Result<Metadata> {
     fs::metadata(rt, entry?.path())
 }
 
@@ -56,10 +53,7 @@ fn read_state<R: Files + AllocGlobal + Clone + Drop>(rt: &R, name: &str) -> io::
 
 /// The same; nothing where the folder can't be looked at.
 fn state_of<R: Files + AllocGlobal + Clone + Drop>(rt: &R, name: &str) -> String {
-    match read_state(rt, name) {
-        Ok(text) => text,
-        Err(_) => String::new(rt.alloc()),
-    }
+    read_state(rt, name).unwrap_or(String::new(rt.alloc()))
 }
 
 impl<'a> Folder<'a> {
