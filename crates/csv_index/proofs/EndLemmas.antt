@@ -1,5 +1,5 @@
 -- The places that are left, one after another.
-use Rattle.std.proofs.Common.{◌≡◌, ℕ, ◌+◌, ◌-◌, ◌*◌, ◌%◌, ◌^◌, ◌<◌, List, [], ◌∷◌, ◌++◌, length, append_assoc, Option, None, Some, refl, sym, ap, ◌∙◌, arith, bit_and, w64}
+use Rattle.std.proofs.Common.{◌≡◌, ℕ, ◌+◌, ◌-◌, ◌*◌, ◌%◌, ◌^◌, ◌<◌, List, [], ◌∷◌, ◌++◌, append_assoc, Option, None, Some, refl, sym, ap, ◌∙◌, arith, bit_and, w64}
 use Rattle.std.specs.Option.{MatchOption}
 use Rattle.std.specs.Int.{bit_at, bit_not, trailing_zeros}
 use Rattle.std.proofs.lemmas.Nat.Bits.{bit_at-trailing_zeros, bit_at_clear_other, bit_at-zero}
@@ -7,10 +7,6 @@ use Rattle.csv_index.specs.Blocks.{set_places}
 use Rattle.csv_index.specs.Structure.{ends_of}
 use Rattle.csv_index.specs.declared.blocks.Block.{Block}
 use Rattle.csv_index.proofs.Bits.{places_split, places_same, places_none, places_around, cleared_below}
-
-pub empty : {A : Type 0} (xs : List A) → length xs ≡ 0 → xs ≡ []
-empty [] e = refl
-empty (x ∷ xs) e = absurd (omega arith)
 
 -- where no bit is left, the next block's are
 pub ends_next : (base word : ℕ) (block : Block) (rest : List Block) (last : Option ℕ) → word ≡ 0

@@ -4,7 +4,7 @@ use Rattle.std.specs.Prelude.{slice_get}
 use Rattle.std.specs.Int.{bit_at}
 use Rattle.std.specs.Int.RustNames.{count_ones}
 use Rattle.std.proofs.Math.Nat.{mod-eq_of_lt}
-use Rattle.std.proofs.lemmas.List.{take_all, take-append-le, length-take, drop-drop}
+use Rattle.std.proofs.lemmas.List.{take_all, take-append-le, length-take, drop-drop, nil_from_length}
 use Rattle.std.proofs.lemmas.Bool.{ltb-true, ltb-false}
 use Rattle.std.proofs.lemmas.Nat.Bits.{bit_at-lt, bit_at_above}
 use Rattle.std.proofs.lemmas.Nat.{or_lt}
@@ -20,7 +20,6 @@ use Rattle.csv_index.specs.declared.widths.Widths.{Widths}
 use Rattle.csv_index.specs.Reading.{role_places, role_open, open_after, HasRead, IsReading}
 use Rattle.csv_index.proofs.Bits.{role_places-append, role_places-length, places_from_roles, places_split, places_none, roles_by_ends, roles_split, roles_one, ones_whole}
 use Rattle.csv_index.proofs.BlockLemmas.{block_places-push}
-use Rattle.csv_index.proofs.EndLemmas.{empty}
 use Rattle.csv_index.proofs.CellLemmas.{slice_get-front, slice_get-behind}
 use Rattle.csv_index.proofs.WidthLemmas.{roles_counted-append, places_counted, counted_most, no_ends}
 use Rattle.csv_index.proofs.TreeCounts.{open_after-append}
@@ -31,7 +30,7 @@ use Rattle.csv_index.proofs.NextBlocks.{block_roles, next_block, StepsTo, less_w
 pub has_read_none : OneStructure → WhatFollows → (text : List ℕ) → HasRead text 0 (carry_of []) [] uncounted false
 has_read_none laws follows text =
     let some = laws.some [] follows.empty in
-    let none : some.0 ≡ [] = empty some.0 (laws.count [] some.0 some.1) in record {
+    let none : some.0 ≡ [] = nil_from_length some.0 (laws.count [] some.0 some.1) in record {
       carried = refl;
       viable = follows.empty;
       roles = [];

@@ -1,6 +1,6 @@
 -- The names of a key and the places of their columns.
 use Rattle.std.proofs.Common.{◌≡◌, ◌<◌, ℕ, suc, ◌+◌, ◌-◌, List, [], ◌∷◌, Bool, true, false, ◌&&◌, ◌||◌, not, cond, nat_eq, nat_lt, map, length, take, drop, get_or, Option, None, Some, refl, sym, ◌∙◌, length-drop, arith}
-use Rattle.std.proofs.lemmas.Bool.{and_parts, not-true, eqb-true}
+use Rattle.std.proofs.lemmas.Bool.{and_parts, or_parts, not-true, eqb-true}
 use Rattle.std.proofs.lemmas.List.{drop_more, length-map}
 use Rattle.std.proofs.lemmas.List.Elements.{All-nil, All-cons}
 use Rattle.std.proofs.lemmas.Slice.Eq.{bytes_eq-Decides}
@@ -70,16 +70,12 @@ apart_at a b texts false e ha hb apart = refl
 apart_at a b texts true e ha hb apart =
     let one = (bytes_eq-Decides a b).1 (place-same a b texts ha hb (eqb-true _ _ e)) in absurd (cc)
 
-neither : (a b : Bool) → (a || b) ≡ false → (a ≡ false) × (b ≡ false)
-neither true b h = absurd (cc)
-neither false b h = (refl, h)
-
 places-apart : (texts : List (List ℕ)) (name : List ℕ) (names : List (List ℕ)) → list_any (bytes_eq name) texts ≡ true → are_there texts names ≡ true
     → list_any (bytes_eq name) names ≡ false → AllByRecursion (λ place. nat_eq (position_or_len (bytes_eq name) texts) place ≡ false) (places texts names)
 places-apart texts name [] h hs new = tt
 places-apart texts name (other ∷ others) h hs new =
     let there = and_parts (list_any (bytes_eq other) texts) (are_there texts others) hs in
-    let apart = neither (bytes_eq name other) (list_any (bytes_eq name) others) new in
+    let apart = or_parts (bytes_eq name other) (list_any (bytes_eq name) others) new in
     (apart_at name other texts (nat_eq (position_or_len (bytes_eq name) texts) (position_or_len (bytes_eq other) texts)) refl h there.0 apart.0, places-apart texts name others h there.1 apart.1)
 
 -- they are different where the texts are

@@ -1,5 +1,6 @@
 -- The token that a text begins with is the one that `first_token` gives.
 use Rattle.std.proofs.Common.{◌≡◌, ℕ, suc, ◌<◌, Bool, true, false, ◌&&◌, ◌==◌, if◌then◌else◌, List, [], ◌∷◌, ◌++◌, length, take, drop, Option, None, Some, refl, ap, ◌∙◌, sym, arith, nat_le, length-take-le, append_assoc, length-append, add-one, ◌+◌}
+use Rattle.std.proofs.lemmas.Bool.{false_from_ne_true}
 use Rattle.std.proofs.lemmas.Bool.Decides.{Decides-eqb, Decides-and}
 use Rattle.std.proofs.lemmas.List.{take-append-drop, take_at, drop_at, length_push}
 use Rattle.std.specs.Bool.{Decides}
@@ -14,7 +15,7 @@ use Rattle.odata_lex.specs.declared.token.TokenKind.{TokenKind}
 use Rattle.odata_lex.specs.declared.token.TokenKind.TheVariants.{Text, Date, Decimal, Number, Word, Dollar, OpenParenthesis, CloseParenthesis, Comma, Slash, Minus, Star, EqualsSign}
 use Rattle.odata_lex.proofs.Digits.{Decides-digits, Decides-digit}
 use Rattle.odata_lex.proofs.Dates.{Decides-date_form, Decides-day}
-use Rattle.odata_lex.proofs.Runs.{run_ends, run_word, run_within, word_len-append, digit_begins, word_bytes_of_digits, ends_before, ends_word_before, from_not, word_byte_of_begin}
+use Rattle.odata_lex.proofs.Runs.{run_ends, run_word, run_within, word_len-append, digit_begins, word_bytes_of_digits, ends_before, ends_word_before, word_byte_of_begin}
 use Rattle.odata_lex.proofs.Decimals.{decimal_there, decimal_back, no_date_here, few_decides, decimal_given}
 use Rattle.odata_lex.proofs.Finds.{Finds, FindsIn}
 use Rattle.odata_lex.proofs.DecimalFound.{decimal_found}
@@ -182,7 +183,7 @@ number_token-digits text front n len taken digits short = rw (len, taken, digits
 
 given_decimal_at : (b : ℕ) (whole fraction after : List ℕ) → digit_value b < 10 → BeginsDecimal (b ∷ whole ++ point ∷ (fraction ++ after)) → decimal_token (b ∷ whole ++ point ∷ (fraction ++ after)) ≡ Some (Decimal, length (b ∷ whole) + 1 + length fraction) → first_token (b ∷ whole ++ point ∷ (fraction ++ after)) ≡ Some (Decimal, length (b ∷ whole) + 1 + length fraction)
 given_decimal_at b whole fraction after small begins token =
-    let other : begins_date (b ∷ whole ++ point ∷ (fraction ++ after)) ≡ false = from_not _ (λ is. no_date_here _ begins ((Decides-begins_date _).0 is)) in
+    let other : begins_date (b ∷ whole ++ point ∷ (fraction ++ after)) ≡ false = false_from_ne_true _ (λ is. no_date_here _ begins ((Decides-begins_date _).0 is)) in
     rw (first-digit b (whole ++ point ∷ (fraction ++ after)) ((Decides-digit b).1 small), other, decimal_back _ begins) token
 
 decimal_begins : (whole fraction after : List ℕ) → AreDigits whole → AreDigits fraction → 0 < length whole → 0 < length fraction → BeginsDecimal (whole ++ point ∷ (fraction ++ after))
@@ -206,8 +207,8 @@ given_number : (front after : List ℕ) → IsNumber front → EndsBefore Number
 given_number [] after form ends no_date no_decimal = absurd (omega (arith, form.nonempty))
 given_number (b ∷ front) after form ends no_date no_decimal =
     let digit : is_ascii_digit b ≡ true = (Decides-digit b).1 form.digits.0 in
-    let other : begins_date (b ∷ front ++ after) ≡ false = from_not _ (λ is. no_date ((Decides-begins_date _).0 is)) in
-    let whole : begins_decimal (b ∷ front ++ after) ≡ false = from_not _ (λ is. no_decimal (decimal_there _ (digit_begins _ b (front ++ after) refl form.digits.0) is)) in
+    let other : begins_date (b ∷ front ++ after) ≡ false = false_from_ne_true _ (λ is. no_date ((Decides-begins_date _).0 is)) in
+    let whole : begins_decimal (b ∷ front ++ after) ≡ false = false_from_ne_true _ (λ is. no_decimal (decimal_there _ (digit_begins _ b (front ++ after) refl form.digits.0) is)) in
     let len : word_len (b ∷ front ++ after) ≡ suc (length front) = word_len-append (b ∷ front) after (word_bytes_of_digits (b ∷ front) form.digits) (ends_word_before after ends) in
     let taken : take (suc (length front)) (b ∷ front ++ after) ≡ b ∷ front = take_at (b ∷ front) after _ refl in
     let digits : list_all is_ascii_digit (b ∷ front) ≡ true = (Decides-digits (b ∷ front)).1 form.digits in

@@ -1,5 +1,6 @@
 -- The function that gives the token that a text begins with, by the first byte.
 use Rattle.std.proofs.Common.{◌≡◌, ℕ, suc, ◌+◌, ◌<◌, true, false, ◌==◌, List, [], ◌∷◌, length, take, drop, Option, None, Some, refl, ap, ◌∙◌, sym, arith, add-one, get_or, ◌≢◌, is_some, MatchOption, ◌-◌}
+use Rattle.std.proofs.lemmas.Bool.{false_from_ne_true}
 use Rattle.std.proofs.lemmas.Bool.Decides.{nat_tests, Decides-and}
 use Rattle.std.proofs.lemmas.List.{take_rest}
 use Rattle.std.specs.Char.{is_ascii_digit}
@@ -9,7 +10,7 @@ use Rattle.odata_lex.specs.First.{text_len, word_len, is_day, begins_date, date_
 use Rattle.odata_lex.specs.Lexer.{is_blank}
 use Rattle.odata_lex.specs.declared.token.TokenKind.TheVariants.{Text, Word}
 use Rattle.odata_lex.proofs.Dates.{Decides-date_form, Decides-day}
-use Rattle.odata_lex.proofs.Runs.{from_not, not_equal}
+use Rattle.odata_lex.proofs.Runs.{not_equal}
 
 pub first-quote : (text : List ℕ) → first_token (quote ∷ text) ≡ option_map (λ n. (Text, suc n)) (text_len false text)
 unfolding first_token
@@ -65,7 +66,7 @@ pub no_day : {D : Type 0} (P : D → Type 0) (text : List ℕ) (day : Option D) 
 no_day P text (Some d) begins none refused = cc
 no_day P text None begins none refused =
     let form : IsDateForm (take 10 text) = ((Decides-and _ _ (Decides-date_form (take 10 text)) ((λ e. e), (λ e. e))).0 begins).0 in
-    let other : is_day (take 10 text) ≡ false = from_not _ (λ is. refused ((Decides-day (take 10 text) form).0 is)) in
+    let other : is_day (take 10 text) ≡ false = false_from_ne_true _ (λ is. refused ((Decides-day (take 10 text) form).0 is)) in
     rw other refl
 
 -- a Text, as the code reads it behind the first byte

@@ -1,5 +1,6 @@
 -- The letters, digits and `_` at the front of a text.
 use Rattle.std.proofs.Common.{◌≡◌, ℕ, suc, ◌≤◌, ◌<◌, Bool, true, false, not, List, [], ◌∷◌, ◌++◌, length, take, drop, refl, ap, ◌∙◌, arith, IsTrue, ◌≢◌, ◌==◌}
+use Rattle.std.proofs.lemmas.Bool.{false_from_ne_true, not-true}
 use Rattle.std.proofs.lemmas.Bool.Decides.{nat_tests, Decides-eqb}
 use Rattle.std.proofs.lemmas.List.Sums.{prefix_len-le-length}
 use Rattle.std.specs.Char.{digit_value}
@@ -28,20 +29,12 @@ word_len-yes b text is = rw is (omega arith)
 pub word_len-no : (b : ℕ) (text : List ℕ) → is_word_byte b ≡ false → word_len (b ∷ text) ≡ 0
 word_len-no b text is = rw is refl
 
-pub not_true : (b : Bool) → not b ≡ true → b ≡ false
-not_true true e = cc
-not_true false e = refl
-
-pub from_not : (b : Bool) → ¬ (b ≡ true) → b ≡ false
-from_not true none = absurd (none refl)
-from_not false none = refl
-
 pub not_equal : (b c : ℕ) → b ≢ c → (b == c) ≡ false
-not_equal b c other = from_not _ (λ is. other ((Decides-eqb b c).0 is))
+not_equal b c other = false_from_ne_true _ (λ is. other ((Decides-eqb b c).0 is))
 
 pub word_len-end : (after : List ℕ) → ends_word after ≡ true → word_len after ≡ 0
 word_len-end [] ends = refl
-word_len-end (b ∷ after) ends = word_len-no b after (not_true _ ends)
+word_len-end (b ∷ after) ends = word_len-no b after (not-true _ ends)
 
 -- a run that nothing lengthens is the whole run
 pub word_len-append : (front after : List ℕ) → AreWordBytes front → ends_word after ≡ true → word_len (front ++ after) ≡ length front

@@ -1,11 +1,12 @@
 -- Where a Text ends.
 use Rattle.std.proofs.Common.{◌≡◌, ℕ, suc, ◌+◌, Bool, true, false, not, List, [], ◌∷◌, ◌++◌, length, Option, None, Some, refl, ap, ◌∙◌, sym, arith, if◌then◌else◌, ◌==◌, ◌<◌, ◌≢◌, get_or, drop, add-zero}
+use Rattle.std.proofs.lemmas.Bool.{not-true}
 use Rattle.std.proofs.lemmas.Bool.Decides.{Decides-eqb}
 use Rattle.std.proofs.lemmas.List.{at_drop_more, at_drop_all}
 use Rattle.std.specs.Option.{option_map}
 use Rattle.odata_lex.specs.Token.{quote, doubled, EndsBefore}
 use Rattle.odata_lex.specs.First.{text_len}
-use Rattle.odata_lex.proofs.Runs.{not_true, not_equal}
+use Rattle.odata_lex.proofs.Runs.{not_equal}
 use Rattle.odata_lex.specs.declared.token.TokenKind.TheVariants.{Text}
 
 -- the `'` that may be the last one
@@ -26,9 +27,6 @@ pub record Closes (closed : Bool) (text : List ℕ) (n : ℕ) : Type 0 where
 abbrev pub ClosesAt : Bool → List ℕ → Option ℕ → Type 0
 ClosesAt closed text None = Unit {0}
 ClosesAt closed text (Some n) = Closes closed text n
-
-doubled-quote : (content : List ℕ) → doubled (quote ∷ content) ≡ quote ∷ quote ∷ doubled content
-doubled-quote content = refl
 
 doubled-other : (b : ℕ) (content : List ℕ) → (b == quote) ≡ false → doubled (b ∷ content) ≡ b ∷ doubled content
 doubled-other b content other = rw other refl
@@ -89,7 +87,7 @@ text_len-other b text other = rw other refl
 text_len-closed : (after : List ℕ) → EndsBefore Text after → text_len true after ≡ Some 0
 unfolding text_len
 text_len-closed [] ends = refl
-text_len-closed (b ∷ after) ends = let other : (b == quote) ≡ false = not_true _ ends in rw other refl
+text_len-closed (b ∷ after) ends = let other : (b == quote) ≡ false = not-true _ ends in rw other refl
 
 found_at : (b : ℕ) (content after : List ℕ) (q : Bool) → (b == quote) ≡ q → text_len false (doubled content ++ quote ∷ after) ≡ Some (suc (length (doubled content))) → text_len false ((if q then quote ∷ quote ∷ doubled content else b ∷ doubled content) ++ quote ∷ after) ≡ Some (suc (length (if q then quote ∷ quote ∷ doubled content else b ∷ doubled content)))
 found_at b content after true is more = rw (text_len-quote, text_len-quote, more) refl

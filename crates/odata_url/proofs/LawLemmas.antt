@@ -6,6 +6,7 @@ use Rattle.std.specs.Fmt.{digit_glyph}
 use Rattle.std.specs.List.{AllByRecursion}
 use Rattle.std.proofs.lemmas.Bool.{cases_Bool, cond-true, cond-false, and_parts, eqb-true, eqb-false, ne_eqb}
 use Rattle.std.proofs.lemmas.Bool.Decides.{nat_tests}
+use Rattle.std.proofs.lemmas.Option.{none-some}
 use Rattle.percent_encoding.specs.Percent.{percent_encode_byte}
 use Rattle.odata_url.specs.Escapes.{percent_sign, octet, octets_of}
 use Rattle.odata_url.specs.Laws.{Encodes, nothing, itself, escape, escaped_text}
@@ -21,9 +22,6 @@ some-if test o other y is whole = sym (cond-true test o other is) ∙ whole
 
 some-unless : {A : Type 0} (test : Bool) (o other : Option A) (y : A) → test ≡ false → cond test o other ≡ Some y → other ≡ Some y
 some-unless test o other y is whole = sym (cond-false test o other is) ∙ whole
-
-none≢some : {A : Type 0} {y : A} → None ≡ Some y → ⊥
-none≢some none = cc
 
 -- a byte that stands for itself comes first
 Encodes-itself : (b : ℕ) (text octets : List ℕ) (o : Option (List ℕ)) → (b == percent_sign) ≡ false → option_map (λ rest. b ∷ rest) o ≡ Some octets → ((rest : List ℕ) → o ≡ Some rest → Encodes text rest) → Encodes (b ∷ text) octets
@@ -45,13 +43,13 @@ Encodes-octets_of [] octets whole =
     subst (Encodes []) none nothing
 Encodes-octets_of (b ∷ []) octets whole =
     ⊎_elim
-    (λ is. absurd (none≢some (some-if (b == percent_sign) None (Some (b ∷ [])) octets is whole)))
+    (λ is. absurd (none-some octets (some-if (b == percent_sign) None (Some (b ∷ [])) octets is whole)))
     (λ other. Encodes-itself b [] octets (Some []) other (some-unless (b == percent_sign) None (Some (b ∷ [])) octets other whole) (Encodes-octets_of []))
     (cases_Bool (b == percent_sign))
 Encodes-octets_of (b ∷ c ∷ []) octets whole =
     let behind = option_map (λ rest. b ∷ rest) (octets_of (c ∷ [])) in
     ⊎_elim
-    (λ is. absurd (none≢some (some-if (b == percent_sign) None behind octets is whole)))
+    (λ is. absurd (none-some octets (some-if (b == percent_sign) None behind octets is whole)))
     (λ other. Encodes-itself b (c ∷ []) octets (octets_of (c ∷ [])) other (some-unless (b == percent_sign) None behind octets other whole) (Encodes-octets_of (c ∷ [])))
     (cases_Bool (b == percent_sign))
 Encodes-octets_of (b ∷ high ∷ low ∷ text) octets whole =
@@ -63,7 +61,7 @@ Encodes-octets_of (b ∷ high ∷ low ∷ text) octets whole =
     let first = some-if (b == percent_sign) (cond hex escaped None) behind octets is whole in
     ⊎_elim
     (λ good. Encodes-escape b high low text octets (octets_of text) is good (some-if hex escaped None octets good first) (Encodes-octets_of text))
-    (λ bad. absurd (none≢some (some-unless hex escaped None octets bad first)))
+    (λ bad. absurd (none-some octets (some-unless hex escaped None octets bad first)))
     (cases_Bool hex))
     (λ other. Encodes-itself b (high ∷ low ∷ text) octets (octets_of (high ∷ low ∷ text)) other (some-unless (b == percent_sign) (cond hex escaped None) behind octets other whole) (Encodes-octets_of (high ∷ low ∷ text)))
     (cases_Bool (b == percent_sign))

@@ -5,7 +5,7 @@ use Rattle.std.specs.List.{list_any, range_with_len, position_or_len}
 use Rattle.std.specs.Option.{option_or}
 use Rattle.std.specs.Ordering.{int_eq}
 use Rattle.std.proofs.Math.Seq.{get_or-append_seam, take-append_seam}
-use Rattle.std.proofs.lemmas.Bool.{cases_order, or_parts}
+use Rattle.std.proofs.lemmas.Bool.{cases_order, cond-false, not-true, or_parts}
 use Rattle.std.proofs.lemmas.Bool.Decides.{nat_tests}
 use Rattle.std.proofs.lemmas.List.{take_more, take-append-le, get_or-map, get_or_append_left, length-map, length-append, map-append}
 use Rattle.std.proofs.lemmas.List.Folds.{list_any-append, list_any_at}
@@ -99,17 +99,6 @@ position_or_len-map p f (x ∷ xs) = rw (position_or_len-map p f xs) refl
 position-map : {X Y : Type 0} (p : Y → Bool) (f : X → Y) (xs : List X) → position p (map f xs) ≡ position (λ x. p (f x)) xs
 position-map p f xs = rw (position_or_len-map p f xs, length-map xs f) refl
 
-list_any-some : {X : Type 0} (p : X → Bool) (xs : List X) (i : ℕ) (d : X) → i < length xs → p (get_or xs i d) ≡ true → list_any p xs ≡ true
-list_any-some p xs i d h e = list_any_at p xs i d h e
-
-pub cond_false : {X : Type 0} (b : Bool) (x y : X) → b ≡ false → cond b x y ≡ y
-cond_false true x y e = cc
-cond_false false x y e = refl
-
-pub was_false : (b : Bool) → not b ≡ true → b ≡ false
-was_false true e = cc
-was_false false e = refl
-
 list_any-map : {X Y : Type 0} (p : Y → Bool) (f : X → Y) (xs : List X) → list_any p (map f xs) ≡ list_any (λ x. p (f x)) xs
 list_any-map p f [] = refl
 list_any-map p f (x ∷ xs) = ap (λ rest. p (f x) || rest) (list_any-map p f xs)
@@ -130,7 +119,7 @@ module _ {K : Type 0} (view : K → List CellValue) (eq : K → K → Bool) (eq_
   -- and then it is the last
   pub inserted-last : (k : K) (ks : List K) (new : Bool) → new ≡ not (list_any (eq k) ks) → new ≡ true → map view (insert_key eq ks k) ≡ map view ks ++ view k ∷ []
   inserted-last k ks new e is =
-      ap (map view) (cond_false (list_any (eq k) ks) ks (ks ++ k ∷ []) (was_false (list_any (eq k) ks) (sym e ∙ is))) ∙ map-append view ks (k ∷ [])
+      ap (map view) (cond-false (list_any (eq k) ks) ks (ks ++ k ∷ []) (not-true (list_any (eq k) ks) (sym e ∙ is))) ∙ map-append view ks (k ∷ [])
 
 -- ---- one more key
 pub null_row-more : (keys : List (List CellValue)) (key : List CellValue) → null_row (keys ++ key ∷ []) ≡ option_or (null_row keys) (cond (has_null key) (Some (length keys)) None)
@@ -181,7 +170,7 @@ row_key-more places values i within =
 pub has_null-here : (places : List ℕ) (values : List CellValue) (i : ℕ) → i < length places → value_eq null (get_or values (get_or places i 0) null) ≡ true
     → has_null (row_key places values) ≡ true
 has_null-here places values i within e =
-    list_any-some (value_eq null) (row_key places values) i null (omega (arith, length-map places (λ place. get_or values place null)))
+    list_any_at (value_eq null) (row_key places values) i null (omega (arith, length-map places (λ place. get_or values place null)))
     (ap (value_eq null) (get_or-map (λ place. get_or values place null) places i 0 null within) ∙ e)
 
 pub has_null-past : (places : List ℕ) (values : List CellValue) (i : ℕ) → i < length places → value_eq null (get_or values (get_or places i 0) null) ≡ false

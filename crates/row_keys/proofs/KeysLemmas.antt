@@ -4,6 +4,7 @@ use Rattle.std.specs.Int.{w64}
 use Rattle.std.specs.Int.RustNames.{FitsSigned}
 use Rattle.std.specs.List.{list_any}
 use Rattle.std.specs.Option.{option_or, is_some}
+use Rattle.std.proofs.lemmas.Bool.{not-false, not-true}
 use Rattle.csv_index.specs.Raw.{RawField, raw_content}
 use Rattle.cell_types.specs.declared.fault.CellFault.{CellFault}
 use Rattle.cell_types.specs.declared.value.Value.{Value}
@@ -20,7 +21,7 @@ use Rattle.typed_columns.specs.Values.{value_or_null, values_in}
 use Rattle.row_keys.specs.Key.{row_key, key_eq, has_null, repeated_row}
 use Rattle.row_keys.specs.Keys.{HasRead, HaveRead, IsInteger}
 use Rattle.row_keys.specs.Values.{HasReadValues}
-use Rattle.row_keys.proofs.KeyLemmas.{null_row-more, repeated_row-more, was_false}
+use Rattle.row_keys.proofs.KeyLemmas.{null_row-more, repeated_row-more}
 
 -- ---- integers
 -- a column of integers has no other values
@@ -94,10 +95,6 @@ or_some : (o more : Option ℕ) → is_some o ≡ true → option_or o more ≡ 
 or_some None more e = cc
 or_some (Some x) more e = refl
 
-pub was_true : (b : Bool) → not b ≡ false → b ≡ true
-was_true true e = refl
-was_true false e = cc
-
 module _ (reader : KeyReader) (keys : List (List CellValue)) (key : List CellValue) (read : HasRead reader keys) (none : reader.null ≡ None) where
   -- a row with the first null
   pub HasRead-null : (row : ℕ) → row ≡ length keys → has_null key ≡ true → HasRead (record { keys = reader.keys; null = Some row }) (keys ++ key ∷ [])
@@ -140,7 +137,7 @@ module _ (reader : ValueReader) (keys : List (List CellValue)) (key : List CellV
     pub HasReadValues-new : (b : Bool) → new.repeated ≡ None → b ≡ not (list_any (key_eq key) (kept_keys reader)) → b ≡ true → kept_keys new ≡ kept_keys reader ++ key ∷ []
         → HasReadValues new (keys ++ key ∷ [])
     HasReadValues-new b still e is last = record {
-      repeated = still ∙ sym (next_repeated false (ap (list_any (key_eq key)) (sym (read.kept once)) ∙ was_false (list_any (key_eq key) (kept_keys reader)) (sym e ∙ is)));
+      repeated = still ∙ sym (next_repeated false (ap (list_any (key_eq key)) (sym (read.kept once)) ∙ not-true (list_any (key_eq key) (kept_keys reader)) (sym e ∙ is)));
       kept = λ _. last ∙ ap (λ ks. ks ++ key ∷ []) (read.kept once);
     }
 
@@ -149,6 +146,6 @@ module _ (reader : ValueReader) (keys : List (List CellValue)) (key : List CellV
         → HasReadValues new (keys ++ key ∷ [])
     HasReadValues-again row b now same e is = record {
       repeated = now ∙ ap (λ r. Some r) same
-          ∙ sym (next_repeated true (ap (list_any (key_eq key)) (sym (read.kept once)) ∙ was_true (list_any (key_eq key) (kept_keys reader)) (sym e ∙ is)));
+          ∙ sym (next_repeated true (ap (list_any (key_eq key)) (sym (read.kept once)) ∙ not-false (list_any (key_eq key) (kept_keys reader)) (sym e ∙ is)));
       kept = λ f. absurd (let n : Some row ≡ None = sym now ∙ f in cc);
     }

@@ -2,10 +2,10 @@
 use Rattle.std.proofs.Common.{map, rules, tests}
 use Rattle.std.proofs.lemmas.Iterator.{YieldsList-from_slice}
 use Rattle.std.proofs.lemmas.Iterator.Search.{all_from_yields_List}
+use Rattle.std.proofs.lemmas.List.Folds.{list_all-map}
 use Rattle.serde_json.specs.View.{view}
 use Rattle.csvw_meta.specs.Column.{has_name}
 use Rattle.csvw_meta.specs.Key.{text_of}
-use Rattle.csvw_meta.proofs.ListLemmas.{list_all-map}
 use Rattle.csvw_meta.proofs.key.are_names.Goals as goal
 
 pub returns : goal.returns

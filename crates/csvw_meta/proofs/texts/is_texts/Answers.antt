@@ -2,9 +2,9 @@
 use Rattle.std.proofs.Common.{rules, tests}
 use Rattle.std.proofs.lemmas.Iterator.{YieldsList-from_slice}
 use Rattle.std.proofs.lemmas.Iterator.Search.{all_from_yields_List}
+use Rattle.std.proofs.lemmas.List.Folds.{list_all-map}
 use Rattle.serde_json.specs.View.{view}
 use Rattle.csvw_meta.specs.Texts.{is_text}
-use Rattle.csvw_meta.proofs.ListLemmas.{list_all-map}
 use Rattle.csvw_meta.proofs.texts.is_texts.Goals as goal
 
 pub returns : goal.returns

@@ -2,10 +2,9 @@ use Rattle.std.proofs.Common.{◌≡◌, ℤ, pos, get_or, take, true, false, []
 use Rattle.std.specs.Int.{w64, w128}
 use Rattle.std.specs.List.{list_any}
 use Rattle.std.specs.Ordering.{int_eq}
+use Rattle.std.proofs.lemmas.Bool.{cond-false, not-false, not-true}
 use Rattle.std.proofs.lemmas.Int.{ints}
 use Rattle.std.proofs.lemmas.List.{take_more}
-use Rattle.row_keys.proofs.KeyLemmas.{cond_false, was_false}
-use Rattle.row_keys.proofs.KeysLemmas.{was_true}
 use Rattle.row_keys.proofs.NumberLemmas.{repeated_here, repeated_past}
 use Rattle.row_keys.proofs.numbers.set_of.Goals as goal
 
@@ -17,7 +16,7 @@ returns-then-not-branch-clause-repeated c =
     let fits : FitsSigned w64 number = search rules in
     let put : ℤ = to_z w128 (of_z w128 (to_z w64 (of_z w64 number))) in
     let read : put ≡ number = omega (arith, ints) in
-    let has : list_any (int_eq put) c.loop-row.set.keys ≡ true = was_true (list_any (int_eq put) c.loop-row.set.keys) (sym c.in_ok-insert.ensures.added ∙ c.if-not-branch.true) in
+    let has : list_any (int_eq put) c.loop-row.set.keys ≡ true = not-false (list_any (int_eq put) c.loop-row.set.keys) (sym c.in_ok-insert.ensures.added ∙ c.if-not-branch.true) in
     repeated_here numbers row c.loop-row-test.true c.loop-row.invariant.distinct
     (ap (λ z. list_any (int_eq z) (take row numbers)) (sym read) ∙ ap (list_any (int_eq put)) (sym c.loop-row.invariant.kept) ∙ has)
 
@@ -30,9 +29,9 @@ loop-row-preserved c =
     let put : ℤ = to_z w128 (of_z w128 (to_z w64 (of_z w64 number))) in
     let read : put ≡ number = omega (arith, ints) in
     let old = c.loop-row.set.keys in
-    let lacks : list_any (int_eq put) old ≡ false = was_false (list_any (int_eq put) old) (sym c.in_ok-insert.ensures.added ∙ c.if-not-branch.false) in
+    let lacks : list_any (int_eq put) old ≡ false = not-true (list_any (int_eq put) old) (sym c.in_ok-insert.ensures.added ∙ c.if-not-branch.false) in
     record {
-      kept = c.in_ok-insert.ensures.keys ∙ cond_false (list_any (int_eq put) old) old (old ++ put ∷ []) lacks
+      kept = c.in_ok-insert.ensures.keys ∙ cond-false (list_any (int_eq put) old) old (old ++ put ∷ []) lacks
           ∙ ap (λ ks. ks ++ put ∷ []) c.loop-row.invariant.kept ∙ ap (λ z. take row numbers ++ z ∷ []) read ∙ sym (take_more numbers row (pos 0) c.loop-row-test.true);
       distinct = repeated_past numbers row c.loop-row-test.true c.loop-row.invariant.distinct
           (ap (λ z. list_any (int_eq z) (take row numbers)) (sym read) ∙ ap (list_any (int_eq put)) (sym c.loop-row.invariant.kept) ∙ lacks);

@@ -1,13 +1,14 @@
 use Rattle.std.proofs.Common.{◌+◌, ◌<◌, ◌++◌, arith, sym, ap, ◌∙◌, refl}
+use Rattle.std.proofs.lemmas.List.{nil_from_length}
 use Rattle.csv_index.specs.Structure.{ends_of}
-use Rattle.csv_index.proofs.EndLemmas.{empty, ends_next, last_taken, ends_lowest}
+use Rattle.csv_index.proofs.EndLemmas.{ends_next, last_taken, ends_lowest}
 use Rattle.csv_index.specs.Blocks.{set_places}
 use Rattle.csv_index.proofs.ends.Ends.next.Goals as goal
 
 pub returns-in_default : goal.returns-in_default
 returns-in_default c =
     last_taken _ c.loop-self.self-inside.base c.loop-self.self-inside.word c.loop-self.self-inside.rest.now c.loop-self.self-inside.last c.take.result c.take.new.self
-    c.loop-self.invariant.left c.loop-self-test.true (empty _ c.in_default.ensures.cases) c.take.ensures.value c.take.ensures.after
+    c.loop-self.invariant.left c.loop-self-test.true (nil_from_length _ c.in_default.ensures.cases) c.take.ensures.value c.take.ensures.after
 
 pub loop-self-preserved : goal.loop-self-preserved
 loop-self-preserved c =
