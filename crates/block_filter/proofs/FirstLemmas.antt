@@ -1,9 +1,9 @@
 -- The first of the rows that pass.
-use Rattle.std.proofs.Common.{◌≡◌, ℕ, zero, suc, ◌<◌, ◌≤◌, Bool, true, false, cond, Option, Some, List, [], ◌∷◌, get_or, length, map, take, refl, sym, ap, ◌∙◌, subst, arith}
-use Rattle.std.specs.Prelude.{count_by, filter, option_map}
+use Rattle.std.proofs.Common.{◌≡◌, ℕ, zero, suc, ◌<◌, ◌≤◌, Bool, true, false, Option, Some, List, [], ◌∷◌, get_or, length, map, take, refl, sym, ap, ◌∙◌, subst, arith}
+use Rattle.std.specs.Prelude.{count_by, option_map}
 use Rattle.std.specs.List.{All}
 use Rattle.std.proofs.lemmas.List.{get_or-take, length-map, length-take, take-map}
-use Rattle.std.proofs.lemmas.List.Sums.{length-filter}
+use Rattle.std.proofs.lemmas.List.Sums.{count_by-le-length}
 use Rattle.cell_types.specs.Value.{CellValue}
 use Rattle.odata_types.specs.TypedTree.{TruthExprOf}
 use Rattle.query_plan.specs.Meaning.{first_rows}
@@ -48,17 +48,6 @@ first_marked es rows most limit wanted found passed long limited numbers within 
   count = count ∙ sym (marked_count wanted rows long) ∙ passed_count es rows (marked wanted rows) passed;
 }
 
-filtered_few : {X : Type 0} (p : X → Bool) (xs : List X) → length (filter p xs) ≤ length xs
-filtered_few p [] = omega arith
-filtered_few p (x ∷ xs) = one (p x) (filter p xs) (filtered_few p xs)
-  where
-    one : (b : Bool) (ys : List _) → length ys ≤ length xs → length (cond b (x ∷ ys) ys) ≤ suc (length xs)
-    one true ys h = omega (arith, h)
-    one false ys h = omega (arith, h)
-
-counted_few : {X : Type 0} (p : X → Bool) (xs : List X) → count_by p xs ≤ length xs
-counted_few p xs = let few = filtered_few p xs in let same = length-filter p xs in omega (arith, few, same)
-
 first_some : (most : Option ℕ) (limit : ℕ) (rows : List (List CellValue)) (numbers : List ℕ) (faulted : Bool) → length numbers ≤ length rows
     → ((xs : List (List CellValue)) → length xs ≤ length rows → take limit xs ≡ first_rows most xs)
     → option_map (first_rows most) (unless_faulted faulted (numbered numbers rows)) ≡ unless_faulted faulted (numbered (take limit numbers) rows)
@@ -73,7 +62,7 @@ pub first_of_all : (es : List TruthExprOf) (rows : List (List CellValue)) (most 
     → ((xs : List (List CellValue)) → length xs ≤ length rows → take limit xs ≡ first_rows most xs) → AreFirstOf all limit found → ArePassing es most rows found
 first_of_all es rows most limit all found are limited first =
     let numbers = all.numbers.items in
-    let few : length numbers ≤ length rows = let some = counted_few (passes_each es) rows in omega (arith, some, are.count) in
+    let few : length numbers ≤ length rows = let some = count_by-le-length (passes_each es) rows in omega (arith, some, are.count) in
     record {
       passed =
           ap (option_map (first_rows most)) are.passed ∙ first_some most limit rows numbers all.faulted few limited

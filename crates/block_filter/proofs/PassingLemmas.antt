@@ -2,7 +2,7 @@
 use Rattle.std.proofs.Common.{◌≡◌, ℕ, zero, suc, ◌+◌, ◌<◌, Bool, true, false, ◌&&◌, cond, Some, List, [], ◌∷◌, ◌++◌, length, map, take, drop, replicate, get_or, refl, sym, ap, ◌∙◌, arith}
 use Rattle.std.specs.Prelude.{Box, count_by, filter, option_and_then}
 use Rattle.std.specs.List.{All}
-use Rattle.std.proofs.lemmas.List.{append-nil, drop_more, map_push}
+use Rattle.std.proofs.lemmas.List.{append-nil, drop_more, map_push, nil_from_length}
 use Rattle.std.proofs.lemmas.List.Elements.{All-push}
 use Rattle.std.proofs.lemmas.List.Sums.{length-filter}
 use Rattle.cell_types.specs.Value.{CellValue}
@@ -143,15 +143,11 @@ marked_count marks xs h = marked_filtered marks xs h ∙ length-filter is_marked
 
 -- ---- conditions in turn
 
-pub no_rows : {X : Type 0} (xs : List X) → length xs ≡ 0 → xs ≡ []
-no_rows [] h = refl
-no_rows (x ∷ xs) h = absurd (omega (arith, h))
-
 -- where no row is wanted, conditions leave as many
 pub none_wanted : (es : List TruthExprOf) (wanted : List Bool) (rows : List (List CellValue)) → length wanted ≡ length rows → count_by is_marked wanted ≡ 0
     → passing_all es (marked wanted rows) ≡ Some (marked wanted rows)
 none_wanted es wanted rows long none =
-    let empty : marked wanted rows ≡ [] = no_rows (marked wanted rows) (marked_count wanted rows long ∙ none) in
+    let empty : marked wanted rows ≡ [] = nil_from_length (marked wanted rows) (marked_count wanted rows long ∙ none) in
     ap (passing_all es) empty ∙ none_pass es ∙ ap (λ xs. Some xs) (sym empty)
 
 pub next_condition : {A : Type 0} (conditions : List (Box TruthExpr A)) (i : ℕ) (condition : Box TruthExpr A) (rows : List (List CellValue)) (was now : List Bool)

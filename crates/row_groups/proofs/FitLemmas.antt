@@ -5,7 +5,7 @@ use Rattle.std.specs.List.{AllByRecursion, cons_option, filter_map}
 use Rattle.std.proofs.Math.Nat.{mul-le-mul_left}
 use Rattle.std.proofs.lemmas.Bool.{cases_Bool}
 use Rattle.std.proofs.lemmas.List.{length-append}
-use Rattle.std.proofs.lemmas.List.Elements.{All-from_recursion, recursion_from_All}
+use Rattle.std.proofs.lemmas.List.Elements.{All-from_recursion, filter_map-append, recursion_from_All}
 use Rattle.cell_types.specs.Value.{CellValue}
 use Rattle.row_eval.specs.Row.{cell, decimal_in, integer_in}
 use Rattle.odata_query.specs.declared.aggregate.Aggregate.{Aggregate}
@@ -13,7 +13,7 @@ use Rattle.odata_query.specs.declared.aggregate.Aggregate.TheVariants.{Count, Su
 use Rattle.query_plan.specs.Fitting.{AreSummable}
 use Rattle.row_columns.specs.Kinds.{AreOfKinds, any}
 use Rattle.row_groups.specs.Tallies.{FitsAll}
-use Rattle.row_groups.proofs.ListLemmas.{all_behind, all_by_each, all_front, filter_map_append}
+use Rattle.row_groups.proofs.ListLemmas.{all_behind, all_by_each, all_front}
 
 -- ---- columns of any take all values
 
@@ -68,12 +68,12 @@ kept_fit f keeps xs = fewer_fit f xs (filter keeps xs) (fewer_kept keeps xs) (λ
 front_fit : {X : Type 0} (f : X → Option ℤ) (xs ys : List X) → AreSummable (filter_map f (xs ++ ys)) (length (xs ++ ys)) → AreSummable (filter_map f xs) (length xs)
 front_fit f xs ys =
     fewer_fit f (xs ++ ys) xs (let e = length-append xs ys in omega arith)
-    (λ P a. all_front P (filter_map f xs) (filter_map f ys) (subst (AllByRecursion P) (filter_map_append f xs ys) a))
+    (λ P a. all_front P (filter_map f xs) (filter_map f ys) (subst (AllByRecursion P) (filter_map-append f xs ys) a))
 
 pub rest_fit : {X : Type 0} (f : X → Option ℤ) (xs ys : List X) → AreSummable (filter_map f (xs ++ ys)) (length (xs ++ ys)) → AreSummable (filter_map f ys) (length ys)
 rest_fit f xs ys =
     fewer_fit f (xs ++ ys) ys (let e = length-append xs ys in omega arith)
-    (λ P a. all_behind P (filter_map f xs) (filter_map f ys) (subst (AllByRecursion P) (filter_map_append f xs ys) a))
+    (λ P a. all_behind P (filter_map f xs) (filter_map f ys) (subst (AllByRecursion P) (filter_map-append f xs ys) a))
 
 -- ---- so can each aggregate be
 

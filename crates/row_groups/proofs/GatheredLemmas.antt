@@ -140,9 +140,6 @@ one_row_fits width before rows numbers i aggregates h fits =
 
 -- ---- the rows that are given
 
-group_of : (places : List ℕ) (n : ℕ) → n ≡ length places → (row : List CellValue) → length (values_at places row) ≡ n
-group_of places n e row = length-map places (value_at row) ∙ sym e
-
 kept_wide : (n : ℕ) (keeps : List CellValue → Bool) (vs : List (List CellValue)) → AllByRecursion (λ v. length v ≡ n) vs → AllByRecursion (λ v. length v ≡ n) (filter keeps vs)
 kept_wide n keeps [] a = tt
 kept_wide n keeps (v ∷ vs) a = by (keeps v) (kept_wide n keeps vs a.1)

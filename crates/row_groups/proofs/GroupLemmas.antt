@@ -3,22 +3,14 @@ use Rattle.std.proofs.Common.{◌≡◌, ◌↔◌, ℕ, zero, suc, ◌<◌, Boo
 use Rattle.std.specs.Prelude.{slice_set}
 use Rattle.std.specs.Cmp.Lexicographic.{pointwise_decides}
 use Rattle.std.specs.List.{AllByRecursion, AllZip, IsDistinct, list_any}
-use Rattle.std.proofs.lemmas.Bool.{cases_Bool, false≢true}
-use Rattle.std.proofs.lemmas.List.{map-append}
+use Rattle.std.proofs.lemmas.Bool.{cases_Bool, false≢true, or_parts}
+use Rattle.std.proofs.lemmas.List.{append-nil, map-append}
 use Rattle.std.proofs.lemmas.List.Elements.{filter-append}
 use Rattle.indexmap.specs.IndexSet.{insert_key}
 use Rattle.cell_types.specs.Value.{CellValue, value_eq}
 use Rattle.odata_query.specs.FirstSeen.{first_seen}
 use Rattle.query_plan.specs.Apply.{group_values, rows_of_group, same_values, values_at}
-use Rattle.row_groups.proofs.ListLemmas.{all_at, append_none, zip_push}
-
-or_right : (a b : Bool) → (a || b) ≡ false → b ≡ false
-or_right true b e = absurd (false≢true (sym e))
-or_right false b e = e
-
-or_left : (a b : Bool) → (a || b) ≡ false → a ≡ false
-or_left true b e = absurd (false≢true (sym e))
-or_left false b e = refl
+use Rattle.row_groups.proofs.ListLemmas.{all_at, zip_push}
 
 module _ {X : Type 0} (eq : X → X → Bool) (is : (a b : X) → eq a b ≡ true → a ≡ b) (self : (a : X) → eq a a ≡ true) where
   turned : (a b : X) → eq a b ≡ false → eq b a ≡ false
@@ -37,7 +29,7 @@ module _ {X : Type 0} (eq : X → X → Bool) (is : (a b : X) → eq a b ≡ tru
   -- what is dropped stays dropped
   past : (x y : X) (b : Bool) (zs : List X) → eq x y ≡ true → filter (λ z. not (eq x z)) (cond b zs (zs ++ y ∷ [])) ≡ filter (λ z. not (eq x z)) zs
   past x y true zs e = refl
-  past x y false zs e = filter-append (λ z. not (eq x z)) zs (y ∷ []) ∙ (let none : filter (λ z. not (eq x z)) (y ∷ []) ≡ [] = rw e refl in ap (λ ys. filter (λ z. not (eq x z)) zs ++ ys) none) ∙ append_none (filter (λ z. not (eq x z)) zs)
+  past x y false zs e = filter-append (λ z. not (eq x z)) zs (y ∷ []) ∙ (let none : filter (λ z. not (eq x z)) (y ∷ []) ≡ [] = rw e refl in ap (λ ys. filter (λ z. not (eq x z)) zs ++ ys) none) ∙ append-nil (filter (λ z. not (eq x z)) zs)
 
   kept : (x y : X) (b : Bool) (zs : List X) → eq x y ≡ false
       → filter (λ z. not (eq x z)) (cond b zs (zs ++ y ∷ [])) ≡ cond b (filter (λ z. not (eq x z)) zs) (filter (λ z. not (eq x z)) zs ++ y ∷ [])
@@ -68,9 +60,9 @@ module _ {X : Type 0} (eq : X → X → Bool) (is : (a b : X) → eq a b ≡ tru
   pub unseen : (xs : List X) (y : X) → list_any (eq y) (first_seen eq xs) ≡ false → list_any (eq y) xs ≡ false
   unseen [] y e = refl
   unseen (x ∷ xs) y e =
-      let head : eq y x ≡ false = or_left (eq y x) (list_any (eq y) (filter (λ z. not (eq x z)) (first_seen eq xs))) e in
-      let tail : list_any (eq y) (filter (λ z. not (eq x z)) (first_seen eq xs)) ≡ false = or_right (eq y x) (list_any (eq y) (filter (λ z. not (eq x z)) (first_seen eq xs))) e in
-      let rest : list_any (eq y) xs ≡ false = unseen xs y (sym (any_filter x y (first_seen eq xs) (turned y x head)) ∙ tail) in
+      let parts = or_parts (eq y x) (list_any (eq y) (filter (λ z. not (eq x z)) (first_seen eq xs))) e in
+      let head : eq y x ≡ false = parts.0 in
+      let rest : list_any (eq y) xs ≡ false = unseen xs y (sym (any_filter x y (first_seen eq xs) (turned y x head)) ∙ parts.1) in
       rw (head, rest) refl
 
 module _ (equal : (a b : CellValue) → IsTrue (value_eq a b) ↔ (a ≡ b)) (places : List ℕ) where
@@ -94,7 +86,7 @@ module _ (equal : (a b : CellValue) → IsTrue (value_eq a b) ↔ (a ≡ b)) (pl
     stays v e =
         filter-append (λ r. same_values v (values_at places r)) some (row ∷ [])
         ∙ (let none : filter (λ r. same_values v (values_at places r)) (row ∷ []) ≡ [] = rw e refl in ap (λ rs. rows_of_group places some v ++ rs) none)
-        ∙ append_none (rows_of_group places some v)
+        ∙ append-nil (rows_of_group places some v)
 
     all_stay : (keys : List (List CellValue)) → AllByRecursion (λ v. same_values v (values_at places row) ≡ false) keys
         → map (rows_of_group places some) keys ≡ map (rows_of_group places (some ++ row ∷ [])) keys
@@ -127,14 +119,16 @@ module _ (equal : (a b : CellValue) → IsTrue (value_eq a b) ↔ (a ≡ b)) (pl
     no_member : (rs : List (List CellValue)) (v : List CellValue) → list_any (same_values v) (map (values_at places) rs) ≡ false → rows_of_group places rs v ≡ []
     no_member [] v e = refl
     no_member (r ∷ rs) v e =
-        let head : same_values v (values_at places r) ≡ false = or_left (same_values v (values_at places r)) (list_any (same_values v) (map (values_at places) rs)) e in
-        rw head (no_member rs v (or_right (same_values v (values_at places r)) (list_any (same_values v) (map (values_at places) rs)) e))
+        let parts = or_parts (same_values v (values_at places r)) (list_any (same_values v) (map (values_at places) rs)) e in
+        let head : same_values v (values_at places r) ≡ false = parts.0 in
+        rw head (no_member rs v parts.1)
 
     none_same : (keys : List (List CellValue)) → list_any (same_values (values_at places row)) keys ≡ false → AllByRecursion (λ v. same_values v (values_at places row) ≡ false) keys
     none_same [] e = tt
     none_same (v ∷ vs) e =
         let y = values_at places row in
-        (turned same_values same_is same_self y v (or_left (same_values y v) (list_any (same_values y) vs) e), none_same vs (or_right (same_values y v) (list_any (same_values y) vs) e))
+        let parts = or_parts (same_values y v) (list_any (same_values y) vs) e in
+        (turned same_values same_is same_self y v parts.0, none_same vs parts.1)
 
     -- or it is the first of a new one
     pub new_zip : {T : Type 0} (R : List (List CellValue) → T → Type 0) (ts : List T) (t : T) → AllZip R (map (rows_of_group places some) (group_values places some)) ts

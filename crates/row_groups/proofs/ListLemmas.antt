@@ -1,27 +1,15 @@
 -- Lists, and how many different elements they have, where one more comes behind them.
-use Rattle.std.proofs.Common.{◌≡◌, ℕ, zero, suc, ◌+◌, ◌<◌, ◌≤◌, Bool, true, false, cond, ◌||◌, Option, Some, None, List, [], ◌∷◌, ◌++◌, length, take, drop, get_or, inl, inr, refl, sym, ap, subst, ◌∙◌, arith}
+use Rattle.std.proofs.Common.{◌≡◌, ℕ, zero, suc, ◌+◌, ◌<◌, ◌≤◌, Bool, true, false, cond, ◌||◌, List, [], ◌∷◌, ◌++◌, length, take, drop, get_or, inl, inr, refl, sym, ap, subst, ◌∙◌, arith}
 use Rattle.std.specs.Prelude.{Result, Ok, Err, IfOk, OnOk, slice_set}
-use Rattle.std.specs.List.{AllByRecursion, AllZip, cons_option, filter_map, list_any}
+use Rattle.std.specs.List.{AllByRecursion, AllZip, list_any}
 use Rattle.std.specs.Set.{distinct_count, unique_keys}
 use Rattle.std.proofs.lemmas.Bool.{cases_Bool, false≢true}
 use Rattle.std.proofs.lemmas.List.Folds.{list_any-append}
-
-pub append_none : {X : Type 0} (xs : List X) → xs ++ [] ≡ xs
-append_none [] = refl
-append_none (x ∷ xs) = ap (λ ys. x ∷ ys) (append_none xs)
 
 pub in_two : {X : Type 0} (xs : List X) (k : ℕ) → xs ≡ take k xs ++ drop k xs
 in_two xs zero = refl
 in_two [] (suc k) = refl
 in_two (x ∷ xs) (suc k) = ap (λ ys. x ∷ ys) (in_two xs k)
-
-pub filter_map_append : {X Y : Type 0} (f : X → Option Y) (xs ys : List X) → filter_map f (xs ++ ys) ≡ filter_map f xs ++ filter_map f ys
-filter_map_append f [] ys = refl
-filter_map_append {X} {Y} f (x ∷ xs) ys = by (f x) (filter_map_append f xs ys)
-  where
-    by : (o : Option Y) → filter_map f (xs ++ ys) ≡ filter_map f xs ++ filter_map f ys → cons_option o (filter_map f (xs ++ ys)) ≡ cons_option o (filter_map f xs) ++ filter_map f ys
-    by None h = h
-    by (Some y) h = ap (λ zs. y ∷ zs) h
 
 module _ {X : Type 0} (P : X → Type 0) where
   pub all_append : (xs ys : List X) → AllByRecursion P xs → AllByRecursion P ys → AllByRecursion P (xs ++ ys)
@@ -56,10 +44,6 @@ if_ok P Q f (Err e) h = h
 or_false : (b : Bool) → (b || false) ≡ b
 or_false true = refl
 or_false false = refl
-
-or_true : (b : Bool) → (b || true) ≡ true
-or_true true = refl
-or_true false = refl
 
 module _ {X : Type 0} (eq : X → X → Bool) (is : (a b : X) → eq a b ≡ true → a ≡ b) (self : (a : X) → eq a a ≡ true) where
   member_more : (xs : List X) (y v : X) → list_any (eq v) (xs ++ y ∷ []) ≡ (list_any (eq v) xs || eq v y)

@@ -7,8 +7,8 @@ use Rattle.std.specs.Option.{unwrap_or}
 use Rattle.std.proofs.Math.Nat.{mul-le-mul_left, mul-suc}
 use Rattle.std.proofs.Math.Seq.{drop-cons}
 use Rattle.std.proofs.lemmas.Int.{ints, fits_signed_from_abs}
-use Rattle.std.proofs.lemmas.List.{length-drop, length-map}
-use Rattle.std.proofs.lemmas.List.Elements.{recursion_from_All}
+use Rattle.std.proofs.lemmas.List.{append-nil, length-drop, length-map}
+use Rattle.std.proofs.lemmas.List.Elements.{filter_map-append, recursion_from_All}
 use Rattle.cell_types.specs.Value.{CellValue, null}
 use Rattle.row_eval.specs.Row.{cell}
 use Rattle.row_columns.specs.Picked.{numbered}
@@ -16,7 +16,6 @@ use Rattle.row_groups.proofs.RowLemmas.{cells_before, numbered_drop}
 use Rattle.query_plan.specs.Apply.{integer_sum, sum_value}
 use Rattle.query_plan.specs.Fitting.{AreSummable}
 use Rattle.row_groups.specs.Sums.{sum_of, sums_joined, FitSums}
-use Rattle.row_groups.proofs.ListLemmas.{append_none, filter_map_append}
 
 pub sum_or_zero : (ns : List ℤ) → unwrap_or (sum_of ns) (pos 0) ≡ integer_sum ns
 sum_or_zero [] = refl
@@ -146,7 +145,7 @@ sum_append (n ∷ ns) ms = ap (λ k. n +ℤ k) (sum_append ns ms) ∙ sums_add n
 
 some_append : (ns ms : List ℤ) → sum_of (ns ++ ms) ≡ sums_joined (sum_of ns) (sum_of ms)
 some_append [] ms = refl
-some_append (n ∷ ns) [] = ap sum_of (append_none (n ∷ ns))
+some_append (n ∷ ns) [] = ap sum_of (append-nil (n ∷ ns))
 some_append (n ∷ ns) (m ∷ ms) = ap Some (sum_append (n ∷ ns) (m ∷ ms))
 
 fit_append : (ns ms : List ℤ) → FitsSigned w128 (integer_sum (ns ++ ms)) → FitSums (sum_of ns) (sum_of ms)
@@ -156,9 +155,9 @@ fit_append (n ∷ ns) (m ∷ ms) fit = subst (FitsSigned w128) (sum_append (n �
 
 module _ {X : Type 0} (f : X → Option ℤ) (xs ys : List X) where
   pub sums_join : sum_of (filter_map f (xs ++ ys)) ≡ sums_joined (sum_of (filter_map f xs)) (sum_of (filter_map f ys))
-  sums_join = ap sum_of (filter_map_append f xs ys) ∙ some_append (filter_map f xs) (filter_map f ys)
+  sums_join = ap sum_of (filter_map-append f xs ys) ∙ some_append (filter_map f xs) (filter_map f ys)
 
   pub sums_fit : AreSummable (filter_map f (xs ++ ys)) (length (xs ++ ys)) → FitSums (sum_of (filter_map f xs)) (sum_of (filter_map f ys))
   sums_fit fit =
       fit_append (filter_map f xs) (filter_map f ys)
-      (subst (λ ns. FitsSigned w128 (integer_sum ns)) (filter_map_append f xs ys) (sum_fits f (xs ++ ys) 0 (length (xs ++ ys)) (omega arith) fit))
+      (subst (λ ns. FitsSigned w128 (integer_sum ns)) (filter_map-append f xs ys) (sum_fits f (xs ++ ys) 0 (length (xs ++ ys)) (omega arith) fit))

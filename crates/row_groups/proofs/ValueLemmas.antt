@@ -1,5 +1,5 @@
 -- The least and the greatest of values, and how many there are, where more come.
-use Rattle.std.proofs.Common.{◌≡◌, ◌↔◌, ℕ, suc, ◌+◌, Bool, true, false, not, cond, ◌||◌, IsTrue, List, [], ◌∷◌, ◌++◌, length, map, filter, inl, inr, refl, sym, ap, ◌∙◌, arith}
+use Rattle.std.proofs.Common.{◌≡◌, ◌↔◌, ℕ, suc, ◌+◌, Bool, true, false, cond, ◌||◌, IsTrue, List, [], ◌∷◌, ◌++◌, length, map, filter, inl, inr, refl, sym, ap, ◌∙◌, arith}
 use Rattle.std.specs.Cmp.{IsTotalOrder}
 use Rattle.std.specs.List.{AllByRecursion, list_any}
 use Rattle.std.specs.Ordering.{is_lt}
@@ -141,10 +141,6 @@ pub any_view : {V : Type 0} (view : V → CellValue) (eq : V → V → Bool) →
     → list_any (eq v) keys ≡ list_any (value_eq (view v)) (map view keys)
 any_view view eq is v [] = refl
 any_view view eq is v (k ∷ ks) = rw (is v k, any_view view eq is v ks) refl
-
-pub was_value : (b : Bool) → not b ≡ false → b ≡ true
-was_value true h = refl
-was_value false h = absurd (let k : true ≡ false = h in cc)
 
 module _ (equal : (a b : CellValue) → IsTrue (value_eq a b) ↔ (a ≡ b)) where
   is : (a b : CellValue) → value_eq a b ≡ true → a ≡ b

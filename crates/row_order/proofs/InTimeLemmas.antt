@@ -6,7 +6,7 @@ use Rattle.std.specs.List.{All, AllByRecursion}
 use Rattle.std.specs.Ordering.{is_lt, ordering_then}
 use Rattle.std.specs.declared.cmp.Ordering.{Ordering}
 use Rattle.std.specs.declared.cmp.Ordering.TheVariants.{Less, Equal, Greater}
-use Rattle.std.proofs.lemmas.Bool.{cases_Bool, false≢true, ltb-false}
+use Rattle.std.proofs.lemmas.Bool.{cases_Bool, false≢true, ltb-false, not-false, not-true}
 use Rattle.std.proofs.lemmas.List.{length-map}
 use Rattle.std.proofs.lemmas.List.Elements.{All-from_recursion, recursion_from_All}
 use Rattle.std.proofs.lemmas.List.Sorted.{All-permutation, length_permutation}
@@ -43,14 +43,6 @@ then_alone : (o : Ordering) → is_lt (ordering_then o Equal) ≡ is_lt o
 then_alone Less = refl
 then_alone Equal = refl
 then_alone Greater = refl
-
-not_false : (b : Bool) → not b ≡ false → b ≡ true
-not_false true e = refl
-not_false false e = absurd (false≢true (sym e))
-
-not_true : (b : Bool) → not b ≡ true → b ≡ false
-not_true true e = absurd (false≢true e)
-not_true false e = refl
 
 -- ---- rows by their numbers
 
@@ -150,9 +142,6 @@ module _ (values : IsTotalOrder value_cmp) (law : RowsAreInOrder) (item : Item) 
   abbrev less_row : List CellValue → List CellValue → Bool
   less_row a b = is_lt (rows_cmp items a b)
 
-  by_value : CellValue → CellValue → Bool
-  by_value a b = is_lt (directed item.1 a b)
-
   keyed_alike : (descending : Bool) (a b : Option ℤ) → directed descending (cell_of type a) (cell_of type b) ≡ directed descending (cell_of Integer a) (cell_of Integer b)
   keyed_alike false a b = column.ordered a b
   keyed_alike true a b = column.ordered b a
@@ -174,7 +163,7 @@ module _ (values : IsTotalOrder value_cmp) (law : RowsAreInOrder) (item : Item) 
   late_by_key : (ties : Bool) → (ties ≡ false → others ≡ []) → (bound : Option ℤ) (a b : List CellValue) (ka kb : Option ℤ) → get_or a place null ≡ cell_of type ka
       → get_or b place null ≡ cell_of type kb → is_within item.1 ties bound ka ≡ false → is_before item.1 bound kb ≡ false → less_row a b ≡ false
   late_by_key true none bound a b ka kb at_a at_b out up =
-      let behind = before_through (is_before item.1) (keys_order values item.1) bound kb ka up (not_false (is_before item.1 bound ka) out) in
+      let behind = before_through (is_before item.1) (keys_order values item.1) bound kb ka up (not-false (is_before item.1 bound ka) out) in
       let sooner : less_row b a ≡ true = then_less (directed item.1 (item_value item b) (item_value item a)) (rows_cmp others b a) (as_keys b a kb ka at_b at_a ∙ behind) in
       (ranked values law items).one_way b a sooner
   late_by_key false none bound a b ka kb at_a at_b out up =
@@ -210,7 +199,7 @@ module _ (values : IsTotalOrder value_cmp) (law : RowsAreInOrder) (item : Item) 
   near_apart bound a b near far =
       let w = cell_of type bound in
       let sooner = before_through (λ x y. is_lt (directed item.1 x y)) (values_order values item.1) w (item_value item a) (item_value item b)
-      (not_true (is_lt (directed item.1 w (item_value item a))) near) (not_false (is_lt (directed item.1 w (item_value item b))) far) in
+      (not-true (is_lt (directed item.1 w (item_value item a))) near) (not-false (is_lt (directed item.1 w (item_value item b))) far) in
       then_less (directed item.1 (item_value item a) (item_value item b)) (rows_cmp others a b) sooner
 
   near_by_key : (bound : Option ℤ) (a : List CellValue) (ka : Option ℤ) → get_or a place null ≡ cell_of type ka → is_within item.1 true bound ka ≡ is_near bound a

@@ -1,11 +1,11 @@
 use Rattle.std.proofs.Common.{◌≡◌, ◌∙◌, [], Some, ap, arith, drop, eqb-true, length, map, refl, replicate, subst, sym, true}
 use Rattle.std.specs.Prelude.{count_by}
-use Rattle.std.proofs.lemmas.List.{length-replicate, with_items_is}
+use Rattle.std.proofs.lemmas.List.{length-replicate, nil_from_length, with_items_is}
 use Rattle.odata_types.specs.TypedTree.{boxed_truth}
 use Rattle.block_filter.specs.Conditions.{passing_all}
 use Rattle.block_filter.specs.Lanes.{AreColumnsOf, AreTextsOf}
 use Rattle.block_filter.specs.Marks.{is_marked, marked}
-use Rattle.block_filter.proofs.PassingLemmas.{all_marked, no_rows, none_wanted}
+use Rattle.block_filter.proofs.PassingLemmas.{all_marked, none_wanted}
 use Rattle.block_filter.proofs.passing.passing_rows.Goals as goal
 
 pub returns-then-is_empty-clause-rows : goal.returns-then-is_empty-clause-rows
@@ -13,7 +13,7 @@ returns-then-is_empty-clause-rows c =
     let rows = c.args.block.now.rows in
     let all : c.args.wanted.items ≡ replicate (length rows) true = c.requires in
     let none : c.args.conditions.now ≡ [] =
-    no_rows c.args.conditions.now (eqb-true (length c.args.conditions.now) 0 (sym c.is_empty.ensures ∙ c.if-is_empty.true)) in
+    nil_from_length c.args.conditions.now (eqb-true (length c.args.conditions.now) 0 (sym c.is_empty.ensures ∙ c.if-is_empty.true)) in
     ap (λ conditions. passing_all (map boxed_truth conditions) rows) none
     ∙ ap (λ xs. Some xs) (sym (ap (λ marks. marked marks rows) all ∙ all_marked (length rows) rows refl))
 
