@@ -1,8 +1,8 @@
 -- The run of a query, call by call.
-use Rattle.std.proofs.Common.{◌≡◌, ◌<◌, ◌≤◌, ◌+◌, ◌-◌, ℕ, zero, suc, Ok, Err, Bool, List, [], ◌∷◌, length, max, get_or, Option, Some, None, option_map, refl, sym, ap, ◌∙◌, subst, arith}
+use Rattle.std.proofs.Common.{◌≡◌, ◌<◌, ◌≤◌, ◌+◌, ◌-◌, ℕ, Ok, Err, Bool, List, length, max, get_or, Option, Some, None, option_map, refl, sym, ap, ◌∙◌, subst, arith}
 use Rattle.std.specs.Prelude.{slice_get}
 use Rattle.std.proofs.Math.Nat.{max_comm}
-use Rattle.std.proofs.lemmas.Option.{get_or_from_slice_get}
+use Rattle.std.proofs.lemmas.Option.{get_or_from_slice_get, slice_get_within}
 use Rattle.block_summary.specs.Ranges.{RangeOf}
 use Rattle.csvw_meta.specs.Schema.{SchemaOf}
 use Rattle.table_store.specs.Block.{block_count}
@@ -34,11 +34,6 @@ use Rattle.odata_http.proofs.LengthLemmas.{max_below}
 
 -- ---- tables and blocks
 
-pub inside_at : {X : Type 0} (xs : List X) (i : ℕ) (x : X) → slice_get xs i ≡ Some x → i < length xs
-inside_at [] i x e = absurd (cc e)
-inside_at (y ∷ xs) zero x e = omega arith
-inside_at (y ∷ xs) (suc i) x e = let less = inside_at xs i x e in omega (arith, less)
-
 pub table_is : (tables seen : List TableOf) (number : ℕ) (found table : TableOf) → seen ≡ tables → found ≡ get_or seen number found → slice_get tables number ≡ Some table → found ≡ table
 table_is tables seen number found table same at is = at ∙ ap (λ (ts : List TableOf). get_or ts number found) same ∙ get_or_from_slice_get tables number table found is
 
@@ -47,7 +42,7 @@ pub block_inside : PlansNeedBlocks → (plan : PlanOf) (table : TableOf) (handed
 block_inside law plan table handed number e =
     let blocks = needed plan table.rows in
     subst (λ n. n < block_count (length table.rows)) (get_or_from_slice_get blocks handed number number (sym e))
-    (law.each plan table.rows handed number (inside_at blocks handed number (sym e)))
+    (law.each plan table.rows handed number (slice_get_within blocks handed number (sym e)))
 
 -- ---- what a run is handed
 

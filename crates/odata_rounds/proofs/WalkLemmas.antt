@@ -1,7 +1,8 @@
 -- What a round leaves, a place at a time.
 use Rattle.std.proofs.Common.{◌≡◌, ◌≢◌, ℕ, ◌<◌, zero, suc, List, [], ◌∷◌, ◌++◌, set, Option, Some, refl, sym, ap, ◌∙◌, subst, inl, inr, arith}
-use Rattle.std.specs.Prelude.{◌⊎◌, Bool, true, false, ◌||◌, slice_get}
+use Rattle.std.specs.Prelude.{◌⊎◌, false, slice_get}
 use Rattle.std.specs.List.{list_any}
+use Rattle.std.proofs.lemmas.Bool.{or_parts}
 use Rattle.std.proofs.lemmas.Bool.Decides.{eqb_tells}
 use Rattle.odata_hub.specs.Connections.{ConnOf}
 use Rattle.odata_hub.specs.Schedules.{Happening, HubOf, HubRun, conn_at}
@@ -183,17 +184,13 @@ walk : (places : ℕ) (a b : SightOf) (h : HubOf) → Rounds places a b → Stan
 walk zero a b h r stands = walk_none a b h r stands
 walk (suc place) a b h r stands = walk_more place a r.0 b h (walk place a r.0 h r.1 stands) r.2
 
-or_false : (a b : Bool) → a || b ≡ false → (a ≡ false) × (b ≡ false)
-or_false true b e = absurd (cc e)
-or_false false b e = (refl, e)
-
 none_works : (seats : List Seat) → list_any is_working seats ≡ false → (place : ℕ) (seat : Seat) → slice_get seats place ≡ Some seat
     → is_worked seat.stepped ≡ false
 none_works [] e place seat at = absurd (cc at)
 none_works (x ∷ seats) e zero seat at =
     let same : x ≡ seat = cc at in
-    let P : Seat → Type 0 = λ s. is_worked s.stepped ≡ false in subst P same (or_false (is_working x) (list_any is_working seats) e).0
-none_works (x ∷ seats) e (suc place) seat at = none_works seats (or_false (is_working x) (list_any is_working seats) e).1 place seat at
+    let P : Seat → Type 0 = λ s. is_worked s.stepped ≡ false in subst P same (or_parts (is_working x) (list_any is_working seats) e).0
+none_works (x ∷ seats) e (suc place) seat at = none_works seats (or_parts (is_working x) (list_any is_working seats) e).1 place seat at
 
 pub round_leaves : RoundLeaves
 round_leaves places a b h r stands =

@@ -1,8 +1,9 @@
 -- Rules of a command whose arguments take one value each, and the rows that fit them.
-use Rattle.std.proofs.Common.{◌≡◌, ◌⊎◌, ◌==◌, ◌++◌, Bool, cond, true, false, refl, sym, ap, subst, arith, List, [], ◌∷◌, length, Some, None, is_some, true≢false, unwrap_or}
+use Rattle.std.proofs.Common.{◌≡◌, ◌⊎◌, ◌==◌, ◌++◌, Bool, cond, true, false, refl, sym, ap, subst, arith, List, [], ◌∷◌, length, Some, true≢false}
 use Rattle.std.specs.List.{find}
 use Rattle.std.specs.Str.{bytes_eq}
 use Rattle.std.proofs.lemmas.Bool.{eqb-true, or_parts}
+use Rattle.std.proofs.lemmas.Option.{none-some, same_Some}
 use Rattle.clap.specs.ValueTests.{accepts}
 use Rattle.clap.specs.Facts.{parser_of_value, unwrap_or_range}
 use Rattle.clap.specs.Walk.{Row, Rule, Text, action_of, arg_by_id, at_row, has_row, reading_by}
@@ -49,12 +50,6 @@ has_none (k ∷ ks) = false
 pub some_kind : {k : ErrorKind} {ks : Kinds} → k ∷ ks ≡ [] → ⊥
 some_kind e = true≢false (sym (ap has_none e))
 
-pub same_some : {X : Type 0} {x y : X} → Some x ≡ Some y → x ≡ y
-same_some {x = x} e = ap (λ o. unwrap_or o x) e
-
-pub some≢none : {X : Type 0} {x : X} → None ≡ Some x → ⊥
-some≢none e = true≢false (sym (ap is_some e))
-
 pub both_none : (a b : Kinds) → or_else a b ≡ [] → (a ≡ []) × (b ≡ [])
 both_none [] b e = (refl, e)
 both_none (k ∷ ks) b e = absurd (some_kind e)
@@ -94,9 +89,9 @@ one_value (v ∷ w ∷ vs) e = go (length (v ∷ w ∷ vs) == 0) (1 == length (v
     go false false is e = absurd (some_kind e)
 
 pub find_plain : (c rules : List Rule) (p : Rule → Bool) (a : Rule) → ArePlain c rules → find p rules ≡ Some a → IsPlainRule c a
-find_plain c [] p a h e = absurd (some≢none e)
+find_plain c [] p a h e = absurd (none-some _ e)
 find_plain c (x ∷ rules) p a h e = go (p x) (λ f. find_plain c rules p a h.1 f) e
   where
     go : (b : Bool) → (find p rules ≡ Some a → IsPlainRule c a) → cond b (Some x) (find p rules) ≡ Some a → IsPlainRule c a
-    go true behind e = subst (IsPlainRule c) (same_some e) h.0
+    go true behind e = subst (IsPlainRule c) (same_Some _ _ e) h.0
     go false behind e = behind e

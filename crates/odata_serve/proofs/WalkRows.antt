@@ -5,6 +5,7 @@ use Rattle.std.specs.List.{find, fold, list_any}
 use Rattle.std.specs.Option.{option_map_or}
 use Rattle.std.specs.Str.{bytes_eq}
 use Rattle.std.proofs.lemmas.Bool.{or_parts}
+use Rattle.std.proofs.lemmas.Option.{none-some, same_Some}
 use Rattle.std.proofs.lemmas.Slice.Eq.{bytes_eq-Decides}
 use Rattle.clap.specs.Lexer.{long_of}
 use Rattle.clap.specs.Facts.{explicit_source}
@@ -13,7 +14,7 @@ use Rattle.clap.specs.Simple.{Shape}
 use Rattle.clap.specs.Takes.{is_given}
 use Rattle.clap.specs.Kinds.{or_else}
 use Rattle.clap.specs.Faults.{stray_fault, flag_word_fault, level_fault, other_fault, positional_fault, settle_fault, step_fault, turn_fault, walk_fault, word_fault}
-use Rattle.odata_serve.proofs.PlainRules.{IsOne, ArePlain, Fits, AllFit, same_some, some≢none, both_none, last_check}
+use Rattle.odata_serve.proofs.PlainRules.{IsOne, ArePlain, Fits, AllFit, both_none, last_check}
 use Rattle.odata_serve.proofs.PlainWalk.{settle_keeps, flag_keeps}
 
 -- ---- one level of a parse
@@ -110,12 +111,12 @@ HasOne a rows = (r : Row) × (find (λ x. bytes_eq x.id a.id) rows ≡ Some r) �
 
 row_fits : (c : List Rule) (rows : List Row) (id : Text) (r : Row) → AllFit c rows → find (λ x. bytes_eq x.id id) rows ≡ Some r
     → (bytes_eq r.id id ≡ true) × Fits c r
-row_fits c [] id r h e = absurd (some≢none e)
+row_fits c [] id r h e = absurd (none-some _ e)
 row_fits c (x ∷ rows) id r h e = go (bytes_eq x.id id) refl (λ f. row_fits c rows id r h.1 f) e
   where
     go : (b : Bool) → bytes_eq x.id id ≡ b → (find (λ y. bytes_eq y.id id) rows ≡ Some r → (bytes_eq r.id id ≡ true) × Fits c r)
         → cond b (Some x) (find (λ y. bytes_eq y.id id) rows) ≡ Some r → (bytes_eq r.id id ≡ true) × Fits c r
-    go true is behind e = subst (λ (y : Row). (bytes_eq y.id id ≡ true) × Fits c y) (same_some e) (is, h.0)
+    go true is behind e = subst (λ (y : Row). (bytes_eq y.id id ≡ true) × Fits c y) (same_Some _ _ e) (is, h.0)
     go false is behind e = behind e
 
 one_row : (c : List Rule) (rows : List Row) (a : Rule) → AllFit c rows → arg_by_id c a.id ≡ Some a → is_given a.id rows ≡ true → HasOne a rows
@@ -127,7 +128,7 @@ one_row c rows a h own given = go (find (λ x. bytes_eq x.id a.id) rows) refl gi
         let fits = row_fits c rows a.id r h is in
         let same : r.id ≡ a.id = (bytes_eq-Decides r.id a.id).0 fits.0 in
         let found : arg_by_id c a.id ≡ Some fits.1.0 = subst (λ (t : Text). arg_by_id c t ≡ Some fits.1.0) same fits.1.1 in
-        (r, is, subst (λ (b : Rule). IsOne b r) (same_some (sym found ∙ own)) fits.1.2)
+        (r, is, subst (λ (b : Rule). IsOne b r) (same_Some _ _ (sym found ∙ own)) fits.1.2)
 
 abbrev pub EachHasOne : List Rule → List Row → Type 0
 EachHasOne [] rows = Unit {0}
