@@ -1,7 +1,7 @@
 -- The rest of a stream, and the pieces that can't end a head behind it.
-use Rattle.std.proofs.Common.{◌≡◌, ◌+◌, ◌≤◌, inl, inr, ℕ, Bool, true, false, ◌==◌, ◌||◌, List, [], ◌∷◌, ◌++◌, length, take, drop, refl, sym, ap, ◌∙◌, subst, arith, MatchBool, length-append, length-take, append_assoc}
+use Rattle.std.proofs.Common.{◌≡◌, ◌+◌, ◌≤◌, inl, inr, ℕ, Bool, true, false, ◌==◌, List, [], ◌∷◌, ◌++◌, length, take, drop, refl, sym, ap, ◌∙◌, subst, arith, MatchBool, length-append, length-take, append_assoc}
 use Rattle.std.specs.List.{list_any, flat_map}
-use Rattle.std.proofs.lemmas.Bool.{false≢true, cases_lt}
+use Rattle.std.proofs.lemmas.Bool.{false≢true, cases_lt, or_right}
 use Rattle.std.proofs.lemmas.List.{take-append-le, drop-append-le, take_all}
 use Rattle.std.proofs.Math.Seq.{drop-append_seam}
 use Rattle.httparse.specs.Grammar.{LineEnd, crlf, lf, print_end, RequestHead, print_request, print_field}
@@ -60,13 +60,9 @@ behind_front rest piece front more b e short =
     sym (drop-append_seam rest piece) ∙ ap (drop (length rest)) (e ∙ append_assoc front (b ∷ []) more)
     ∙ drop-append-le (length rest) front (b ∷ more) short
 
-or_found : (t u : Bool) → u ≡ true → (t || u) ≡ true
-or_found true u e = refl
-or_found false u e = e
-
 has_byte : (b : ℕ) (xs ys : List ℕ) → list_any (λ y. y == b) (xs ++ b ∷ ys) ≡ true
 has_byte b [] ys = grind arith
-has_byte b (x ∷ xs) ys = or_found (x == b) _ (has_byte b xs ys)
+has_byte b (x ∷ xs) ys = or_right (x == b) _ (has_byte b xs ys)
 
 -- a piece without a line feed makes no head
 pub none_ends : (rest piece : List ℕ) → HasNoHead rest → list_any (λ y. y == 10) piece ≡ false → HasNoHead (rest ++ piece)

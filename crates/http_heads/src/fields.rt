@@ -109,7 +109,7 @@ fn is_bodiless(field: &Field) -> bool
     !is_named(field, b"content-length") || strip(field.value.as_slice()) == b"0".as_slice()
 }
 
-/// Whether each of these is.
+/// Whether each of these fields is no Content-Length, or says that there is no body.
 fn are_bodiless(fields: &[Field]) -> bool
     ensures { result ≡ list_all (λ field. not (same_word field.name.items (codes "content-length"))
         || bytes_eq (stripped field.value.items) (codes "0")) fields.now }
@@ -132,7 +132,7 @@ fn is_closing(field: &Field) -> bool
     is_named(field, b"connection") && has_close(field.value.as_slice())
 }
 
-/// Whether one of these is.
+/// Whether one of these fields is a Connection field that lists `close`.
 fn has_closing(fields: &[Field]) -> bool
     ensures { result ≡ list_any (λ field. same_word field.name.items
         (codes "connection") && lists_close field.value.items) fields.now }

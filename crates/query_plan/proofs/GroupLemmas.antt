@@ -1,7 +1,7 @@
 -- Rows in groups.
-use Rattle.std.proofs.Common.{◌≡◌, ◌↔◌, inl, inr, ℕ, suc, Bool, true, false, not, ◌&&◌, List, [], ◌∷◌, map, refl, ap, subst, arith}
+use Rattle.std.proofs.Common.{◌≡◌, ◌↔◌, inl, inr, ℕ, suc, Bool, true, false, not, List, [], ◌∷◌, map, refl, ap, subst, arith}
 use Rattle.std.specs.List.{AllByRecursion, Any, Contains, IsDistinct, filter}
-use Rattle.std.proofs.lemmas.Bool.{cases_Bool, false≢true}
+use Rattle.std.proofs.lemmas.Bool.{and_parts, cases_Bool, false≢true}
 use Rattle.cell_types.specs.Value.{CellValue, value_eq}
 use Rattle.odata_query.specs.FirstSeen.{first_seen}
 use Rattle.query_plan.specs.Apply.{group_values, rows_of_group, same_values, values_at}
@@ -66,22 +66,14 @@ module _ {X Y : Type 0} (f : X → Y) where
 
 -- ---- groups
 
-first_so : (a b : Bool) → (a && b) ≡ true → a ≡ true
-first_so true b e = refl
-first_so false b e = e
-
-second_so : (a b : Bool) → (a && b) ≡ true → b ≡ true
-second_so true b e = e
-second_so false b e = absurd (false≢true e)
-
 module _ (equal : (a b : CellValue) → (value_eq a b ≡ true) ↔ (a ≡ b)) where
   same_is : (a b : List CellValue) → same_values a b ≡ true → a ≡ b
   same_is [] [] e = refl
   same_is [] (y ∷ ys) e = absurd (false≢true e)
   same_is (x ∷ xs) [] e = absurd (false≢true e)
   same_is (x ∷ xs) (y ∷ ys) e =
-      let head : x ≡ y = (equal x y).0 (first_so (value_eq x y) (same_values xs ys) e) in
-      let tail : xs ≡ ys = same_is xs ys (second_so (value_eq x y) (same_values xs ys) e) in
+      let head : x ≡ y = (equal x y).0 (and_parts (value_eq x y) (same_values xs ys) e).0 in
+      let tail : xs ≡ ys = same_is xs ys (and_parts (value_eq x y) (same_values xs ys) e).1 in
       cc
 
   same_self : (a : List CellValue) → same_values a a ≡ true

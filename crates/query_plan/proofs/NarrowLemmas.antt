@@ -1,5 +1,5 @@
 -- Steps behind a selection of the columns that they name.
-use Rattle.std.proofs.Common.{◌≡◌, inl, inr, ℕ, Bool, true, false, ◌||◌, cond, Option, Some, None, List, [], ◌∷◌, ◌++◌, map, nat_eq, refl, sym, ap, ◌∙◌, subst}
+use Rattle.std.proofs.Common.{◌≡◌, inl, inr, ℕ, Bool, true, false, cond, Option, Some, None, List, [], ◌∷◌, ◌++◌, map, nat_eq, refl, sym, ap, ◌∙◌, subst}
 use Rattle.std.specs.Prelude.{drop, is_some, option_and_then, option_map}
 use Rattle.std.specs.List.{AllByRecursion, filter_map, list_all, list_any}
 use Rattle.std.proofs.lemmas.Bool.{cases_Bool, eq-eqb}
@@ -16,10 +16,6 @@ use Rattle.query_plan.proofs.MeaningLemmas.{under}
 use Rattle.query_plan.proofs.RenumberLemmas.{AreNamed, ArePlain, IsNamed, all_computed, grouped_same, narrow_row, ordered_narrowed, ordered_plain, plain_items, same_aliases, same_names, same_places, map_after}
 
 -- ---- each column once
-
-either : (a b : Bool) → b ≡ true → a || b ≡ true
-either true b h = refl
-either false b h = h
 
 still_named : (named : List ℕ) (place other : ℕ) → IsNamed named other → IsNamed (with_column named place) other
 still_named named place other h = elim (cases_Bool (list_any (nat_eq place) named)) [

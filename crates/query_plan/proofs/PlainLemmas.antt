@@ -28,7 +28,7 @@ use Rattle.odata_types.specs.declared.tree.DatePart.{DatePart}
 use Rattle.odata_types.specs.declared.tree.DatePart.TheVariants as part
 use Rattle.odata_types.specs.Columns.{InputOf}
 use Rattle.odata_types.specs.Result.{◌>>=◌}
-use Rattle.odata_types.specs.TypedTree.{TypedExprOf, DecimalExprOf, IntegerExprOf, TextExprOf, TruthExprOf, compare_dates, compare_decimals, compare_integers, compare_texts, compare_truths, date, date_in, decimal, decimal_in, decimal_literal, decimal_sum, decimal_difference, arithmetic, integer, integer_in, integer_literal, length_of, negated, negation, nothing, part_of, text, text_in, truth, truth_in}
+use Rattle.odata_types.specs.TypedTree.{TypedExprOf, DecimalExprOf, IntegerExprOf, TextExprOf, TruthExprOf, compare_dates, compare_decimals, compare_integers, compare_texts, compare_truths, date, date_in, decimal, decimal_in, decimal_literal, decimal_sum, decimal_difference, arithmetic, integer, integer_in, integer_literal, length_of, negation, nothing, part_of, text, text_in, truth, truth_in}
 use Rattle.odata_types.specs.Typing.{Typing, arithmetic_as, as_date, as_decimal, as_integer, as_text, as_truth, binary_call_typing, binary_typing, column_at, column_expr, common_type, comparison_as, date_item, decimal_items, decimals_typing, computed_size, fits, in_typing, integer_item, integers_typing, is_small, list_as, list_in_type, list_type, literal_type, literal_typing, logic_expr, part_typing, place_of, text_call, text_item, truth_item, type_of, typing, unary_call_typing, unary_typing, within}
 use Rattle.query_plan.specs.Order.{plain_column}
 use Rattle.query_plan.proofs.AggregateLemmas.{place_below}
@@ -61,9 +61,6 @@ module _ (inputs : List InputOf) where
   column_there : (place : ℕ) (o : Option InputOf) → slice_get inputs place ≡ o → Told IsThere (column_at place o)
   column_there place None e = tt
   column_there place (Some c) e = expr_there place c.column_type (place_below inputs place c e)
-
-  negated_there : (t : TypedExprOf) → Told IsThere (as_integer t >>= λ n. Ok (integer (negated n.0) n.1))
-  negated_there t = any_then (as_integer t) (λ n. Ok (integer (negated n.0) n.1)) (λ n. tt)
 
   unary_there : (o : UnaryOperator) (t : TypedExprOf) → Told IsThere (unary_typing o t)
   unary_there Negate (decimal e bound) = tt

@@ -2,7 +2,7 @@
 use Rattle.std.proofs.Common.{◌≡◌, ℕ, Bool, true, false, ◌&&◌, ◌||◌, cond, Option, Some, None, List, [], ◌∷◌, ◌++◌, map, refl, sym, ap, ◌∙◌}
 use Rattle.std.specs.Prelude.{filter, is_none, IsSome, option_and_then, option_map}
 use Rattle.std.specs.List.{flat_map, list_any}
-use Rattle.std.proofs.lemmas.Bool.{false≢true, true≢false}
+use Rattle.std.proofs.lemmas.Bool.{false≢true, or_parts}
 use Rattle.std.proofs.lemmas.List.Folds.{list_any-append}
 use Rattle.cell_types.specs.Value.{CellValue}
 use Rattle.odata_types.specs.CanFault.{truth_can_fault}
@@ -71,10 +71,6 @@ and_true : (a : Bool) → (a && true) ≡ a
 and_true true = refl
 and_true false = refl
 
-or_assoc : (a b c : Bool) → ((a || b) || c) ≡ (a || (b || c))
-or_assoc true b c = refl
-or_assoc false b c = refl
-
 or_false : (a : Bool) → (a || false) ≡ a
 or_false true = refl
 or_false false = refl
@@ -114,14 +110,6 @@ faults-split (e ∷ es) =
 
 -- ---- filters that cannot fault
 
-pub neither_left : (a b : Bool) → (a || b) ≡ false → a ≡ false
-neither_left true b h = h
-neither_left false b h = refl
-
-pub neither_right : (a b : Bool) → (a || b) ≡ false → b ≡ false
-neither_right true b h = absurd (true≢false h)
-neither_right false b h = h
-
 some_is : (o : Option Truth) → IsSome o → is_none o ≡ false
 some_is None h = absurd (false≢true h)
 some_is (Some t) h = refl
@@ -151,7 +139,7 @@ pub behind_filters : FaultsAreForeseen → (ns : List NodeOf) (names : List (Lis
     → nodes_result ns (under names count rows) ≡ nodes_result (behind ns) (under names count (filter (passes_each (leading ns)) rows))
 behind_filters laws [] names count rows h = ap (λ (xs : List Row). nodes_result [] (under names count xs)) (filter_always rows)
 behind_filters laws (filtering e ∷ ns) names count rows h =
-    ap (λ (o : Option (List Row)). option_and_then (nodes_result ns) (option_map (under names count) o)) (passing_all laws e rows (neither_left (truth_can_fault e) (list_any truth_can_fault (leading ns)) h))
-    ∙ behind_filters laws ns names count (filter (passes e) rows) (neither_right (truth_can_fault e) (list_any truth_can_fault (leading ns)) h)
+    ap (λ (o : Option (List Row)). option_and_then (nodes_result ns) (option_map (under names count) o)) (passing_all laws e rows (or_parts (truth_can_fault e) (list_any truth_can_fault (leading ns)) h).0)
+    ∙ behind_filters laws ns names count (filter (passes e) rows) (or_parts (truth_can_fault e) (list_any truth_can_fault (leading ns)) h).1
     ∙ ap (λ (xs : List Row). nodes_result (behind ns) (under names count xs)) (filter_both (passes e) (passes_each (leading ns)) rows)
 behind_filters laws (n ∷ ns) names count rows h = ap (λ (xs : List Row). nodes_result (n ∷ ns) (under names count xs)) (filter_always rows)

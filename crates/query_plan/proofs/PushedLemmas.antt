@@ -2,7 +2,7 @@
 use Rattle.std.proofs.Common.{◌≡◌, ℕ, Bool, true, false, cond, eqb, Option, Some, None, List, [], ◌∷◌, length, refl, sym, ap, ◌∙◌, subst, arith, eqb-true}
 use Rattle.std.specs.Prelude.{filter, is_none, not}
 use Rattle.std.specs.List.{AllByRecursion, filter_map, list_any}
-use Rattle.std.proofs.lemmas.Bool.{true≢false}
+use Rattle.std.proofs.lemmas.Bool.{and_parts, not-true, true≢false}
 use Rattle.std.proofs.lemmas.List.Elements.{filter_agree, recursion_from_All}
 use Rattle.cell_types.specs.Value.{CellValue}
 use Rattle.csvw_meta.specs.Schema.{SchemaOf}
@@ -26,7 +26,7 @@ use Rattle.query_plan.proofs.NarrowFitLemmas.{narrowed_fits, narrowed_means}
 use Rattle.query_plan.proofs.RewriteLemmas.{leading_best, leading_narrowed, same_steps}
 use Rattle.query_plan.proofs.SplitFitLemmas.{split_fit}
 use Rattle.query_plan.proofs.PushLemmas.{behind, behind-split, behind_filters, faults-split, leading-split, passes-split}
-use Rattle.query_plan.proofs.ScanLemmas.{all_rows, bare_rows, first_of_all, rest_of_all}
+use Rattle.query_plan.proofs.ScanLemmas.{all_rows, bare_rows}
 use Rattle.query_plan.proofs.StopLemmas.{same_up_to}
 
 abbrev Row : Type 0
@@ -44,12 +44,8 @@ is_no (Some x) h = absurd (true≢false (sym h))
 
 pub bare_is : (scan : ScanOf) → is_bare scan ≡ true → scan ≡ bare
 bare_is scan h =
-    ap (λ (ts : List TestOf). record scan { tests = ts }) (is_nil scan.tests (first_of_all (eqb (length scan.tests) 0) (is_none scan.stop) h))
-    ∙ ap (λ (o : Option ℕ). record bare { stop = o }) (is_no scan.stop (rest_of_all (eqb (length scan.tests) 0) (is_none scan.stop) h))
-
-not_false : (b : Bool) → not b ≡ true → b ≡ false
-not_false true h = absurd (true≢false (sym h))
-not_false false h = refl
+    ap (λ (ts : List TestOf). record scan { tests = ts }) (is_nil scan.tests (and_parts (eqb (length scan.tests) 0) (is_none scan.stop) h).0)
+    ∙ ap (λ (o : Option ℕ). record bare { stop = o }) (is_no scan.stop (and_parts (eqb (length scan.tests) 0) (is_none scan.stop) h).1)
 
 -- ---- the steps, split
 
@@ -104,8 +100,8 @@ pub record PushLaws : Type 0 where
 pushed_when : PushLaws → (schema : SchemaOf) (p : PlanOf) → IsTypedPlan schema p → (b : Bool) → may_be_pushed p ≡ b → MeansTheSame schema p (cond b (pushed_down p) p)
 pushed_when laws schema p typed false e rows are = refl
 pushed_when laws schema p typed true e rows are =
-    let is = bare_is p.scan (first_of_all (is_bare p.scan) (not (list_any truth_can_fault (leading p.nodes))) e) in
-    let safe = not_false (list_any truth_can_fault (leading p.nodes)) (rest_of_all (is_bare p.scan) (not (list_any truth_can_fault (leading p.nodes))) e) in
+    let is = bare_is p.scan (and_parts (is_bare p.scan) (not (list_any truth_can_fault (leading p.nodes))) e).0 in
+    let safe = not-true (list_any truth_can_fault (leading p.nodes)) (and_parts (is_bare p.scan) (not (list_any truth_can_fault (leading p.nodes))) e).1 in
     stopped laws.faults schema p safe laws.unadmitted laws.tables typed rows are
     ∙ ap (λ (xs : List Row). nodes_result p.nodes (table_result schema xs)) (sym (bare_rows (leading p.nodes) rows))
     ∙ ap (λ (scan : ScanOf). nodes_result p.nodes (table_result schema (rows_of_blocks rows (read_blocks scan (leading p.nodes) rows)))) (sym is)
@@ -116,7 +112,7 @@ pushed_means laws schema p typed = pushed_when laws schema p typed (may_be_pushe
 fits_when : FaultsAreForeseen → (schema : SchemaOf) (p : PlanOf) (b : Bool) → may_be_pushed p ≡ b → IsFitFor schema p → IsFitFor schema (cond b (pushed_down p) p)
 fits_when laws schema p false e fit = fit
 fits_when laws schema p true e fit = λ rows are.
-    let safe = not_false (list_any truth_can_fault (leading p.nodes)) (rest_of_all (is_bare p.scan) (not (list_any truth_can_fault (leading p.nodes))) e) in
+    let safe = not-true (list_any truth_can_fault (leading p.nodes)) (and_parts (is_bare p.scan) (not (list_any truth_can_fault (leading p.nodes))) e).1 in
     split_fit laws p.nodes (table_names schema) None rows safe (fit rows are)
 
 narrowed_same : (schema : SchemaOf) (p : PlanOf) → MeansTheSame schema p (narrowed_plan p)

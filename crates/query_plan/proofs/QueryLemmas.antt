@@ -2,6 +2,7 @@
 use Rattle.std.proofs.Common.{◌≡◌, inl, inr, ℕ, zero, ◌+◌, ◌<◌, ◌≤◌, Bool, true, false, cond, Option, Some, None, Ok, List, [], ◌∷◌, ◌++◌, length, map, sym, ap, ◌∙◌, subst, arith}
 use Rattle.std.specs.Prelude.{drop, take, option_map, IfSome}
 use Rattle.std.specs.List.{All, AllByRecursion, list_all, list_any}
+use Rattle.std.proofs.lemmas.Option.{same_Some}
 use Rattle.std.proofs.lemmas.Bool.{cases_Bool}
 use Rattle.std.proofs.lemmas.List.{length-drop, length-map, length-take}
 use Rattle.std.proofs.lemmas.List.Elements.{All-drop, All-from_recursion, All-take, All-weaker, recursion_from_All}
@@ -35,7 +36,7 @@ use Rattle.query_plan.proofs.PlainLemmas.{IsThere, expression_there}
 use Rattle.query_plan.proofs.PlanLemmas.{both_fit, turn}
 use Rattle.query_plan.proofs.ResultLemmas.{result_input}
 use Rattle.query_plan.proofs.SortLemmas.{sorted_shuffles}
-use Rattle.query_plan.proofs.StepLemmas.{Gives, SuitAll, apply_suits, filter_gives, gives_rows, rows_all, some_same, then_from}
+use Rattle.query_plan.proofs.StepLemmas.{Gives, SuitAll, apply_suits, filter_gives, gives_rows, rows_all, then_from}
 use Rattle.query_plan.proofs.TypingLemmas.{Told, told_any, told_both, told_self, told_then}
 
 -- what steps give
@@ -43,12 +44,12 @@ abbrev Lead : List InputOf → List InputOf → List NodeOf → Type 0
 Lead inputs outputs nodes = (r last : ResultOf) → Stands inputs r → nodes_result nodes r ≡ Some last → Stands outputs last
 
 none_lead : (inputs : List InputOf) → Lead inputs inputs []
-none_lead inputs r last stands e = subst (Stands inputs) (some_same r last e) stands
+none_lead inputs r last stands e = subst (Stands inputs) (same_Some r last e) stands
 
 one_leads : (inputs outputs : List InputOf) (n : NodeOf) → Gives inputs outputs n → Lead inputs outputs (n ∷ [])
 one_leads inputs outputs n gives r last stands e =
     let mid = then_from (nodes_result []) (node_result n r) last e in
-    subst (Stands outputs) (some_same mid.0 last mid.2) (gives r mid.0 stands mid.1)
+    subst (Stands outputs) (same_Some mid.0 last mid.2) (gives r mid.0 stands mid.1)
 
 both_lead : (a b c : List InputOf) (below above : List NodeOf) → Lead a b below → Lead b c above → Lead a c (below ++ above)
 both_lead a b c below above first second r last stands e =
@@ -82,7 +83,7 @@ first_all inputs (Some most) rows all few = (
 
 slice_gives : (inputs : List InputOf) (s : SliceOf) → Gives inputs inputs (slicing s)
 slice_gives inputs s = gives_rows inputs inputs (slicing s) (λ r rows stands is.
-    let same : first_rows s.top (drop s.skip r.rows) ≡ rows = some_same (first_rows s.top (drop s.skip r.rows)) rows is in
+    let same : first_rows s.top (drop s.skip r.rows) ≡ rows = same_Some (first_rows s.top (drop s.skip r.rows)) rows is in
     let few : length r.rows ≤ MOST_ROWS = stands.few in
     let both = first_all inputs s.top (drop s.skip r.rows)
     (recursion_from_All (IsRowOf inputs) (drop s.skip r.rows) (All-drop (IsRowOf inputs) s.skip r.rows (All-from_recursion (IsRowOf inputs) r.rows stands.each)))

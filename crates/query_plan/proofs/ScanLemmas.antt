@@ -3,7 +3,7 @@ use Rattle.std.proofs.Common.{◌≡◌, inl, inr, ℕ, zero, suc, ◌+◌, ◌*
 use Rattle.std.specs.Prelude.{count_by, filter}
 use Rattle.std.specs.List.{All, range_with_len}
 use Rattle.std.proofs.Math.Seq.{take-add}
-use Rattle.std.proofs.lemmas.Bool.{cases_Bool, true≢false}
+use Rattle.std.proofs.lemmas.Bool.{and_parts, cases_Bool, true≢false}
 use Rattle.std.proofs.lemmas.List.{drop-drop, length-append, take_all}
 use Rattle.std.proofs.lemmas.List.Elements.{All-append, All-drop, All-nil, All-take}
 use Rattle.block_summary.specs.declared.block.TheConstants.{BLOCK_ROWS}
@@ -105,14 +105,6 @@ scans_read_table_rows schema scan conditions rows are =
 
 -- ---- blocks that are not admitted
 
-pub first_of_all : (a b : Bool) → (a && b) ≡ true → a ≡ true
-first_of_all true b e = refl
-first_of_all false b e = e
-
-pub rest_of_all : (a b : Bool) → (a && b) ≡ true → b ≡ true
-rest_of_all true b e = e
-rest_of_all false b e = absurd (true≢false (sym e))
-
 pub false_unless : (a b : Bool) → (a ≡ true → b ≡ true) → b ≡ false → a ≡ false
 false_unless false b f h = refl
 false_unless true b f h = sym (f refl) ∙ h
@@ -146,9 +138,9 @@ none_unadmitted range skips (t ∷ tests) rows h =
     let cells = column_of rows t.column in
     elim (cases_Bool (admits t.op (range_of cells) t.literal)) [
       | inl e ↦
-          none_of_less (passes_tests (t ∷ tests)) (passes_tests tests) (λ row. rest_of_all (passes_test row t) (passes_tests tests row)) rows
+          none_of_less (passes_tests (t ∷ tests)) (passes_tests tests) (λ row h. (and_parts (passes_test row t) (passes_tests tests row) h).1) rows
           (none_unadmitted range skips tests rows (sym (ap (λ b. b && admits_all tests rows) e) ∙ h))
       | inr e ↦
-          none_of_less (passes_tests (t ∷ tests)) (λ row. passes_test row t) (λ row. first_of_all (passes_test row t) (passes_tests tests row)) rows
+          none_of_less (passes_tests (t ∷ tests)) (λ row. passes_test row t) (λ row h. (and_parts (passes_test row t) (passes_tests tests row) h).0) rows
           (none_passes t rows (skips t.op (range_of cells) cells t.literal (range.made cells) e))
     ]

@@ -2,6 +2,7 @@
 use Rattle.std.proofs.Common.{◌≡◌, ℕ, Bool, true, false, cond, Option, Some, None, List, [], ◌∷◌, refl, sym, ap, ◌∙◌, subst}
 use Rattle.std.specs.Prelude.{filter, option_and_then, option_map}
 use Rattle.std.specs.List.{All, list_any}
+use Rattle.std.proofs.lemmas.Bool.{or_parts}
 use Rattle.std.proofs.lemmas.List.{map-append}
 use Rattle.std.proofs.lemmas.List.Elements.{All-filter, All-weaker, filter_agree}
 use Rattle.odata_types.specs.CanFault.{truth_can_fault}
@@ -16,7 +17,7 @@ use Rattle.query_plan.specs.Push.{conjuncts, split_nodes}
 use Rattle.query_plan.specs.Scan.{passes_each}
 use Rattle.query_plan.proofs.MeaningLemmas.{under}
 use Rattle.query_plan.proofs.PlanLemmas.{both_fit}
-use Rattle.query_plan.proofs.PushLemmas.{Row, faults-conjuncts, filter_always, filter_both, filters, neither_left, neither_right, passes-conjuncts, passing_all}
+use Rattle.query_plan.proofs.PushLemmas.{Row, faults-conjuncts, filter_always, filter_both, filters, passes-conjuncts, passing_all}
 
 -- the rows that pass are among those that come
 kept_all : (P : Row → Type 0) (names : List (List ℕ)) (count : Option ℕ) (b : Bool) (xs ys : List Row) (made : ResultOf) → option_map (under names count) (cond b None (Some xs)) ≡ Some made
@@ -49,8 +50,8 @@ filters_result : FaultsAreForeseen → (es : List TruthExprOf) (names : List (Li
     → nodes_result (filters es) (under names count rows) ≡ Some (under names count (filter (passes_each es) rows))
 filters_result laws [] names count rows h = ap (λ (xs : List Row). Some (under names count xs)) (filter_always rows)
 filters_result laws (e ∷ es) names count rows h =
-    ap (λ (o : Option (List Row)). option_and_then (nodes_result (filters es)) (option_map (under names count) o)) (passing_all laws e rows (neither_left (truth_can_fault e) (list_any truth_can_fault es) h))
-    ∙ filters_result laws es names count (filter (passes e) rows) (neither_right (truth_can_fault e) (list_any truth_can_fault es) h)
+    ap (λ (o : Option (List Row)). option_and_then (nodes_result (filters es)) (option_map (under names count) o)) (passing_all laws e rows (or_parts (truth_can_fault e) (list_any truth_can_fault es) h).0)
+    ∙ filters_result laws es names count (filter (passes e) rows) (or_parts (truth_can_fault e) (list_any truth_can_fault es) h).1
     ∙ ap (λ (xs : List Row). Some (under names count xs)) (filter_both (passes e) (passes_each es) rows)
 
 some_is_same : (a b : ResultOf) → Some a ≡ Some b → a ≡ b
@@ -60,14 +61,14 @@ pub split_fit : FaultsAreForeseen → (ns : List NodeOf) (names : List (List ℕ
     → NodesFit ns (under names count rows) → NodesFit (split_nodes ns) (under names count rows)
 split_fit laws [] names count rows h fit = fit
 split_fit laws (filtering e ∷ ns) names count rows h fit =
-    let safe = neither_left (truth_can_fault e) (list_any truth_can_fault (leading ns)) h in
+    let safe = (or_parts (truth_can_fault e) (list_any truth_can_fault (leading ns)) h).0 in
     let few = filter (passes e) rows in
     let first : node_result (filtering e) (under names count rows) ≡ Some (under names count few) = ap (option_map (under names count)) (passing_all laws e rows safe) in
     let all : nodes_result (filters (conjuncts e)) (under names count rows) ≡ Some (under names count few) =
     filters_result laws (conjuncts e) names count rows (faults-conjuncts e ∙ safe)
     ∙ ap (λ (xs : List Row). Some (under names count xs)) (filter_agree (passes_each (conjuncts e)) (passes e) (λ row. passes-conjuncts row e) rows) in
     let rest : NodesFit (split_nodes ns) (under names count few) =
-    split_fit laws ns names count few (neither_right (truth_can_fault e) (list_any truth_can_fault (leading ns)) h) (fit.1 (under names count few) first) in
+    split_fit laws ns names count few (or_parts (truth_can_fault e) (list_any truth_can_fault (leading ns)) h).1 (fit.1 (under names count few) first) in
     both_fit (filters (conjuncts e)) (split_nodes ns) (under names count rows) (fits_conjuncts e (under names count rows) fit.0)
     (λ made is. let same : under names count few ≡ made = some_is_same (under names count few) made (sym all ∙ is) in subst (NodesFit (split_nodes ns)) same rest)
 split_fit laws (n ∷ ns) names count rows h fit = fit

@@ -2,6 +2,7 @@
 use Rattle.std.proofs.Common.{◌≡◌, ℕ, suc, ◌+◌, ◌<◌, ◌≤◌, Bool, get_or, Option, Some, None, Ok, List, [], ◌∷◌, ◌++◌, length, map, nat_eq, refl, sym, ap, ◌∙◌, subst, arith}
 use Rattle.std.specs.Prelude.{not, option_and_then, option_map, slice_get}
 use Rattle.std.specs.List.{AllByRecursion, cons_option, filter, list_any}
+use Rattle.std.proofs.lemmas.Option.{same_Some}
 use Rattle.std.proofs.lemmas.List.{length-append, length-map}
 use Rattle.std.proofs.lemmas.List.Elements.{All-filter, All-from_recursion, recursion_from_All}
 use Rattle.cell_types.specs.Value.{CellValue}
@@ -70,9 +71,6 @@ gives_rows inputs outputs n each r made stands e =
     let is = each r from.0 stands from.1 in
     subst (Stands outputs) from.2 (record { named = is.0; each = is.1; few = is.2 })
 
-pub some_same : {X : Type 0} (x y : X) → Some x ≡ Some y → x ≡ y
-some_same x y e = cc
-
 -- ---- `filter`
 
 pub filter_gives : (inputs : List InputOf) (e : TruthExprOf) → Gives inputs inputs (filtering e)
@@ -92,7 +90,7 @@ names_of_items (x ∷ xs) = ap suc (names_of_items xs)
 
 aggregate_gives : (inputs : List InputOf) (xs : List ItemOf) → AreGood inputs xs → Gives inputs (map item_column xs) (aggregating (map named_of xs))
 aggregate_gives inputs xs good = gives_rows inputs (map item_column xs) (aggregating (map named_of xs)) (λ r rows stands is.
-    let same : computed_values (map named_of xs) r.rows ∷ [] ≡ rows = some_same (computed_values (map named_of xs) r.rows ∷ []) rows is in (
+    let same : computed_values (map named_of xs) r.rows ∷ [] ≡ rows = same_Some (computed_values (map named_of xs) r.rows ∷ []) rows is in (
       names_of_items xs,
       subst (λ (ys : List (List CellValue)). AllByRecursion (IsRowOf (map item_column xs)) ys) same (computed_row inputs xs good r.rows stands.each stands.few, tt),
       subst (λ (ys : List (List CellValue)). length ys ≤ MOST_ROWS) same (omega arith),
@@ -176,7 +174,7 @@ module _ (inputs : List InputOf) (places : List ℕ) (known : AreKnown inputs pl
 
   group_gives : Gives inputs group_columns (grouping places (map named_of xs))
   group_gives = gives_rows inputs group_columns (grouping places (map named_of xs)) (λ r rows stands is.
-      let same : map (group_row r.rows) (group_values places r.rows) ≡ rows = some_same (map (group_row r.rows) (group_values places r.rows)) rows is in (
+      let same : map (group_row r.rows) (group_values places r.rows) ≡ rows = same_Some (map (group_row r.rows) (group_values places r.rows)) rows is in (
         group_names r.names,
         subst (λ (ys : List (List CellValue)). AllByRecursion (IsRowOf group_columns) ys) same (group_rows_are r.rows stands.each stands.few),
         subst (λ (ys : List (List CellValue)). length ys ≤ MOST_ROWS) same (group_rows_few r.rows stands.few),
@@ -250,7 +248,7 @@ one_more inputs t ts x xs is first rest = record {
 }
 
 pub apply_suits : (ts : List TransformationOf) (inputs : List InputOf) → Told (SuitAll inputs ts) (apply_typing inputs ts)
-apply_suits [] inputs = record { gives = λ r last stands e. subst (Stands inputs) (some_same r last e) stands; fits = λ bounds input queried r stands. tt }
+apply_suits [] inputs = record { gives = λ r last stands e. subst (Stands inputs) (same_Some r last e) stands; fits = λ bounds input queried r stands. tt }
 apply_suits (t ∷ ts) inputs =
     told_then (λ x. (transformation_typing inputs t ≡ Ok x) × Suits inputs t x) (SuitAll inputs (t ∷ ts)) (transformation_typing inputs t)
     (λ x. apply_typing x.1 ts >>= λ xs. Ok (x.0 ∷ xs.0, xs.1))

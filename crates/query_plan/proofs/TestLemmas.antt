@@ -18,7 +18,7 @@ use Rattle.odata_types.specs.declared.types.ExprType.TheVariants as kind
 use Rattle.odata_types.specs.declared.types.TheConstants.{MILLIONTHS, MOST_SIZE}
 use Rattle.odata_types.specs.Columns.{InputOf}
 use Rattle.odata_types.specs.TypedTree as typed
-use Rattle.odata_types.specs.TypedTree.{DateExprOf, DayOf, DecimalExprOf, IntegerExprOf, TextExprOf, TruthExprOf}
+use Rattle.odata_types.specs.TypedTree.{DateExprOf, DecimalExprOf, IntegerExprOf, TextExprOf, TruthExprOf}
 use Rattle.odata_types.specs.Typing.{column_expr, type_of}
 use Rattle.row_eval.specs.declared.truth.Truth.{Truth}
 use Rattle.row_eval.specs.Comparison.{compared, day_cmp, holds}

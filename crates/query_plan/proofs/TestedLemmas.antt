@@ -2,7 +2,7 @@
 use Rattle.std.proofs.Common.{◌≡◌, inl, inr, ℕ, Bool, true, false, cond, Option, Some, None, List, [], ◌∷◌, ◌++◌, refl, sym, ap, ◌∙◌}
 use Rattle.std.specs.Prelude.{◌*◌, drop, filter}
 use Rattle.std.specs.List.{All, AllByRecursion, cons_option, filter_map, flat_map}
-use Rattle.std.proofs.lemmas.Bool.{cases_Bool}
+use Rattle.std.proofs.lemmas.Bool.{and_parts, cases_Bool}
 use Rattle.std.proofs.lemmas.List.Elements.{All-drop, All-take, All-weaker, filter-append, recursion_from_All}
 use Rattle.block_summary.specs.declared.block.TheConstants.{BLOCK_ROWS}
 use Rattle.block_summary.specs.Blocks.{block_at}
@@ -20,7 +20,7 @@ use Rattle.query_plan.specs.Scan.{TestOf, admits_all, passes_each, passes_tests,
 use Rattle.query_plan.specs.Tests.{test_of}
 use Rattle.query_plan.specs.Types.{IsTruthOver}
 use Rattle.query_plan.proofs.PushLemmas.{Row}
-use Rattle.query_plan.proofs.ScanLemmas.{first_of_all, none_here, none_there, false_unless, rest_of_all}
+use Rattle.query_plan.proofs.ScanLemmas.{none_here, none_there, false_unless}
 use Rattle.query_plan.proofs.TestLemmas.{test_passed}
 
 -- ---- conjuncts compare columns as what they are, where the whole does
@@ -48,8 +48,8 @@ module _ (inputs : List InputOf) (row : Row) (is : IsRowOf inputs row) where
   tests_pass : (es : List TruthExprOf) → AllByRecursion (IsTruthOver inputs) es → passes_each es row ≡ true → passes_tests (filter_map test_of es) row ≡ true
   tests_pass [] over h = refl
   tests_pass (e ∷ es) over h =
-      tests_from e (test_of e) (filter_map test_of es) refl over.0 (first_of_all (passes e row) (passes_each es row) h)
-      (tests_pass es over.1 (rest_of_all (passes e row) (passes_each es row) h))
+      tests_from e (test_of e) (filter_map test_of es) refl over.0 (and_parts (passes e row) (passes_each es row) h).0
+      (tests_pass es over.1 (and_parts (passes e row) (passes_each es row) h).1)
 
 -- ---- blocks
 

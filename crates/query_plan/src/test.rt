@@ -1,5 +1,5 @@
 //! Conditions that compare a column with a literal.
-ghost use Rattle.std.specs.Prelude.{◌≡◌, ◌*◌, IfOk, neg_ℤ, option_map, unsigned_abs};
+ghost use Rattle.std.specs.Prelude.{◌≡◌, IfOk, neg_ℤ, option_map, unsigned_abs};
 ghost use Rattle.cell_types.specs.Value.{value_view};
 ghost use Rattle.odata_types.specs.TypedTree.{compare_dates, compare_decimals, compare_integers, compare_texts, compare_truths, date_view, decimal_negated, decimal_view, integer_view, negated, scaled as scaled_expr, text_view, truth_view};
 ghost use Rattle.query_plan.specs.Scan.{test_view};

@@ -4,7 +4,7 @@ use Rattle.std.specs.Prelude.{ℤ, pos, neg_ℤ, not, IsSome, option_map, option
 use Rattle.std.specs.Ordering.{int_eq}
 use Rattle.std.proofs.Common.{arith}
 use Rattle.std.proofs.lemmas.Int.{ints}
-use Rattle.std.proofs.lemmas.Bool.{false≢true}
+use Rattle.std.proofs.lemmas.Bool.{false≢true, not-false, not-true, or_parts}
 use Rattle.cell_types.specs.Value.{CellValue}
 use Rattle.odata_parse.specs.declared.tree.ArithmeticOperator.{ArithmeticOperator}
 use Rattle.odata_parse.specs.declared.tree.ArithmeticOperator.TheVariants.{Add, Sub, Mul, Div, Mod}
@@ -15,14 +15,6 @@ use Rattle.row_eval.specs.declared.truth.Truth.{Truth}
 use Rattle.row_eval.specs.declared.truth.Truth.TheVariants as truths
 use Rattle.row_eval.specs.Logic.{and_then, or_then}
 use Rattle.row_eval.specs.Outcome.{both, computed, decimal_outcome, integer_outcome, operation, outcome, truth_outcome}
-
-or-left : (a b : Bool) → (a || b) ≡ false → a ≡ false
-or-left false b e = refl
-or-left true b e = absurd (false≢true (sym e))
-
-or-right : (a b : Bool) → (a || b) ≡ false → b ≡ false
-or-right false b e = e
-or-right true b e = absurd (false≢true (sym e))
 
 some_map : {X Y : Type 0} (f : X → Y) (o : Option X) → IsSome o → IsSome (option_map f o)
 some_map f None h = absurd (false≢true h)
@@ -57,14 +49,6 @@ joined_if : (o : ArithmeticOperator) (x y : Option (Option ℤ)) → IsSome x �
 joined_if o None y h k f = absurd (false≢true h)
 joined_if o (Some u) None h k f = absurd (false≢true k)
 joined_if o (Some u) (Some v) h k f = computed_if o u v (λ a b e. f a b (ap (λ w. Some w) e))
-
-not-false : (b : Bool) → not b ≡ false → b ≡ true
-not-false true e = refl
-not-false false e = absurd (false≢true (sym e))
-
-not-true : (b : Bool) → not b ≡ true → b ≡ false
-not-true false e = refl
-not-true true e = absurd (false≢true e)
 
 same_number : (n b : ℤ) → Some (Some n) ≡ Some (Some b) → n ≡ b
 same_number n b e = cc
@@ -112,28 +96,28 @@ integer_has_value (typed.integer_literal n) row h = refl
 integer_has_value (typed.negated a) row h = some_map (option_map neg_ℤ) (integer_outcome a row) (integer_has_value a row h)
 integer_has_value (typed.arithmetic o a b) row h =
     let d = divides o && not (is_safe_divisor b) in
-    let left : (d || integer_can_fault a) ≡ false = or-left (d || integer_can_fault a) (integer_can_fault b) h in
+    let left : (d || integer_can_fault a) ≡ false = (or_parts (d || integer_can_fault a) (integer_can_fault b) h).0 in
     joined_if o (integer_outcome a row) (integer_outcome b row)
-    (integer_has_value a row (or-right d (integer_can_fault a) left)) (integer_has_value b row (or-right (d || integer_can_fault a) (integer_can_fault b) h))
-    (no_fault o b row (divides o) refl (or-left d (integer_can_fault a) left))
+    (integer_has_value a row (or_parts d (integer_can_fault a) left).1) (integer_has_value b row (or_parts (d || integer_can_fault a) (integer_can_fault b) h).1)
+    (no_fault o b row (divides o) refl (or_parts d (integer_can_fault a) left).0)
 integer_has_value (typed.length_of t) row h = refl
 integer_has_value (typed.index_of t p) row h = refl
 integer_has_value (typed.part_of p d) row h = refl
 
 two_integers : {Y : Type 0} (f : Option ℤ → Option ℤ → Y) (a b : IntegerExprOf) (row : List CellValue) → (integer_can_fault a || integer_can_fault b) ≡ false → IsSome (both f (integer_outcome a row) (integer_outcome b row))
-two_integers f a b row h = some_both f (integer_outcome a row) (integer_outcome b row) (integer_has_value a row (or-left (integer_can_fault a) (integer_can_fault b) h)) (integer_has_value b row (or-right (integer_can_fault a) (integer_can_fault b) h))
+two_integers f a b row h = some_both f (integer_outcome a row) (integer_outcome b row) (integer_has_value a row (or_parts (integer_can_fault a) (integer_can_fault b) h).0) (integer_has_value b row (or_parts (integer_can_fault a) (integer_can_fault b) h).1)
 
 pub decimal_has_value : (e : DecimalExprOf) (row : List CellValue) → decimal_can_fault e ≡ false → IsSome (decimal_outcome e row)
 decimal_has_value typed.null_decimal row h = refl
 decimal_has_value (typed.decimal_column p) row h = refl
 decimal_has_value (typed.decimal_literal n) row h = refl
 decimal_has_value (typed.decimal_negated a) row h = some_map (option_map neg_ℤ) (decimal_outcome a row) (decimal_has_value a row h)
-decimal_has_value (typed.decimal_sum a b) row h = some_both _ (decimal_outcome a row) (decimal_outcome b row) (decimal_has_value a row (or-left (decimal_can_fault a) (decimal_can_fault b) h)) (decimal_has_value b row (or-right (decimal_can_fault a) (decimal_can_fault b) h))
-decimal_has_value (typed.decimal_difference a b) row h = some_both _ (decimal_outcome a row) (decimal_outcome b row) (decimal_has_value a row (or-left (decimal_can_fault a) (decimal_can_fault b) h)) (decimal_has_value b row (or-right (decimal_can_fault a) (decimal_can_fault b) h))
+decimal_has_value (typed.decimal_sum a b) row h = some_both _ (decimal_outcome a row) (decimal_outcome b row) (decimal_has_value a row (or_parts (decimal_can_fault a) (decimal_can_fault b) h).0) (decimal_has_value b row (or_parts (decimal_can_fault a) (decimal_can_fault b) h).1)
+decimal_has_value (typed.decimal_difference a b) row h = some_both _ (decimal_outcome a row) (decimal_outcome b row) (decimal_has_value a row (or_parts (decimal_can_fault a) (decimal_can_fault b) h).0) (decimal_has_value b row (or_parts (decimal_can_fault a) (decimal_can_fault b) h).1)
 decimal_has_value (typed.scaled n) row h = some_map _ (integer_outcome n row) (integer_has_value n row h)
 
 two_decimals : {Y : Type 0} (f : Option ℤ → Option ℤ → Y) (a b : DecimalExprOf) (row : List CellValue) → (decimal_can_fault a || decimal_can_fault b) ≡ false → IsSome (both f (decimal_outcome a row) (decimal_outcome b row))
-two_decimals f a b row h = some_both f (decimal_outcome a row) (decimal_outcome b row) (decimal_has_value a row (or-left (decimal_can_fault a) (decimal_can_fault b) h)) (decimal_has_value b row (or-right (decimal_can_fault a) (decimal_can_fault b) h))
+two_decimals f a b row h = some_both f (decimal_outcome a row) (decimal_outcome b row) (decimal_has_value a row (or_parts (decimal_can_fault a) (decimal_can_fault b) h).0) (decimal_has_value b row (or_parts (decimal_can_fault a) (decimal_can_fault b) h).1)
 
 some_and : (x : Truth) (right : Option Truth) → IsSome right → IsSome (and_then x right)
 some_and truths.False right h = refl
@@ -155,16 +139,16 @@ truth_has_value (typed.truth_column p) row h = refl
 truth_has_value (typed.truth_literal b) row h = refl
 truth_has_value (typed.negation a) row h = some_map _ (truth_outcome a row) (truth_has_value a row h)
 truth_has_value (typed.conjunction a b) row h =
-    let right = truth_has_value b row (or-right (truth_can_fault a) (truth_can_fault b) h) in
-    some_bind _ (truth_outcome a row) (truth_has_value a row (or-left (truth_can_fault a) (truth_can_fault b) h)) (λ x. some_and x (truth_outcome b row) right)
+    let right = truth_has_value b row (or_parts (truth_can_fault a) (truth_can_fault b) h).1 in
+    some_bind _ (truth_outcome a row) (truth_has_value a row (or_parts (truth_can_fault a) (truth_can_fault b) h).0) (λ x. some_and x (truth_outcome b row) right)
 truth_has_value (typed.disjunction a b) row h =
-    let right = truth_has_value b row (or-right (truth_can_fault a) (truth_can_fault b) h) in
-    some_bind _ (truth_outcome a row) (truth_has_value a row (or-left (truth_can_fault a) (truth_can_fault b) h)) (λ x. some_or x (truth_outcome b row) right)
+    let right = truth_has_value b row (or_parts (truth_can_fault a) (truth_can_fault b) h).1 in
+    some_bind _ (truth_outcome a row) (truth_has_value a row (or_parts (truth_can_fault a) (truth_can_fault b) h).0) (λ x. some_or x (truth_outcome b row) right)
 truth_has_value (typed.compare_integers o a b) row h = two_integers _ a b row h
 truth_has_value (typed.compare_decimals o a b) row h = two_decimals _ a b row h
 truth_has_value (typed.compare_texts o a b) row h = refl
 truth_has_value (typed.compare_dates o a b) row h = refl
-truth_has_value (typed.compare_truths o a b) row h = some_both _ (truth_outcome a row) (truth_outcome b row) (truth_has_value a row (or-left (truth_can_fault a) (truth_can_fault b) h)) (truth_has_value b row (or-right (truth_can_fault a) (truth_can_fault b) h))
+truth_has_value (typed.compare_truths o a b) row h = some_both _ (truth_outcome a row) (truth_outcome b row) (truth_has_value a row (or_parts (truth_can_fault a) (truth_can_fault b) h).0) (truth_has_value b row (or_parts (truth_can_fault a) (truth_can_fault b) h).1)
 truth_has_value (typed.integer_in a items) row h = some_map _ (integer_outcome a row) (integer_has_value a row h)
 truth_has_value (typed.decimal_in a items) row h = some_map _ (decimal_outcome a row) (decimal_has_value a row h)
 truth_has_value (typed.text_in a items) row h = refl

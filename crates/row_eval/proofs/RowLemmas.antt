@@ -1,8 +1,8 @@
 -- The columns of a table are an input, and its rows are rows of that input.
-use Rattle.std.proofs.Common.{◌≡◌, ℕ, ◌≤◌, Bool, true, false, ◌&&◌, List, [], ◌∷◌, map, refl, arith}
+use Rattle.std.proofs.Common.{◌≡◌, ℕ, ◌≤◌, true, ◌&&◌, List, [], ◌∷◌, map, arith}
 use Rattle.std.specs.Prelude.{ℤ, pos, unsigned_abs, FitsSigned, nat_le}
 use Rattle.std.specs.Int.{w64, is_in_range}
-use Rattle.std.proofs.lemmas.Bool.{false≢true, leb-true}
+use Rattle.std.proofs.lemmas.Bool.{and_parts, leb-true}
 use Rattle.std.proofs.lemmas.Int.{ints}
 use Rattle.jiff.specs.Words.{days_in_month}
 use Rattle.cell_types.specs.Column.{ColumnOf}
@@ -16,16 +16,8 @@ use Rattle.odata_types.specs.declared.types.TheConstants.{COLUMN_SIZE}
 use Rattle.odata_types.specs.Schema.{input_of, inputs_of, type_of_datatype}
 use Rattle.row_eval.specs.Input.{IsBounded, IsDay, IsInput, IsOfType, IsRowOf, IsShortValue, IsTableRow}
 
-and-left : (a b : Bool) → (a && b) ≡ true → a ≡ true
-and-left true b e = refl
-and-left false b e = e
-
-and-right : (a b : Bool) → (a && b) ≡ true → b ≡ true
-and-right true b e = e
-and-right false b e = absurd (false≢true e)
-
 upper : (low high n : ℕ) → is_in_range low high n ≡ true → n ≤ high
-upper low high n e = leb-true n high (and-right (nat_le low n) (nat_le n high) e)
+upper low high n e = leb-true n high (and_parts (nat_le low n) (nat_le n high) e).1
 
 pub month_days : (y : ℤ) (m : ℕ) → days_in_month y m ≤ 31
 month_days y m = grind arith
@@ -35,9 +27,9 @@ day_of y m d e =
     let first = is_in_range 1 9_999 y in
     let second = is_in_range 1 12 m in
     let third = is_in_range 1 (days_in_month (pos y) m) d in
-    let both : (first && second) ≡ true = and-left (first && second) third e in
-    let last : d ≤ days_in_month (pos y) m = upper 1 (days_in_month (pos y) m) d (and-right (first && second) third e) in
-    (upper 1 9_999 y (and-left first second both), upper 1 12 m (and-right first second both), omega (arith, last, month_days (pos y) m))
+    let both : (first && second) ≡ true = (and_parts (first && second) third e).0 in
+    let last : d ≤ days_in_month (pos y) m = upper 1 (days_in_month (pos y) m) d (and_parts (first && second) third e).1 in
+    (upper 1 9_999 y (and_parts first second both).0, upper 1 12 m (and_parts first second both).1, omega (arith, last, month_days (pos y) m))
 
 small : (z : ℤ) → FitsSigned w64 z → unsigned_abs z ≤ COLUMN_SIZE
 small z h = omega (arith, ints)

@@ -6,7 +6,8 @@ use Rattle.std.specs.List.{starts_with}
 use Rattle.std.specs.Ordering.{int_eq}
 use Rattle.std.specs.Str.{chars, chars_after, continuation_len, lead_bits}
 use Rattle.std.proofs.lemmas.Int.{ints, unsigned_abs-mul, fits_signed_from_abs}
-use Rattle.std.proofs.Math.Nat.{mul-le-mul_left, mul_comm, div-le_self, mod-le}
+use Rattle.std.proofs.lemmas.Nat.{mul-le}
+use Rattle.std.proofs.Math.Nat.{div-le_self, mod-le}
 use Rattle.odata_parse.specs.declared.tree.ArithmeticOperator.{ArithmeticOperator}
 use Rattle.odata_parse.specs.declared.tree.ArithmeticOperator.TheVariants.{Add, Sub, Mul, Div, Mod}
 use Rattle.odata_types.specs.declared.types.TheConstants.{MOST_SIZE, MILLIONTHS, FUNCTION_SIZE}
@@ -60,9 +61,6 @@ abs-div (negsuc a) (negsuc b) = div-le_self (suc a) (suc b)
 abs-rem : (a b : ℤ) → unsigned_abs (int_rem a b) ≤ unsigned_abs a
 abs-rem (pos a) b = mod-le a (unsigned_abs b)
 abs-rem (negsuc a) b = rw (abs-neg (pos (suc a % unsigned_abs b))) (mod-le (suc a) (unsigned_abs b))
-
-mul-le : (a b m n : ℕ) → a ≤ m → b ≤ n → a * b ≤ m * n
-mul-le a b m n p q = grind (arith, mul-le-mul_left, mul_comm)
 
 operated : (o : ArithmeticOperator) (x y : ℤ) (a b : ℕ) → unsigned_abs x ≤ a → unsigned_abs y ≤ b → IfSome (operation o x y) (λ n. unsigned_abs n ≤ computed_size o a b)
 operated Add x y a b p q = omega (arith, abs-add x y)

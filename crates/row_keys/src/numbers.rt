@@ -1,5 +1,5 @@
 //! Keys of one integer each. The numbers stand row by row; where they do not rise from row to row, an order of the rows beside them does.
-ghost use Rattle.std.specs.Prelude.{◌≡◌, ◌<◌, ◌≤◌, ◌+◌, ◌-◌, true, None, Some, IfOk, IfErr, IfSome, OnOk, [], ◌∷◌, ◌++◌, length, map, position, slice_index_or};
+ghost use Rattle.std.specs.Prelude.{◌≡◌, ◌≤◌, ◌+◌, true, None, Some, IfOk, IfErr, IfSome, OnOk, [], ◌∷◌, ◌++◌, length, map, position, slice_index_or};
 ghost use Rattle.std.specs.List.{range_with_len};
 ghost use Rattle.std.specs.Ordering.{int_eq};
 ghost use Rattle.row_keys.specs.Key.{repeated_row};

@@ -1,5 +1,6 @@
 -- A folder has one meaning at most, one cause at most, and not both.
 use Rattle.std.proofs.Common.{◌≡◌, ℕ, List, [], ◌∷◌, Option, Some, None, length, Result, Ok, Err, refl, ap, sym, ◌∙◌, option_map, ◌⊎◌, inl, inr, arith}
+use Rattle.std.proofs.lemmas.Option.{same_Some}
 use Rattle.csv_grammar.specs.Records.{Field}
 use Rattle.csv_grammar.specs.Files.{FileCause, IsTable, IsFileFault}
 use Rattle.csv_grammar.specs.Laws.{OneTable, OneFileFault}
@@ -97,9 +98,6 @@ one_of_records one schema bytes c d a b =
     let same = one bytes a.0 b.0 a.1 b.1 a.2 b.2 in
     sym a.3 ∙ rw (same.0, same.1) b.3
 
-some-one : {X : Type 0} (x y : X) → Some x ≡ Some y → x ≡ y
-some-one x y e = cc
-
 -- bytes that are there and not too many have one cause
 one_file_cause : (one : OneTable) (faults : OneFileFault) (schema : SchemaOf) (bytes : List ℕ) (c d : TableCause) → HasFileCause schema bytes c → HasFileCause schema bytes d → c ≡ d
 one_file_cause one faults schema bytes c d a b =
@@ -112,7 +110,7 @@ one_file_cause one faults schema bytes c d a b =
       | inr r ↦
           elim (of_records schema bytes d b) [
             | inl g ↦ absurd (faults.none bytes r.0 r.1 g.0 r.2 g.2)
-            | inr s ↦ some-one c d (one_of_records one schema bytes (Some c) (Some d) r s)
+            | inr s ↦ same_Some c d (one_of_records one schema bytes (Some c) (Some d) r s)
           ]
     ]
 

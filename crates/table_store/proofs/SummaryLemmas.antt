@@ -3,7 +3,7 @@ use Rattle.std.proofs.Common.{◌≡◌, inl, inr, ℕ, ◌+◌, ◌-◌, ◌*�
 use Rattle.std.specs.Prelude.{min}
 use Rattle.std.specs.List.{All, list_any}
 use Rattle.std.proofs.lemmas.Bool.{cases_order, cond-false, cond-true, cond_both, or_parts}
-use Rattle.std.proofs.lemmas.Option.{slice_get_within}
+use Rattle.std.proofs.lemmas.Option.{same_Some, slice_get_within}
 use Rattle.std.proofs.lemmas.List.{get_or-drop, get_or-set_other, get_or-set_same, get_or-take, length-drop, length-map, length-take, take_all, take_more}
 use Rattle.std.proofs.lemmas.List.Elements.{All-from_get_or, All-get_or}
 use Rattle.std.proofs.Math.ListN.{get_or-append, get_or-map}
@@ -46,9 +46,6 @@ text_is (boolean of_true of_false) e = cc
 text_is (date form) e = cc
 text_is decimal e = cc
 
-one_some : {X : Type 0} {x y : X} → Some x ≡ Some y → x ≡ y
-one_some e = cc
-
 abbrev IsWithRow : List ColumnOf → List RangeOf → List RangeOf → List CellValue → ℕ → Type 0
 IsWithRow columns old new row k =
     (column : ColumnOf) → slice_get columns k ≡ Some column → get_or new k no_range ≡ with_row column (get_or old k no_range) (get_or row k null)
@@ -60,7 +57,7 @@ pub range_put : (columns : List ColumnOf) (old new : List RangeOf) (row : List C
 range_put columns old new row col range here at size before is k within column e =
     elim (cases_order k col) [
       | inl same ↦
-          let one : column ≡ here = one_some (sym e ∙ ap (slice_get columns) same ∙ at) in
+          let one : column ≡ here = same_Some column here (sym e ∙ ap (slice_get columns) same ∙ at) in
           ap (λ n. get_or (set new col range) n no_range) same ∙ get_or-set_same new col range no_range size ∙ is
           ∙ ap (λ n. with_row here (get_or old n no_range) (get_or row n null)) (sym same) ∙ ap (λ c. with_row c (get_or old k no_range) (get_or row k null)) (sym one)
       | inr (inl less) ↦ get_or-set_other new col k range no_range (λ e. absurd (omega (arith, e, less))) ∙ before k less column e
@@ -74,7 +71,7 @@ pub range_passed : (columns : List ColumnOf) (old new : List RangeOf) (row : Lis
 range_passed columns old new row col here at before is k within column e =
     elim (cases_order k col) [
       | inl same ↦
-          let one : column ≡ here = one_some (sym e ∙ ap (slice_get columns) same ∙ at) in
+          let one : column ≡ here = same_Some column here (sym e ∙ ap (slice_get columns) same ∙ at) in
           ap (λ n. get_or new n no_range) same ∙ is
           ∙ ap (λ n. with_row here (get_or old n no_range) (get_or row n null)) (sym same) ∙ ap (λ c. with_row c (get_or old k no_range) (get_or row k null)) (sym one)
       | inr (inl less) ↦ before k less column e

@@ -1,11 +1,10 @@
 use Rattle.std.proofs.Common.{rules, ◌≡◌, ◌<◌, ◌≤◌, ℕ, List, [], ◌∷◌, ◌++◌, None, Some, Ok, get_or, inl, inr, length, take, map, arith, subst, sym, ap, ◌∙◌}
-use Rattle.std.specs.List.{list_all}
 use Rattle.std.specs.Result.{result_err}
 use Rattle.std.proofs.lemmas.List.{length-map, length-take, take_all}
 use Rattle.std.proofs.lemmas.Result.{IfErr-weaker, IfOk-weaker}
 use Rattle.csv_index.specs.Raw.{RawField}
 use Rattle.cell_types.specs.declared.column.Column.{Column}
-use Rattle.cell_types.specs.Column.{column_view, takes_all_texts}
+use Rattle.cell_types.specs.Column.{column_view}
 use Rattle.cell_types.specs.Value.{CellValue, value_view}
 use Rattle.csvw_meta.specs.Schema.{schema_view}
 use Rattle.typed_columns.specs.Values.{rows_in, values_in}
@@ -15,10 +14,10 @@ use Rattle.row_keys.specs.Keys.{HasRead, TakesKey}
 use Rattle.typed_columns.specs.TypedColumn.{AreTyped}
 use Rattle.table_store.specs.Loading.{keys_at, values_of, ReadsAs, StandFor}
 use Rattle.table_store.proofs.InsideLemmas.{length-rows_in, length-values_in, rows_in-more}
-use Rattle.table_store.proofs.ReaderLemmas.{have_readers, none_typed, read_row_on, read_start, typed_read}
+use Rattle.table_store.proofs.ReaderLemmas.{have_readers, read_row_on, read_start, typed_read}
 use Rattle.table_store.proofs.LoadingLemmas.{bad_cell-cause, lacks_keys-cause, lacks_keys-memory, row_keys-last}
 use Rattle.table_store.proofs.CursorLemmas.{RowAt, row_at}
-use Rattle.table_store.proofs.RowLemmas.{takes_all-rows, values_from-none, wrong_in_rows-here, wrong_in_rows-past, wrong_in_rows-end}
+use Rattle.table_store.proofs.RowLemmas.{values_from-none, wrong_in_rows-here, wrong_in_rows-past, wrong_in_rows-end}
 use Rattle.table_store.proofs.loading.read_each_row.Goals.{In-Ok-read_row}
 use Rattle.table_store.proofs.loading.read_each_row.Goals as goal
 

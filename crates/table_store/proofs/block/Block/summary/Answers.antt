@@ -2,7 +2,7 @@ use Rattle.std.proofs.Common.{◌<◌, ◌/◌, List, [], length, get_or, sym, a
 use Rattle.std.proofs.lemmas.List.{get_or_default}
 use Rattle.block_summary.specs.declared.block.TheConstants.{BLOCK_ROWS}
 use Rattle.block_summary.specs.Ranges.{RangeOf}
-use Rattle.table_store.specs.Block.{block_of, part}
+use Rattle.table_store.specs.Block.{part}
 use Rattle.table_store.specs.Summaries.{IsSummaryOf}
 use Rattle.table_store.specs.Table.{TableOf}
 use Rattle.table_store.proofs.BlockLemmas.{part-fewer}
