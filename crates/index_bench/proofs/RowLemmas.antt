@@ -1,8 +1,7 @@
 -- No file has more rows than bytes, and each fault but want of memory is the file's.
 use Rattle.std.proofs.Common.{◌≢◌, ℕ, ◌+◌, ◌*◌, ◌^◌, ◌<◌, ◌≤◌, List, [], ◌∷◌, length, refl, arith}
-use Rattle.std.specs.Prelude.{IfSome, IfOk, Result, Ok, Err}
+use Rattle.std.specs.Prelude.{IfOk, Result, Ok, Err}
 use Rattle.std.proofs.lemmas.Nat.{mul-le}
-use Rattle.csv_grammar.specs.Records.{Field}
 use Rattle.csv_grammar.specs.Files.{FileCause, not_utf8, malformed, no_header, wrong_width, IsFileFault}
 use Rattle.csv_grammar.specs.Faults.{bare_cr, stray_quote, after_quote, unfinished}
 use Rattle.csv_index.specs.Index.{Places, Rise, IsIndexOf}
