@@ -1,9 +1,10 @@
 -- The first rows of an order in the place of all.
-use Rattle.std.proofs.Common.{◌≡◌, inl, inr, ℕ, Bool, true, false, ◌&&◌, ◌||◌, cond, Option, Some, None, List, [], ◌∷◌, ◌++◌, get_or, length, map, take, append-nil, refl, sym, ap, ◌∙◌, subst}
+use Rattle.std.proofs.Common.{◌≡◌, inl, inr, ℕ, Bool, true, false, ◌||◌, cond, Option, Some, None, List, [], ◌∷◌, ◌++◌, get_or, length, map, take, append-nil, refl, sym, ap, ◌∙◌, subst}
 use Rattle.std.specs.Prelude.{is_none, is_some, option_map, option_and_then, slice_get}
 use Rattle.std.specs.List.{All, AllByRecursion, list_any}
 use Rattle.std.proofs.lemmas.List.Elements.{All-from_recursion}
-use Rattle.std.proofs.lemmas.Bool.{cases_Bool}
+use Rattle.std.proofs.lemmas.Bool.{and_parts, cases_Bool}
+use Rattle.std.proofs.lemmas.Option.{same_Some}
 use Rattle.cell_types.specs.Value.{CellValue}
 use Rattle.odata_types.specs.TypedTree as typed
 use Rattle.odata_types.specs.TypedTree.{TypedExprOf}
@@ -13,7 +14,7 @@ use Rattle.row_columns.specs.Picked.{numbered}
 use Rattle.row_order.specs.Best.{best_rows, BestInPieces}
 use Rattle.query_plan.specs.Fitting.{NodesFit}
 use Rattle.query_plan.specs.Meaning.{ResultOf}
-use Rattle.query_plan.specs.Order.{Item, order_faults, plain_column, rows_cmp, sorted}
+use Rattle.query_plan.specs.Order.{Item, are_plain, order_faults, plain_column, rows_cmp, sorted}
 use Rattle.query_plan.specs.Plan.{NodeOf, aggregating, choosing, filtering, grouping, node_result, nodes_result, projecting, slicing, sorting}
 use Rattle.query_plan.specs.Plan.{node_view}
 use Rattle.query_plan.specs.Push.{room_of}
@@ -22,7 +23,7 @@ use Rattle.query_exec.specs.declared.run.Run.{Run}
 use Rattle.query_exec.specs.Gathers.{behind}
 use Rattle.query_exec.specs.Run.{steps_of}
 use Rattle.query_exec.specs.Taking.{HasCut, HasTaken}
-use Rattle.query_exec.specs.Useful.{are_plain, steps_result, useful, StepsFit}
+use Rattle.query_exec.specs.Useful.{steps_result, useful, StepsFit}
 use Rattle.query_exec.specs.Underway.{AreAll}
 use Rattle.block_filter.specs.Conditions.{joined}
 use Rattle.query_exec.proofs.PieceLemmas.{first_front, piece_same}
@@ -46,20 +47,11 @@ plain_fits (typed.date (typed.date_column place)) row h = tt
 plain_fits (typed.decimal (typed.decimal_column place) bound) row h = tt
 plain_fits e row h = absurd (cc)
 
-and_left : (a b : Bool) → (a && b) ≡ true → a ≡ true
-and_left true b h = refl
-and_left false b h = absurd (cc)
-
-and_right : (a b : Bool) → (a && b) ≡ true → b ≡ true
-and_right true b h = h
-and_right false b h = absurd (cc)
-
 plain_row : (items : List Item) (row : List CellValue) → are_plain items ≡ true → order_faults items row ≡ false
 plain_row [] row h = refl
 plain_row (item ∷ items) row h =
-    let first = and_left (is_some (plain_column item.0)) (are_plain items) h in
-    let others = and_right (is_some (plain_column item.0)) (are_plain items) h in
-    ap (λ b. b || order_faults items row) (plain_works item.0 row first) ∙ plain_row items row others
+    let parts = and_parts (is_some (plain_column item.0)) (are_plain items) h in
+    ap (λ b. b || order_faults items row) (plain_works item.0 row parts.0) ∙ plain_row items row parts.1
 
 pub none_faults : (items : List Item) (rows : List (List CellValue)) → are_plain items ≡ true → list_any (order_faults items) rows ≡ false
 none_faults items [] h = refl
@@ -72,8 +64,8 @@ plain_best items most rows h = ap (λ b. option_map (take most) (cond b None (So
 items_fit : (items : List Item) (row : List CellValue) → are_plain items ≡ true → AllByRecursion (λ item. NumbersFit item.0 row) items
 items_fit [] row h = tt
 items_fit (item ∷ items) row h = (
-  plain_fits item.0 row (and_left (is_some (plain_column item.0)) (are_plain items) h),
-  items_fit items row (and_right (is_some (plain_column item.0)) (are_plain items) h),
+  plain_fits item.0 row (and_parts (is_some (plain_column item.0)) (are_plain items) h).0,
+  items_fit items row (and_parts (is_some (plain_column item.0)) (are_plain items) h).1,
 )
 
 -- and each of them fits any row
@@ -81,9 +73,6 @@ pub plain_rows_fit : (items : List Item) (rows : List (List CellValue)) → are_
 plain_rows_fit items rows h = λ k d inside. All-from_recursion (λ item. NumbersFit item.0 (get_or rows k d)) items (items_fit items (get_or rows k d) h)
 
 -- ---- the rows that the first step has a use for
-
-pub some_same : {X : Type 0} (x y : X) → Some x ≡ Some y → x ≡ y
-some_same x y e = cc
 
 module _ (items : List Item) (most : ℕ) (ns : List NodeOf) where
   pub useful_plain : (rows : List (List CellValue)) → are_plain items ≡ true → useful (choosing items most ∷ ns) rows ≡ take most (sorted (rows_cmp items) rows)
@@ -96,7 +85,7 @@ module _ (items : List Item) (most : ℕ) (ns : List NodeOf) where
       → take most (sorted (rows_cmp items) (take most (sorted (rows_cmp items) xs) ++ ys)) ≡ take most (sorted (rows_cmp items) (xs ++ ys))
   best_front law h xs ys =
       let front = take most (sorted (rows_cmp items) xs) in
-      some_same (take most (sorted (rows_cmp items) (front ++ ys))) (take most (sorted (rows_cmp items) (xs ++ ys)))
+      same_Some (take most (sorted (rows_cmp items) (front ++ ys))) (take most (sorted (rows_cmp items) (xs ++ ys)))
       (sym (plain_best items most (front ++ ys) h) ∙ law.front items most xs ys front (plain_best items most xs h) ∙ plain_best items most (xs ++ ys) h)
 
   choosing_front : BestInPieces → (xs ys : List (List CellValue))
@@ -176,7 +165,7 @@ alike_joined law steps None (Some zs) back e = absurd (cc)
 alike_joined law steps (Some xs) None back e = absurd (cc)
 alike_joined law steps (Some xs) (Some zs) None e = refl
 alike_joined law steps (Some xs) (Some zs) (Some ys) e =
-    let same = some_same (useful steps xs) (useful steps zs) e in
+    let same = same_Some (useful steps xs) (useful steps zs) e in
     ap (λ rows. Some rows) (sym (useful_front law steps xs ys) ∙ ap (λ front. useful steps (front ++ ys)) same ∙ useful_front law steps zs ys)
 
 -- what the steps make of what is kept of so many that passed
@@ -187,14 +176,14 @@ alike_answer steps r many None None e count = refl
 alike_answer steps r many None (Some zs) e count = absurd (cc)
 alike_answer steps r many (Some xs) None e count = absurd (cc)
 alike_answer steps r many (Some xs) (Some zs) e count =
-    ap (λ n. steps_result steps n (record r { rows = xs })) (count zs refl) ∙ useful_result steps r xs zs (some_same (useful steps xs) (useful steps zs) e)
+    ap (λ n. steps_result steps n (record r { rows = xs })) (count zs refl) ∙ useful_result steps r xs zs (same_Some (useful steps xs) (useful steps zs) e)
 
 pub alike_fit : (steps : List NodeOf) (r : ResultOf) (many : ℕ) (passed : Option (List (List CellValue))) (xs : List (List CellValue)) → Alike steps (Some xs) passed
     → ((zs : List (List CellValue)) → passed ≡ Some zs → many ≡ length zs)
     → ((rows : List (List CellValue)) → passed ≡ Some rows → NodesFit steps (record r { rows = rows })) → StepsFit steps many (record r { rows = xs })
 alike_fit steps r many None xs e count fit = absurd (cc)
 alike_fit steps r many (Some zs) xs e count fit =
-    subst (λ n. StepsFit steps n (record r { rows = xs })) (sym (count zs refl)) (useful_fit steps r xs zs (some_same (useful steps xs) (useful steps zs) e) (fit zs refl))
+    subst (λ n. StepsFit steps n (record r { rows = xs })) (sym (count zs refl)) (useful_fit steps r xs zs (same_Some (useful steps xs) (useful steps zs) e) (fit zs refl))
 
 -- no condition divided by zero where rows passed
 pub none_faulted : (steps : List NodeOf) (faulted : Bool) (gone kept zs : List (List CellValue)) (passed : Option (List (List CellValue)))
@@ -236,7 +225,7 @@ pub first_are_useful : BestInPieces → (steps : List Node) (node : Node) (items
     → useful (map node_view steps) made ≡ useful (map node_view steps) rows
 first_are_useful law [] node items most rows made at is plain e = absurd (cc)
 first_are_useful law (n ∷ ns) node items most rows made at is plain e =
-    let same : n ≡ node = some_same n node at in
+    let same : n ≡ node = same_Some n node at in
     let first : node_view n ≡ choosing items most = ap node_view same ∙ is in
     let rest = map node_view ns in
     subst (λ step. useful (step ∷ rest) made ≡ useful (step ∷ rest) rows) (sym first)
@@ -250,5 +239,5 @@ never_faults items most rows plain e = let is = sym (plain_best items most rows 
 pub best_made : (items : List Item) (most : ℕ) (numbers : List ℕ) (rows made : List (List CellValue)) → are_plain items ≡ true → AreAll numbers (length rows)
     → best_rows items most (numbered numbers rows) ≡ Some made → made ≡ take most (sorted (rows_cmp items) rows)
 best_made items most numbers rows made plain all e =
-    some_same made (take most (sorted (rows_cmp items) rows))
+    same_Some made (take most (sorted (rows_cmp items) rows))
     (sym e ∙ ap (best_rows items most) (all_numbered numbers rows all) ∙ plain_best items most rows plain)

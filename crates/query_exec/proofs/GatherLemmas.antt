@@ -24,7 +24,7 @@ use Rattle.query_exec.specs.Run.{handed_rows, rows_so_far, steps_of}
 use Rattle.query_exec.specs.Taking.{passed_rows, taken_rows, HasGathered, HasTaken, HasTakenIn}
 use Rattle.query_exec.specs.Underway.{AreAll}
 use Rattle.query_exec.specs.Useful.{first_result, useful}
-use Rattle.query_exec.proofs.BestLemmas.{some_same, Alike}
+use Rattle.query_exec.proofs.BestLemmas.{Alike}
 use Rattle.query_exec.proofs.StepLemmas.{aggregate_fits, all_numbered}
 
 -- ---- where rows are gathered the first step has a use for each

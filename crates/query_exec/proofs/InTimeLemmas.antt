@@ -4,12 +4,13 @@ use Rattle.std.specs.Prelude.{IfOk, Result, Ok, Err, slice_get}
 use Rattle.std.specs.List.{All, AllByRecursion}
 use Rattle.std.proofs.lemmas.List.{get_or-map, length-map}
 use Rattle.std.proofs.lemmas.List.Elements.{recursion_from_All}
+use Rattle.std.proofs.lemmas.Option.{same_Some}
 use Rattle.block_filter.specs.Columns.{unless_null}
 use Rattle.block_summary.specs.Cells.{cell}
 use Rattle.block_summary.specs.Types.{cell_of}
 use Rattle.block_summary.specs.declared.number.PackedType.{PackedType}
 use Rattle.cell_types.specs.Value.{CellValue, null}
-use Rattle.query_plan.specs.Order.{Item, rows_cmp, sorted}
+use Rattle.query_plan.specs.Order.{Item, are_plain, rows_cmp, sorted}
 use Rattle.query_plan.specs.Plan.{choosing, node_view}
 use Rattle.query_plan.specs.declared.plan.Node.{Node}
 use Rattle.row_columns.specs.Picked.{numbered, values_at}
@@ -22,8 +23,8 @@ use Rattle.block_filter.specs.Lanes.{AreKeysOf, StandAt}
 use Rattle.query_exec.specs.Picked.{selected_rows}
 use Rattle.query_exec.specs.Run.{places_of}
 use Rattle.query_exec.specs.Taking.{AreOfUse, IsSourceOf}
-use Rattle.query_exec.specs.Useful.{are_plain, useful}
-use Rattle.query_exec.proofs.BestLemmas.{none_faults, plain_best, some_same, useful_plain}
+use Rattle.query_exec.specs.Useful.{useful}
+use Rattle.query_exec.proofs.BestLemmas.{none_faults, plain_best, useful_plain}
 
 -- ---- keys of rows
 
@@ -80,9 +81,9 @@ useful_same : (steps : List Node) (node : Node) (items : List Item) (most : ℕ)
     → are_plain items ≡ true → best_rows items most xs ≡ best_rows items most ys → useful (map node_view steps) xs ≡ useful (map node_view steps) ys
 useful_same [] node items most xs ys at is plain e = absurd (cc)
 useful_same (n ∷ ns) node items most xs ys at is plain e =
-    let first : node_view n ≡ choosing items most = ap node_view (some_same n node at) ∙ is in
+    let first : node_view n ≡ choosing items most = ap node_view (same_Some n node at) ∙ is in
     let rest = map node_view ns in
-    let same = some_same (take most (sorted (rows_cmp items) xs)) (take most (sorted (rows_cmp items) ys)) (sym (plain_best items most xs plain) ∙ e ∙ plain_best items most ys plain) in
+    let same = same_Some (take most (sorted (rows_cmp items) xs)) (take most (sorted (rows_cmp items) ys)) (sym (plain_best items most xs plain) ∙ e ∙ plain_best items most ys plain) in
     subst (λ step. useful (step ∷ rest) xs ≡ useful (step ∷ rest) ys) (sym first)
     (useful_plain items most rest xs plain ∙ same ∙ sym (useful_plain items most rest ys plain))
 

@@ -1,6 +1,7 @@
 -- What a run has behind the rows of a block.
 use Rattle.std.proofs.Common.{◌≡◌, ℕ, ◌+◌, ◌<◌, ◌^◌, Bool, true, false, ◌||◌, cond, Option, None, Some, List, ◌++◌, refl, sym, ap, ◌∙◌, subst}
 use Rattle.std.specs.Prelude.{OnOk, Result, Ok, Err, count_by, option_map}
+use Rattle.std.proofs.lemmas.Bool.{or_parts}
 use Rattle.cell_types.specs.Value.{CellValue}
 use Rattle.row_columns.specs.Picked.{numbered}
 use Rattle.block_filter.specs.declared.lanes.Lanes.{Lanes}
@@ -60,27 +61,19 @@ taken_some old mid new most rows found is room count spare are now was none kept
       ∙ ap (λ passed. option_map (useful steps) (joined (cond old.faulted None (Some old.kept.rows)) (option_map picked passed))) (sym all.1);
 }
 
-or_left : (a b : Bool) → (a || b) ≡ false → a ≡ false
-or_left true b h = h
-or_left false b h = refl
-
-or_right : (a b : Bool) → (a || b) ≡ false → b ≡ false
-or_right true b h = absurd (cc)
-or_right false b h = h
-
 pub kept_is_taken : {X E : Type 0} (old new : Run) (lanes : Lanes) (room most : Option ℕ) (count : ℕ) (rows : List (List CellValue)) (found : Passed) (result : Result X E)
     → room ≡ room_behind old.room found.count → count ≡ old.count + found.count → IsSpare old most → ArePassing (conditions_of old) most rows found → (old.faulted || found.faulted) ≡ false
     → OnOk result (HasKept (record old { lanes = lanes; room = room; count = count; faulted = old.faulted || found.faulted }) new (selected_rows (places_of old) (numbered found.numbers.items rows)))
     → OnOk result (HasTaken old new rows)
 kept_is_taken old new lanes room most count rows found (Ok x) is counts spare are none kept =
-    taken_some old (record old { lanes = lanes; room = room; count = count; faulted = old.faulted || found.faulted }) new most rows found refl is counts spare are none (or_left old.faulted found.faulted none)
-    (or_right old.faulted found.faulted none) kept
+    taken_some old (record old { lanes = lanes; room = room; count = count; faulted = old.faulted || found.faulted }) new most rows found refl is counts spare are none (or_parts old.faulted found.faulted none).0
+    (or_parts old.faulted found.faulted none).1 kept
 kept_is_taken old new lanes room most count rows found (Err e) is counts spare are none kept = kept
 
 -- what passes may be counted
 pub count_fits : (run : Run) (most : Option ℕ) (rows : List (List CellValue)) (found : Passed) → ArePassing (conditions_of run) most rows found
     → (run.faulted || found.faulted) ≡ false → MayCount run rows → run.count + found.count < 2 ^ 64
-count_fits run most rows found are none may = subst (λ n. run.count + n < 2 ^ 64) (sym are.count) (may (or_left run.faulted found.faulted none))
+count_fits run most rows found are none may = subst (λ n. run.count + n < 2 ^ 64) (sym are.count) (may (or_parts run.faulted found.faulted none).0)
 
 -- a run that keeps none, since a condition divided by zero
 none_joined : (picked : Option (List ℕ)) (was faulted : Bool) (kept : List (List CellValue)) (passed : Option (List (List CellValue))) → (was || faulted) ≡ true

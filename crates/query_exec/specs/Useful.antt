@@ -1,16 +1,11 @@
 -- Of what use the rows are that pass the conditions of a plan, and what the steps make of those that are kept.
-use Rattle.std.specs.Prelude.{◌≡◌, ℕ, Bool, false, List, [], ◌∷◌, Option, Some, drop, is_some, option_and_then, take, if◌then◌else◌}
-use Rattle.std.specs.List.{list_all}
+use Rattle.std.specs.Prelude.{◌≡◌, ℕ, false, List, [], ◌∷◌, Option, Some, drop, option_and_then, take, if◌then◌else◌}
 use Rattle.cell_types.specs.Value.{CellValue}
 use Rattle.query_plan.specs.Fitting.{IsFitNode, NodesFit}
-use Rattle.query_plan.specs.Order.{Item, plain_column, rows_cmp, sorted}
+use Rattle.query_plan.specs.Order.{are_plain, rows_cmp, sorted}
 use Rattle.query_plan.specs.Meaning.{ResultOf, first_rows}
 use Rattle.query_plan.specs.Plan.{NodeOf, SliceOf, choosing, node_result, nodes_result, slicing}
 use Rattle.query_plan.specs.Push.{room_of}
-
--- each item is a column alone: none divides by zero
-abbrev pub are_plain : List Item → Bool
-are_plain items = list_all (λ item. is_some (plain_column item.0)) items
 
 -- the rows that the first step has a use for: the first in an order, where it takes these, and the first ones, where it is a piece that ends; of the others such
 -- a piece has a use for their number alone

@@ -1,7 +1,7 @@
 -- Runs of a text between its double quotes.
 use Rattle.std.proofs.Common.{◌≡◌, ℕ, suc, ◌+◌, ◌<◌, Bool, true, false, not, cond, eqb, List, [], ◌∷◌, ◌++◌, length, take, drop, get_or, Some, None, refl, sym, ap, subst, ◌∙◌, arith, append_assoc}
 use Rattle.std.specs.List.{flat_map, position_or_len}
-use Rattle.std.proofs.lemmas.Bool.{eqb-true}
+use Rattle.std.proofs.lemmas.Bool.{eqb-true, false_from_ne_true}
 use Rattle.std.proofs.lemmas.List.Sums.{position_or_len_is}
 use Rattle.memchr.specs.Find.{IsFirstByte, is_byte}
 use Rattle.reply_text.specs.Csv.{doubled_byte}
@@ -36,17 +36,13 @@ none_doubled (b ∷ text) none = by (eqb b 34) refl none (none_doubled text)
     by true e h others = absurd (omega (arith, h))
     by false e h others = rw (e, others (omega (arith, h))) refl
 
-not_true : (t : Bool) → ¬ (t ≡ true) → t ≡ false
-not_true true h = absurd (h refl)
-not_true false h = refl
-
 first_found : (text : List ℕ) (place : ℕ) → IsFirstByte (is_byte 34) text (Some place) → first_quote text ≡ place
 first_found text place found =
-    position_or_len_is (is_byte 34) text place 0 (omega (arith, found.0.high)) (λ k below. not_true (eqb (get_or text k 0) 34) (found.0.before k (omega arith) below)) (λ inside. found.1)
+    position_or_len_is (is_byte 34) text place 0 (omega (arith, found.0.high)) (λ k below. false_from_ne_true (eqb (get_or text k 0) 34) (found.0.before k (omega arith) below)) (λ inside. found.1)
 
 none_found : (text : List ℕ) → IsFirstByte (is_byte 34) text None → first_quote text ≡ length text
 none_found text none =
-    position_or_len_is (is_byte 34) text (length text) 0 (omega arith) (λ k below. not_true (eqb (get_or text k 0) 34) (none k (omega arith) below)) (λ inside. absurd (omega (arith, inside)))
+    position_or_len_is (is_byte 34) text (length text) 0 (omega arith) (λ k below. false_from_ne_true (eqb (get_or text k 0) 34) (none k (omega arith) below)) (λ inside. absurd (omega (arith, inside)))
 
 -- a step of writing
 pub write_doubled : (out run between now rest tail behind whole : List ℕ) (place : ℕ) → IsFirstByte (is_byte 34) rest (Some place)

@@ -1,7 +1,7 @@
 -- The lines of rows are lines of the grammar.
 use Rattle.std.proofs.Common.{◌≡◌, ℕ, zero, suc, ◌+◌, ◌<◌, ◌≤◌, ◌/◌, ◌%◌, Bool, true, false, cond, eqb, ltb, ℤ, pos, negsuc, List, [], ◌∷◌, ◌++◌, length, map, None, refl, sym, ap, ap₂, ◌∙◌, append-nil, arith, tests}
 use Rattle.std.specs.Prelude.{IsTrue, ◌||◌, not, ◌==◌}
-use Rattle.std.proofs.lemmas.Bool.{false≢true}
+use Rattle.std.proofs.lemmas.Bool.{false≢true, or_parts}
 use Rattle.std.specs.List.{flat_map, join_with_byte, list_all, list_any, AllByRecursion}
 use Rattle.std.specs.Fmt.{digit_glyph, digits_onto, digits, decimal, signed_decimal}
 use Rattle.csv_grammar.specs.Bytes.{comma, carriage_return, line_feed}
@@ -119,11 +119,6 @@ plain_text (b ∷ bytes) none = by (is_quoted_byte b) refl none (plain_text byte
     by true e n rest = absurd (false≢true (sym n))
     by false e n rest = (ap not e, rest n)
 
--- the second of two tests that both fail
-no_byte : (s t : Bool) → (s || t) ≡ false → t ≡ false
-no_byte true t e = absurd (false≢true (sym e))
-no_byte false t e = e
-
 -- ---- the field of a value
 
 -- a text's, by whether it needs double quotes
@@ -156,7 +151,7 @@ field_is (text bytes) = by (needs_quotes bytes) refl
   where
     by : (t : Bool) → needs_quotes bytes ≡ t → IsField (text_field t bytes)
     by true e = tt
-    by false e = plain_text bytes (no_byte (length bytes == 0) (list_any is_quoted_byte bytes) e)
+    by false e = plain_text bytes (or_parts (length bytes == 0) (list_any is_quoted_byte bytes) e).1
 field_is (boolean truth) = plain_bool truth
 field_is (date year month day) = plain-from_above (day_text year month day) (day_above year month day)
 field_is (cell.decimal millionths) = plain-from_above (decimal_text millionths) (millionths_above millionths)

@@ -1,9 +1,9 @@
 -- The tables of a folder have rows that CSV can say.
-use Rattle.std.proofs.Common.{◌≡◌, ℕ, ◌+◌, ◌<◌, ◌≤◌, Bool, true, false, List, [], ◌∷◌, length, map, Option, Some, None, Result, Ok, Err, refl, subst, arith, tests}
-use Rattle.std.specs.Prelude.{option_map, ◌&&◌}
+use Rattle.std.proofs.Common.{◌≡◌, ℕ, ◌+◌, ◌<◌, ◌≤◌, true, List, [], ◌∷◌, length, map, Option, Some, None, Result, Ok, Err, refl, subst, arith, tests}
+use Rattle.std.specs.Prelude.{option_map}
 use Rattle.std.specs.List.{AllByRecursion, list_all}
 use Rattle.std.specs.Char.{is_ascii_alphabetic}
-use Rattle.std.proofs.lemmas.Bool.{false≢true}
+use Rattle.std.proofs.lemmas.Bool.{and_parts}
 use Rattle.std.proofs.lemmas.List.Elements.{All-from_recursion, recursion_from_All}
 use Rattle.csv_grammar.specs.Records.{Field, content}
 use Rattle.csv_grammar.specs.Files.{HasWidth}
@@ -25,10 +25,6 @@ use Rattle.reply_text.proofs.RecordLemmas.{AreAbove, plain-from_above}
 
 -- ---- names of columns
 
-both : (s t : Bool) → (s && t) ≡ true → (s ≡ true) × (t ≡ true)
-both true t e = (refl, e)
-both false t e = absurd (false≢true e)
-
 letter_above : (b : ℕ) → is_ascii_alphabetic b ≡ true → 45 ≤ b
 letter_above b h = grind (arith, tests)
 
@@ -38,15 +34,15 @@ name_byte_above b h = grind (arith, tests)
 bytes_above : (bytes : List ℕ) → list_all is_name_byte bytes ≡ true → AreAbove bytes
 bytes_above [] all = tt
 bytes_above (b ∷ bytes) all =
-    let parts = both (is_name_byte b) (list_all is_name_byte bytes) all in
+    let parts = and_parts (is_name_byte b) (list_all is_name_byte bytes) all in
     (name_byte_above b parts.0, bytes_above bytes parts.1)
 
 plain_name : (name : List ℕ) → is_column_name name ≡ true → IsPlainName name
 plain_name [] is = tt
 plain_name (b ∷ bytes) is =
-    let word = (both _ _ is).1 in
-    let parts = both _ _ word in
-    plain-from_above (b ∷ bytes) (letter_above b (both _ _ parts.0).1, bytes_above bytes parts.1)
+    let word = (and_parts _ _ is).1 in
+    let parts = and_parts _ _ word in
+    plain-from_above (b ∷ bytes) (letter_above b (and_parts _ _ parts.0).1, bytes_above bytes parts.1)
 
 names_plain : (columns : List ColumnOf) → AllByRecursion (λ (column : ColumnOf). is_column_name column.name ≡ true) columns
     → AllByRecursion IsPlainName (map (λ column. column.name) columns)

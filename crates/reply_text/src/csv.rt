@@ -1,5 +1,5 @@
 //! Rows as CSV (RFC 4180, section 2), appended to one buffer in one pass.
-ghost use Rattle.std.specs.Prelude.{◌≡◌, ◌<◌, ◌≤◌, ◌++◌, [], ◌||◌, ◌==◌, IfOk, OnOk, get_or, length, map, string_bytes};
+ghost use Rattle.std.specs.Prelude.{◌≡◌, ◌<◌, ◌≤◌, ◌++◌, [], IfOk, OnOk, get_or, length, map, string_bytes};
 ghost use Rattle.std.specs.List.{flat_map, join_with_byte, list_any};
 ghost use Rattle.cell_types.specs.Value.{value_view};
 ghost use Rattle.reply_text.specs.Csv.{csv_field, csv_text, csv_value, doubled_byte, is_quoted_byte, needs_quotes, row_line};

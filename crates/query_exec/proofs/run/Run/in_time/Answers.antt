@@ -1,12 +1,12 @@
 use Rattle.std.proofs.Common.{◌≡◌, ◌∙◌, Some, true, ap, map, rules, sym}
 use Rattle.std.specs.Prelude.{slice_get}
 use Rattle.odata_query.specs.Query.{order_view}
+use Rattle.query_plan.specs.Order.{are_plain}
 use Rattle.query_plan.specs.Plan.{choosing, node_view}
 use Rattle.row_order.specs.InTime.{AreEnoughByKeys}
 use Rattle.block_filter.specs.Lanes.{AreKeysOf}
 use Rattle.query_exec.specs.Run.{places_of}
 use Rattle.query_exec.specs.Taking.{AreOfUse, IsSourceOf}
-use Rattle.query_exec.specs.Useful.{are_plain}
 use Rattle.query_exec.proofs.InTimeLemmas.{enough_of_use, if_ok, plain_never_faults}
 use Rattle.query_exec.proofs.run.Run.in_time.Goals as goal
 
