@@ -1,5 +1,5 @@
 -- A query with a key has no `$apply`.
-use Rattle.std.proofs.Common.{◌≡◌, ℕ, Bool, true, false, List, [], ◌∷◌, Option, Some, None, Result, Ok, Err, refl, sym, ap, ◌∙◌, subst}
+use Rattle.std.proofs.Common.{◌≡◌, ℕ, true, false, List, [], ◌∷◌, Option, Some, None, Result, Ok, Err, refl, sym, ap, ◌∙◌, subst}
 use Rattle.cell_types.specs.Value.{CellValue}
 use Rattle.csvw_meta.specs.Schema.{SchemaOf}
 use Rattle.table_store.specs.Catalog.{CatalogOf}
@@ -19,13 +19,13 @@ use Rattle.odata_query.specs.Query.{QueryOf, TypedOf, optional_typing, order_typ
 use Rattle.odata_query.specs.Selection.{optional_selection_typing}
 use Rattle.reply_text.specs.declared.code.Code.{Code}
 use Rattle.http_heads.specs.declared.checks.HeadFault.{HeadFault}
-use Rattle.odata_request.specs.Fault.{head_code, type_code, url_code}
+use Rattle.odata_request.specs.Fault.{type_code, url_code}
 use Rattle.odata_request.specs.Resource as resource
 use Rattle.odata_request.specs.Resource.{ResourceOf, path_resource}
-use Rattle.odata_request.specs.Options.{TextsOf, asked_format, option_fault, options_fault, texts_of, value_of}
+use Rattle.odata_request.specs.Options.{TextsOf, asked_format, options_fault, texts_of, value_of}
 use Rattle.odata_request.specs.Query.{AsksQuery, IsRefusedBy, IsTyped, ReadsQuery}
 use Rattle.odata_request.specs.Reading.{ReadsApply, ReadsOption, ReadsOr, ReadsTree, Then, goes_on, stops}
-use Rattle.odata_request.specs.Request.{AsksFitting, AsksFor, AsksOptions, AsksPath, AsksResource, AsksRows, AsksService, AsksTable, AsksTarget, AsksUnder, AsksUnless, RequestOf, RowsRequestOf, refused, rows, rows_request, service}
+use Rattle.odata_request.specs.Request.{AsksFitting, AsksFor, AsksOptions, AsksResource, AsksRows, AsksService, AsksTable, AsksTarget, AsksUnder, AsksUnless, RequestOf, RowsRequestOf, rows, rows_request, service}
 use Rattle.odata_request.specs.Laws.{KeysStandAlone}
 
 -- of the options that fit the row of a key none is `$apply`

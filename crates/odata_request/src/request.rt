@@ -15,7 +15,7 @@ use odata_query::Typed;
 use odata_url::{OptionName, Target};
 use reply_text::Code;
 use std::alloc::{AllocError, Global};
-use table_store::{Catalog, Table};
+use table_store::Catalog;
 
 /// A query on the rows of a table.
 #[derive(Drop)]
