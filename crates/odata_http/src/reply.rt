@@ -6,7 +6,8 @@ ghost use Rattle.odata_http.specs.Reply.{allow_line, body_for, closing_line, fie
 use crate::media::Media;
 use http::StatusCode;
 use http_heads::Method;
-use reply_text::{Code, error_body, push_number};
+use itoa::Buffer;
+use reply_text::{Code, error_body};
 use std::alloc::{AllocError, Global};
 
 /// The phrase that the HTTP standards give a status.
@@ -18,6 +19,13 @@ fn phrase_of(status: u16) -> &'static str
         Ok(code) => code.canonical_reason().unwrap_or(""),
         Err(_) => "",
     }
+}
+
+/// Appends a number in decimal digits.
+fn push_number(out: &mut Vec<u8>, number: u64) -> Result<(), AllocError>
+    ensures { OnOk result (out.new.items ≡ out.old.items ++ decimal number) }
+{
+    out.extend_from_slice(Buffer::new().format(number).as_bytes())
 }
 
 /// Appends the status line.
