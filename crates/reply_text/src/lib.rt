@@ -14,5 +14,4 @@ mod value;
 pub use body::{error_body, json_body, number_body, row_body, service_body};
 pub use code::Code;
 pub use csv::csv_body;
-pub use json::push_number;
 pub use laws::{csv_reads_back, tables_fit_csv};
