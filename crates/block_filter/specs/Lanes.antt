@@ -9,8 +9,8 @@ use Rattle.block_summary.specs.declared.bounds.Bounds.{Bounds}
 use Rattle.block_summary.specs.declared.number.PackedType.{PackedType}
 use Rattle.cell_types.specs.declared.value.Value.{Value}
 use Rattle.cell_types.specs.Value.{CellValue, null, value_view}
-use Rattle.row_order.specs.declared.keys_in_time.KeyColumn.{KeyColumn}
-use Rattle.row_order.specs.declared.keys_in_time.Keys.{Keys}
+use Rattle.row_columns.specs.declared.keys.KeyColumn.{KeyColumn}
+use Rattle.row_columns.specs.declared.keys.Keys.{Keys}
 use Rattle.block_filter.specs.declared.lanes.Lane.{Lane}
 
 -- a column has the cells of rows at a place

@@ -9,8 +9,8 @@ use crate::texts::texts_at;
 use block_eval::Column;
 use block_summary::{Bounds, PackedType, packed_type_of};
 use cell_types::Value;
+use row_columns::{KeyColumn, Keys};
 use row_eval::tables_are_inputs;
-use row_order::{KeyColumn, Keys};
 use std::alloc::{AllocError, Global};
 use table_store::Block;
 

@@ -81,7 +81,7 @@ cut_rest left p hs rest c none a = by_length (cases_lt (length left) MAX_HEAD) w
       subst P (sym done.0) cut
 
 -- what follows a stream that stays open is cut as what follows its rest
-cut_joins : (s p : List ℕ) (heads others : List HeadOf) (rest left : List ℕ) (closed : Bool)
+pub cut_joins : (s p : List ℕ) (heads others : List HeadOf) (rest left : List ℕ) (closed : Bool)
     → IsCut s heads rest false → IsCut (rest ++ p) others left closed → IsCut (s ++ p) (heads ++ others) left closed
 cut_joins s p [] others rest left closed a b =
     let P : List ℕ → Type 0 = λ x. IsCut (x ++ p) others left closed in

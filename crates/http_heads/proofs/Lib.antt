@@ -4,3 +4,4 @@ pub mod FieldsLemmas
 pub mod CutLemmas
 pub mod CutFinds
 pub mod RestLemmas
+pub mod HopelessLemmas

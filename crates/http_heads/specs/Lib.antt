@@ -4,4 +4,5 @@ pub mod Method
 pub mod Checks
 pub mod Splitter
 pub mod Cut
+pub mod Hopeless
 pub mod Laws

@@ -2,7 +2,8 @@
 ghost use Rattle.std.specs.Prelude.{◌≡◌, ◌≤◌, IfOk, IfSome, MatchOption, drop, length, map};
 ghost use Rattle.std.specs.List.{All};
 ghost use Rattle.httparse.specs.Spans.{IsHeaderWithin, IsWithin, header_bytes, span_bytes};
-ghost use Rattle.http_heads.specs.Head.{BeginsWith, BeginsWithAll, HasNoHead, field_view, head_view};
+ghost use Rattle.http_heads.specs.Head.{BeginsWith, BeginsWithAll, HasNoHead, IsRest, field_view, head_view};
+ghost use Rattle.http_heads.specs.Hopeless.{TellsHopeless};
 
 use httparse::Status;
 use httparse::spans::{EMPTY_HEADER_SPAN, HeaderSpan, Span, parse_request};
@@ -94,4 +95,20 @@ pub(crate) fn cut_heads(alloc: Global, bytes: &[u8]) -> Result<(Vec<Head>, usize
         at += len;
     }
     Ok((heads, at))
+}
+
+/// Whether nothing can follow a rest that puts a head at its front: it has as many bytes as a head may have, or httparse refuses it.
+pub(crate) fn is_refused(rest: &[u8]) -> bool
+    requires { IsRest rest.now }
+    ensures { TellsHopeless rest.now result }
+{
+    if rest.len() == MAX_HEAD {
+        return true;
+    }
+    let mut headers = [EMPTY_HEADER_SPAN; MAX_FIELDS];
+    match parse_request(rest, &mut headers) {
+        Ok(Status::Partial) => false,
+        Ok(Status::Complete(_)) => true, // there is none: a rest has no head at its front
+        Err(_) => true,
+    }
 }

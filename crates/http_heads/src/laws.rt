@@ -1,5 +1,5 @@
 //! What holds of the cut of every stream, and the numbers of the limits: each function is a theorem, and does nothing.
-ghost use Rattle.http_heads.specs.Laws.{CutsJoin, HeadLimits, OneCut};
+ghost use Rattle.http_heads.specs.Laws.{CutsJoin, HeadLimits, HopelessRests, OneCut};
 
 /// A head has at most 8,192 bytes and 64 fields.
 pub fn head_limits()
@@ -14,4 +14,9 @@ pub fn one_cut()
 /// Unless the connection closed, what follows a stream is cut as what follows its rest; where it closed, what follows is not cut.
 pub fn cuts_join()
     ensures { CutsJoin }
+{}
+
+/// Where a rest is hopeless no head is cut off what follows, so the stream has the heads that it had, and a rest without a head.
+pub fn hopeless_rests()
+    ensures { HopelessRests }
 {}

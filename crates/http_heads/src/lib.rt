@@ -11,6 +11,6 @@ mod splitter;
 
 pub use checks::{CheckedHead, Checks, HeadFault, check_head};
 pub use head::{Field, Head, MAX_FIELDS, MAX_HEAD};
-pub use laws::{cuts_join, head_limits, one_cut};
+pub use laws::{cuts_join, head_limits, hopeless_rests, one_cut};
 pub use method::Method;
 pub use splitter::{Cut, Splitter, Unreadable};

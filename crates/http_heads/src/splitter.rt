@@ -2,11 +2,12 @@
 ghost use Rattle.std.specs.Prelude.{◌≡◌, ◌↔◌, ◌<◌, ◌≤◌, ◌++◌, [], IfOk, IsSome, OnErr, drop, length, map, take};
 ghost use Rattle.http_heads.specs.Cut.{IsCut};
 ghost use Rattle.http_heads.specs.Head.{IsRest, head_view};
+ghost use Rattle.http_heads.specs.Hopeless.{TellsHopeless};
 ghost use Rattle.http_heads.specs.Splitter.{IsAdded, Splits};
 ghost use Rattle.http_heads.specs.declared.head.TheConstants.{MAX_HEAD};
 
 use crate::checks::CheckedHead;
-use crate::head::{Head, MAX_HEAD, cut_heads, first_head};
+use crate::head::{Head, MAX_HEAD, cut_heads, first_head, is_refused};
 use std::alloc::{AllocError, Global};
 use std::marker::Model;
 
@@ -141,6 +142,14 @@ impl Splitter {
                 Err(fault)
             }
         }
+    }
+
+    /// Whether the rest can begin no head any more, whatever follows. The rest is read for it, once at each call. A target that is no UTF-8 is
+    /// told at its end.
+    pub fn is_hopeless(&self) -> bool
+        ensures { TellsHopeless self.now result }
+    {
+        is_refused(self.rest.as_slice())
     }
 
     /// The end of the stream: whether a rest was left. There is none afterwards.

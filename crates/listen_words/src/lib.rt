@@ -4,5 +4,6 @@
 mod words;
 
 pub use words::{
-    ADDRESS, HEAD_SECONDS, IDLE_SECONDS, MOST_PLACES, PLACES, Words, read_words, sizes,
+    ADDRESS, HEAD_SECONDS, IDLE_SECONDS, MOST_PLACES, PLACES, USAGE_LINE, Words, WordsFault,
+    read_words, sizes,
 };

@@ -1,4 +1,2 @@
-mod DeskLemmas
-mod HubLemmas
 mod ReloadLemmas
-mod SocketLemmas
+mod ServingLemmas

@@ -1,72 +1,70 @@
--- What the service does with its hub.
-use Rattle.std.specs.Prelude.{◌≡◌, ◌==◌, ◌⊎◌, ℕ, Bool, false, not, List, [], length, replicate, Option, Some, None, slice_get}
+-- What the service does with its desk.
+use Rattle.std.specs.Prelude.{◌≡◌, ◌⊎◌, ℕ, Bool, true, false, List, slice_set}
 use Rattle.table_store.specs.Catalog.{CatalogOf}
 use Rattle.odata_hub.specs.declared.hub.Hub.{Hub}
 use Rattle.odata_hub.specs.Connections.{Answer, Done}
-use Rattle.odata_hub.specs.Schedules.{Drop, Happening, Reload}
-use Rattle.odata_hub.specs.Stands.{IsHubStep, StandsFor}
+use Rattle.odata_hub.specs.Schedules.{Drop, Reload}
+use Rattle.odata_hub.specs.Stands.{IsHubStep}
 use Rattle.odata_rounds.specs.declared.answers.Stepped.{Stepped}
 use Rattle.odata_rounds.specs.declared.answers.Stepped.TheVariants.{Free, Rests, Worked, Answered, Lost, Failed}
 use Rattle.odata_rounds.specs.declared.seat.Seat.{Seat}
-use Rattle.odata_rounds.specs.Visits.{IsHubRun}
-use Rattle.odata_listen.specs.declared.slow.Due.{Due}
-use Rattle.odata_listen.specs.declared.slow.Due.TheVariants as due
-use Rattle.odata_listen.specs.declared.slow.Limits.{Limits}
-use Rattle.odata_listen.specs.declared.sockets.Slot.{Slot}
-use Rattle.odata_listen.specs.Slow.{due_where}
-use Rattle.odata_listen.specs.Sockets.{free_slot, times_at}
+use Rattle.odata_rounds.specs.Lives.{AreSettled, Deed, Lives, free_seat}
+use Rattle.listen_sockets.specs.declared.desk.Desk.{Desk}
+use Rattle.listen_sockets.specs.declared.slow.Due.{Due}
+use Rattle.listen_sockets.specs.declared.slow.Due.TheVariants as due
+use Rattle.listen_sockets.specs.Sights.{sight_of}
 
--- some schedule of calls leads from one hub to the other: what holds of a hub in every schedule holds of it
-pub record RunsTo (old new : Hub) : Type 0 where
-  pub events : List Happening
-  pub run : IsHubRun old events new
+-- a life leads from one desk to the other: what holds of each connection in every life holds there
+pub record RunsTo (old new : Desk) : Type 0 where
+  pub deeds : List Deed
+  pub life : Lives (sight_of old) deeds (sight_of new)
 
--- the seat of a place at which nothing waits, and nothing became of it
-abbrev pub free_seat : Seat
-free_seat = record { waits = []; stepped = Free }
+-- the same where each place was given back whose connection is over, lost or failed; and that is so again
+pub record RunsOn (old new : Desk) : Type 0 where
+  pub runs : AreSettled old.seats.items → RunsTo old new
+  pub settled : AreSettled old.seats.items → AreSettled new.seats.items
 
--- so many places over some tables: the hub's are free, nothing waits at any, and none has a socket
-pub record AreFree (catalog : CatalogOf) (places : ℕ) (hub : Hub) (seats : List Seat) (slots : List Slot) : Type 0 where
-  pub stands : StandsFor hub (record { catalog = catalog; places = replicate places None })
-  pub seats_are : seats ≡ replicate places free_seat
-  pub slots_are : slots ≡ replicate places free_slot
+-- the hub, and what is kept of each place, are as they were
+abbrev pub IsKept : Desk → Desk → Type 0
+IsKept old new = (new.hub ≡ old.hub) × (new.seats.items ≡ old.seats.items)
 
--- a place was given back, by one call
-pub record Frees (place : ℕ) (old new : Hub) : Type 0 where
+-- a place was given back, by one call, and nothing waits there any more; what is kept of the others is as it was
+pub record Frees (place : ℕ) (old new : Desk) : Type 0 where
   pub answer : Answer
-  pub step : IsHubStep old (Drop place) answer new
-
--- what became of a place; where there is none, no connection is there
-abbrev pub stepped_of : Option Seat → Stepped
-stepped_of None = Free
-stepped_of (Some seat) = seat.stepped
-
-abbrev pub stepped_at : List Seat → ℕ → Stepped
-stepped_at seats place = stepped_of (slice_get seats place)
+  pub step : IsHubStep old.hub (Drop place) answer new.hub
+  pub seats : new.seats.items ≡ slice_set old.seats.items place free_seat
 
 -- a place is given back where its connection is over, lost or failed, and there alone
-abbrev pub Settles : Stepped → ℕ → Hub → Hub → Type 0
-Settles Free place old new = new ≡ old
-Settles Rests place old new = new ≡ old
-Settles Worked place old new = new ≡ old
+abbrev pub Settles : Stepped → ℕ → Desk → Desk → Type 0
+Settles Free place old new = IsKept old new
+Settles Rests place old new = IsKept old new
+Settles Worked place old new = IsKept old new
 Settles Answered place old new = Frees place old new
 Settles Lost place old new = Frees place old new
 Settles Failed place old new = Frees place old new
 
--- whether bytes wait for the socket at a place
-abbrev pub has_waiting : Option Seat → Bool
-has_waiting None = false
-has_waiting (Some seat) = not (length seat.waits == 0)
+-- what is kept of a place behind that
+abbrev pub settled_by : Stepped → Seat → Seat
+settled_by Free seat = seat
+settled_by Rests seat = seat
+settled_by Worked seat = seat
+settled_by Answered seat = free_seat
+settled_by Lost seat = free_seat
+settled_by Failed seat = free_seat
 
--- what is due of the connection at a place
-abbrev pub due_at : Limits → ℕ → List Seat → List Slot → ℕ → Due
-due_at limits now seats slots place = due_where limits (has_waiting (slice_get seats place)) now (times_at slots place)
+abbrev pub settled : Seat → Seat
+settled seat = settled_by seat.stepped seat
 
 -- a place is given back where its connection is to be dropped since its peer is slow, and there alone
-abbrev pub EndsSlow : Due → ℕ → Hub → Hub → Type 0
-EndsSlow due.Nothing place old new = new ≡ old
-EndsSlow due.End place old new = new ≡ old
+abbrev pub EndsSlow : Due → ℕ → Desk → Desk → Type 0
+EndsSlow due.Nothing place old new = IsKept old new
+EndsSlow due.End place old new = IsKept old new
 EndsSlow due.Drop place old new = Frees place old new
+
+-- a place is given back where the system said that its connection is lost, and there alone
+abbrev pub EndsLost : Bool → ℕ → Desk → Desk → Type 0
+EndsLost true place old new = Frees place old new
+EndsLost false place old new = IsKept old new
 
 -- the hub has other tables from now on, or all is as it was
 abbrev pub MayReload : Hub → Hub → Type 0

@@ -1,17 +1,16 @@
-//! What the words of the command line ask for, done. Each end has the exit status and the text that `odata_serve` has for it.
-use crate::desk::Desk;
+//! What the words of the command line ask for, done. Each end has the exit status and the text that `odata_serve` has for it, and a line of its own where that has none.
+ghost use Rattle.std.specs.Prelude.{◌≡◌};
+ghost use Rattle.odata_serve.specs.Command.{IsFaultStatus};
+
 use crate::folder::Folder;
 use crate::journal::Journal;
 use crate::serving::serve;
-use crate::slow::Limits;
-use listen_words::{MOST_PLACES, Words, read_words};
+use listen_sockets::{Desk, Limits};
+use listen_words::{MOST_PLACES, USAGE_LINE, Words, WordsFault, read_words};
 use mio::net::TcpListener;
 use odata_serve::words::{line_of, system_words};
-use odata_serve::{
-    DONE, Disk, Folders, MEMORY, ProgramFault, WordsFault, error_status, report, unread_status,
-    usage_status,
-};
-use std::io;
+use odata_serve::{DEVICE, DONE, Disk, Folders, MEMORY, ProgramFault, USAGE, error_status, report};
+use std::io::{self, ErrorKind};
 use std::net::{IpAddr, Net, SocketAddr};
 use std::rc::Rc;
 use std::rt::{Clock, Env, Files};
@@ -49,6 +48,28 @@ where
     )
 }
 
+/// Says how the program is called.
+fn usage_status(rt: &impl Eprint) -> u8
+    ensures { result ≡ USAGE }
+{
+    let _ = rt.eprintln(USAGE_LINE);
+    USAGE
+}
+
+/// Says why a folder is not served.
+fn unserved(rt: &(impl Eprint + AllocGlobal), fault: &ProgramFault) -> u8
+    ensures { IsFaultStatus fault.now result }
+{
+    let status = report(rt, fault);
+    if status == DEVICE {
+        let _ = rt.eprintln("not served: a file can't be read, or is no plain file");
+    }
+    if status == MEMORY {
+        let _ = rt.eprintln("not served: memory ran out");
+    }
+    status
+}
+
 /// Serves a folder.
 fn serve_folder<R>(rt: &R, words: &Words<'_>) -> u8
 where
@@ -60,13 +81,15 @@ where
     if words.places == 0 || words.places > MOST_PLACES {
         return usage_status(rt);
     }
-    let mut folder = Folder::new(rt, words.folder);
-    match Disk::new(rt).load(rt.alloc(), words.folder) {
+    let follows = !words.plain_files;
+    let mut folder = Folder::new(rt, words.folder, follows);
+    let mut disk = Disk::new(rt).follow_links(follows);
+    match disk.load(rt.alloc(), words.folder) {
         Ok(catalog) => match listen(rt, words, address, &mut folder, catalog) {
             Ok(()) => DONE,
             Err(error) => error_status(&error),
         },
-        Err(fault) => report(rt, &ProgramFault::Folder(fault)),
+        Err(fault) => unserved(rt, &ProgramFault::Folder(fault)),
     }
 }
 
@@ -79,6 +102,10 @@ where
     let line = line_of(rt.alloc(), words.as_slice())?;
     match read_words(rt.alloc(), line.as_slice()) {
         Ok(words) => Ok(serve_folder(rt, &words)),
+        Err(WordsFault::Shows(text)) => {
+            text.print(rt)?;
+            Ok(DONE)
+        }
         Err(WordsFault::Usage) => Ok(usage_status(rt)),
         Err(WordsFault::NoMemory) => Ok(MEMORY),
     }
@@ -91,6 +118,8 @@ where
 {
     match words_status(rt) {
         Ok(status) => status,
-        Err(error) => unread_status(rt, &error),
+        // a word that is not UTF-8 is no word of the command
+        Err(error) if error.kind() == ErrorKind::InvalidData => usage_status(rt),
+        Err(error) => error_status(&error),
     }
 }

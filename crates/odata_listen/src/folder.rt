@@ -1,29 +1,36 @@
-//! A folder that is looked at, and taken up where it changed.
+//! A folder that is looked at, and taken up where it changed. Its metadata and the files that this names are looked at, and nothing else.
 use crate::journal::Journal;
 use crate::watch::{Look, hand_over, is_final, look_of};
 use odata_hub::Hub;
 use odata_serve::{Disk, Folders};
+use served_folders::{METADATA, look};
 use std::alloc::AllocError;
-use std::fs::{DirEntry, Metadata};
+use std::fs::Metadata;
+use std::io::ErrorKind;
 use std::os::unix::fs::MetadataExt;
 use std::rt::Files;
-use std::{fs, io};
 
 /// A folder, with its states as it was taken last and at the last look.
 #[derive(Drop)]
 pub struct Folder<'a> {
     name: &'a str,
+    /// Whether a link may stand in the place of a file.
+    follows: bool,
+    /// The state of the metadata as it was read last, and the files that it named.
+    metadata: String,
+    files: Vec<String>,
     taken: String,
     seen: String,
     /// The last reload came to nothing since a device failed or memory ran out. That was told, and it is tried again as long as the folder is not as it was taken.
     wants: bool,
 }
 
-/// Adds to a text what tells one state of a file from another: its number, its length, and the times of its last write and change.
+/// Adds to a text what tells one state of a file from another: its device and number, its length, and the times of its last write and change.
 fn push_state(text: &mut String, found: &Metadata) -> Result<(), AllocError> {
     write!(
         text,
-        "{} {} {} {} {} {}\n",
+        "{} {} {} {} {} {} {}\n",
+        found.dev(),
         found.ino(),
         found.len(),
         found.mtime(),
@@ -33,46 +40,80 @@ fn push_state(text: &mut String, found: &Metadata) -> Result<(), AllocError> {
     )
 }
 
-/// What the system tells of an entry of a folder.
-fn metadata_of<R: Files + Drop>(rt: &R, entry: io::Result<DirEntry<R>>) -> io::Result<Metadata> {
-    fs::metadata(rt, entry?.path())
-}
-
-/// The state of a folder and of the files in it. Of an entry of which the system tells nothing, as a link to what is not there, only that there is one.
-fn read_state<R: Files + AllocGlobal + Clone + Drop>(rt: &R, name: &str) -> io::Result<String> {
-    let mut text = String::new(rt.alloc());
-    push_state(&mut text, &fs::metadata(rt, name)?)?;
-    for entry in fs::read_dir(rt, name)? {
-        match metadata_of(rt, entry) {
-            Ok(found) => push_state(&mut text, &found)?,
-            Err(_) => text.push_str("untold\n")?,
-        }
-    }
-    Ok(text)
-}
-
-/// The same; nothing where the folder can't be looked at.
-fn state_of<R: Files + AllocGlobal + Clone + Drop>(rt: &R, name: &str) -> String {
-    read_state(rt, name).unwrap_or(String::new(rt.alloc()))
-}
-
 impl<'a> Folder<'a> {
     ghost use Rattle.odata_listen.specs.Serving.{MayReload};
 
-    /// The folder as it is now, before it is loaded.
-    pub fn new<R: Files + AllocGlobal + Clone + Drop>(rt: &R, name: &'a str) -> Folder<'a> {
-        Folder {
+    /// The folder as it is now, before it is loaded; where a link in the place of a file is followed, or is none of its files.
+    pub fn new<R: Files + AllocGlobal>(rt: &R, name: &'a str, follows: bool) -> Folder<'a> {
+        let mut folder = Folder {
             name,
-            taken: state_of(rt, name),
+            follows,
+            metadata: String::new(rt.alloc()),
+            files: Vec::new(rt.alloc()),
+            taken: String::new(rt.alloc()),
             seen: String::new(rt.alloc()),
             wants: false,
+        };
+        folder.taken = folder.state(rt);
+        folder
+    }
+
+    /// Adds the state of a file of the folder; of one that is not there, or can't be looked at, only that.
+    fn push_file<R: Files + AllocGlobal>(
+        &self,
+        rt: &R,
+        file: &str,
+        text: &mut String,
+    ) -> Result<(), AllocError> {
+        let folder = self.name;
+        let path = format!(in rt.alloc(); "{folder}/{file}")?;
+        match look(rt, path.as_str(), self.follows) {
+            Ok(found) => push_state(text, &found),
+            Err(error) if error.kind() == ErrorKind::NotFound => text.push_str("missing\n"),
+            Err(_) => text.push_str("untold\n"),
         }
+    }
+
+    /// Reads the names of the files where the metadata is not as it was when they were read last. Where it can't be read, they are read again at the next look.
+    fn read_names<R: Files + AllocGlobal>(
+        &mut self,
+        rt: &R,
+        metadata: &str,
+    ) -> Result<(), AllocError> {
+        if self.metadata.as_str() == metadata {
+            return Ok(());
+        }
+        let disk = Disk::new(rt).follow_links(self.follows);
+        let Ok(files) = disk.names(rt.alloc(), self.name) else {
+            self.metadata = String::new(rt.alloc());
+            self.files = Vec::new(rt.alloc());
+            return Ok(());
+        };
+        self.metadata = String::from_str(rt.alloc(), metadata)?;
+        self.files = files;
+        Ok(())
+    }
+
+    /// The state of the metadata and of the files that it names.
+    fn read_state<R: Files + AllocGlobal>(&mut self, rt: &R) -> Result<String, AllocError> {
+        let mut text = String::new(rt.alloc());
+        self.push_file(rt, METADATA, &mut text)?;
+        self.read_names(rt, text.as_str())?;
+        for file in &self.files {
+            self.push_file(rt, file.as_str(), &mut text)?;
+        }
+        Ok(text)
+    }
+
+    /// The same; nothing where memory ran out.
+    fn state<R: Files + AllocGlobal>(&mut self, rt: &R) -> String {
+        self.read_state(rt).unwrap_or(String::new(rt.alloc()))
     }
 
     /// Loads the folder; where it is behind that as it was at the last look, the hub has its tables from now on. Where a device failed or memory ran out, the
     /// folder counts as it was taken before, so that the next look finds it changed again.
-    #[tactic(auto, using(crate::proofs::HubLemmas::may_hand_over))]
-    fn take_up<R: Files + Print + Eprint + AllocGlobal + Clone + Drop>(
+    #[tactic(auto, using(crate::proofs::ServingLemmas::may_hand_over))]
+    fn take_up<R: Files + Print + Eprint + AllocGlobal>(
         &mut self,
         rt: &R,
         hub: &mut Hub,
@@ -80,8 +121,9 @@ impl<'a> Folder<'a> {
     )
         ensures { MayReload hub.old hub.new }
     {
-        let loaded = Disk::new(rt).load(rt.alloc(), self.name);
-        let after = state_of(rt, self.name);
+        let mut disk = Disk::new(rt).follow_links(self.follows);
+        let loaded = disk.load(rt.alloc(), self.name);
+        let after = self.state(rt);
         if look_of(&self.seen, &self.seen, &after) == Look::Same {
             let end = hand_over(rt.alloc(), hub, loaded);
             let holds = is_final(&end);
@@ -96,7 +138,7 @@ impl<'a> Folder<'a> {
     }
 
     /// Looks at the folder. Where it changed, and stands still since the last look, it is taken up.
-    pub fn look<R: Files + Print + Eprint + AllocGlobal + Clone + Drop>(
+    pub fn look<R: Files + Print + Eprint + AllocGlobal>(
         &mut self,
         rt: &R,
         hub: &mut Hub,
@@ -104,7 +146,7 @@ impl<'a> Folder<'a> {
     )
         ensures { MayReload hub.old hub.new }
     {
-        let found = state_of(rt, self.name);
+        let found = self.state(rt);
         let says = look_of(&self.taken, &self.seen, &found);
         self.seen = found;
         match says {

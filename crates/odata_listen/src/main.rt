@@ -3,15 +3,10 @@
 #![tactic(auto)]
 
 mod command;
-mod desk;
+mod endings;
 mod folder;
-mod gate;
 mod journal;
-mod partings;
-mod peer;
 mod serving;
-mod slow;
-mod sockets;
 mod watch;
 
 use command::command_status;

@@ -8,3 +8,4 @@ pub mod Aggregate
 pub mod Apply
 pub mod Query
 pub mod Laws
+pub mod Worked

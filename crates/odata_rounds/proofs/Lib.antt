@@ -2,6 +2,7 @@ mod ByteLemmas
 mod CallLemmas
 mod LawLemmas
 mod LeaveLemmas
+mod LifeLemmas
 mod RoundLemmas
 mod RunLemmas
 mod VisitLemmas

@@ -4,3 +4,4 @@ pub mod Visits
 pub mod Rounds
 pub mod Laws
 pub mod Leaves
+pub mod Lives

@@ -2,6 +2,7 @@
 ghost use Rattle.odata_rounds.specs.Comes.{AreSchedules};
 ghost use Rattle.odata_rounds.specs.Laws.{MovesJoin, RoundMoves, RunsJoin, ServesSocket};
 ghost use Rattle.odata_rounds.specs.Leaves.{RoundLeaves};
+ghost use Rattle.odata_rounds.specs.Lives.{LivesMove};
 
 /// The calls of a round are a run of the hub; and at each place what its socket took is what waited and what was taken of the output, in order, but
 /// for what still waits, and what was read came as pieces, each byte once.
@@ -35,4 +36,10 @@ pub fn serves_socket()
 /// place with nothing to do before its socket takes or has bytes; and a place whose connection is over, with nothing left to be written, is told so.
 pub fn round_leaves()
     ensures { RoundLeaves }
+{}
+
+/// In a life of a service that opens connections, goes round, gives places back and takes other tables, what moved between each connection and its
+/// socket is by its own calls alone, from where it was opened, at which nothing waited there, to where its place was given back, or to the end.
+pub fn lives_move()
+    ensures { LivesMove }
 {}

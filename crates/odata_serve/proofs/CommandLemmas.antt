@@ -9,11 +9,11 @@ use Rattle.odata_hub.specs.declared.hub.Hub.{Hub}
 use Rattle.odata_hub.specs.Connections.{Done}
 use Rattle.odata_hub.specs.Schedules.{Event, HubOf, HubStep, Reload, reload}
 use Rattle.odata_hub.specs.Stands.{IsHubStep, StandsFor}
-use Rattle.odata_serve.specs.declared.folders.FolderFault.{FolderFault}
-use Rattle.odata_serve.specs.declared.folders.FolderFault.TheVariants as folder
+use Rattle.served_folders.specs.declared.folders.FolderFault.{FolderFault}
+use Rattle.served_folders.specs.declared.folders.FolderFault.TheVariants as folder
 use Rattle.odata_serve.specs.declared.program.ProgramFault.{ProgramFault}
 use Rattle.odata_serve.specs.declared.program.ProgramFault.TheVariants.{Folder, Run, Script, Device, NoMemory}
-use Rattle.odata_serve.specs.Folders.{CountsFault, FoldersOf, folder_cause}
+use Rattle.served_folders.specs.Folders.{CountsFault, FoldersOf, folder_cause}
 use Rattle.odata_serve.specs.Program.{IsFolderFault, IsLoaded, loading}
 use Rattle.odata_serve.specs.Replay.{Stage, stage, Outcome, Happened, Kept, Comes, Happens, IsAnswered, IsKept, ComesTo}
 

@@ -1,17 +1,17 @@
 -- The ends of commands that run no script.
-use Rattle.std.proofs.Common.{◌≢◌, ℕ, Bool, true, false, if◌then◌else◌, Result, Ok, Err, inl, inr, arith}
+use Rattle.std.proofs.Common.{◌≢◌, ℕ, List, Bool, true, false, if◌then◌else◌, Result, Ok, Err, inl, inr, arith}
 use Rattle.std.specs.Prelude.{⊤, is_none}
 use Rattle.table_store.specs.Fault.{load_cause}
 use Rattle.odata_http.specs.declared.runs.RunFault.TheVariants as run
 use Rattle.odata_http.specs.Device.{SinkOf}
 use Rattle.odata_http.specs.Runs.{Course}
-use Rattle.odata_serve.specs.declared.folders.FolderFault.TheVariants as folder
+use Rattle.served_folders.specs.declared.folders.FolderFault.TheVariants as folder
 use Rattle.odata_serve.specs.declared.program.ProgramFault.{ProgramFault}
 use Rattle.odata_serve.specs.declared.program.ProgramFault.TheVariants.{Folder, Run, Script, Device, NoMemory}
 use Rattle.odata_serve.specs.Check.{IsCheck}
 use Rattle.odata_serve.specs.Command.{EndsNoScript, IsNoScript}
 use Rattle.odata_serve.specs.FaultText.{exit_status}
-use Rattle.odata_serve.specs.Program.{Loading, IsAnswer}
+use Rattle.odata_serve.specs.Program.{Loading, IsAnswer, IsQuery}
 use Rattle.odata_serve.specs.Serving.{Serving, IsServed}
 
 refused_or_memory : (b : Bool) → ◌≢◌ {A = ℕ} (if b then 4 else 1) 2
@@ -39,6 +39,14 @@ answer_ends l c (Err (Run fault)) h = tt
 answer_ends l c (Err (Script line)) h = h
 answer_ends l c (Err Device) h = tt
 answer_ends l c (Err NoMemory) h = tt
+
+pub query_ends : (target : List ℕ) (l : Loading) (old new : SinkOf) (end : Result ⊤ ProgramFault) → IsQuery target l old new end → EndsNoScript end
+query_ends target l old new (Ok u) h = tt
+query_ends target l old new (Err (Folder fault)) h = tt
+query_ends target l old new (Err (Run fault)) h = tt
+query_ends target l old new (Err (Script line)) h = h.answer
+query_ends target l old new (Err Device) h = tt
+query_ends target l old new (Err NoMemory) h = tt
 
 pub check_ends : (l : Loading) (old new : SinkOf) (end : Result ⊤ ProgramFault) → IsCheck l old new end → EndsNoScript end
 check_ends l old new (Ok u) h = tt

@@ -1,7 +1,5 @@
-pub mod DiskLemmas
 pub mod EndLemmas
-pub mod Disks
-pub mod FolderLemmas
+pub mod QueryLemmas
 pub mod LineLemmas
 pub mod Numbers
 pub mod Readings

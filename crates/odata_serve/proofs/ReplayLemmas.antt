@@ -12,7 +12,7 @@ use Rattle.odata_hub.specs.Schedules.{HubOf, HubRun}
 use Rattle.odata_hub.specs.Stands.{StandsFor}
 use Rattle.odata_serve.specs.declared.program.ProgramFault.{ProgramFault}
 use Rattle.odata_serve.specs.declared.program.ProgramFault.TheVariants.{Folder, Run, Script, Device, NoMemory}
-use Rattle.odata_serve.specs.Folders.{FoldersOf}
+use Rattle.served_folders.specs.Folders.{FoldersOf}
 use Rattle.odata_serve.specs.Program.{IsLoaded, loading}
 use Rattle.odata_serve.specs.Replay.{Stage, stage, Outcome, Happened, Kept, outcome_line, outcome_lines, LineComes, Plays, schedule_of, Playing, playing, free_hub, IsPlayed, IsReplay, MayLoadNext, Replay, Replays, Place, IsLinePlayed}
 use Rattle.odata_serve.proofs.LineLemmas.{no_lines}

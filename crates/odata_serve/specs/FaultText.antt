@@ -4,7 +4,7 @@ use Rattle.std.specs.Fmt.{decimal}
 use Rattle.table_store.specs.declared.fault.LoadFault.{LoadFault}
 use Rattle.table_store.specs.Fault.{load_cause, load_fault_text}
 use Rattle.odata_http.specs.declared.runs.RunFault.TheVariants as run
-use Rattle.odata_serve.specs.declared.folders.FolderFault.TheVariants as folder
+use Rattle.served_folders.specs.declared.folders.FolderFault.TheVariants as folder
 use Rattle.odata_serve.specs.declared.program.ProgramFault.{ProgramFault}
 use Rattle.odata_serve.specs.declared.program.ProgramFault.TheVariants.{Folder, Run, Script, Device, NoMemory}
 use Rattle.odata_serve.specs.declared.fault_text.TheConstants.{REFUSED, USAGE, DEVICE, MEMORY}

@@ -1,5 +1,3 @@
-pub mod Folders
-pub mod Disk
 pub mod Program
 pub mod Check
 pub mod Listener

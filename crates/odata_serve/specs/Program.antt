@@ -1,15 +1,15 @@
 -- How answering a stream over a folder ended, and the stream of one query.
-use Rattle.std.specs.Prelude.{◌≡◌, ℕ, List, ◌++◌, codes, IfSome, Result, Ok, Err, ⊤}
+use Rattle.std.specs.Prelude.{◌≡◌, ℕ, List, ◌++◌, codes, Some, IfSome, Result, Ok, Err, ⊤}
 use Rattle.table_store.specs.Catalog.{CatalogOf}
 use Rattle.odata_http.specs.declared.runs.RunFault.{RunFault}
-use Rattle.odata_http.specs.Device.{Counts}
+use Rattle.odata_http.specs.Device.{Counts, SinkOf, SourceOf}
 use Rattle.odata_http.specs.Reply.{field_line, line_end, IsReply}
-use Rattle.odata_http.specs.Runs.{Course, IsRun}
+use Rattle.odata_http.specs.Runs.{Course, IsRun, course}
 use Rattle.odata_serve.specs.declared.program.TheConstants.{MAX_READS}
 use Rattle.odata_serve.specs.declared.program.ProgramFault.{ProgramFault}
-use Rattle.odata_serve.specs.declared.program.ProgramFault.TheVariants.{Folder, Run}
-use Rattle.odata_serve.specs.declared.folders.FolderFault.{FolderFault}
-use Rattle.odata_serve.specs.Folders.{FoldersOf, MeansTaken, RefusesTaken, folder_cause, KeepsCounts, CountsFault}
+use Rattle.odata_serve.specs.declared.program.ProgramFault.TheVariants.{Folder, NoMemory, Run}
+use Rattle.served_folders.specs.declared.folders.FolderFault.{FolderFault}
+use Rattle.served_folders.specs.Folders.{FoldersOf, MeansTaken, RefusesTaken, folder_cause, KeepsCounts, CountsFault}
 
 -- a load under a name: what the folders tell and count before and after it
 pub record Loading : Type 0 where
@@ -60,3 +60,15 @@ request_end =
 -- the request of a query
 abbrev pub request_to : List ℕ → List ℕ
 request_to target = codes "GET " ++ (target ++ request_end)
+
+-- answering the request of a query ended so
+pub record AnswersQuery (target : List ℕ) (l : Loading) (old new : SinkOf) (r : Result ⊤ ProgramFault) : Type 0 where
+  pub source : SourceOf
+  pub source_after : SourceOf
+  pub request : source.left ≡ Some (request_to target)
+  pub answer : IsAnswer l (course source source_after old new) r
+
+-- how a query ended: as answering its request; or there was no memory for the request, and nothing was done
+abbrev pub IsQuery : List ℕ → Loading → SinkOf → SinkOf → Result ⊤ ProgramFault → Type 0
+IsQuery target l old new (Err NoMemory) = (l.folders_after ≡ l.folders) × (new ≡ old)
+IsQuery target l old new r = AnswersQuery target l old new r

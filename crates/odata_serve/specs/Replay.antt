@@ -13,12 +13,12 @@ use Rattle.odata_hub.specs.declared.hub.Hub.{Hub}
 use Rattle.odata_hub.specs.Connections.{Answer, Done, Piece, End, Turn, Take}
 use Rattle.odata_hub.specs.Schedules.{Event, Open, On, Drop, Reload, Happening, HubOf, HubRun, HubStep, reload}
 use Rattle.odata_hub.specs.Stands.{StandsFor}
-use Rattle.odata_serve.specs.declared.folders.FolderFault.{FolderFault}
+use Rattle.served_folders.specs.declared.folders.FolderFault.{FolderFault}
 use Rattle.odata_serve.specs.declared.program.ProgramFault.{ProgramFault}
 use Rattle.odata_serve.specs.declared.program.ProgramFault.TheVariants.{Folder, Script, Device, NoMemory}
 use Rattle.odata_serve.specs.declared.replay.TheConstants.{PLACES}
 use Rattle.odata_serve.specs.FaultText.{fault_text}
-use Rattle.odata_serve.specs.Folders.{FoldersOf, folder_cause}
+use Rattle.served_folders.specs.Folders.{FoldersOf, folder_cause}
 use Rattle.odata_serve.specs.Program.{IsFolderFault, IsLoaded, loading}
 
 -- where a script stands between two lines: the hub, and what the folders tell and count

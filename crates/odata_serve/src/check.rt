@@ -3,9 +3,9 @@ ghost use Rattle.std.specs.Prelude.{◌≡◌, ◌<◌, ◌^◌, IfOk, string_by
 ghost use Rattle.odata_serve.specs.Check.{AreListed, IsCheck, table_line};
 ghost use Rattle.odata_serve.specs.Program.{loading};
 
-use crate::folders::Folders;
 use crate::program::ProgramFault;
 use odata_http::{Sink, send};
+use served_folders::Folders;
 use std::alloc::{AllocError, Global};
 use table_store::Table;
 

@@ -5,16 +5,15 @@ ghost use Rattle.odata_serve.specs.Command.{EndsNoScript, IsFaultStatus, IsNoScr
 ghost use Rattle.odata_serve.specs.Words.{AsksForReplay, IsTaken, texts};
 
 use crate::check::check_folder;
-use crate::disk::Disk;
 use crate::fault_text::{DEVICE, MEMORY, USAGE, fault_line};
-use crate::folders::{BuiltIn, Folders, NOTES};
 use crate::listener::CountedListener;
-use crate::program::{ProgramFault, answer, request_to};
+use crate::program::{self, ProgramFault, answer};
 use crate::replay::replay_script;
 use crate::script_file::read_script;
 use crate::serving::serve;
 use crate::words::{Words, WordsFault, line_of, read_words, system_words};
 use odata_http::Counted;
+use served_folders::{BuiltIn, Disk, Folders, NOTES};
 use std::io::ErrorKind;
 use std::net::{Net, TcpListener, TcpStream};
 use std::rt::{Env, Files};
@@ -108,16 +107,12 @@ fn check_tables(rt: &(impl Files + Print + Eprint + AllocGlobal), folder: &str) 
 }
 
 /// Answers one GET of a target over a folder.
-#[tactic(auto, using(crate::proofs::EndLemmas::answer_ends))]
+#[tactic(auto, using(crate::proofs::EndLemmas::query_ends))]
 fn query(rt: &(impl Files + Print + Eprint + AllocGlobal), folder: &str, target: &str) -> u8
     ensures { result ≢ USAGE }
 {
-    let Ok(request) = request_to(rt.alloc(), target) else {
-        return MEMORY;
-    };
-    let mut input = Counted::new(request.as_bytes());
     let mut out = Counted::new(io::writer(rt));
-    let end = answer(rt.alloc(), &mut Disk::new(rt), folder, &mut input, &mut out);
+    let end = program::query(rt.alloc(), &mut Disk::new(rt), folder, target, &mut out);
     end_status(rt, end)
 }
 

@@ -1,10 +1,10 @@
 //! What the program says of a fault, and its exit status.
-ghost use Rattle.std.specs.Prelude.{◌≡◌, IfOk, string_bytes};
+ghost use Rattle.std.specs.Prelude.{◌≡◌, ◌≢◌, [], IfErr, IfOk, string_bytes};
 ghost use Rattle.odata_serve.specs.FaultText.{exit_status, fault_text, refusal_status, refusal_text};
 
-use crate::folders::FolderFault;
 use crate::program::ProgramFault;
 use odata_http::RunFault;
+use served_folders::FolderFault;
 use std::alloc::{AllocError, Global};
 use table_store::LoadFault;
 
@@ -24,6 +24,7 @@ pub const MEMORY: u8 = 4;
 fn refusal(alloc: Global, fault: &LoadFault) -> Result<(String, u8), AllocError>
     ensures line { IfOk result (λ line. string_bytes line.0 ≡ refusal_text fault.now) }
     ensures status { IfOk result (λ line. line.1 ≡ refusal_status fault.now) }
+    ensures said { IfErr result (λ _. refusal_text fault.now ≢ []) }
 {
     if fault.is_memory() {
         return Ok((String::new(alloc), MEMORY));
@@ -37,6 +38,7 @@ fn refusal(alloc: Global, fault: &LoadFault) -> Result<(String, u8), AllocError>
 pub fn fault_line(alloc: Global, fault: &ProgramFault) -> Result<(String, u8), AllocError>
     ensures line { IfOk result (λ line. string_bytes line.0 ≡ fault_text fault.now) }
     ensures status { IfOk result (λ line. line.1 ≡ exit_status fault.now) }
+    ensures said { IfErr result (λ _. fault_text fault.now ≢ []) }
 {
     match fault {
         ProgramFault::Folder(FolderFault::NoMetadata) => {

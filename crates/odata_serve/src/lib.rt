@@ -5,9 +5,7 @@
 mod answers;
 mod check;
 mod command;
-mod disk;
 mod fault_text;
-mod folders;
 mod listener;
 mod program;
 mod replay;
@@ -19,11 +17,10 @@ pub use check::check_folder;
 pub use command::{
     DONE, command_status, error_status, line_status, report, unread_status, usage_status,
 };
-pub use disk::Disk;
 pub use fault_text::{DEVICE, MEMORY, REFUSED, USAGE, fault_line};
-pub use folders::{BuiltIn, FolderFault, Folders, NOTES};
 pub use listener::{CountedListener, Listener};
-pub use program::{ProgramFault, answer, request_to, sizes};
+pub use program::{ProgramFault, answer, query, request_to, sizes};
 pub use replay::{plays_schedule, replay_script};
+pub use served_folders::{BuiltIn, Disk, FolderFault, Folders, NOTES};
 pub use serving::serve;
 pub use words::{Words, WordsFault, read_words};

@@ -1,12 +1,12 @@
 //! The answer to a stream over a folder.
-ghost use Rattle.std.specs.Prelude.{◌≡◌, IfOk, string_bytes};
+ghost use Rattle.std.specs.Prelude.{◌≡◌, ◌<◌, ◌^◌, IfOk, string_bytes};
 ghost use Rattle.odata_http.specs.Device.{CountsFit};
 ghost use Rattle.odata_http.specs.Runs.{course};
 ghost use Rattle.odata_serve.specs.Laws.{Sizes};
-ghost use Rattle.odata_serve.specs.Program.{IsAnswer, loading, request_to};
+ghost use Rattle.odata_serve.specs.Program.{IsAnswer, IsQuery, loading, request_to};
 
-use crate::folders::{FolderFault, Folders};
-use odata_http::{RunFault, Sink, Source, run};
+use odata_http::{Counted, RunFault, Sink, Source, run};
+use served_folders::{FolderFault, Folders};
 use std::alloc::{AllocError, Global};
 
 /// The most reads of one stream.
@@ -70,4 +70,22 @@ pub fn request_to(alloc: Global, target: &str) -> Result<String, AllocError>
     ensures { IfOk result (λ request. string_bytes request ≡ request_to target.now) }
 {
     format!(in alloc; "GET {target} HTTP/1.1\r\nHost: localhost\r\nConnection: close\r\n\r\n")
+}
+
+/// Loads the folder of that name, and answers one GET of a target over it in the output, as [`answer`] does the stream of [`request_to`].
+pub fn query<F: Folders, W: Sink>(
+    alloc: Global,
+    folders: &mut F,
+    name: &str,
+    target: &str,
+    out: &mut W,
+) -> Result<(), ProgramFault>
+    requires failed_writes { (W.sink out.old).failed_writes < 2 ^ 63 }
+    ensures { IsQuery target.now
+        (loading name.now (F.folders folders.old) (F.folders folders.new))
+        (W.sink out.old) (W.sink out.new) result }
+{
+    let request = request_to(alloc, target)?;
+    let mut input = Counted::new(request.as_bytes());
+    answer(alloc, folders, name, &mut input, out)
 }

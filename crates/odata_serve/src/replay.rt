@@ -7,11 +7,11 @@ ghost use Rattle.odata_serve.specs.Replay.{IsAnswered, IsKept, IsLinePlayed, IsP
 
 use crate::answers::{done_line, opened_line, take_line, turned_line};
 use crate::fault_text::{REFUSED, fault_line};
-use crate::folders::{FolderFault, Folders};
 use crate::program::ProgramFault;
 use event_scripts::{Command, CommandFault, first_line, read_command, text_line};
 use odata_http::{Sink, send};
 use odata_hub::{Conn, Hub};
+use served_folders::{FolderFault, Folders};
 use std::alloc::Global;
 use std::rc::Rc;
 

@@ -5,3 +5,4 @@ pub mod Typing
 pub mod Result
 pub mod CanFault
 pub mod Schema
+pub mod Worked

@@ -8,6 +8,7 @@ mod division;
 mod expression;
 mod fault;
 mod function;
+mod law;
 mod list;
 mod literal;
 mod operand;
@@ -20,6 +21,7 @@ pub use column::place_of;
 pub use division::{can_fault, truth_can_fault};
 pub use expression::{typed_expr, typed_filter};
 pub use fault::TypeFault;
+pub use law::worked_typings;
 pub use operand::{scaled, within};
 pub use schema::schema_columns;
 pub use tree::{

@@ -16,8 +16,8 @@ use Rattle.query_plan.specs.declared.plan.Node.{Node}
 use Rattle.row_columns.specs.Picked.{numbered, values_at}
 use Rattle.row_order.specs.Best.{best_rows}
 use Rattle.row_order.specs.InTime.{key_at, AreEnoughByKeys, HaveKeys, NeverFault}
-use Rattle.row_order.specs.declared.keys_in_time.KeyColumn.{KeyColumn}
-use Rattle.row_order.specs.declared.keys_in_time.Keys.{Keys}
+use Rattle.row_columns.specs.declared.keys.KeyColumn.{KeyColumn}
+use Rattle.row_columns.specs.declared.keys.Keys.{Keys}
 use Rattle.query_exec.specs.declared.run.Run.{Run}
 use Rattle.block_filter.specs.Lanes.{AreKeysOf, StandAt}
 use Rattle.query_exec.specs.Picked.{selected_rows}

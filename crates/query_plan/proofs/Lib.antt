@@ -5,6 +5,7 @@ pub mod MeaningLemmas
 pub mod SortLemmas
 pub mod OrderLemmas
 pub mod GroupLemmas
+pub mod ComputedLemmas
 pub mod ResultLemmas
 pub mod ValueLemmas
 pub mod TypingLemmas

@@ -1,7 +1,7 @@
 //! The laws of filters and plans: each function is a theorem, and does nothing.
 
-ghost use Rattle.query_plan.specs.Laws.{BareScansReadAll, BlocksUpToTheStop, NeededBlocksAreRead, NodesInTurn, PlansNeedBlocks, QueriesAreTyped, QueriesFit, ResultsAreInputs, ResultsAreRows, RowsAreInGroups, RowsAreInOrder, ScansReadTableRows, TestsArePassed, TrueRowsPass, UnadmittedBlocksPassNone};
-ghost use Rattle.query_plan.specs.Worked.{WorkedBlocks, WorkedQueries};
+ghost use Rattle.query_plan.specs.Laws.{BareScansReadAll, BlocksUpToTheStop, DistinctValuesAreCounted, ExtremesAreValues, NeededBlocksAreRead, NodesInTurn, PlansNeedBlocks, QueriesAreTyped, QueriesFit, ResultsAreInputs, ResultsAreRows, RowsAreInGroups, RowsAreInOrder, ScansReadTableRows, SumsAddUp, TestsArePassed, TrueRowsPass, UnadmittedBlocksPassNone};
+ghost use Rattle.query_plan.specs.Worked.{WorkedBlocks, WorkedQueries, WorkedTests};
 
 use row_eval::{bounds_hold, tables_are_inputs};
 
@@ -68,9 +68,28 @@ pub fn rows_are_in_order()
     cell_types::values_are_ordered();
 }
 
-/// Each row is in one group, and each group has a row.
+/// Each row is in one group, and each group has a row; groups come by their first rows, and rows of a group in their order.
 pub fn rows_are_in_groups()
     ensures { RowsAreInGroups }
+{
+    cell_types::values_are_ordered();
+}
+
+/// The sum of a column passes over nulls, and is null of nothing; of rows and more rows it is the one sum and the other.
+pub fn sums_add_up()
+    ensures { SumsAddUp }
+{}
+
+/// The least and the greatest of a column pass over nulls, and are null of nothing; else they are values of it, which no value of it passes.
+pub fn extremes_are_values()
+    ensures { ExtremesAreValues }
+{
+    cell_types::values_are_ordered();
+}
+
+/// The count of a column's distinct values is that of those that are not null, each once.
+pub fn distinct_values_are_counted()
+    ensures { DistinctValuesAreCounted }
 {
     cell_types::values_are_ordered();
 }
@@ -97,6 +116,11 @@ pub fn queries_fit()
 /// The answers of some queries, written by hand.
 pub fn worked_queries()
     ensures { WorkedQueries }
+{}
+
+/// What some conditions ask of the summaries of blocks, written by hand.
+pub fn worked_tests()
+    ensures { WorkedTests }
 {}
 
 /// The blocks that some queries need, written by hand.

@@ -6,9 +6,11 @@ mod cells;
 mod columns;
 mod copies;
 mod kept;
+mod keys;
 mod numbers;
 mod texts;
 mod values;
 
 pub use columns::Columns;
+pub use keys::{KeyColumn, Keys};
 pub use values::{lent, owned};

@@ -8,3 +8,5 @@ pub mod Memory
 pub mod Result
 pub mod Input
 pub mod Laws
+pub mod Worked
+pub mod WorkedLogic

@@ -1,6 +1,8 @@
 //! The laws of outcomes: each function is a theorem, and does nothing.
 
 ghost use Rattle.row_eval.specs.Laws.{BoundsHold, ExpressionsAreQueried, FaultsAreForeseen, FiltersAreQueried, Sizes, TablesAreInputs};
+ghost use Rattle.row_eval.specs.Worked.{WorkedColumns, WorkedComparisons};
+ghost use Rattle.row_eval.specs.WorkedLogic.{WorkedLogic, WorkedNumbers};
 
 /// An expression that cannot divide by zero has a value on each row.
 pub fn faults_are_foreseen()
@@ -31,4 +33,24 @@ pub fn tables_are_inputs()
 /// The numbers of the profile.
 pub fn sizes()
     ensures { Sizes }
+{}
+
+/// Columns and literals of each type, with their values or null.
+pub fn worked_columns()
+    ensures { WorkedColumns }
+{}
+
+/// The six comparisons of values of each type, and beside null.
+pub fn worked_comparisons()
+    ensures { WorkedComparisons }
+{}
+
+/// `and`, `or` and `not` of true, false and null, `in`, and the right sides that are passed over.
+pub fn worked_logic()
+    ensures { WorkedLogic }
+{}
+
+/// Arithmetic on integers and decimals, beside null, and by zero.
+pub fn worked_numbers()
+    ensures { WorkedNumbers }
 {}

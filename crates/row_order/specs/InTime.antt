@@ -11,7 +11,7 @@ use Rattle.cell_types.specs.Value.{CellValue, null, value_cmp}
 use Rattle.query_plan.specs.Order.{Item, directed, item_value, ordered, rows_cmp, sorted}
 use Rattle.row_columns.specs.Picked.{numbered}
 use Rattle.row_order.specs.Best.{best_rows}
-use Rattle.row_order.specs.declared.keys_in_time.Keys.{Keys}
+use Rattle.row_columns.specs.declared.keys.Keys.{Keys}
 
 -- ---- keys
 

@@ -6,12 +6,12 @@ ghost use Rattle.cell_types.specs.Value.{CellValue};
 ghost use Rattle.odata_query.specs.Query.{order_view};
 ghost use Rattle.row_order.specs.InTime.{AreEnoughByKeys, HaveKeys, IsKeyColumn, NeverFault};
 
-use crate::keys_in_time::{Bound, KeyColumn, Keys, last_of};
+use crate::keys_in_time::{Bound, last_of, near, within};
 use crate::plain::{PlainColumn, plain_column};
 use block_summary::PackedType;
 use odata_query::OrderBy;
 use query_plan::rows_are_in_order;
-use row_columns::Columns;
+use row_columns::{Columns, KeyColumn, Keys};
 use std::alloc::{AllocError, Global};
 
 /// The column that the first item is, where its numbers are in the order of its values: integers, or decimals in millionths.
@@ -82,7 +82,7 @@ fn before_last(
         ties: items.len() > 1,
         key: last_of(others, descending),
     };
-    keys.within(alloc, numbers.as_slice(), bound)
+    within(alloc, keys, numbers.as_slice(), bound)
 }
 
 /// So it is behind rows that are kept, where these have keys.
@@ -132,9 +132,9 @@ fn nearest(
     let bound = Bound {
         descending,
         ties: true,
-        key: keys.near(alloc, numbers.as_slice(), most as usize, descending)?,
+        key: near(alloc, keys, numbers.as_slice(), most as usize, descending)?,
     };
-    let near = keys.within(alloc, numbers.as_slice(), bound)?;
+    let near = within(alloc, keys, numbers.as_slice(), bound)?;
     if (near.len() as u64) < most {
         return Ok(numbers);
     }

@@ -3,7 +3,7 @@ ghost use Rattle.std.specs.Prelude.{◌≡◌, ◌<◌, IfOk, false, filter, len
 ghost use Rattle.std.specs.List.{All};
 ghost use Rattle.row_order.specs.InTime.{is_before, is_within, key_at};
 
-use block_summary::PackedType;
+use row_columns::Keys;
 use std::alloc::{AllocError, Global};
 
 /// Whether a key stands before another: null before each number.
@@ -67,84 +67,68 @@ impl Bound {
     }
 }
 
-/// A column by its place, and what its numbers stand for.
-#[derive(Clone, Copy)]
-pub struct KeyColumn {
-    pub place: usize,
-    pub packed_type: PackedType,
+/// The key of a row.
+fn at(keys: Keys<'_>, row: usize) -> Option<i64>
+    requires numbers { row < length keys.numbers.now }
+    requires nulls { row < length keys.nulls.now }
+    ensures { result ≡ key_at keys.entry.numbers.now keys.entry.nulls.now row }
+{
+    if keys.nulls[row] {
+        None
+    } else {
+        Some(keys.numbers[row])
+    }
 }
 
-/// The numbers of a column of a block, one for each row, and marks of its nulls.
-#[derive(Clone, Copy)]
-pub struct Keys<'a> {
-    pub column: KeyColumn,
-    pub numbers: &'a [i64],
-    pub nulls: &'a [bool],
+/// The numbers of those rows whose keys are within a bound.
+pub(crate) fn within(
+    alloc: Global,
+    keys: Keys<'_>,
+    rows: &[usize],
+    bound: Bound,
+) -> Result<Vec<usize>, AllocError>
+    requires numbers { All (λ row. row < length keys.numbers.now) rows.now }
+    requires nulls { length keys.nulls.now ≡ length keys.numbers.now }
+    ensures { IfOk result (λ made. made.items
+        ≡ filter (λ row. is_within bound.descending bound.ties bound.key
+        (key_at keys.entry.numbers.now keys.entry.nulls.now row)) rows.now) }
+{
+    let mut made = Vec::new(alloc);
+    for row in rows {
+        if bound.admits(at(keys, *row)) {
+            made.push(*row)?;
+        }
+    }
+    Ok(made)
 }
 
-impl<'a> Keys<'a> {
-    fn at(self, row: usize) -> Option<i64>
-        requires numbers { row < length self.numbers.now }
-        requires nulls { row < length self.nulls.now }
-        ensures { result ≡ key_at self.entry.numbers.now self.entry.nulls.now row }
-    {
-        if self.nulls[row] {
-            None
-        } else {
-            Some(self.numbers[row])
-        }
-    }
-
-    /// The numbers of those rows whose keys are within a bound.
-    pub(crate) fn within(
-        self,
-        alloc: Global,
-        rows: &[usize],
-        bound: Bound,
-    ) -> Result<Vec<usize>, AllocError>
-        requires numbers { All (λ row. row < length self.numbers.now) rows.now }
-        requires nulls { length self.nulls.now ≡ length self.numbers.now }
-        ensures { IfOk result (λ made. made.items
-            ≡ filter (λ row. is_within bound.descending bound.ties bound.key
-            (key_at self.entry.numbers.now self.entry.nulls.now row)) rows.now) }
-    {
-        let mut made = Vec::new(alloc);
-        for row in rows {
-            if bound.admits(self.at(*row)) {
-                made.push(*row)?;
-            }
-        }
-        Ok(made)
-    }
-
-    /// A key that some `most` of the rows do not stand behind, and not many more: the last of the first ones of so many parts of them.
-    pub(crate) fn near(
-        self,
-        alloc: Global,
-        rows: &[usize],
-        most: usize,
-        descending: bool,
-    ) -> Result<Option<i64>, AllocError>
-        requires numbers { All (λ row. row < length self.numbers.now) rows.now }
-        requires nulls { length self.nulls.now ≡ length self.numbers.now }
-    {
-        let mut firsts = Vec::new(alloc);
-        let mut part = 0;
-        for row in rows {
-            let key = self.at(*row);
-            match firsts.get_mut(part) {
-                None => firsts.push(key)?,
-                Some(first) => {
-                    if is_before(descending, key, *first) {
-                        *first = key;
-                    }
+/// A key that some `most` of the rows do not stand behind, and not many more: the last of the first ones of so many parts of them.
+pub(crate) fn near(
+    alloc: Global,
+    keys: Keys<'_>,
+    rows: &[usize],
+    most: usize,
+    descending: bool,
+) -> Result<Option<i64>, AllocError>
+    requires numbers { All (λ row. row < length keys.numbers.now) rows.now }
+    requires nulls { length keys.nulls.now ≡ length keys.numbers.now }
+{
+    let mut firsts = Vec::new(alloc);
+    let mut part = 0;
+    for row in rows {
+        let key = at(keys, *row);
+        match firsts.get_mut(part) {
+            None => firsts.push(key)?,
+            Some(first) => {
+                if is_before(descending, key, *first) {
+                    *first = key;
                 }
             }
-            part = part.wrapping_add(1);
-            if part >= most {
-                part = 0;
-            }
         }
-        Ok(last_of(firsts.as_slice(), descending))
+        part = part.wrapping_add(1);
+        if part >= most {
+            part = 0;
+        }
     }
+    Ok(last_of(firsts.as_slice(), descending))
 }

@@ -16,7 +16,6 @@ mod text_keys;
 
 pub use best::best_numbers;
 pub use in_time::{key_column, rows_in_time};
-pub use keys_in_time::{KeyColumn, Keys};
 pub use law::best_in_pieces;
 pub use passing::passing_numbers;
 pub use pieces::piece;

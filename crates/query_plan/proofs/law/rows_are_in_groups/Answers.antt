@@ -1,4 +1,4 @@
-use Rattle.query_plan.proofs.GroupLemmas.{distinct, filled, grouped, members}
+use Rattle.query_plan.proofs.GroupLemmas.{alone, distinct, filled, first, grouped, members, one, parts}
 use Rattle.query_plan.proofs.law.rows_are_in_groups.Goals as goal
 
 pub returns : goal.returns
@@ -7,4 +7,8 @@ returns c = record {
   grouped = grouped c.values_are_ordered.ensures.equal;
   filled = filled c.values_are_ordered.ensures.equal;
   members = members c.values_are_ordered.ensures.equal;
+  alone = alone c.values_are_ordered.ensures.equal;
+  parts = parts;
+  first = first;
+  one = one c.values_are_ordered.ensures.equal;
 }

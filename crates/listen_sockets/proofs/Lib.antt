@@ -1,0 +1,2 @@
+mod DeskLemmas
+mod SocketLemmas

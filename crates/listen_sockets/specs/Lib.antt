@@ -1,0 +1,4 @@
+pub mod Slow
+pub mod Sockets
+pub mod Desk
+pub mod Sights

@@ -1,0 +1,53 @@
+-- What the system's sockets tell and count.
+use Rattle.std.specs.Prelude.{◌≡◌, ℕ, ◌-◌, ◌^◌, Bool, false, List, Option, None, Some, MatchOption, slice_get, slice_set}
+use Rattle.listen_sockets.specs.declared.peer.Peer.{Peer}
+use Rattle.listen_sockets.specs.declared.slow.Times.{Times}
+use Rattle.listen_sockets.specs.declared.sockets.Slot.{Slot}
+use Rattle.odata_rounds.specs.Peers.{WireOf}
+
+-- a socket that tells no bytes, and counts
+abbrev pub untold : ℕ → ℕ → WireOf
+untold waits losses = record { left = None; taken = None; waits = waits; losses = losses }
+
+abbrev pub slot_wire : Slot → WireOf
+slot_wire slot = untold slot.waits slot.losses
+
+-- where there is no place, the counts are full
+abbrev pub wire_of : Option Slot → WireOf
+wire_of None = untold (2 ^ 64 - 1) (2 ^ 64 - 1)
+wire_of (Some slot) = slot_wire slot
+
+abbrev pub wire_at : List Slot → ℕ → WireOf
+wire_at slots place = wire_of (slice_get slots place)
+
+-- a place with no socket, at which nothing was counted
+abbrev pub free_slot : Slot
+free_slot = record { peer = None; waits = 0; losses = 0 }
+
+-- this socket was put at a place, where there is such a place; the others are as they were
+abbrev pub IsPut : ℕ → Peer → List Slot → List Slot → Type 0
+IsPut place peer old new = MatchOption (slice_get old place) (new ≡ old) (λ slot. new ≡ slice_set old place (record slot { peer = Some peer }))
+
+-- the times of the connection at a place, where there is one
+abbrev pub peer_times : Option Peer → Option Times
+peer_times None = None
+peer_times (Some peer) = Some peer.times
+
+abbrev pub slot_times : Option Slot → Option Times
+slot_times None = None
+slot_times (Some slot) = peer_times slot.peer
+
+abbrev pub times_at : List Slot → ℕ → Option Times
+times_at slots place = slot_times (slice_get slots place)
+
+-- whether the system said that the connection at a place is lost
+abbrev pub is_lost_peer : Option Peer → Bool
+is_lost_peer None = false
+is_lost_peer (Some peer) = peer.lost
+
+abbrev pub is_lost_slot : Option Slot → Bool
+is_lost_slot None = false
+is_lost_slot (Some slot) = is_lost_peer slot.peer
+
+abbrev pub is_lost_at : List Slot → ℕ → Bool
+is_lost_at slots place = is_lost_slot (slice_get slots place)

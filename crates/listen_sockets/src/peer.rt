@@ -1,0 +1,173 @@
+//! One socket, over `mio`.
+ghost use Rattle.std.specs.Prelude.{◌≡◌, length};
+ghost use Rattle.std.specs.Io.{ReadsAtMost, WritesAtMost};
+ghost use Rattle.odata_http.specs.Device.{TakesSome};
+
+use crate::slow::Times;
+use mio::event::Event;
+use mio::net::TcpStream;
+use mio::{Interest, Poll, Token};
+use odata_rounds::PeerFault;
+use std::io::{ErrorKind, Read, Write};
+use std::net::Shutdown;
+
+/// How many reads of a peer whose stream is over are dropped in a row.
+const MOST_DROPPED_READS: u32 = 16;
+
+/// One socket, and what the system last said of it.
+#[derive(Drop)]
+pub struct Peer {
+    stream: TcpStream,
+    readable: bool,
+    writable: bool,
+    /// The peer said that it sends no more: bytes may be left before its end.
+    closing: bool,
+    /// Its stream ended, or is ended here.
+    ended: bool,
+    /// The system said that the connection is lost.
+    pub lost: bool,
+    /// Something was read since this was last asked.
+    has_read: bool,
+    /// Something was written since this was last asked.
+    has_written: bool,
+    pub times: Times,
+}
+
+impl Peer {
+    /// A socket of which nothing is known yet.
+    pub fn new(stream: TcpStream, now: u64) -> Peer {
+        Peer {
+            stream,
+            readable: true,
+            writable: true,
+            closing: false,
+            ended: false,
+            lost: false,
+            has_read: false,
+            has_written: false,
+            times: Times::new(now),
+        }
+    }
+
+    /// Has the system report it under a number.
+    pub fn register(&mut self, poll: &Poll, place: u32) -> bool {
+        let both = Interest::READABLE | Interest::WRITABLE;
+        poll.registry()
+            .register(&mut self.stream, Token(place as usize), both)
+            .is_ok()
+    }
+
+    /// Has the system report it no more.
+    pub fn deregister(&mut self, poll: &Poll) -> bool {
+        poll.registry().deregister(&mut self.stream).is_ok()
+    }
+
+    /// What the system says of it now.
+    pub fn mark(&mut self, event: &Event) {
+        let fails = event.is_error();
+        self.readable = self.readable || event.is_readable() || fails;
+        self.writable = self.writable || event.is_writable() || fails;
+        self.closing = self.closing || event.is_read_closed() || fails;
+        self.lost = self.lost || fails;
+    }
+
+    /// The next write is tried, whatever the system said: it tells of room only where a third of what it keeps for a peer is free, so that a peer
+    /// that takes bytes slowly would seem to stand still.
+    pub fn try_write(&mut self) {
+        self.writable = true;
+    }
+
+    /// No more is read of its stream.
+    pub fn end(&mut self, now: u64) {
+        self.ended = true;
+        self.times.turned(now);
+    }
+
+    /// Notes what a visit that worked did, by the clock.
+    pub fn note_work(&mut self, now: u64) {
+        if self.has_read {
+            self.times.read(now);
+        } else if self.has_written {
+            self.times.wrote(now);
+        } else {
+            self.times.turned(now);
+        }
+        self.has_read = false;
+        self.has_written = false;
+    }
+
+    /// Drops what came and was not read. Whether the peer may still send.
+    pub fn drop_rest(&mut self, room: &mut [u8]) -> bool
+        ensures len { length room.new ≡ length room.old }
+    {
+        for _ in 0..MOST_DROPPED_READS {
+            match self.stream.read(room) {
+                Ok(0) => return false,
+                Ok(_) => {}
+                Err(error) => return fault_of(error.kind()) == PeerFault::Waits,
+            }
+        }
+        true
+    }
+
+    /// Says that no more is sent, and drops what came and was not read. Whether the peer may still send.
+    pub fn close(&mut self, room: &mut [u8]) -> bool
+        ensures len { length room.new ≡ length room.old }
+    {
+        let _ = self.stream.shutdown(Shutdown::Write);
+        self.drop_rest(room)
+    }
+
+    /// Gives it bytes.
+    pub fn write(&mut self, bytes: &[u8]) -> Result<usize, PeerFault>
+        ensures bound { WritesAtMost result bytes.now }
+        ensures some { TakesSome bytes.now result }
+    {
+        if !self.writable {
+            return Err(PeerFault::Waits);
+        }
+        match self.stream.write(bytes) {
+            Ok(0) if !bytes.is_empty() => Err(PeerFault::Lost),
+            Ok(count) => {
+                self.has_written = true;
+                Ok(count)
+            }
+            Err(error) => {
+                self.writable = error.kind() == ErrorKind::Interrupted;
+                Err(fault_of(error.kind()))
+            }
+        }
+    }
+
+    /// Takes bytes of it.
+    pub fn read(&mut self, buf: &mut [u8]) -> Result<usize, PeerFault>
+        ensures bound { ReadsAtMost result buf.new }
+    {
+        if self.ended {
+            return Ok(0);
+        }
+        if !self.readable {
+            return Err(PeerFault::Waits);
+        }
+        match self.stream.read(buf) {
+            Ok(count) => {
+                self.ended = count == 0;
+                self.has_read = true;
+                self.readable = count == buf.len() || self.closing;
+                Ok(count)
+            }
+            Err(error) => {
+                self.readable = error.kind() == ErrorKind::Interrupted;
+                Err(fault_of(error.kind()))
+            }
+        }
+    }
+}
+
+/// What an error of the system means for a socket.
+fn fault_of(kind: ErrorKind) -> PeerFault {
+    match kind {
+        ErrorKind::WouldBlock | ErrorKind::Interrupted => PeerFault::Waits,
+        _ => PeerFault::Lost,
+    }
+}

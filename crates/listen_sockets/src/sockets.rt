@@ -1,0 +1,225 @@
+//! The sockets of the places. They tell no bytes, and count how often one had or took nothing, and how often one was found lost.
+ghost use Rattle.std.specs.Prelude.{◌≡◌, length};
+ghost use Rattle.std.specs.Io.{ReadsAtMost, WritesAtMost};
+ghost use Rattle.odata_http.specs.Device.{TakesSome};
+
+use crate::peer::Peer;
+use crate::slow::Times;
+use mio::Poll;
+use odata_rounds::{PeerFault, Peers};
+use std::alloc::{AllocError, Global};
+
+/// A place, and what is counted there.
+#[derive(Drop)]
+pub struct Slot {
+    pub peer: Option<Peer>,
+    pub waits: u64,
+    pub losses: u64,
+}
+
+impl Slot {
+    ghost use Rattle.odata_rounds.specs.Peers.{CountsFault, IsRead, IsWrite};
+    ghost use Rattle.listen_sockets.specs.Sockets.{is_lost_peer, peer_times, slot_wire};
+
+    /// Counts what a socket answered.
+    fn count(&mut self, answer: Result<usize, PeerFault>)
+        ensures { CountsFault (slot_wire self.old) (slot_wire self.new) answer }
+    {
+        match answer {
+            Ok(_) => {}
+            Err(PeerFault::Waits) => self.waits = self.waits.saturating_add(1),
+            Err(PeerFault::Lost) => self.losses = self.losses.saturating_add(1),
+        }
+    }
+
+    /// Gives bytes to the socket, where there is one.
+    fn write_peer(&mut self, bytes: &[u8]) -> Result<usize, PeerFault>
+        ensures bound { WritesAtMost result bytes.now }
+        ensures some { TakesSome bytes.now result }
+        ensures counts { slot_wire self.new ≡ slot_wire self.old }
+    {
+        match &mut self.peer {
+            Some(peer) => peer.write(bytes),
+            None => Err(PeerFault::Lost),
+        }
+    }
+
+    /// Takes bytes of the socket, where there is one.
+    fn read_peer(&mut self, buf: &mut [u8]) -> Result<usize, PeerFault>
+        ensures bound { ReadsAtMost result buf.new }
+        ensures counts { slot_wire self.new ≡ slot_wire self.old }
+    {
+        match &mut self.peer {
+            Some(peer) => peer.read(buf),
+            None => Err(PeerFault::Lost),
+        }
+    }
+
+    /// Whether the system said that the connection is lost.
+    fn is_lost(&self) -> bool
+        ensures { result ≡ is_lost_peer self.now.peer }
+    {
+        match &self.peer {
+            Some(peer) => peer.lost,
+            None => false,
+        }
+    }
+
+    /// The times of the socket, where there is one.
+    fn times(&self) -> Option<Times>
+        ensures { result ≡ peer_times self.now.peer }
+    {
+        match &self.peer {
+            Some(peer) => Some(peer.times),
+            None => None,
+        }
+    }
+
+    fn write(&mut self, bytes: &[u8]) -> Result<usize, PeerFault>
+        ensures { IsWrite (slot_wire self.old) (slot_wire self.new) bytes.now result }
+    {
+        let answer = self.write_peer(bytes);
+        self.count(answer);
+        answer
+    }
+
+    fn read(&mut self, buf: &mut [u8]) -> Result<usize, PeerFault>
+        ensures { IsRead (slot_wire self.old) (slot_wire self.new) buf.new result }
+    {
+        let answer = self.read_peer(buf);
+        self.count(answer);
+        answer
+    }
+}
+
+/// The sockets of so many places.
+#[derive(Drop)]
+pub struct Sockets {
+    pub slots: Vec<Slot>,
+}
+
+impl Sockets {
+    ghost use Rattle.std.specs.Prelude.{IfOk, replicate};
+    ghost use Rattle.listen_sockets.specs.Sockets.{IsPut, free_slot, is_lost_at, times_at};
+
+    /// So many places, at none of which is a socket.
+    pub fn new(alloc: Global, places: u32) -> Result<Sockets, AllocError>
+        ensures { IfOk result (λ sockets. sockets.slots.items ≡ replicate places free_slot) }
+    {
+        let mut slots = Vec::with_capacity(alloc, places as usize)?;
+        for _place in 0..places {
+            slots.push(Slot {
+                peer: None,
+                waits: 0,
+                losses: 0,
+            })?;
+        }
+        Ok(Sockets { slots })
+    }
+
+    /// Puts a socket at a place.
+    pub fn put(&mut self, place: u32, peer: Peer)
+        ensures { IsPut place peer self.old.slots.items self.new.slots.items }
+    {
+        let place = place as usize;
+        if place < self.slots.len() {
+            self.slots[place].peer = Some(peer);
+        }
+    }
+
+    /// Sends no more to the socket at a place, and gives it where its peer may still send.
+    pub fn close(&mut self, place: u32, room: &mut [u8]) -> Option<Peer>
+        ensures len { length room.new ≡ length room.old }
+    {
+        let mut peer = self.slots.get_mut(place as usize)?.peer.take()?;
+        if peer.close(room) {
+            return Some(peer);
+        }
+        None
+    }
+
+    /// Whether there is a place with no socket.
+    pub fn has_free(&self) -> bool {
+        self.slots.iter().any(|slot| slot.peer.is_none())
+    }
+
+    /// Has the system report the socket at a place under its number.
+    pub fn register(&mut self, poll: &Poll, place: u32) -> bool {
+        match self.slots.get_mut(place as usize) {
+            Some(slot) => match &mut slot.peer {
+                Some(peer) => peer.register(poll, place),
+                None => false,
+            },
+            None => false,
+        }
+    }
+
+    /// Has the next write to each socket tried.
+    pub fn try_writes(&mut self) {
+        for slot in &mut self.slots {
+            if let Some(peer) = &mut slot.peer {
+                peer.try_write();
+            }
+        }
+    }
+
+    /// Whether the system said that the connection at a place is lost.
+    pub fn is_lost(&self, place: u32) -> bool
+        ensures { result ≡ is_lost_at self.now.slots.items place }
+    {
+        match self.slots.get(place as usize) {
+            Some(slot) => slot.is_lost(),
+            None => false,
+        }
+    }
+
+    /// Notes what a visit that worked did at a place.
+    pub fn note_work(&mut self, place: u32, now: u64) {
+        if let Some(slot) = self.slots.get_mut(place as usize) {
+            if let Some(peer) = &mut slot.peer {
+                peer.note_work(now);
+            }
+        }
+    }
+
+    /// Ends the stream of the socket at a place.
+    pub fn end_stream(&mut self, place: u32, now: u64) {
+        if let Some(slot) = self.slots.get_mut(place as usize) {
+            if let Some(peer) = &mut slot.peer {
+                peer.end(now);
+            }
+        }
+    }
+
+    /// The times of the socket at a place.
+    pub fn times(&self, place: u32) -> Option<Times>
+        ensures { result ≡ times_at self.now.slots.items place }
+    {
+        match self.slots.get(place as usize) {
+            Some(slot) => slot.times(),
+            None => None,
+        }
+    }
+}
+
+impl Peers for Sockets {
+    ghost use Rattle.listen_sockets.specs.Sockets.{wire_at};
+
+    ghost wires = { λ s place. wire_at s.slots.items place };
+
+    fn write(&mut self, place: u32, bytes: &[u8]) -> Result<usize, PeerFault> {
+        let place = place as usize;
+        if place >= self.slots.len() {
+            return Err(PeerFault::Lost);
+        }
+        self.slots[place].write(bytes)
+    }
+
+    fn read(&mut self, place: u32, buf: &mut [u8]) -> Result<usize, PeerFault> {
+        let place = place as usize;
+        if place >= self.slots.len() {
+            return Err(PeerFault::Lost);
+        }
+        self.slots[place].read(buf)
+    }
+}

@@ -1,6 +1,0 @@
-use Rattle.odata_listen.specs.Serving.{RunsTo}
-use Rattle.odata_listen.proofs.serving.settle_all.Given as goal
-
--- a schedule led from the hub at the start to this one
-abbrev pub invariant-loop-place : goal.invariant-loop-place
-invariant-loop-place g l = RunsTo l.fn.desk.hub l.desk.hub

@@ -1,5 +1,0 @@
-use Rattle.odata_listen.proofs.SocketLemmas.{socket_read}
-use Rattle.odata_listen.proofs.sockets.Slot.read.Goals as goal
-
-pub returns : goal.returns
-returns c = socket_read _ _ _ _ _ _ _ c.read_peer-answer.ensures.bound c.read_peer-answer.ensures.counts c.count.ensures

@@ -1,0 +1,101 @@
+-- The life of a service over a hub: its rounds, and between them connections that are opened, places that are given back, and other tables.
+use Rattle.std.specs.Prelude.{◌≡◌, ◌≢◌, ⊤, ℕ, List, [], ◌∷◌, ◌++◌, length, slice_set}
+use Rattle.table_store.specs.Catalog.{CatalogOf}
+use Rattle.odata_hub.specs.declared.answers.HubFault.{HubFault}
+use Rattle.odata_hub.specs.Connections.{Answer, Done, Opened, Refused}
+use Rattle.odata_hub.specs.Schedules.{Drop, Event, Happening, Open, Reload, opened, own_of}
+use Rattle.odata_hub.specs.Stands.{IsHubStep}
+use Rattle.odata_rounds.specs.declared.answers.Stepped.{Stepped}
+use Rattle.odata_rounds.specs.declared.answers.Stepped.TheVariants as became
+use Rattle.odata_rounds.specs.declared.seat.Seat.{Seat}
+use Rattle.odata_rounds.specs.Peers.{WireOf}
+use Rattle.odata_rounds.specs.Visits.{IsHubRun, Moves}
+use Rattle.odata_rounds.specs.Rounds.{Rounds, SightOf}
+use Rattle.odata_rounds.specs.Laws.{waits_at}
+
+-- the seat of a place at which nothing waits, and nothing became of it
+abbrev pub free_seat : Seat
+free_seat = record { waits = []; stepped = became.Free }
+
+-- what a service does: a round; a connection is opened at a place, or none is; a place is given back; other tables; or nothing of these
+pub data Deed : Type 0 where
+  Goes : Deed
+  Opens : (place : ℕ) → Deed
+  Refuses : (fault : HubFault) → Deed
+  Frees : (place : ℕ) (answer : Answer) → Deed
+  Reloads : (catalog : CatalogOf) → Deed
+  Stands : Deed
+
+-- a socket tells of the same bytes as before
+abbrev pub KeepsBytes : WireOf → WireOf → Type 0
+KeepsBytes old new = (new.left ≡ old.left) × (new.taken ≡ old.taken)
+
+-- what waits at each place, and what each socket tells, are as they were
+pub record KeepsAll (old new : SightOf) : Type 0 where
+  pub seats : new.seats ≡ old.seats
+  pub bytes : (place : ℕ) → KeepsBytes (old.wires place) (new.wires place)
+
+-- nothing waits at a place any more, which may have another socket now; all other places are as they were
+pub record Clears (place : ℕ) (old new : SightOf) : Type 0 where
+  pub seats : new.seats ≡ slice_set old.seats place free_seat
+  pub bytes : (other : ℕ) → other ≢ place → KeepsBytes (old.wires other) (new.wires other)
+
+-- no connection is over, lost or failed whose place was not given back
+abbrev pub IsSettledBy : Stepped → Type 0
+IsSettledBy became.Free = ⊤
+IsSettledBy became.Rests = ⊤
+IsSettledBy became.Worked = ⊤
+IsSettledBy became.Answered = ⊥
+IsSettledBy became.Lost = ⊥
+IsSettledBy became.Failed = ⊥
+
+abbrev pub AreSettled : List Seat → Type 0
+AreSettled [] = ⊤
+AreSettled (seat ∷ seats) = IsSettledBy seat.stepped × AreSettled seats
+
+-- Each is one step of the hub, or the calls of a round. A round begins only where each place was given back whose connection is over, lost or failed.
+abbrev pub IsDeed : Deed → SightOf → SightOf → Type 0
+IsDeed Goes old new = AreSettled old.seats × Rounds (length old.seats) old new
+IsDeed (Opens place) old new = IsHubStep old.hub Open (Opened place) new.hub × Clears place old new
+IsDeed (Refuses fault) old new = IsHubStep old.hub Open (Refused fault) new.hub × KeepsAll old new
+IsDeed (Frees place answer) old new = IsHubStep old.hub (Drop place) answer new.hub × Clears place old new
+IsDeed (Reloads catalog) old new = IsHubStep old.hub (Reload catalog) Done new.hub × KeepsAll old new
+IsDeed Stands old new = (new.hub ≡ old.hub) × KeepsAll old new
+
+-- these, one after another
+abbrev pub Lives : SightOf → List Deed → SightOf → Type 0
+Lives old [] new = new ≡ old
+Lives old (deed ∷ deeds) new = (mid : SightOf) × IsDeed deed old mid × Lives mid deeds new
+
+-- a place is neither taken nor given back
+abbrev pub IsElsewhere : ℕ → Deed → Type 0
+IsElsewhere place Goes = ⊤
+IsElsewhere place (Opens at) = at ≢ place
+IsElsewhere place (Refuses fault) = ⊤
+IsElsewhere place (Frees at answer) = at ≢ place
+IsElsewhere place (Reloads catalog) = ⊤
+IsElsewhere place Stands = ⊤
+
+abbrev pub AreElsewhere : ℕ → List Deed → Type 0
+AreElsewhere place [] = ⊤
+AreElsewhere place (deed ∷ deeds) = IsElsewhere place deed × AreElsewhere place deeds
+
+-- What the socket of a connection took, what waits for it and what was read from it, from where the connection was opened: by its own events of a
+-- schedule that begins there.
+pub record MovesSince (place : ℕ) (old start end : SightOf) : Type 0 where
+  pub events : List Happening
+  pub run : IsHubRun old.hub (opened place ∷ events) end.hub
+  pub moves : Moves (start.wires place) (end.wires place) [] (waits_at end.seats place) (own_of place events)
+
+-- each connection of a life: `during` is what happens behind its opening, and before its place is given back
+pub record IsCarried (place : ℕ) (old : SightOf) (before during after : List Deed) (new : SightOf) : Type 0 where
+  pub opening : SightOf
+  pub start : SightOf
+  pub end : SightOf
+  pub earlier : Lives old before opening
+  pub moves : MovesSince place opening start end
+  pub later : Lives end after new
+
+abbrev pub LivesMove : Type 0
+LivesMove = (old new : SightOf) (place : ℕ) (before during after : List Deed)
+    → Lives old (before ++ Opens place ∷ (during ++ after)) new → AreElsewhere place during → IsCarried place old before during after new

@@ -1,9 +1,0 @@
-use Rattle.std.specs.Str.{bytes_eq}
-use Rattle.table_store.specs.Fault.{load_cause}
-use Rattle.odata_serve.specs.declared.folders.TheConstants.{NOTES}
-use Rattle.odata_serve.proofs.FolderLemmas.{refused_notes}
-use Rattle.odata_serve.proofs.folders.BuiltInFolders.load.Goals as goal
-
-pub returns-in-Err-clause-fault : goal.returns-in-Err-clause-fault
-returns-in-Err-clause-fault c =
-    refused_notes (bytes_eq c.args.name.now NOTES.now) (load_cause c.in-Err.fault) c.if-ne.ensures c.in-Err.ensures.fault

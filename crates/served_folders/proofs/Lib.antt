@@ -1,0 +1,3 @@
+pub mod DiskLemmas
+pub mod Disks
+pub mod FolderLemmas

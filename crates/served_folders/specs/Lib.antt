@@ -1,0 +1,4 @@
+pub mod Folders
+pub mod Disk
+pub mod Names
+pub mod Laws

@@ -1,0 +1,14 @@
+//! Folders of CSV files, by their names: on a disk, and the one that is built in. Of a disk plain files are read alone. Contracts see what folders tell and count.
+#![tactic(auto)]
+
+mod disk;
+mod folders;
+mod names;
+mod plain;
+
+pub use disk::Disk;
+pub use folders::{
+    BuiltIn, FolderFault, Folders, NOTES, NOTES_BYTES, NOTES_FILE, NOTES_METADATA, notes,
+};
+pub use names::{METADATA, names_of};
+pub use plain::look;
