@@ -50,7 +50,7 @@ pub fn same<'a>(number: i128) -> Result<Bounded<'a>, Fallback>
 {
     match i64::try_from(number) {
         Ok(number) => Ok(constant(number)),
-        Err(_) => Err(Fallback),
+        Err(_) => Err(Fallback::Rows),
     }
 }
 

@@ -35,7 +35,7 @@ fn days_in<'a>(
             let numbers = cells(values, nulls, wanted.len())?;
             Ok(numbers)
         }
-        _ => Err(Fallback),
+        _ => Err(Fallback::Rows),
     }
 }
 

@@ -54,6 +54,6 @@ pub fn eval_leaf(
         TruthExpr::DecimalIn(operand, items) => decimals_in(alloc, operand, items, columns, wanted),
         TruthExpr::TextIn(operand, items) => texts_in(alloc, operand, items, columns, wanted),
         TruthExpr::DateIn(operand, items) => dates_in(alloc, operand, items, columns, wanted),
-        _ => Err(Fallback),
+        _ => Err(Fallback::Rows),
     }
 }

@@ -78,7 +78,7 @@ fn number_item(item: Option<i128>) -> Result<Option<i64>, Fallback>
         None => Ok(None),
         Some(number) => match i64::try_from(number) {
             Ok(number) => Ok(Some(number)),
-            Err(_) => Err(Fallback),
+            Err(_) => Err(Fallback::Rows),
         },
     }
 }
@@ -91,7 +91,7 @@ fn number_items(alloc: Global, items: &[Option<i128>]) -> Result<Vec<Option<i64>
     for item in items {
         let number = number_item(*item)?;
         if numbers.push(number).is_err() {
-            return Err(Fallback);
+            return Err(Fallback::NoMemory);
         }
     }
     Ok(numbers)
@@ -115,7 +115,7 @@ fn day_items(alloc: Global, items: &[Option<Date>]) -> Result<Vec<Option<i64>>, 
     let mut numbers = Vec::with_capacity(alloc, items.len())?;
     for item in items {
         if numbers.push(day_item(*item)).is_err() {
-            return Err(Fallback);
+            return Err(Fallback::NoMemory);
         }
     }
     Ok(numbers)

@@ -32,7 +32,7 @@ fn integers_in<'a>(
                 bounds: Some(*bounds),
             })
         }
-        _ => Err(Fallback),
+        _ => Err(Fallback::Rows),
     }
 }
 
@@ -53,7 +53,7 @@ fn decimals_in<'a>(
                 bounds: Some(*bounds),
             })
         }
-        _ => Err(Fallback),
+        _ => Err(Fallback::Rows),
     }
 }
 
@@ -86,7 +86,7 @@ fn bounded_integers<'a>(
             let numbers = join_bounded(alloc, *operator, &left, &right, wanted)?;
             Ok(numbers)
         }
-        _ => Err(Fallback),
+        _ => Err(Fallback::Rows),
     }
 }
 

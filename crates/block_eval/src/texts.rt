@@ -57,7 +57,7 @@ fn texts_of<'a>(column: Column<'a>, rows: usize) -> Result<Texts<'a>, Fallback>
 {
     match column {
         Column::Values(cells) if cells.len() == rows => Ok(Texts::Values(cells)),
-        _ => Err(Fallback),
+        _ => Err(Fallback::Rows),
     }
 }
 
@@ -71,7 +71,7 @@ fn texts_in<'a>(
         (GivesTexts (λ cells. cell text_in_cell cells place) columns.now wanted.now) }
 {
     let Some(column) = columns.get(place) else {
-        return Err(Fallback);
+        return Err(Fallback::Rows);
     };
     let texts = texts_of(*column, wanted.len())?;
     Ok(texts)
@@ -92,6 +92,6 @@ pub fn eval_texts<'a>(
             Ok(texts)
         }
         TextExpr::Literal(text) => Ok(Texts::Same(text.as_str())),
-        TextExpr::Concat(_, _) => Err(Fallback),
+        TextExpr::Concat(_, _) => Err(Fallback::Rows),
     }
 }

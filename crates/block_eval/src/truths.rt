@@ -65,7 +65,7 @@ fn truth_items(alloc: Global, items: &[Option<bool>]) -> Result<Vec<Option<i64>>
     let mut numbers = Vec::with_capacity(alloc, items.len())?;
     for item in items {
         if numbers.push(truth_item(*item)).is_err() {
-            return Err(Fallback);
+            return Err(Fallback::NoMemory);
         }
     }
     Ok(numbers)
@@ -120,11 +120,11 @@ pub fn truths_in(
     match columns.get(place) {
         Some(Column::Numbers(PackedType::Boolean, values, nulls, _)) => {
             if values.len() != wanted.len() || nulls.len() != wanted.len() {
-                return Err(Fallback);
+                return Err(Fallback::Rows);
             }
             let truths = truths_of(alloc, values, nulls)?;
             Ok(truths)
         }
-        _ => Err(Fallback),
+        _ => Err(Fallback::Rows),
     }
 }

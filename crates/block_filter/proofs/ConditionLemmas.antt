@@ -3,8 +3,8 @@ use Rattle.std.proofs.Common.{◌≡◌, Option, Some, None, List, [], ◌∷◌
 use Rattle.std.specs.Prelude.{option_and_then}
 use Rattle.cell_types.specs.Value.{CellValue}
 use Rattle.odata_types.specs.TypedTree.{TruthExprOf}
-use Rattle.query_plan.specs.Filter.{passing}
-use Rattle.query_plan.specs.Laws.{TrueRowsPass}
+use Rattle.query_meaning.specs.Filter.{passing}
+use Rattle.query_meaning.specs.Laws.{TrueRowsPass}
 use Rattle.block_filter.specs.Conditions.{joined, passing_all, ConditionsInTurn}
 
 pub joined_none : (front : Option (List (List CellValue))) → joined front None ≡ None

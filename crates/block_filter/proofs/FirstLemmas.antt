@@ -6,8 +6,8 @@ use Rattle.std.proofs.lemmas.List.{get_or-take, length-map, length-take, take-ma
 use Rattle.std.proofs.lemmas.List.Sums.{count_by-le-length}
 use Rattle.cell_types.specs.Value.{CellValue}
 use Rattle.odata_types.specs.TypedTree.{TruthExprOf}
-use Rattle.query_plan.specs.Meaning.{first_rows}
-use Rattle.query_plan.specs.Scan.{passes_each}
+use Rattle.query_meaning.specs.Meaning.{first_rows}
+use Rattle.query_meaning.specs.Filter.{passes_each}
 use Rattle.row_columns.specs.Picked.{numbered}
 use Rattle.block_filter.specs.declared.block.Passed.{Passed}
 use Rattle.block_filter.specs.declared.in_turn.InTurn.{InTurn}

@@ -12,9 +12,8 @@ use Rattle.odata_types.specs.TypedTree.{boxed_truth, TruthExprOf}
 use Rattle.row_eval.specs.declared.truth.Truth.{Truth}
 use Rattle.row_eval.specs.declared.truth.Truth.TheVariants.{False, Null, True}
 use Rattle.row_eval.specs.Outcome.{truth_outcome}
-use Rattle.query_plan.specs.Filter.{faults, is_true, passes, passing}
-use Rattle.query_plan.specs.Laws.{TrueRowsPass}
-use Rattle.query_plan.specs.Scan.{passes_each}
+use Rattle.query_meaning.specs.Filter.{faults, is_true, passes, passing, passes_each}
+use Rattle.query_meaning.specs.Laws.{TrueRowsPass}
 use Rattle.row_columns.specs.Picked.{numbered}
 use Rattle.block_filter.specs.Conditions.{joined, passing_all, ConditionsFit}
 use Rattle.block_filter.specs.declared.in_turn.InTurn.{InTurn}

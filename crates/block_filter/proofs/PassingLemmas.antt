@@ -14,8 +14,8 @@ use Rattle.row_eval.specs.Outcome.{both, truth_outcome}
 use Rattle.block_eval.specs.declared.columns.Column.{Column}
 use Rattle.block_eval.specs.Lanes.{truth_lane, AreOutcomesWithin}
 use Rattle.block_summary.specs.Ranges.{RangeOf, AreRangesOf}
-use Rattle.query_plan.specs.Filter.{passing}
-use Rattle.query_plan.specs.Laws.{TrueRowsPass}
+use Rattle.query_meaning.specs.Filter.{passing}
+use Rattle.query_meaning.specs.Laws.{TrueRowsPass}
 use Rattle.block_filter.specs.Lanes.{AreColumnsOf}
 use Rattle.row_columns.specs.Picked.{numbered}
 use Rattle.block_filter.specs.Conditions.{passing_all}

@@ -4,7 +4,7 @@ use Rattle.cell_types.specs.Value.{CellValue}
 use Rattle.odata_types.specs.TypedTree.{TruthExprOf}
 use Rattle.row_eval.specs.Bounds.{TruthFits}
 use Rattle.row_eval.specs.Outcome.{both}
-use Rattle.query_plan.specs.Filter.{passing}
+use Rattle.query_meaning.specs.Filter.{passing}
 
 -- None is a division by zero
 abbrev pub passing_all : List TruthExprOf → List (List CellValue) → Option (List (List CellValue))

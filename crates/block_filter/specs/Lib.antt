@@ -3,8 +3,7 @@ pub use Rattle.block_summary.specs.Types
 pub use Rattle.odata_types.specs.TypedTree
 pub use Rattle.row_columns.specs.Picked
 pub use Rattle.row_eval.specs.Bounds
-pub use Rattle.query_plan.specs.Filter
-pub use Rattle.query_plan.specs.Scan
+pub use Rattle.query_meaning.specs.Filter
 pub use Rattle.table_store.specs.Table
 pub use Rattle.table_store.specs.Block
 pub mod Conditions

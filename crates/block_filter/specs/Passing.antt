@@ -4,8 +4,8 @@ use Rattle.std.specs.List.{All}
 use Rattle.cell_types.specs.Value.{CellValue}
 use Rattle.odata_types.specs.TypedTree.{TruthExprOf}
 use Rattle.row_columns.specs.Picked.{numbered}
-use Rattle.query_plan.specs.Meaning.{first_rows}
-use Rattle.query_plan.specs.Scan.{passes_each}
+use Rattle.query_meaning.specs.Meaning.{first_rows}
+use Rattle.query_meaning.specs.Filter.{passes_each}
 use Rattle.block_filter.specs.declared.block.Passed.{Passed}
 use Rattle.block_filter.specs.declared.in_turn.InTurn.{InTurn}
 use Rattle.block_filter.specs.declared.in_turn.Fate.{Fate}

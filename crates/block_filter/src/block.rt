@@ -3,13 +3,14 @@ ghost use Rattle.std.specs.Prelude.{◌≡◌, ◌≤◌, IfOk, List, length, ma
 ghost use Rattle.std.specs.List.{All};
 ghost use Rattle.cell_types.specs.Value.{CellValue};
 ghost use Rattle.odata_types.specs.TypedTree.{boxed_truth};
-ghost use Rattle.query_plan.specs.Meaning.{first_rows};
+ghost use Rattle.query_meaning.specs.Meaning.{first_rows};
 ghost use Rattle.block_filter.specs.Conditions.{ConditionsFit};
 ghost use Rattle.block_filter.specs.Passing.{AreFirstOf, ArePassing};
 
 use crate::in_turn::{InTurn, passing_in_turn};
 use crate::lanes::Lanes;
 use crate::passing::{count_of, numbers_of, passing_rows};
+use block_eval::Fallback;
 use odata_types::TruthExpr;
 use std::alloc::{AllocError, Global};
 use table_store::Block;
@@ -52,7 +53,8 @@ fn first_of(found: InTurn, most: usize) -> Passed
 }
 
 /// What conditions make of the rows of a block, of which the first ones that pass are kept, so many where that is limited: a column at a
-/// time where that goes, and else one row after another.
+/// time where that goes, and else one row after another: so it is where columns do not hold what a condition computes, and never for want of
+/// memory, which is the answer wherever a growth is refused.
 pub fn filter_block(
     alloc: Global,
     conditions: &[Box<TruthExpr>],
@@ -75,7 +77,8 @@ pub fn filter_block(
                 faulted: false,
             })
         }
-        Err(_) => {
+        Err(Fallback::NoMemory) => Err(AllocError),
+        Err(Fallback::Rows) => {
             let found = passing_in_turn(alloc, conditions, block)?;
             Ok(first_of(found, limit))
         }

@@ -4,13 +4,13 @@ ghost use Rattle.std.specs.List.{All};
 ghost use Rattle.odata_types.specs.TypedTree.{boxed_truth, truth_view};
 ghost use Rattle.row_eval.specs.Bounds.{TruthFits};
 ghost use Rattle.row_eval.specs.Row.{row_view};
-ghost use Rattle.query_plan.specs.Filter.{passing};
+ghost use Rattle.query_meaning.specs.Filter.{passing};
 ghost use Rattle.block_filter.specs.Conditions.{passing_all, ConditionsFit};
 ghost use Rattle.block_filter.specs.Passing.{fate_rows, AreAllPassing};
 
 use cell_types::Value;
 use odata_types::TruthExpr;
-use query_plan::true_rows_pass;
+use query_meaning::true_rows_pass;
 use row_eval::{EvalFault, Truth, eval_truth};
 use std::alloc::{AllocError, Global};
 use table_store::Block;

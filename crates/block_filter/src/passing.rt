@@ -4,7 +4,7 @@ ghost use Rattle.std.specs.List.{All, count_by};
 ghost use Rattle.cell_types.specs.Value.{CellValue};
 ghost use Rattle.block_eval.specs.Lanes.{truth_lane};
 ghost use Rattle.odata_types.specs.TypedTree.{boxed_truth, truth_view};
-ghost use Rattle.query_plan.specs.Filter.{passing};
+ghost use Rattle.query_meaning.specs.Filter.{passing};
 ghost use Rattle.row_columns.specs.Picked.{numbered};
 ghost use Rattle.block_filter.specs.Conditions.{passing_all};
 ghost use Rattle.block_filter.specs.Lanes.{AreColumnsOf, AreLanesOf, AreTextsOf};
@@ -16,7 +16,7 @@ use crate::texts::{no_texts, read_texts};
 use block_eval::{Column, Fallback, eval_block};
 use cell_types::Value;
 use odata_types::TruthExpr;
-use query_plan::true_rows_pass;
+use query_meaning::true_rows_pass;
 use row_eval::Truth;
 use std::alloc::{AllocError, Global};
 use table_store::Block;
@@ -108,7 +108,7 @@ pub(crate) fn count_of(wanted: &[bool]) -> usize
 }
 
 /// Which rows of a block pass conditions, in turn, of all that are marked. Each column is read once, and none for a condition that comes to no row; without
-/// conditions no room is made. Where it falls back, the rows are to be taken one by one: so it is where a condition divides by zero.
+/// conditions no room is made. Where it falls back to rows, these are to be taken one by one: so it is where a condition divides by zero.
 pub(crate) fn passing_rows(
     alloc: Global,
     conditions: &[Box<TruthExpr>],

@@ -228,7 +228,7 @@ pub fn compute<'a>(
     ensures { IfOk result (AreComputed (operator_of operator) left.now right.now wanted.now) }
 {
     if !are_small(operator, left.operand(), right.operand(), wanted.len()) {
-        return Err(Fallback);
+        return Err(Fallback::Rows);
     }
     let numbers = compute_fitting(alloc, operator, left, right, wanted)?;
     Ok(numbers)

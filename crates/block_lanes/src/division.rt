@@ -63,7 +63,7 @@ fn divide_each(
         let right_value = right.value(i);
         match quotient_where(wanted[i] & !nulls[i], operator, left_value, right_value) {
             Some(number) => out[i] = number,
-            None => return Err(Fallback),
+            None => return Err(Fallback::Rows),
         }
     }
     Ok(())

@@ -41,7 +41,7 @@ pub fn cells<'a>(values: &'a [i64], nulls: &'a [bool], rows: usize) -> Result<Nu
     ensures is_ok { AreLong rows (Numbers.Cells values.entry nulls.entry) → IsOk result }
 {
     if values.len() != rows || nulls.len() != rows {
-        return Err(Fallback);
+        return Err(Fallback::Rows);
     }
     Ok(Numbers::Cells(values, nulls))
 }

@@ -7,7 +7,7 @@ use Rattle.std.proofs.lemmas.List.{get_or-drop, get_or_at, get_or_past}
 use Rattle.std.proofs.lemmas.Str.{IsCharBoundary-after_ascii, IsCharBoundary-from_take, IsUtf8-append, IsUtf8-from_ascii, IsUtf8-from_is_utf8}
 use Rattle.std.proofs.lemmas.Str.Ascii.{IsAscii-cons, IsAscii-nil}
 use Rattle.csv_grammar.specs.Bytes.{double_quote}
-use Rattle.csv_index.specs.Raw.{raw_between, unwrapped, without_return}
+use Rattle.csv_index.specs.Between.{raw_between, unwrapped, without_return}
 use Rattle.csv_index.specs.Index.{AreAscii, Rise, start_at}
 use Rattle.csv_index.specs.Fields.{AreLeft}
 use Rattle.csv_index.proofs.CellLemmas.{AllByRecursion-at, start_before}

@@ -1,7 +1,6 @@
 pub mod Mark
 pub mod FieldBytes
 pub mod Counting
-pub mod RawLemmas
 pub mod CellLemmas
 pub mod RowLemmas
 pub mod Boundaries

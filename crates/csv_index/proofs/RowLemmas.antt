@@ -5,9 +5,11 @@ use Rattle.std.specs.List.{slice_get, flat_map, AllByRecursion}
 use Rattle.std.specs.Option.{option_and_then}
 use Rattle.csv_grammar.specs.Records.{Field}
 use Rattle.csv_grammar.specs.Files.{HasWidth, IsTable}
-use Rattle.csv_index.specs.Raw.{RawField, raw_of, field_of, raw_between}
-use Rattle.csv_index.specs.Index.{RawTable, raw_table, Places, cut, raws, rows_of, row_fields, table_in, cell_at, FitsFile, IsRawTable}
-use Rattle.csv_index.proofs.RawLemmas.{fields_of-raw_of, rows_of-raw_of}
+use Rattle.raw_fields.specs.Laws.{FieldsStandSo}
+use Rattle.raw_fields.specs.Raw.{RawField, raw_of, field_of}
+use Rattle.csv_index.specs.Between.{raw_between}
+use Rattle.raw_fields.specs.Raw.{RawTable}
+use Rattle.csv_index.specs.Index.{raw_table, Places, cut, raws, rows_of, row_fields, table_in, cell_at, FitsFile, IsRawTable}
 
 -- there is a field for each place
 pub length-cut : (start : ℕ) (ends : List ℕ) (file : List ℕ) → length (cut start ends file) ≡ length ends
@@ -134,12 +136,21 @@ table_stands places bytes header rows are width count widths =
     let table : List RawField → List (List RawField) → RawTable = λ h rs. record { header = h; rows = rs } in
     ap (λ h. table h (rows_of places.rows places.width (drop places.width (raws places bytes)))) first ∙ ap (table (map raw_of header)) cut_rows
 
+-- where what stands as a field does is that field, the same holds of fields and of rows
+fields_of-raw_of : FieldsStandSo → (fields : List Field) → map field_of (map raw_of fields) ≡ fields
+fields_of-raw_of stand [] = refl
+fields_of-raw_of stand (field ∷ fields) = rw (stand field, fields_of-raw_of stand fields) refl
+
+rows_of-raw_of : FieldsStandSo → (rows : List (List Field)) → map (map field_of) (map (map raw_of) rows) ≡ rows
+rows_of-raw_of stand [] = refl
+rows_of-raw_of stand (fields ∷ rows) = rw (fields_of-raw_of stand fields, rows_of-raw_of stand rows) refl
+
 -- so the file is that table
-pub raw_table-is : (bytes : List ℕ) (header : List Field) (rows : List (List Field)) (table : RawTable) → IsTable bytes header rows
+pub raw_table-is : FieldsStandSo → (bytes : List ℕ) (header : List Field) (rows : List (List Field)) (table : RawTable) → IsTable bytes header rows
     → table ≡ raw_table header rows → IsRawTable bytes table
-raw_table-is bytes header rows table is e =
-    let first : map field_of table.header ≡ header = ap (λ (t : RawTable). map field_of t.header) e ∙ fields_of-raw_of header in
-    let rest : map (map field_of) table.rows ≡ rows = ap (λ (t : RawTable). map (map field_of) t.rows) e ∙ rows_of-raw_of rows in record {
+raw_table-is stand bytes header rows table is e =
+    let first : map field_of table.header ≡ header = ap (λ (t : RawTable). map field_of t.header) e ∙ fields_of-raw_of stand header in
+    let rest : map (map field_of) table.rows ≡ rows = ap (λ (t : RawTable). map (map field_of) t.rows) e ∙ rows_of-raw_of stand rows in record {
       is = subst (λ h. IsTable bytes h (map (map field_of) table.rows)) (sym first) (subst (IsTable bytes header) (sym rest) is);
       stands = e ∙ ap (λ h. raw_table h rows) (sym first) ∙ ap (raw_table (map field_of table.header)) (sym rest);
     }

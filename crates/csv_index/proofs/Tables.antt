@@ -7,7 +7,9 @@ use Rattle.std.proofs.lemmas.List.{length-map}
 use Rattle.csv_grammar.specs.Records.{Field, Line, IsRecord, IsLast, AreRecords}
 use Rattle.csv_grammar.specs.Faults.{HasFault}
 use Rattle.csv_grammar.specs.Files.{mark_len, text_of, HasWidth}
-use Rattle.csv_index.specs.Raw.{raw_of, raw_between}
+use Rattle.raw_fields.specs.Laws.{FieldsStandSo}
+use Rattle.raw_fields.specs.Raw.{raw_of}
+use Rattle.csv_index.specs.Between.{raw_between}
 use Rattle.csv_index.specs.Index.{Places, cut, Rise, FitsFile, IsIndexOf}
 use Rattle.csv_index.specs.declared.blocks.Block.{Block}
 use Rattle.csv_index.specs.declared.widths.Widths.{Widths}
@@ -36,9 +38,9 @@ first_record bytes header rows records = on records.tree.lines records.tree.last
 abbrev pub places_of : ℕ → List Block → Option ℕ → Widths → Places
 places_of mark blocks last w = record { start = mark; width = w.width; rows = w.records - 1; ends = ends_of mark blocks last }
 
-index_in : (file : List ℕ) (header : List Field) (rows : List (List Field)) (blocks : List Block) (last : Option ℕ) (w : Widths) → IsUtf8 file
+index_in : FieldsStandSo → (file : List ℕ) (header : List Field) (rows : List (List Field)) (blocks : List Block) (last : Option ℕ) (w : Widths) → IsUtf8 file
     → ReadsAs file (mark_len file) (header ∷ rows) blocks last w → w.uneven ≡ None → IsIndexOf (places_of (mark_len file) blocks last w) file
-index_in file header rows blocks last w utf8 read even =
+index_in stand file header rows blocks last w utf8 read even =
     let ends : List ℕ = ends_of (mark_len file) blocks last in
     let widths : CountsWidths w.width None (header ∷ rows) = subst (λ u. CountsWidths w.width u (header ∷ rows)) even read.widths in
     let some : 0 < length header = first_record (text_of file) header rows read.are in
@@ -58,7 +60,7 @@ index_in file header rows blocks last w utf8 read even =
       boundary = read.cuts.boundary;
       ascii = read.cuts.ascii;
     } in record {
-      table = raw_table-is file header rows _ (record { utf8 = utf8; are = read.are; widths = widths.1 })
+      table = raw_table-is stand file header rows _ (record { utf8 = utf8; are = read.are; widths = widths.1 })
           (table_stands places file header rows read.cuts.raws widths.0 (omega (arith, read.count)) widths.1);
       width = width-table_in places file fits;
       row_count = rows-table_in places file;
@@ -66,13 +68,13 @@ index_in file header rows blocks last w utf8 read even =
     }
 
 -- where a record was read, and no row differs
-pub index_of : (file : List ℕ) (mark : ℕ) (blocks : List Block) (last : Option ℕ) (w : Widths) → IsUtf8 file → mark ≡ mark_len file
+pub index_of : FieldsStandSo → (file : List ℕ) (mark : ℕ) (blocks : List Block) (last : Option ℕ) (w : Widths) → IsUtf8 file → mark ≡ mark_len file
     → (records : List (List Field)) × ReadsAs file mark records blocks last w → w.uneven ≡ None → w.records ≢ 0
     → IsIndexOf (places_of mark blocks last w) file
-index_of file mark blocks last w utf8 m ([], read) even some = absurd (some read.count)
-index_of file mark blocks last w utf8 m (header ∷ rows, read) even some =
+index_of stand file mark blocks last w utf8 m ([], read) even some = absurd (some read.count)
+index_of stand file mark blocks last w utf8 m (header ∷ rows, read) even some =
     subst (λ n. IsIndexOf (places_of n blocks last w) file) (sym m)
-    (index_in file header rows blocks last w utf8 (subst (λ n. ReadsAs file n (header ∷ rows) blocks last w) m read) even)
+    (index_in stand file header rows blocks last w utf8 (subst (λ n. ReadsAs file n (header ∷ rows) blocks last w) m read) even)
 
 -- the places are no further than the greatest number
 pub rise_wide : (start size wide : ℕ) (ends : List ℕ) → size ≤ wide → Rise start ends size → Rise start ends wide

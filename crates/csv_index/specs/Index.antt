@@ -5,12 +5,8 @@ use Rattle.std.specs.List.{flat_map, AllByRecursion}
 use Rattle.std.specs.Str.{is_utf8, IsCharBoundary}
 use Rattle.csv_grammar.specs.Records.{Field}
 use Rattle.csv_grammar.specs.Files.{IsTable}
-use Rattle.csv_index.specs.Raw.{RawField, raw_of, field_of, raw_between}
-
--- the fields of the header, and those of each row behind it, as they stand
-pub record RawTable : Type 0 where
-  pub header : List RawField
-  pub rows : List (List RawField)
+use Rattle.raw_fields.specs.Raw.{RawField, RawTable, raw_of, field_of}
+use Rattle.csv_index.specs.Between.{raw_between}
 
 -- how a header and rows stand
 abbrev pub raw_table : List Field → List (List Field) → RawTable

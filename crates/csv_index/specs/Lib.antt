@@ -1,4 +1,4 @@
-pub mod Raw
+pub mod Between
 pub mod Index
 pub mod Fields
 pub mod Fault

@@ -1,9 +1,10 @@
 //! The fields of a file in order.
 ghost use Rattle.std.specs.Prelude.{◌≡◌, [], ◌∷◌, MatchOption, drop};
-ghost use Rattle.csv_index.specs.Raw.{raw_view};
+ghost use Rattle.raw_fields.specs.Raw.{raw_view};
 
 use crate::ends::Ends;
-use crate::raw::Raw;
+use crate::raw::between;
+use raw_fields::Raw;
 use std::marker::Model;
 
 /// The fields that are left, the next one first and record after record.
@@ -19,7 +20,8 @@ pub struct Fields<'i, 'a> {
 
 impl<'i, 'a> Model for Fields<'i, 'a> {
     ghost use Rattle.std.specs.Prelude.{List, map};
-    ghost use Rattle.csv_index.specs.Raw.{RawField, raw_between};
+    ghost use Rattle.raw_fields.specs.Raw.{RawField};
+    ghost use Rattle.csv_index.specs.Between.{raw_between};
     ghost use Rattle.csv_index.specs.Index.{cut};
     ghost use Rattle.csv_index.specs.Fields.{AreLeft};
 
@@ -40,7 +42,7 @@ impl<'i, 'a> Fields<'i, 'a> {
         let end = self.ends.next()?;
         let field = &self.bytes[self.start..end];
         self.start = end + 1;
-        Some(Raw::between(field))
+        Some(between(field))
     }
 
     /// Passes the next field, where there is one, without looking at it.

@@ -1,7 +1,7 @@
 //! The places of a file's fields.
 ghost use Rattle.std.specs.Prelude.{◌≡◌, ◌≤◌, ◌<◌, ◌+◌, Some, IfOk, IfErr, IsUtf8, slice_get, slice_range, length, drop};
 ghost use Rattle.std.specs.Str.{IsCharBoundary};
-ghost use Rattle.csv_index.specs.Raw.{raw_view};
+ghost use Rattle.raw_fields.specs.Raw.{raw_view};
 ghost use Rattle.csv_index.specs.Index.{FitsFile, IsIndexOf, table_in, cell_at, row_fields, raws, start_at};
 ghost use Rattle.csv_index.specs.Fault.{IsTextFault};
 
@@ -9,11 +9,12 @@ use crate::blocks::{Block, find};
 use crate::ends::Ends;
 use crate::fault::TextFault;
 use crate::fields::Fields;
-use crate::raw::Raw;
+use crate::raw::between;
 use crate::structure::Structure;
 use crate::utf8::check_text;
 use csv_grammar::mark_len;
 use lane_class::BLOCK;
+use raw_fields::Raw;
 use std::alloc::Global;
 use std::marker::Model;
 
@@ -76,6 +77,7 @@ impl Index {
         ensures table { IfOk result (λ index. IsIndexOf index bytes.now) }
         ensures fault { IfErr result (IsTextFault bytes.now) }
     {
+        raw_fields::fields_stand_so();
         let start = mark_len(bytes);
         let structure = Structure::of(alloc, bytes, start)?;
         let widths = structure.widths;
@@ -149,7 +151,7 @@ impl Index {
         requires n { n < length self.now.ends }
         ensures { slice_get (raws self.now bytes.now) n ≡ Some (raw_view result) }
     {
-        Raw::between(piece(bytes, self.start_of(n), self.end_of(n)))
+        between(piece(bytes, self.start_of(n), self.end_of(n)))
     }
 
     /// Where the field of that number begins: behind the place of the field before it.

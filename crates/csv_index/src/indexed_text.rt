@@ -1,15 +1,15 @@
 //! The text of a file with its index.
 ghost use Rattle.std.specs.Prelude.{◌≡◌, ◌≤◌, ◌<◌, Some, IfOk, IfErr, slice_get, length, drop};
 ghost use Rattle.std.specs.List.{AllByRecursion};
-ghost use Rattle.csv_index.specs.Raw.{raw_view};
+ghost use Rattle.raw_fields.specs.Raw.{raw_view};
 ghost use Rattle.csv_index.specs.Index.{IsRawTable, cell_at, row_fields};
 ghost use Rattle.csv_index.specs.Fault.{IsTextFault};
 
 use crate::fault::TextFault;
 use crate::fields::Fields;
 use crate::index::Index;
-use crate::raw::Raw;
 use crate::utf8::text_of;
+use raw_fields::Raw;
 use std::alloc::Global;
 use std::marker::Model;
 
@@ -21,7 +21,8 @@ pub struct IndexedText {
 }
 
 impl Model for IndexedText {
-    ghost use Rattle.csv_index.specs.Index.{RawTable, FitsFile, table_in};
+    ghost use Rattle.raw_fields.specs.Raw.{RawTable};
+    ghost use Rattle.csv_index.specs.Index.{FitsFile, table_in};
     ghost use Rattle.std.specs.Prelude.{string_bytes};
 
     ghost Value = { RawTable };

@@ -20,5 +20,5 @@ pub use fault::TextFault;
 pub use fields::Fields;
 pub use index::Index;
 pub use indexed_text::IndexedText;
-pub use raw::Raw;
+pub use raw_fields::Raw;
 pub use utf8::text_of;

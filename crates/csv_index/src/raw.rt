@@ -1,71 +1,29 @@
-//! A field as it stands in its file.
-ghost use Rattle.std.specs.Prelude.{◌≡◌, ◌≢◌, ◌==◌, IfOk, IsOkAnd, string_bytes, true};
-ghost use Rattle.std.specs.Bool.{MatchBool};
-ghost use Rattle.std.specs.List.{list_any};
+//! The field that the text between two structural places is.
+ghost use Rattle.std.specs.Prelude.{◌≡◌, true};
 ghost use Rattle.std.specs.Str.{is_utf8};
-ghost use Rattle.std.specs.Cow.{cow_str_bytes, IsBorrowedStr};
-ghost use Rattle.csv_grammar.specs.Bytes.{double_quote};
-ghost use Rattle.csv_index.specs.Raw.{halved, without_return};
+ghost use Rattle.raw_fields.specs.Raw.{raw_view};
+ghost use Rattle.csv_index.specs.Between.{raw_between, without_return};
 
-use std::alloc::{AllocError, Global};
-use std::borrow::CowStr;
+use raw_fields::Raw;
 
-/// The bytes of a field without its enclosing double quotes.
-#[derive(Clone, Copy)]
-pub struct Raw<'a> {
-    pub bytes: &'a str,
-    /// Whether double quotes enclose the field, and each double quote in `bytes` is written as two.
-    pub quoted: bool,
-}
-
-impl<'a> Raw<'a> {
-    ghost use Rattle.csv_index.specs.Raw.{raw_view, raw_content, raw_of, raw_between};
-    ghost use Rattle.csv_grammar.specs.Records.{Field, content};
-
-    /// What the field says: each pair of double quotes inside a quoted field is one (RFC 4180, section 2, rule 7). It copies only
-    /// where such a pair stands; an error is want of memory for that copy.
-    #[inline(always)]
-    pub fn text(self, alloc: Global) -> Result<CowStr<'a>, AllocError>
-        ensures content { IfOk result
-            (λ text. cow_str_bytes text ≡ raw_content (raw_view self.entry)) }
-
-        // So it is the content of the field that stands so.
-        ensures field { (field : Field) → raw_of field ≡ raw_view self.entry
-            → IfOk result (λ text. cow_str_bytes text ≡ content field) }
-
-        // Where that is what stands there, no copy is made.
-        ensures borrowed { raw_content (raw_view self.entry) ≡ self.entry.bytes.now
-            → IsOkAnd result (λ text. IsBorrowedStr text) }
-    {
-        if self.quoted && has_pair(self.bytes) {
-            Ok(CowStr::Owned(halved(alloc, self.bytes)?))
-        } else {
-            Ok(CowStr::Borrowed(self.bytes))
-        }
-    }
-
-    /// The field that the text between two structural places is.
-    #[inline(always)]
-    pub(crate) fn between(piece: &'a str) -> Raw<'a>
-        requires { is_utf8 (raw_between piece.now).bytes ≡ true }
-        ensures { raw_between piece.now ≡ raw_view result }
-    {
-        let field = without_return(piece);
-        match field.as_bytes() {
-            [b'"', inner @ ..] => Raw {
-                bytes: &field[1..inner.len().max(1)],
-                quoted: true,
-            },
-            _ => Raw {
-                bytes: field,
-                quoted: false,
-            },
-        }
+/// The field that the text between two structural places is.
+#[inline(always)]
+pub(crate) fn between(piece: &str) -> Raw<'_>
+    requires { is_utf8 (raw_between piece.now).bytes ≡ true }
+    ensures { raw_between piece.now ≡ raw_view result }
+{
+    let field = without_return(piece);
+    match field.as_bytes() {
+        [b'"', inner @ ..] => Raw {
+            bytes: &field[1..inner.len().max(1)],
+            quoted: true,
+        },
+        _ => Raw {
+            bytes: field,
+            quoted: false,
+        },
     }
 }
-
-/// A double quote inside a quoted field is written as two.
-const PAIR: &str = "\"\"";
 
 /// The text without a CR at its end, which belongs to the line break.
 #[inline(always)]
@@ -76,34 +34,4 @@ fn without_return(text: &str) -> &str
         [front @ .., b'\r'] => &text[..front.len()],
         _ => text,
     }
-}
-
-/// Whether a pair of double quotes stands in the text, so that halving changes it.
-fn has_pair(text: &str) -> bool
-    ensures { MatchBool result (halved text.now ≢ text.now) (halved text.now ≡ text.now) }
-{
-    has_quote(text) && text.contains(PAIR)
-}
-
-/// Whether a double quote stands in the text.
-#[inline(always)]
-fn has_quote(text: &str) -> bool
-    ensures { result ≡ list_any (λ byte. byte == double_quote) text.now }
-{
-    text.as_bytes().iter().any(|byte| *byte == b'"')
-}
-
-/// A copy of the text with each pair of double quotes made one, in one pass.
-fn halved(alloc: Global, text: &str) -> Result<String, AllocError>
-    ensures { IfOk result (λ content. string_bytes content ≡ halved text.now) }
-{
-    let mut content = String::with_capacity(alloc, text.len())?;
-    let mut rest = text;
-    while let Some((front, behind)) = rest.split_once(PAIR) {
-        content.push_str(front)?;
-        content.push('"')?;
-        rest = behind;
-    }
-    content.push_str(rest)?;
-    Ok(content)
 }

@@ -22,10 +22,7 @@ pub fn text_of(bytes: Vec<u8>) -> Result<String, TextFault>
     ensures text { IfOk result (λ text. string_bytes text ≡ bytes.items) }
     ensures fault { IfErr result (IsNotUtf8 bytes.items) }
 {
-    match String::from_utf8(bytes) {
-        Ok(text) => Ok(text),
-        Err(e) => Err(TextFault::NotUtf8 {
-            at: e.utf8_error().valid_up_to(),
-        }),
-    }
+    check_text(bytes.as_slice())?;
+    // The one condition of this call is that the bytes are UTF-8, as the check has just answered.
+    Ok(unsafe { String::from_utf8_unchecked(bytes) })
 }

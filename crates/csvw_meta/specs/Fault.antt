@@ -1,5 +1,6 @@
 -- What metadata is refused for, and the text of it.
 use Rattle.std.specs.Prelude.{ℕ, List, ◌++◌, codes, Option, None, Some, string_bytes}
+use Rattle.message_text.specs.Escapes.{escaped}
 use Rattle.csvw_meta.specs.declared.fault.MetaFault.{MetaFault}
 use Rattle.csvw_meta.specs.declared.fault.MetaFault.TheVariants as meta
 
@@ -25,7 +26,7 @@ meta_fault_name meta.BadTitles = codes "BadTitles"
 meta_fault_name meta.BadKey = codes "BadKey"
 meta_fault_name meta.NoMemory = codes "NoMemory"
 
--- what metadata is refused for, by the text of its fault
+-- what metadata is refused for: the name of its fault, and behind Unsupported a space and the key as it stands in the metadata
 abbrev pub MetaCause : Type 0
 MetaCause = List ℕ
 
@@ -33,12 +34,17 @@ MetaCause = List ℕ
 abbrev pub unsupported : List ℕ → MetaCause
 unsupported key = codes "Unsupported " ++ key
 
--- the text of a fault: its name, and behind Unsupported a space and the key
+-- what a fault says
+abbrev pub fault_cause : MetaFault → MetaCause
+fault_cause (meta.Unsupported key) = unsupported (string_bytes key)
+fault_cause fault = meta_fault_name fault
+
+-- the text of a fault: what it says, where each control character of the key is written as `\u` and four hexadecimal digits
 abbrev pub meta_fault_text : MetaFault → List ℕ
-meta_fault_text (meta.Unsupported key) = unsupported (string_bytes key)
+meta_fault_text (meta.Unsupported key) = unsupported (escaped (string_bytes key))
 meta_fault_text fault = meta_fault_name fault
 
 -- the cause that a fault is; want of memory is none
 abbrev pub meta_cause : MetaFault → Option MetaCause
 meta_cause meta.NoMemory = None
-meta_cause fault = Some (meta_fault_text fault)
+meta_cause fault = Some (fault_cause fault)

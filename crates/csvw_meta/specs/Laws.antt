@@ -1,15 +1,17 @@
 -- What holds of every metadata text.
-use Rattle.std.specs.Prelude.{◌≡◌, ◌≢◌, ℕ, ◌+◌, ◌^◌, ◌<◌, ◌≤◌, nat_eq, List, ◌∷◌, ◌++◌, map, length, true, false, ◌⊎◌, None, Some, Ok, Err, if◌then◌else◌, string_bytes}
+use Rattle.std.specs.Prelude.{◌≡◌, ◌≢◌, ℕ, ◌+◌, ◌^◌, ◌<◌, ◌≤◌, nat_eq, List, ◌∷◌, ◌++◌, map, length, true, false, ◌⊎◌, None, Some, Ok, Err, ⊤, if◌then◌else◌, string_bytes}
 use Rattle.std.specs.List.{All, IsDistinct, flat_map, starts_with}
 use Rattle.std.specs.Str.{bytes_eq}
 use Rattle.serde_json.specs.Data.{Data, null}
+use Rattle.message_text.specs.Escapes.{escaped}
+use Rattle.message_text.specs.Laws.{HasNoBackslash, IsOneLine}
 use Rattle.csv_grammar.specs.Bytes.{byte_order_mark}
 use Rattle.cell_types.specs.Column.{ColumnOf}
 use Rattle.csvw_meta.specs.declared.fault.MetaFault.{MetaFault}
 use Rattle.csvw_meta.specs.declared.fault.MetaFault.TheVariants.{Unsupported}
 use Rattle.csvw_meta.specs.declared.forms.TheConstants.{MOST_NAME_BYTES, MOST_URL_BYTES}
 use Rattle.csvw_meta.specs.declared.limits.TheConstants.{MOST_FILE_BYTES, MOST_METADATA_BYTES, MOST_TABLES, MOST_COLUMNS, MOST_TRANSFORMATIONS}
-use Rattle.csvw_meta.specs.Fault.{MetaCause, meta_fault_text}
+use Rattle.csvw_meta.specs.Fault.{MetaCause, fault_cause, meta_fault_text}
 use Rattle.csvw_meta.specs.Limits.{LimitsOf}
 use Rattle.csvw_meta.specs.Refusal.{first_cause}
 use Rattle.csvw_meta.specs.Members.{member, nearest}
@@ -56,9 +58,23 @@ abbrev pub IsSameFault : MetaFault → MetaFault → Type 0
 IsSameFault (Unsupported key) (Unsupported other) = string_bytes key ≡ string_bytes other
 IsSameFault a b = a ≡ b
 
--- two faults with the same text are the same
-abbrev pub TextsTellFaultsApart : Type 0
-TextsTellFaultsApart = (a b : MetaFault) → meta_fault_text a ≡ meta_fault_text b → IsSameFault a b
+-- the same fault, but that what stands in one key for a control character of the other may be that character's escape
+abbrev pub IsWrittenAlike : MetaFault → MetaFault → Type 0
+IsWrittenAlike (Unsupported key) (Unsupported other) = escaped (string_bytes key) ≡ escaped (string_bytes other)
+IsWrittenAlike a b = a ≡ b
+
+-- no backslash stands in the key of a fault that has one
+abbrev pub HasPlainKey : MetaFault → Type 0
+HasPlainKey (Unsupported key) = HasNoBackslash (string_bytes key)
+HasPlainKey fault = ⊤
+
+-- two faults that say the same are the same, so a cause tells which; two with the same text are the same but for how their keys are written, and the
+-- same where no backslash stands in these; and the text of each is one line
+pub record TextsTellFaultsApart : Type 0 where
+  pub causes : (a b : MetaFault) → fault_cause a ≡ fault_cause b → IsSameFault a b
+  pub alike : (a b : MetaFault) → meta_fault_text a ≡ meta_fault_text b → IsWrittenAlike a b
+  pub same : (a b : MetaFault) → HasPlainKey a → HasPlainKey b → meta_fault_text a ≡ meta_fault_text b → IsSameFault a b
+  pub lines : (fault : MetaFault) → IsOneLine (meta_fault_text fault)
 
 -- one byte order mark in front of a text changes nothing, where there is room for it
 abbrev pub MarkIsDropped : Type 0

@@ -4,7 +4,7 @@ use Rattle.serde_json.specs.Data.{Data}
 use Rattle.csvw_meta.specs.declared.fault.MetaFault.{MetaFault}
 use Rattle.csvw_meta.specs.declared.refusal.Refusal.{Refusal}
 use Rattle.csvw_meta.specs.declared.refusal.Refusal.TheVariants.{Unsupported, Fault}
-use Rattle.csvw_meta.specs.Fault.{MetaCause, unsupported, meta_cause, meta_fault_text}
+use Rattle.csvw_meta.specs.Fault.{MetaCause, fault_cause, unsupported, meta_cause}
 
 -- A condition is met, or fails with its cause.
 abbrev pub Condition : Type 0
@@ -28,7 +28,7 @@ each_conditions conditions earlier (d ∷ ds) = conditions earlier d ++ each_con
 -- the cause that a refusal is
 abbrev pub refusal_cause : Refusal → MetaCause
 refusal_cause (Unsupported key) = unsupported key.now
-refusal_cause (Fault fault) = meta_fault_text fault
+refusal_cause (Fault fault) = fault_cause fault
 
 -- what the outcome of a check says of its condition
 abbrev pub condition_of : Result ⊤ Refusal → Condition

@@ -2,6 +2,7 @@
 ghost use Rattle.std.specs.Prelude.{◌≡◌, IfOk, string_bytes};
 ghost use Rattle.csvw_meta.specs.Fault.{meta_fault_name, meta_fault_text};
 
+use message_text::escaped;
 use std::alloc::{AllocError, Global};
 
 /// The first fault of the walk over metadata.
@@ -75,12 +76,16 @@ impl MetaFault {
         }
     }
 
-    /// The name of the fault, and behind `Unsupported` a space and the key.
+    /// The name of the fault, and behind `Unsupported` a space and the key, each control character of which is written as `\u` and four
+    /// hexadecimal digits.
     pub fn text(&self, alloc: Global) -> Result<String, AllocError>
         ensures { IfOk result (λ text. string_bytes text ≡ meta_fault_text self.now) }
     {
         match self {
-            MetaFault::Unsupported { key } => format!(in alloc; "Unsupported {key}"),
+            MetaFault::Unsupported { key } => {
+                let key = escaped(alloc, key.as_str())?;
+                format!(in alloc; "Unsupported {key}")
+            }
             fault => String::from_str(alloc, fault.name()),
         }
     }

@@ -1,6 +1,8 @@
 //! The laws of the definitions that [`crate::Schemas::read`] cites: each is a theorem, and does nothing.
 ghost use Rattle.csvw_meta.specs.Laws.{AcceptedSchemas, DefaultsAreShort, LevelsAreOfForm, MarkIsDropped, NearestLevel, SchemasOrCause, Sizes, TextsTellFaultsApart};
 
+use message_text::{escaped_texts_are_one_line, plain_texts_are_one_line, texts_stay_apart};
+
 /// Accepted metadata has at least one table and no more than the limit, with different urls of their form and different names, each with
 /// at least one column and no more than the limit, with different names of their form, and with a key of places of columns, each once.
 pub fn accepted_schemas()
@@ -12,10 +14,16 @@ pub fn schemas_or_cause()
     ensures { SchemasOrCause }
 {}
 
-/// Two faults with the same text are the same: so a cause, which is the text of a fault, tells which.
+/// Two faults that say the same are the same: so a cause, which is what a fault says, tells which. Two with the same text are the same where no
+/// backslash stands in their keys; else one key may have a control character where the other has its escape. The text of each fault is one line,
+/// whatever the metadata has.
 pub fn texts_tell_faults_apart()
     ensures { TextsTellFaultsApart }
-{}
+{
+    texts_stay_apart();
+    escaped_texts_are_one_line();
+    plain_texts_are_one_line();
+}
 
 /// One byte order mark in front of a metadata text counts for nothing.
 pub fn mark_is_dropped()

@@ -2,7 +2,7 @@
 ghost use Rattle.std.specs.Prelude.{◌≡◌, map, option_map};
 ghost use Rattle.serde_json.specs.View.{view};
 ghost use Rattle.csvw_meta.specs.Members.{member as member_of, has as has_of, text_member as text_member_of, array_member as array_member_of, absent as absent_of, nearest as nearest_of, count_conditions};
-ghost use Rattle.csvw_meta.specs.Fault.{meta_fault_text};
+ghost use Rattle.csvw_meta.specs.Fault.{fault_cause};
 ghost use Rattle.csvw_meta.specs.Refusal.{condition_of, first_cause};
 
 use crate::fault::MetaFault;
@@ -59,7 +59,7 @@ pub(crate) fn check_count<'k>(
     values: &[Value],
 ) -> Result<(), Refusal<'k>>
     ensures { condition_of result
-        ≡ first_cause (count_conditions limit (meta_fault_text none) (meta_fault_text many)
+        ≡ first_cause (count_conditions limit (fault_cause none) (fault_cause many)
         (map view values.now)) }
 {
     ensure(!values.is_empty(), none)?;

@@ -1,6 +1,6 @@
 //! What a condition on metadata fails with. No memory is taken for it.
 ghost use Rattle.std.specs.Prelude.{◌≡◌};
-ghost use Rattle.csvw_meta.specs.Fault.{meta_fault_text, unsupported};
+ghost use Rattle.csvw_meta.specs.Fault.{fault_cause, unsupported};
 ghost use Rattle.csvw_meta.specs.Refusal.{IsFaultOf, condition_of, ensure as ensure_of};
 
 use crate::fault::MetaFault;
@@ -30,7 +30,7 @@ impl<'a> Refusal<'a> {
 
 /// That the test is true.
 pub(crate) fn ensure<'a>(test: bool, fault: MetaFault) -> Result<(), Refusal<'a>>
-    ensures { condition_of result ≡ ensure_of test (meta_fault_text fault) }
+    ensures { condition_of result ≡ ensure_of test (fault_cause fault) }
 {
     if test {
         Ok(())

@@ -1,7 +1,10 @@
 -- What is kept of the places of a hub.
-use Rattle.std.specs.Prelude.{◌≡◌, ◌==◌, ℕ, Bool, false, not, List, [], length, replicate, Option, Some, None, slice_get}
+use Rattle.std.specs.Prelude.{◌≡◌, ◌≢◌, ◌==◌, ◌⊎◌, ℕ, Bool, true, false, not, List, [], length, replicate, Option, Some, None, slice_get}
 use Rattle.table_store.specs.Catalog.{CatalogOf}
 use Rattle.odata_hub.specs.declared.hub.Hub.{Hub}
+use Rattle.odata_hub.specs.Hopeless.{IsHopeless, MayBegin, TellsHopeless}
+use Rattle.odata_hub.specs.Connections.{ConnOf}
+use Rattle.odata_hub.specs.Schedules.{HubOf, conn_at}
 use Rattle.odata_hub.specs.Stands.{StandsFor}
 use Rattle.odata_rounds.specs.declared.answers.Stepped.{Stepped}
 use Rattle.odata_rounds.specs.declared.answers.Stepped.TheVariants.{Free}
@@ -11,7 +14,7 @@ use Rattle.listen_sockets.specs.declared.slow.Due.{Due}
 use Rattle.listen_sockets.specs.declared.slow.Limits.{Limits}
 use Rattle.listen_sockets.specs.declared.sockets.Slot.{Slot}
 use Rattle.listen_sockets.specs.Slow.{due_where}
-use Rattle.listen_sockets.specs.Sockets.{free_slot, times_at}
+use Rattle.listen_sockets.specs.Sockets.{free_slot, is_ended_at, times_at}
 
 -- so many places over some tables: the hub's are free, nothing waits at any, and none has a socket
 pub record AreFree (catalog : CatalogOf) (places : ℕ) (hub : Hub) (seats : List Seat) (slots : List Slot) : Type 0 where
@@ -35,3 +38,19 @@ has_waiting (Some seat) = not (length seat.waits == 0)
 -- what is due of the connection at a place
 abbrev pub due_at : Limits → ℕ → List Seat → List Slot → ℕ → Due
 due_at limits now seats slots place = due_where limits (has_waiting (slice_get seats place)) now (times_at slots place)
+
+-- whether the rest of the connection at a place can begin no head any more; where there is none, it is not told so
+abbrev pub TellsHopelessOf : Option ConnOf → Bool → Type 0
+TellsHopelessOf None told = told ≡ false
+TellsHopelessOf (Some c) told = TellsHopeless c.rest told
+
+-- Whether a stream stands ended, before and after: it is ended where the rest of its connection can begin no head any more; where that may begin one, and
+-- where there is no connection, it stands as it stood.
+abbrev pub IsEndedIfHopeless : Option ConnOf → Bool → Bool → Type 0
+IsEndedIfHopeless None old new = new ≡ old
+IsEndedIfHopeless (Some c) old new = (IsHopeless c.rest × (new ≡ true)) ⊎ (MayBegin c.rest × (new ≡ old))
+
+-- so it is with the stream at a place of a hub, and all others stand as they stood
+pub record EndsHopeless (place : ℕ) (hub : Hub) (old new : List Slot) : Type 0 where
+  pub here : (h : HubOf) → StandsFor hub h → IsEndedIfHopeless (conn_at h place) (is_ended_at old place) (is_ended_at new place)
+  pub others : (other : ℕ) → other ≢ place → is_ended_at new other ≡ is_ended_at old other

@@ -1,5 +1,5 @@
 -- What the system's sockets tell and count.
-use Rattle.std.specs.Prelude.{◌≡◌, ℕ, ◌-◌, ◌^◌, Bool, false, List, Option, None, Some, MatchOption, slice_get, slice_set}
+use Rattle.std.specs.Prelude.{◌≡◌, ◌≢◌, ℕ, ◌-◌, ◌^◌, Bool, true, false, List, Option, None, Some, MatchOption, slice_get, slice_set}
 use Rattle.listen_sockets.specs.declared.peer.Peer.{Peer}
 use Rattle.listen_sockets.specs.declared.slow.Times.{Times}
 use Rattle.listen_sockets.specs.declared.sockets.Slot.{Slot}
@@ -51,3 +51,24 @@ is_lost_slot (Some slot) = is_lost_peer slot.peer
 
 abbrev pub is_lost_at : List Slot → ℕ → Bool
 is_lost_at slots place = is_lost_slot (slice_get slots place)
+
+-- whether no more is read of the stream at a place: it ended, or is ended here, or there is no socket
+abbrev pub is_ended_peer : Option Peer → Bool
+is_ended_peer None = true
+is_ended_peer (Some peer) = peer.ended
+
+abbrev pub is_ended_slot : Option Slot → Bool
+is_ended_slot None = true
+is_ended_slot (Some slot) = is_ended_peer slot.peer
+
+abbrev pub is_ended_at : List Slot → ℕ → Bool
+is_ended_at slots place = is_ended_slot (slice_get slots place)
+
+-- no stream was ended, and none that had ended goes on
+abbrev pub KeepsStreams : List Slot → List Slot → Type 0
+KeepsStreams old new = (place : ℕ) → is_ended_at new place ≡ is_ended_at old place
+
+-- no more is read of the stream at a place; those at all others stand as they stood
+pub record EndsStream (place : ℕ) (old new : List Slot) : Type 0 where
+  pub ended : is_ended_at new place ≡ true
+  pub others : (other : ℕ) → other ≢ place → is_ended_at new other ≡ is_ended_at old other

@@ -52,10 +52,10 @@ impl Desk {
     ghost use Rattle.odata_rounds.specs.Laws.{waits_at};
     ghost use Rattle.odata_rounds.specs.Rounds.{Rounds, is_working, sight};
     ghost use Rattle.odata_hub.specs.Connections.{Done, Opened, answer_of};
-    ghost use Rattle.odata_hub.specs.Schedules.{Drop, Open};
-    ghost use Rattle.odata_hub.specs.Stands.{IsHubStep};
-    ghost use Rattle.listen_sockets.specs.Desk.{AreFree, due_at, has_waiting, stepped_at};
-    ghost use Rattle.listen_sockets.specs.Sockets.{IsPut, wire_at};
+    ghost use Rattle.odata_hub.specs.Schedules.{Drop, HubOf, Open, conn_at};
+    ghost use Rattle.odata_hub.specs.Stands.{IsHubStep, StandsFor};
+    ghost use Rattle.listen_sockets.specs.Desk.{AreFree, EndsHopeless, TellsHopelessOf, due_at, has_waiting, stepped_at};
+    ghost use Rattle.listen_sockets.specs.Sockets.{EndsStream, IsPut, wire_at};
 
     /// So many places, all of them free, over these tables.
     pub fn new(alloc: Global, catalog: Rc<Catalog>, places: u32) -> Result<Desk, AllocError>
@@ -117,6 +117,8 @@ impl Desk {
         ensures step { IsHubStep self.old.hub (Drop place) (answer_of (λ _. Done) result)
             self.new.hub }
         ensures seats { self.new.seats.items ≡ slice_set self.old.seats.items place free_seat }
+        ensures streams { EndsStream place
+            self.old.sockets.slots.items self.new.sockets.slots.items }
     {
         clear_seat(&mut self.seats, place);
         let _closed = self.sockets.close(place, &mut self.waste);
@@ -127,6 +129,7 @@ impl Desk {
     fn hold(&mut self, closed: Option<Peer>, poll: &Poll)
         ensures hub { self.new.hub ≡ self.old.hub }
         ensures seats { self.new.seats.items ≡ self.old.seats.items }
+        ensures sockets { self.new.sockets ≡ self.old.sockets }
     {
         if let Some(mut peer) = closed {
             if peer.deregister(poll) {
@@ -140,6 +143,8 @@ impl Desk {
         ensures step { IsHubStep self.old.hub (Drop place) (answer_of (λ _. Done) result)
             self.new.hub }
         ensures seats { self.new.seats.items ≡ slice_set self.old.seats.items place free_seat }
+        ensures streams { EndsStream place
+            self.old.sockets.slots.items self.new.sockets.slots.items }
     {
         clear_seat(&mut self.seats, place);
         let closed = self.sockets.close(place, &mut self.waste);
@@ -179,6 +184,29 @@ impl Desk {
         match self.seats.get(place as usize) {
             Some(seat) => !seat.waits.is_empty(),
             None => false,
+        }
+    }
+
+    /// Whether the rest of the connection at a place can begin no head any more.
+    fn is_hopeless(&self, place: u32) -> bool
+        ensures { (h : HubOf) → StandsFor self.now.hub h
+            → TellsHopelessOf (conn_at h place) result }
+    {
+        match self.hub.is_hopeless(Conn(place)) {
+            Ok(told) => told,
+            Err(_) => false,
+        }
+    }
+
+    /// Ends the stream at a place whose rest can begin no head any more, and no other: its reply need not wait for what still comes.
+    pub fn end_hopeless(&mut self, place: u32, now: u64)
+        ensures hub { self.new.hub ≡ self.old.hub }
+        ensures seats { self.new.seats.items ≡ self.old.seats.items }
+        ensures ends { EndsHopeless place self.old.hub
+            self.old.sockets.slots.items self.new.sockets.slots.items }
+    {
+        if self.is_hopeless(place) {
+            self.sockets.end_stream(place, now);
         }
     }
 

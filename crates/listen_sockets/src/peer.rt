@@ -1,5 +1,5 @@
 //! One socket, over `mio`.
-ghost use Rattle.std.specs.Prelude.{◌≡◌, length};
+ghost use Rattle.std.specs.Prelude.{◌≡◌, length, true};
 ghost use Rattle.std.specs.Io.{ReadsAtMost, WritesAtMost};
 ghost use Rattle.odata_http.specs.Device.{TakesSome};
 
@@ -22,8 +22,8 @@ pub struct Peer {
     writable: bool,
     /// The peer said that it sends no more: bytes may be left before its end.
     closing: bool,
-    /// Its stream ended, or is ended here.
-    ended: bool,
+    /// Its stream ended, or is ended here: no more is read of it.
+    pub ended: bool,
     /// The system said that the connection is lost.
     pub lost: bool,
     /// Something was read since this was last asked.
@@ -78,13 +78,17 @@ impl Peer {
     }
 
     /// No more is read of its stream.
-    pub fn end(&mut self, now: u64) {
+    pub fn end(&mut self, now: u64)
+        ensures { self.new.ended ≡ true }
+    {
         self.ended = true;
         self.times.turned(now);
     }
 
     /// Notes what a visit that worked did, by the clock.
-    pub fn note_work(&mut self, now: u64) {
+    pub fn note_work(&mut self, now: u64)
+        ensures { self.new.ended ≡ self.old.ended }
+    {
         if self.has_read {
             self.times.read(now);
         } else if self.has_written {

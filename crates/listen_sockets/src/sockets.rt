@@ -1,5 +1,5 @@
 //! The sockets of the places. They tell no bytes, and count how often one had or took nothing, and how often one was found lost.
-ghost use Rattle.std.specs.Prelude.{◌≡◌, length};
+ghost use Rattle.std.specs.Prelude.{◌≡◌, length, true};
 ghost use Rattle.std.specs.Io.{ReadsAtMost, WritesAtMost};
 ghost use Rattle.odata_http.specs.Device.{TakesSome};
 
@@ -19,7 +19,7 @@ pub struct Slot {
 
 impl Slot {
     ghost use Rattle.odata_rounds.specs.Peers.{CountsFault, IsRead, IsWrite};
-    ghost use Rattle.listen_sockets.specs.Sockets.{is_lost_peer, peer_times, slot_wire};
+    ghost use Rattle.listen_sockets.specs.Sockets.{is_ended_peer, is_lost_peer, peer_times, slot_wire};
 
     /// Counts what a socket answered.
     fn count(&mut self, answer: Result<usize, PeerFault>)
@@ -65,6 +65,24 @@ impl Slot {
         }
     }
 
+    /// Notes what a visit that worked did.
+    fn note_work(&mut self, now: u64)
+        ensures { is_ended_peer self.new.peer ≡ is_ended_peer self.old.peer }
+    {
+        if let Some(peer) = &mut self.peer {
+            peer.note_work(now);
+        }
+    }
+
+    /// No more is read of its stream.
+    fn end(&mut self, now: u64)
+        ensures { is_ended_peer self.new.peer ≡ true }
+    {
+        if let Some(peer) = &mut self.peer {
+            peer.end(now);
+        }
+    }
+
     /// The times of the socket, where there is one.
     fn times(&self) -> Option<Times>
         ensures { result ≡ peer_times self.now.peer }
@@ -100,7 +118,7 @@ pub struct Sockets {
 
 impl Sockets {
     ghost use Rattle.std.specs.Prelude.{IfOk, replicate};
-    ghost use Rattle.listen_sockets.specs.Sockets.{IsPut, free_slot, is_lost_at, times_at};
+    ghost use Rattle.listen_sockets.specs.Sockets.{EndsStream, IsPut, KeepsStreams, free_slot, is_lost_at, times_at};
 
     /// So many places, at none of which is a socket.
     pub fn new(alloc: Global, places: u32) -> Result<Sockets, AllocError>
@@ -127,11 +145,23 @@ impl Sockets {
         }
     }
 
-    /// Sends no more to the socket at a place, and gives it where its peer may still send.
+    /// Takes the socket of a place from there, where there is one.
+    fn take(&mut self, place: u32) -> Option<Peer>
+        ensures { EndsStream place self.old.slots.items self.new.slots.items }
+    {
+        let place = place as usize;
+        if place >= self.slots.len() {
+            return None;
+        }
+        self.slots[place].peer.take()
+    }
+
+    /// Sends no more to the socket at a place, and gives it where its peer may still send. No other stream ends by that.
     pub fn close(&mut self, place: u32, room: &mut [u8]) -> Option<Peer>
         ensures len { length room.new ≡ length room.old }
+        ensures streams { EndsStream place self.old.slots.items self.new.slots.items }
     {
-        let mut peer = self.slots.get_mut(place as usize)?.peer.take()?;
+        let mut peer = self.take(place)?;
         if peer.close(room) {
             return Some(peer);
         }
@@ -174,21 +204,25 @@ impl Sockets {
     }
 
     /// Notes what a visit that worked did at a place.
-    pub fn note_work(&mut self, place: u32, now: u64) {
-        if let Some(slot) = self.slots.get_mut(place as usize) {
-            if let Some(peer) = &mut slot.peer {
-                peer.note_work(now);
-            }
+    pub fn note_work(&mut self, place: u32, now: u64)
+        ensures { KeepsStreams self.old.slots.items self.new.slots.items }
+    {
+        let place = place as usize;
+        if place >= self.slots.len() {
+            return;
         }
+        self.slots[place].note_work(now);
     }
 
     /// Ends the stream of the socket at a place.
-    pub fn end_stream(&mut self, place: u32, now: u64) {
-        if let Some(slot) = self.slots.get_mut(place as usize) {
-            if let Some(peer) = &mut slot.peer {
-                peer.end(now);
-            }
+    pub fn end_stream(&mut self, place: u32, now: u64)
+        ensures { EndsStream place self.old.slots.items self.new.slots.items }
+    {
+        let place = place as usize;
+        if place >= self.slots.len() {
+            return;
         }
+        self.slots[place].end(now);
     }
 
     /// The times of the socket at a place.

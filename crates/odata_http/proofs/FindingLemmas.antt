@@ -23,10 +23,10 @@ use Rattle.odata_query.specs.Apply.{apply_typing, transformation_typing}
 use Rattle.odata_query.specs.Key.{optional_key_typing}
 use Rattle.odata_query.specs.Query.{QueryOf, TypedOf, optional_numbers, optional_typing, order_typing, query_typing, values_view}
 use Rattle.odata_query.specs.Selection.{is_known, optional_selection_typing, selected_from, selected_places, selects}
-use Rattle.query_plan.specs.Apply.{same_values, values_at}
-use Rattle.query_plan.specs.Fitting.{IsTypedFor}
-use Rattle.query_plan.specs.Meaning.{keyed_meaning, keyed_row, query_meaning, row_meaning, selected_names, selected_values, table_names}
-use Rattle.reply_text.specs.declared.code.Code.TheVariants.{NoSuchRow}
+use Rattle.query_meaning.specs.Apply.{same_values, values_at}
+use Rattle.query_meaning.specs.Fitting.{IsTypedFor}
+use Rattle.query_meaning.specs.Meaning.{keyed_meaning, keyed_row, query_meaning, row_meaning, selected_names, selected_values, table_names}
+use Rattle.reply_codes.specs.declared.code.Code.TheVariants.{NoSuchRow}
 use Rattle.odata_parse.specs.declared.format.Format.{Format}
 use Rattle.odata_request.specs.Request.{RowsRequestOf}
 use Rattle.odata_http.specs.declared.finding.Finding.{Finding}

@@ -23,7 +23,7 @@ use Rattle.query_exec.specs.declared.run.Run.{Run}
 use Rattle.query_exec.specs.declared.run.Step.{Step}
 use Rattle.query_exec.specs.declared.run.Step.TheVariants.{More, Done}
 use Rattle.query_exec.specs.Answer.{plan_answer}
-use Rattle.query_exec.specs.Rows.{RowsOf}
+use Rattle.query_rows.specs.Rows.{RowsOf}
 use Rattle.query_exec.specs.Run.{AdvancesTo, Gives, MayBeHanded, StandsFor, awaited, handed_block, next_block, run_length}
 use Rattle.odata_request.specs.Request.{RowsRequestOf}
 use Rattle.odata_http.specs.declared.reading.Reading.{Reading}

@@ -1,14 +1,16 @@
 -- The replies of a stream, from the laws of its cut and of the replies to heads.
-use Rattle.std.proofs.Common.{◌≡◌, ℕ, Bool, true, false, List, [], ◌∷◌, ◌++◌, refl, sym, ap, ap₂, ◌∙◌, subst, MatchBool, append_assoc, append-nil}
+use Rattle.std.proofs.Common.{◌≡◌, ◌<◌, ℕ, Bool, true, false, List, [], ◌∷◌, ◌++◌, length, take, arith, refl, sym, ap, ap₂, ◌∙◌, subst, MatchBool, append_assoc, append-nil}
 use Rattle.std.specs.List.{AllZip, concat}
 use Rattle.std.proofs.lemmas.Bool.{false≢true}
 use Rattle.std.proofs.lemmas.List.Folds.{concat-append}
+use Rattle.http_heads.specs.declared.head.TheConstants.{MAX_HEAD}
 use Rattle.http_heads.specs.Head.{HeadOf}
 use Rattle.http_heads.specs.Checks.{closes}
 use Rattle.http_heads.specs.Cut.{IsCut}
-use Rattle.http_heads.specs.Laws.{OneCut, CutsJoin}
+use Rattle.http_heads.specs.Laws.{OneCut, CutsJoin, HopelessRests}
 use Rattle.odata_http.specs.Replies.{last_reply, IsCertain, AreReplies, AreFirstReplies}
-use Rattle.odata_http.specs.Laws.{OneReply, OneReading, Joins}
+use Rattle.odata_http.specs.Reply.{rest_reply}
+use Rattle.odata_http.specs.Laws.{HopelessEnds, OneReply, OneReading, Joins}
 
 -- two lists of pairs, one behind the other
 pub zip_append : {A B : Type 0} (R : A → B → Type 0) (xs : List A) (ys : List B) (us : List A) (vs : List B)
@@ -81,6 +83,24 @@ all_join R cuts = record {
     is = certain_shut R cuts s p x.certain x.rest x.is;
     all_is = x.all_is;
   };
+}
+
+last_some : (r : List ℕ) → 0 < length r → last_reply r ≡ rest_reply
+last_some [] some = absurd (omega (arith, some))
+last_some (b ∷ r) some = refl
+
+pub hopeless_end : (R : HeadOf → List ℕ → Type 0) → HopelessRests → HopelessEnds R
+hopeless_end R rests s p c r x never = record {
+  certain = c;
+  rest = take MAX_HEAD (r ++ p);
+  is = record {
+    heads = x.heads;
+    replies = x.replies;
+    cut = rests.cut s p x.heads r x.cut never;
+    each = x.each;
+    certain_is = x.certain_is;
+  };
+  all_is = ap (λ u. c ++ u) (sym (last_some (take MAX_HEAD (r ++ p)) (rests.some _ (rests.kept r p never))));
 }
 
 -- ---- parts of the replies

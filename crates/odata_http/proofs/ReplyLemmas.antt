@@ -6,7 +6,7 @@ use Rattle.odata_http.specs.declared.media.Media.{Media}
 use Rattle.http_heads.specs.declared.method.Method.{Method}
 use Rattle.http_heads.specs.Checks.{head_fault, closes}
 use Rattle.http_heads.specs.Method.{method_of}
-use Rattle.query_plan.specs.Meaning.{query_meaning}
+use Rattle.query_meaning.specs.Meaning.{query_meaning}
 use Rattle.odata_request.specs.Laws.{OneRequest}
 use Rattle.odata_request.specs.Request.{RequestOf, refused, rows, service}
 use Rattle.odata_http.specs.Reply.{IsReply, ResponseOf, RespondsWith, body_for, reply_lines, reply_of, reply_with, rows_response}

@@ -4,7 +4,7 @@ use Rattle.cell_types.specs.Value.{CellValue}
 use Rattle.table_store.specs.Catalog.{CatalogOf}
 use Rattle.odata_query.specs.Query.{optional_numbers, values_view}
 use Rattle.odata_request.specs.Laws.{KeysStandAlone}
-use Rattle.reply_text.specs.declared.code.Code.{Code}
+use Rattle.reply_codes.specs.declared.code.Code.{Code}
 use Rattle.http_heads.specs.Head.{HeadOf}
 use Rattle.query_exec.specs.declared.run.Step.{Step}
 use Rattle.query_exec.specs.declared.run.Step.TheVariants.{More, Done}

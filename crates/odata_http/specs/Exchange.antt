@@ -5,8 +5,8 @@ use Rattle.cell_types.specs.Value.{CellValue}
 use Rattle.odata_query.specs.Query.{TypedOf, optional_numbers, values_view}
 use Rattle.table_store.specs.Catalog.{CatalogOf}
 use Rattle.table_store.specs.Table.{TableOf}
-use Rattle.query_plan.specs.Fitting.{IsTypedFor}
-use Rattle.query_plan.specs.Meaning.{query_meaning}
+use Rattle.query_meaning.specs.Fitting.{IsTypedFor}
+use Rattle.query_meaning.specs.Meaning.{query_meaning}
 use Rattle.query_plan.specs.Plan.{PlanOf, answer_of}
 use Rattle.query_exec.specs.declared.run.Step.{Step}
 use Rattle.query_exec.specs.declared.run.Step.TheVariants.{More, Done}

@@ -6,10 +6,11 @@ use Rattle.table_store.specs.Table.{TableOf}
 use Rattle.http_heads.specs.Checks.{head_fault}
 use Rattle.http_heads.specs.Cut.{IsCut}
 use Rattle.http_heads.specs.Head.{HeadOf}
+use Rattle.http_heads.specs.Hopeless.{IsHopeless}
 use Rattle.odata_request.specs.Request.{AsksFor, RequestOf, refused, rows, service}
 use Rattle.odata_http.specs.Answer.{AreSmall}
 use Rattle.odata_http.specs.Exchange.{HeadTakes}
-use Rattle.odata_http.specs.Reply.{IsReply}
+use Rattle.odata_http.specs.Reply.{IsReply, rest_reply}
 use Rattle.odata_http.specs.Replies.{IsCertain, AreReplies}
 
 -- no head that is cut off a stream has a target longer than a head may be
@@ -32,6 +33,10 @@ pub record Joins (R : HeadOf → List ℕ → Type 0) : Type 0 where
   pub replies : (s p c d r : List ℕ) (b : Bool) → IsCertain R s c r false → AreReplies R (r ++ p) d b → AreReplies R (s ++ p) (c ++ d) b
   pub certain_closed : (s p c r : List ℕ) → IsCertain R s c r true → IsCertain R (s ++ p) c r true
   pub replies_closed : (s p c : List ℕ) → AreReplies R s c true → AreReplies R (s ++ p) c true
+
+-- Where the rest of a stream is hopeless its replies are those that are certain, and one to the rest, whatever follows the stream.
+abbrev pub HopelessEnds : (HeadOf → List ℕ → Type 0) → Type 0
+HopelessEnds R = (s p c r : List ℕ) → IsCertain R s c r false → IsHopeless r → AreReplies R (s ++ p) (c ++ rest_reply) false
 
 -- of the replies to heads under the tables of some folder
 abbrev pub UnderTables : ((HeadOf → List ℕ → Type 0) → Type 0) → Type 0

@@ -1,6 +1,6 @@
 //! What holds of the heads and the replies of every stream, and of the calls that each takes. The functions here are theorems, and do nothing.
 ghost use Rattle.std.specs.Prelude.{◌≡◌};
-ghost use Rattle.odata_http.specs.Laws.{CutsAreSmall, Joins, OneLength, OneReading, OneReply, UnderTables};
+ghost use Rattle.odata_http.specs.Laws.{CutsAreSmall, HopelessEnds, Joins, OneLength, OneReading, OneReply, UnderTables};
 
 use crate::response::OK;
 
@@ -37,6 +37,14 @@ pub fn joins()
     ensures { UnderTables Joins }
 {
     http_heads::cuts_join();
+}
+
+/// Where nothing that follows a stream can put a head at the front of its rest, the replies are those that are certain and one to the rest, whether the
+/// stream ends there or goes on.
+pub fn hopeless_ends()
+    ensures { UnderTables HopelessEnds }
+{
+    http_heads::hopeless_rests();
 }
 
 /// The exchange of a head takes one number of calls before its reply: one at least, and no more than its table has blocks, or one where it has none.

@@ -21,7 +21,9 @@ pub use counted::Counted;
 pub use device::{DeviceFault, Sink, Source, send};
 pub use exchange::{Exchange, reply_to};
 pub use http_heads::{CheckedHead, Field, Head, MAX_FIELDS, MAX_HEAD, Splitter, Unreadable};
-pub use laws::{cuts_are_small, joins, one_length, one_reading, one_reply, statuses};
+pub use laws::{
+    cuts_are_small, hopeless_ends, joins, one_length, one_reading, one_reply, statuses,
+};
 pub use output::Output;
 pub use query_exec::Step;
 pub use reply::reply_to_rest;

@@ -1,14 +1,15 @@
 -- The laws, each from a connection's own run.
 use Rattle.std.proofs.Common.{◌≡◌, ◌<◌, ℕ, List, Option, Some, refl, sym, subst, ◌∙◌}
 use Rattle.std.specs.Prelude.{false}
-use Rattle.http_heads.specs.Laws.{OneCut, CutsJoin}
+use Rattle.http_heads.specs.Laws.{OneCut, CutsJoin, HopelessRests}
 use Rattle.odata_http.specs.Laws.{OneLength, OneReply, UnderTables}
 use Rattle.odata_hub.specs.declared.answers.Turned.TheVariants.{Idle}
 use Rattle.odata_hub.specs.Connections.{ConnOf, FlightOf, Run, Turn, Went, fresh}
 use Rattle.odata_hub.specs.Schedules.{Happening, StepsAt, own_of}
-use Rattle.odata_hub.specs.Laws.{RunsAlone, GivesReplies, IdlesWhenAnswered, OverWhenTaken, BringsReply, BringsNext, BringsWithin, AnswersAlike, KeepsCatalogs}
+use Rattle.odata_hub.specs.Laws.{RunsAlone, GivesReplies, HopelessEnds, IdlesWhenAnswered, OverWhenTaken, BringsReply, BringsNext, BringsWithin, AnswersAlike, KeepsCatalogs}
 use Rattle.odata_hub.proofs.GivenLemmas.{front_taken, idle_answered}
 use Rattle.odata_hub.proofs.OverLemmas.{over_taken}
+use Rattle.odata_hub.proofs.HopelessLemmas.{ends_alike}
 use Rattle.odata_hub.proofs.CallLemmas.{adds_run}
 use Rattle.odata_hub.proofs.LifeLemmas.{HasLeft, Life, left_run, life_of}
 use Rattle.odata_hub.proofs.BringLemmas.{next_among, next_brought, reply_brought}
@@ -37,6 +38,14 @@ over_when_taken cuts joins start end place events c r stay here over =
     let is : f.last ≡ c = cc same in
     let P : ConnOf → Type 0 = λ x. Run fresh (own_of place events) x in
     over_taken cuts joins c (own_of place events) (subst P is f.run) over
+
+pub hopeless_ends : OneCut → CutsJoin → HopelessRests → HopelessEnds
+hopeless_ends cuts joins rests start end place events c r stay here never more =
+    let f = from_open start end place events r in
+    let same : Some f.last ≡ Some c = sym (f.here stay) ∙ here in
+    let is : f.last ≡ c = cc same in
+    let P : ConnOf → Type 0 = λ x. Run fresh (own_of place events) x in
+    ends_alike cuts joins rests c (own_of place events) (subst P is f.run) never more
 
 -- memory lasted up to the first moment
 has_memory : {place : ℕ} {before after : List Happening} {old new : ConnOf} → Life place before after old new → old.failed ≡ false

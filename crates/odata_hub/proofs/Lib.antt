@@ -10,6 +10,7 @@ mod AlikeLemmas
 mod HubLemmas
 mod CatalogLemmas
 mod LifeLemmas
+mod HopelessLemmas
 mod MomentLemmas
 mod BringLemmas
 mod LawLemmas

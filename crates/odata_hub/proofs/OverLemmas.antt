@@ -36,7 +36,7 @@ left_by : (b : Bool) (more : List ℕ) (heads : List HeadOf) (rest : List ℕ) �
 left_by true more heads rest later h = h.1
 left_by false more heads rest later h = later h
 
-none_left : (stream : List ℕ) (heads : List HeadOf) (rest : List ℕ) → IsCut stream heads rest true → rest ≡ []
+pub none_left : (stream : List ℕ) (heads : List HeadOf) (rest : List ℕ) → IsCut stream heads rest true → rest ≡ []
 none_left stream [] rest c = let bad : true ≡ false = c.1 in absurd (cc bad)
 none_left stream (head ∷ heads) rest c = left_by (closes head) c.0 heads rest (none_left c.0 heads rest) c.2
 

@@ -5,11 +5,12 @@ use Rattle.std.proofs.lemmas.Iterator.Adapters.{position_from-zero}
 use Rattle.std.specs.Prelude.{is_none, is_some, not}
 use Rattle.std.specs.List.{AllZip, position, position_from}
 use Rattle.table_store.specs.Catalog.{CatalogOf}
+use Rattle.http_heads.specs.Hopeless.{TellsHopeless}
 use Rattle.odata_hub.specs.declared.answers.HubFault.TheVariants.{Full, NoSuchConnection}
 use Rattle.odata_hub.specs.declared.connection.Connection.{Connection}
 use Rattle.odata_hub.specs.Connections.{ConnOf, fresh, Call, Answer, Done, Opened, Refused, is_over}
 use Rattle.odata_hub.specs.Schedules.{HubOf, Event, Open, On, Drop, conn_at, hub_with, IsCurrent, OpensAt, CallsOn, FreesAt}
-use Rattle.odata_hub.specs.Stands.{AreHub, ConnStandsFor, IsConnStep, IsPlacesStep, PlaceStandsFor, TellsOver}
+use Rattle.odata_hub.specs.Stands.{AreHub, ConnStandsFor, IsConnStep, IsPlacesStep, PlaceStandsFor, TellsHopelessAt, TellsOver}
 
 abbrev AllStand : List (Option Connection) → List (Option ConnOf) → Type 0
 AllStand held places = AllZip PlaceStandsFor held places
@@ -135,6 +136,17 @@ pub tells_over : (catalog : CatalogOf) (held : List (Option Connection)) (k : �
 tells_over catalog held k c over h a e same =
     let there = taken_at held h k c a.places e in
     let P : Option ConnOf → Type 0 = λ o. TellsOver o (Ok over) in subst P (sym there.1) (ap Ok (same there.0 there.2))
+
+pub tells_no_rest : (catalog : CatalogOf) (held : List (Option Connection)) (k : ℕ) (h : HubOf) → AreHub catalog held h → get_or held k None ≡ None
+    → TellsHopelessAt (conn_at h k) (Err NoSuchConnection)
+tells_no_rest catalog held k h a e =
+    let P : Option ConnOf → Type 0 = λ o. TellsHopelessAt o (Err NoSuchConnection) in subst P (sym (free_at held h k a.places e)) refl
+
+pub tells_hopeless : (catalog : CatalogOf) (held : List (Option Connection)) (k : ℕ) (c : Connection) (told : Bool) (h : HubOf) → AreHub catalog held h
+    → get_or held k None ≡ Some c → ((d : ConnOf) → ConnStandsFor c d → TellsHopeless d.rest told) → TellsHopelessAt (conn_at h k) (Ok told)
+tells_hopeless catalog held k c told h a e of_rest =
+    let there = taken_at held h k c a.places e in
+    let P : Option ConnOf → Type 0 = λ o. TellsHopelessAt o (Ok told) in subst P (sym there.1) (told, refl, of_rest there.0 there.2)
 
 -- ---- from what a slice gives
 

@@ -1,6 +1,6 @@
 -- What holds of a connection in every schedule. A connection is opened at a place; the events behind that which are its own are those of
 -- `own_of`.
-use Rattle.std.specs.Prelude.{◌≡◌, ◌≤◌, ◌+◌, ⊤, length, max, ℕ, Bool, true, false, List, [], ◌∷◌, ◌++◌, None, Some, slice_get}
+use Rattle.std.specs.Prelude.{◌≡◌, ◌↔◌, ◌≤◌, ◌+◌, ⊤, length, max, ℕ, Bool, true, false, List, [], ◌∷◌, ◌++◌, None, Some, slice_get}
 use Rattle.std.specs.List.{AllZip, concat}
 use Rattle.table_store.specs.Block.{block_count}
 use Rattle.table_store.specs.Catalog.{CatalogOf}
@@ -8,10 +8,11 @@ use Rattle.table_store.specs.Table.{TableOf}
 use Rattle.http_heads.specs.Checks.{head_fault}
 use Rattle.http_heads.specs.Head.{HeadOf}
 use Rattle.http_heads.specs.Cut.{IsCut}
+use Rattle.http_heads.specs.Hopeless.{IsHopeless}
 use Rattle.odata_http.specs.Request.{AsksFor, RequestOf, refused, rows, service}
 use Rattle.odata_http.specs.Exchange.{HeadTakes}
 use Rattle.odata_http.specs.Replies.{AreReplies as AreAllReplies, IsCertain}
-use Rattle.odata_http.specs.Reply.{IsReply}
+use Rattle.odata_http.specs.Reply.{IsReply, rest_reply}
 use Rattle.odata_hub.specs.declared.answers.Turned.TheVariants.{Idle}
 use Rattle.odata_hub.specs.Streams.{Came, Asked, asked, bytes_of, IsCutUnder}
 use Rattle.odata_hub.specs.Replies.{IsReplyTo, AreReplies, AreFirstReplies}
@@ -104,6 +105,19 @@ pub record IsAllTaken (os : List Own) : Type 0 where
 abbrev pub OverWhenTaken : Type 0
 OverWhenTaken = (start end : HubOf) (place : ℕ) (events : List Happening) (c : ConnOf) → HubRun start (opened place ∷ events) end
     → stays place events ≡ true → conn_at end place ≡ Some c → is_over c ≡ true → IsAllTaken (own_of place events)
+
+-- ---- a rest that can begin no head any more
+
+-- A stream that ends here and one that goes on have the same replies at their ends: those that are certain here, and one to the rest.
+pub record EndsAlike (stream more : List Came) : Type 0 where
+  pub certain : (replies : List ℕ) → AreReplies stream false replies → AreReplies (stream ++ more) true (replies ++ rest_reply)
+  pub alike : (all : List ℕ) → AreReplies stream true all ↔ AreReplies (stream ++ more) true all
+
+-- where the rest of a connection is hopeless, whatever more would come and under whatever tables, its end brings the same replies now
+abbrev pub HopelessEnds : Type 0
+HopelessEnds = (start end : HubOf) (place : ℕ) (events : List Happening) (c : ConnOf) → HubRun start (opened place ∷ events) end
+    → stays place events ≡ true → conn_at end place ≡ Some c → IsHopeless c.rest
+    → (more : List Came) → EndsAlike (stream_of (own_of place events)) more
 
 -- ---- how many turns a reply takes
 

@@ -11,3 +11,4 @@ pub use Rattle.odata_http.specs.Reply
 pub use Rattle.odata_http.specs.Replies as ReplyLists
 pub use Rattle.odata_http.specs.Exchange
 pub use Rattle.odata_http.specs.Request
+pub use Rattle.http_heads.specs.Hopeless

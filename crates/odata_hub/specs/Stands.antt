@@ -2,6 +2,7 @@
 use Rattle.std.specs.Prelude.{◌≡◌, ⊤, Bool, List, Option, Some, None, Result, Ok, Err}
 use Rattle.std.specs.List.{AllZip}
 use Rattle.table_store.specs.Catalog.{CatalogOf}
+use Rattle.http_heads.specs.Hopeless.{TellsHopeless}
 use Rattle.odata_hub.specs.declared.answers.HubFault.{HubFault}
 use Rattle.odata_hub.specs.declared.answers.HubFault.TheVariants.{NoSuchConnection}
 use Rattle.odata_hub.specs.declared.connection.Connection.{Connection}
@@ -64,3 +65,8 @@ IsHubStep old event answer new = (h : HubOf) → StandsFor old h → (n : HubOf)
 abbrev pub TellsOver : Option ConnOf → Result Bool HubFault → Type 0
 TellsOver None result = result ≡ Err NoSuchConnection
 TellsOver (Some c) result = result ≡ Ok (is_over c)
+
+-- whether the rest of the connection at a place can begin no head any more, or that there is none
+abbrev pub TellsHopelessAt : Option ConnOf → Result Bool HubFault → Type 0
+TellsHopelessAt None result = result ≡ Err NoSuchConnection
+TellsHopelessAt (Some c) result = (told : Bool) × (result ≡ Ok told) × TellsHopeless c.rest told

@@ -22,6 +22,7 @@ pub(crate) struct Connection {
 
 impl Connection {
     ghost use Rattle.std.specs.Prelude.{◌≡◌, ◌≤◌, [], IfOk, None, Some, Option, OnErr, drop, length, take};
+    ghost use Rattle.http_heads.specs.Hopeless.{TellsHopeless};
     ghost use Rattle.odata_hub.specs.Connections.{ConnOf, Done, End, FlightOf, Gave, IsFailed, Piece, Take, Turn, Went, answer_of, fresh, is_over};
     ghost use Rattle.odata_hub.specs.Held.{IsFlight, IsInFlight};
     ghost use Rattle.odata_hub.specs.Stands.{ConnStandsFor, IsConnStep, conn_of};
@@ -199,5 +200,12 @@ impl Connection {
             && self.flight.is_none()
             && self.waiting.is_empty()
             && self.output.is_empty()
+    }
+
+    /// Whether what is left of the stream can begin no head any more.
+    pub(crate) fn is_hopeless(&self) -> bool
+        ensures { (c : ConnOf) → ConnStandsFor self.now c → TellsHopeless c.rest result }
+    {
+        self.splitter.is_hopeless()
     }
 }

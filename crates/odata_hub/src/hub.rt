@@ -3,7 +3,9 @@ ghost use Rattle.std.specs.Prelude.{◌<◌, ◌^◌, length};
 
 use crate::answers::{HubFault, Turned};
 use crate::connection::Connection;
-use crate::places::{closed_at, end_at, first_free, free_at, piece_at, take_at, turn_at};
+use crate::places::{
+    closed_at, end_at, first_free, free_at, hopeless_at, piece_at, take_at, turn_at,
+};
 use std::alloc::{AllocError, Global};
 use std::rc::Rc;
 use table_store::Catalog;
@@ -25,7 +27,7 @@ impl Hub {
     ghost use Rattle.std.specs.Prelude.{◌≡◌, ◌≤◌, IfOk, None, OnErr, drop, length, replicate, take};
     ghost use Rattle.odata_hub.specs.Connections.{Done, End, Gave, Opened, Piece, Take, Turn, Went, answer_of};
     ghost use Rattle.odata_hub.specs.Schedules.{Drop, HubOf, On, Open, Reload, conn_at};
-    ghost use Rattle.odata_hub.specs.Stands.{IsHubStep, StandsFor, TellsOver, current_tables};
+    ghost use Rattle.odata_hub.specs.Stands.{IsHubStep, StandsFor, TellsHopelessAt, TellsOver, current_tables};
 
     /// A hub of so many places, all of them free, with these tables.
     pub fn new(alloc: Global, catalog: Rc<Catalog>, places: u32) -> Result<Hub, AllocError>
@@ -108,5 +110,13 @@ impl Hub {
         ensures { (h : HubOf) → StandsFor self.now h → TellsOver (conn_at h conn.0) result }
     {
         closed_at(&self.places, conn.0)
+    }
+
+    /// Whether what is left of a connection's stream can begin no head any more, whatever follows. To call `end` at once then gives the replies that every
+    /// longer stream has.
+    pub fn is_hopeless(&self, conn: Conn) -> Result<bool, HubFault>
+        ensures { (h : HubOf) → StandsFor self.now h → TellsHopelessAt (conn_at h conn.0) result }
+    {
+        hopeless_at(&self.places, conn.0)
     }
 }

@@ -1,5 +1,5 @@
 //! What holds of a connection in every schedule. The functions here are theorems, and do nothing.
-ghost use Rattle.odata_hub.specs.Laws.{AnswersAlike, BringsNext, BringsReply, BringsWithin, GivesReplies, IdlesWhenAnswered, Joins, KeepsCatalogs, OneReading, OverWhenTaken, RunsAlone, SameReplies};
+ghost use Rattle.odata_hub.specs.Laws.{AnswersAlike, BringsNext, BringsReply, BringsWithin, GivesReplies, HopelessEnds, IdlesWhenAnswered, Joins, KeepsCatalogs, OneReading, OverWhenTaken, RunsAlone, SameReplies};
 
 /// A stream has one list of heads, each with the tables of the piece that brought its last byte.
 pub fn one_reading()
@@ -51,6 +51,16 @@ pub fn over_when_taken()
 {
     http_heads::one_cut();
     http_heads::cuts_join();
+}
+
+/// Where nothing that follows can put a head at the front of a connection's rest, its end brings the replies now that it would bring later: those that are
+/// certain, and one to the rest.
+pub fn hopeless_ends()
+    ensures { HopelessEnds }
+{
+    http_heads::one_cut();
+    http_heads::cuts_join();
+    http_heads::hopeless_rests();
 }
 
 /// The exchange in flight has its reply in the output after as many turns of its connection as it has calls left, whatever else is called.

@@ -4,7 +4,7 @@ ghost use Rattle.std.specs.List.{position};
 ghost use Rattle.table_store.specs.Catalog.{CatalogOf};
 ghost use Rattle.odata_hub.specs.Connections.{Done, End, Gave, Piece, Take, Turn, Went, answer_of};
 ghost use Rattle.odata_hub.specs.Schedules.{Drop, HubOf, On, conn_at};
-ghost use Rattle.odata_hub.specs.Stands.{AreHub, IsPlacesStep, TellsOver};
+ghost use Rattle.odata_hub.specs.Stands.{AreHub, IsPlacesStep, TellsHopelessAt, TellsOver};
 
 use crate::answers::{HubFault, Turned};
 use crate::connection::Connection;
@@ -128,6 +128,21 @@ pub(crate) fn closed_at(places: &[Option<Connection>], place: u32) -> Result<boo
     }
     match &places[place] {
         Some(connection) => Ok(connection.closed()),
+        None => Err(HubFault::NoSuchConnection),
+    }
+}
+
+/// Whether the rest of the connection at a place can begin no head any more.
+pub(crate) fn hopeless_at(places: &[Option<Connection>], place: u32) -> Result<bool, HubFault>
+    ensures { (catalog : CatalogOf) (h : HubOf) → AreHub catalog places.now h
+        → TellsHopelessAt (conn_at h place) result }
+{
+    let place = place as usize;
+    if place >= places.len() {
+        return Err(HubFault::NoSuchConnection);
+    }
+    match &places[place] {
+        Some(connection) => Ok(connection.is_hopeless()),
         None => Err(HubFault::NoSuchConnection),
     }
 }

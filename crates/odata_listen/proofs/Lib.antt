@@ -1,2 +1,4 @@
 mod ReloadLemmas
 mod ServingLemmas
+mod StreamLemmas
+mod WordLemmas

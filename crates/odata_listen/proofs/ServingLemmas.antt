@@ -5,11 +5,11 @@ use Rattle.table_store.specs.Catalog.{CatalogOf}
 use Rattle.odata_hub.specs.declared.answers.HubFault.{HubFault}
 use Rattle.odata_hub.specs.declared.hub.Conn.{Conn}
 use Rattle.odata_hub.specs.declared.hub.Hub.{Hub}
-use Rattle.odata_hub.specs.Connections.{Answer, Done, Opened, answer_of}
-use Rattle.odata_hub.specs.Schedules.{Drop, Event, Open, Reload}
+use Rattle.odata_hub.specs.Connections.{Answer, Opened, answer_of}
+use Rattle.odata_hub.specs.Schedules.{Drop, Open}
 use Rattle.odata_hub.specs.Stands.{IsHubStep}
 use Rattle.served_folders.specs.declared.folders.FolderFault.{FolderFault}
-use Rattle.odata_serve.specs.declared.program.ProgramFault.{ProgramFault}
+use Rattle.program_ends.specs.declared.fault.ProgramFault.{ProgramFault}
 use Rattle.odata_rounds.specs.declared.answers.Stepped.{Stepped}
 use Rattle.odata_rounds.specs.declared.answers.Stepped.TheVariants.{Free, Rests, Worked, Answered, Lost, Failed}
 use Rattle.odata_rounds.specs.declared.seat.Seat.{Seat}
@@ -59,17 +59,21 @@ runs_join a b c r s = record { deeds = r.deeds ++ s.deeds; life = lives_join r.d
 pub runs_kept : (a b : Desk) → IsKept a b → RunsTo a b
 runs_kept a b k = runs_one a b Stands (k.0, record { seats = k.1; bytes = λ place. keeps_bytes a.sockets.slots.items b.sockets.slots.items place })
 
+pub runs_given : (place : ℕ) (answer : Answer) (a b : Desk) → IsHubStep a.hub (Drop place) answer b.hub
+    → b.seats.items ≡ set a.seats.items place free_seat → RunsTo a b
+runs_given place answer a b step seats = runs_one a b (Gives place answer)
+    (step, record { seats = seats; bytes = λ other away. keeps_bytes a.sockets.slots.items b.sockets.slots.items other })
+
 pub runs_free : (place : ℕ) (a b : Desk) → Frees place a b → RunsTo a b
-runs_free place a b f = runs_one a b (Gives place f.answer)
-    (f.step, record { seats = f.seats; bytes = λ other away. keeps_bytes a.sockets.slots.items b.sockets.slots.items other })
+runs_free place a b f = runs_given place f.answer a b f.step f.seats
 
 pub runs_round : (a b : Desk) → AreSettled a.seats.items → Rounds (length a.seats.items) (sight_of a) (sight_of b) → RunsTo a b
 runs_round a b s r = runs_one a b Goes (s, r)
 
 pub runs_settled : (stepped : Stepped) (place : ℕ) (a b : Desk) → Settles stepped place a b → RunsTo a b
-runs_settled Free place a b k = runs_kept a b k
-runs_settled Rests place a b k = runs_kept a b k
-runs_settled Worked place a b k = runs_kept a b k
+runs_settled Free place a b k = runs_kept a b k.kept
+runs_settled Rests place a b k = runs_kept a b k.kept
+runs_settled Worked place a b k = runs_kept a b k.kept
 runs_settled Answered place a b f = runs_free place a b f
 runs_settled Lost place a b f = runs_free place a b f
 runs_settled Failed place a b f = runs_free place a b f
@@ -113,9 +117,9 @@ seats_after Failed place seats = set seats place free_seat
 
 after_settles : (stepped : Stepped) (place : ℕ) (a b : Desk) → Settles stepped place a b → b.seats.items ≡ seats_after stepped place a.seats.items
 unfolding seats_after
-after_settles Free place a b k = k.1
-after_settles Rests place a b k = k.1
-after_settles Worked place a b k = k.1
+after_settles Free place a b k = k.kept.1
+after_settles Rests place a b k = k.kept.1
+after_settles Worked place a b k = k.kept.1
 after_settles Answered place a b f = f.seats
 after_settles Lost place a b f = f.seats
 after_settles Failed place a b f = f.seats
@@ -174,22 +178,29 @@ on_join a b c r t = record { runs = λ s. runs_join a b c (r.runs s) (t.runs (r.
 pub on_kept : (a b : Desk) → IsKept a b → RunsOn a b
 on_kept a b k = let P : List Seat → Type 0 = λ x. AreSettled x in record { runs = λ s. runs_kept a b k; settled = λ s. subst P (sym k.1) s }
 
+-- a place was given back, whatever became of the streams
+pub on_given : (place : ℕ) (answer : Answer) (a b : Desk) → IsHubStep a.hub (Drop place) answer b.hub
+    → b.seats.items ≡ set a.seats.items place free_seat → RunsOn a b
+on_given place answer a b step seats = let P : List Seat → Type 0 = λ x. AreSettled x in record {
+  runs = λ s. runs_given place answer a b step seats;
+  settled = λ s. subst P (sym seats) (settled_set a.seats.items place s);
+}
+
 pub on_free : (place : ℕ) (a b : Desk) → Frees place a b → RunsOn a b
-on_free place a b f = let P : List Seat → Type 0 = λ x. AreSettled x in
-    record { runs = λ s. runs_free place a b f; settled = λ s. subst P (sym f.seats) (settled_set a.seats.items place s) }
+on_free place a b f = on_given place f.answer a b f.step f.seats
 
 -- a round, and what it did is settled
 pub on_round : (a b c : Desk) → Rounds (length a.seats.items) (sight_of a) (sight_of b) → RunsTo b c → c.seats.items ≡ map settled b.seats.items → RunsOn a c
 on_round a b c r t e = record { runs = λ s. runs_join a b c (runs_round a b s r) t; settled = λ s. are_settled b.seats.items c.seats.items e }
 
 pub on_slow : (due : Due) (place : ℕ) (a b : Desk) → EndsSlow due place a b → RunsOn a b
-on_slow slow.Nothing place a b k = on_kept a b k
-on_slow slow.End place a b k = on_kept a b k
+on_slow slow.Nothing place a b k = on_kept a b k.kept
+on_slow slow.End place a b k = on_kept a b k.kept
 on_slow slow.Drop place a b f = on_free place a b f
 
 pub on_lost : (lost : Bool) (place : ℕ) (a b : Desk) → EndsLost lost place a b → RunsOn a b
 on_lost true place a b f = on_free place a b f
-on_lost false place a b k = on_kept a b k
+on_lost false place a b k = on_kept a b k.kept
 
 pub on_reload : (a b : Desk) → MayReload a.hub b.hub → b.seats.items ≡ a.seats.items → RunsOn a b
 on_reload a b (inl e) seats = on_kept a b (e, seats)

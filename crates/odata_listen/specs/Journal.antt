@@ -1,8 +1,8 @@
 -- The lines that the service tells of itself.
 use Rattle.std.specs.Prelude.{ℕ, List, [], ◌∷◌, ◌++◌, codes}
 use Rattle.std.specs.Fmt.{decimal}
-use Rattle.odata_serve.specs.FaultText.{fault_text}
-use Rattle.odata_serve.specs.declared.program.ProgramFault.{ProgramFault}
+use Rattle.program_ends.specs.Text.{fault_text}
+use Rattle.program_ends.specs.declared.fault.ProgramFault.{ProgramFault}
 use Rattle.odata_listen.specs.declared.journal.Why.{Why}
 use Rattle.odata_listen.specs.declared.journal.Why.TheVariants.{Answered, Lost, Slow, NoMemory}
 

@@ -1,3 +1,5 @@
 pub mod Watch
 pub mod Serving
 pub mod Journal
+pub mod Words
+pub mod Laws

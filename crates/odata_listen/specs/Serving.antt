@@ -1,10 +1,10 @@
 -- What the service does with its desk.
-use Rattle.std.specs.Prelude.{◌≡◌, ◌⊎◌, ℕ, Bool, true, false, List, slice_set}
+use Rattle.std.specs.Prelude.{◌≡◌, ◌⊎◌, ℕ, Bool, true, false, List, Option, slice_set}
 use Rattle.table_store.specs.Catalog.{CatalogOf}
 use Rattle.odata_hub.specs.declared.hub.Hub.{Hub}
-use Rattle.odata_hub.specs.Connections.{Answer, Done}
-use Rattle.odata_hub.specs.Schedules.{Drop, Reload}
-use Rattle.odata_hub.specs.Stands.{IsHubStep}
+use Rattle.odata_hub.specs.Connections.{Answer, ConnOf, Done}
+use Rattle.odata_hub.specs.Schedules.{Drop, HubOf, Reload, conn_at}
+use Rattle.odata_hub.specs.Stands.{IsHubStep, StandsFor}
 use Rattle.odata_rounds.specs.declared.answers.Stepped.{Stepped}
 use Rattle.odata_rounds.specs.declared.answers.Stepped.TheVariants.{Free, Rests, Worked, Answered, Lost, Failed}
 use Rattle.odata_rounds.specs.declared.seat.Seat.{Seat}
@@ -12,7 +12,9 @@ use Rattle.odata_rounds.specs.Lives.{AreSettled, Deed, Lives, free_seat}
 use Rattle.listen_sockets.specs.declared.desk.Desk.{Desk}
 use Rattle.listen_sockets.specs.declared.slow.Due.{Due}
 use Rattle.listen_sockets.specs.declared.slow.Due.TheVariants as due
+use Rattle.listen_sockets.specs.Desk.{EndsHopeless, IsEndedIfHopeless, stepped_at}
 use Rattle.listen_sockets.specs.Sights.{sight_of}
+use Rattle.listen_sockets.specs.Sockets.{EndsStream, KeepsStreams, is_ended_at}
 
 -- a life leads from one desk to the other: what holds of each connection in every life holds there
 pub record RunsTo (old new : Desk) : Type 0 where
@@ -28,20 +30,52 @@ pub record RunsOn (old new : Desk) : Type 0 where
 abbrev pub IsKept : Desk → Desk → Type 0
 IsKept old new = (new.hub ≡ old.hub) × (new.seats.items ≡ old.seats.items)
 
--- a place was given back, by one call, and nothing waits there any more; what is kept of the others is as it was
+-- the same, and no stream is ended
+pub record Stays (old new : Desk) : Type 0 where
+  pub kept : IsKept old new
+  pub streams : KeepsStreams old.sockets.slots.items new.sockets.slots.items
+
+-- the same, but that the stream at a place is ended, and no other
+pub record Ends (place : ℕ) (old new : Desk) : Type 0 where
+  pub kept : IsKept old new
+  pub streams : EndsStream place old.sockets.slots.items new.sockets.slots.items
+
+-- the same, but that the stream at a place is ended where its rest can begin no head any more, and there alone
+pub record Notes (place : ℕ) (old new : Desk) : Type 0 where
+  pub kept : IsKept old new
+  pub streams : EndsHopeless place old.hub old.sockets.slots.items new.sockets.slots.items
+
+-- a place was given back, by one call, and nothing waits there any more; what is kept of the others, and their streams, are as they were
 pub record Frees (place : ℕ) (old new : Desk) : Type 0 where
   pub answer : Answer
   pub step : IsHubStep old.hub (Drop place) answer new.hub
   pub seats : new.seats.items ≡ slice_set old.seats.items place free_seat
+  pub streams : EndsStream place old.sockets.slots.items new.sockets.slots.items
 
--- a place is given back where its connection is over, lost or failed, and there alone
+-- A place is given back where its connection is over, lost or failed, and there alone. Where something was done its stream is ended if its rest can
+-- begin no head any more, and no stream else.
 abbrev pub Settles : Stepped → ℕ → Desk → Desk → Type 0
-Settles Free place old new = IsKept old new
-Settles Rests place old new = IsKept old new
-Settles Worked place old new = IsKept old new
+Settles Free place old new = Stays old new
+Settles Rests place old new = Stays old new
+Settles Worked place old new = Notes place old new
 Settles Answered place old new = Frees place old new
 Settles Lost place old new = Frees place old new
 Settles Failed place old new = Frees place old new
+
+-- The stream at a place, before and after, by what became of the place and its connection: none is read any more of a place that was given back.
+abbrev pub StreamAfter : Stepped → Option ConnOf → Bool → Bool → Type 0
+StreamAfter Free conn old new = new ≡ old
+StreamAfter Rests conn old new = new ≡ old
+StreamAfter Worked conn old new = IsEndedIfHopeless conn old new
+StreamAfter Answered conn old new = new ≡ true
+StreamAfter Lost conn old new = new ≡ true
+StreamAfter Failed conn old new = new ≡ true
+
+-- so it is at each place
+abbrev pub SettlesStreams : Desk → Desk → Type 0
+SettlesStreams old new = (h : HubOf) → StandsFor old.hub h → (place : ℕ)
+    → StreamAfter (stepped_at old.seats.items place) (conn_at h place) (is_ended_at old.sockets.slots.items place)
+    (is_ended_at new.sockets.slots.items place)
 
 -- what is kept of a place behind that
 abbrev pub settled_by : Stepped → Seat → Seat
@@ -55,16 +89,16 @@ settled_by Failed seat = free_seat
 abbrev pub settled : Seat → Seat
 settled seat = settled_by seat.stepped seat
 
--- a place is given back where its connection is to be dropped since its peer is slow, and there alone
+-- a stream is ended where that is due, and a place is given back where its connection is to be dropped since its peer is slow; both there alone
 abbrev pub EndsSlow : Due → ℕ → Desk → Desk → Type 0
-EndsSlow due.Nothing place old new = IsKept old new
-EndsSlow due.End place old new = IsKept old new
+EndsSlow due.Nothing place old new = Stays old new
+EndsSlow due.End place old new = Ends place old new
 EndsSlow due.Drop place old new = Frees place old new
 
 -- a place is given back where the system said that its connection is lost, and there alone
 abbrev pub EndsLost : Bool → ℕ → Desk → Desk → Type 0
 EndsLost true place old new = Frees place old new
-EndsLost false place old new = IsKept old new
+EndsLost false place old new = Stays old new
 
 -- the hub has other tables from now on, or all is as it was
 abbrev pub MayReload : Hub → Hub → Type 0

@@ -6,8 +6,8 @@ use Rattle.odata_hub.specs.Connections.{Done}
 use Rattle.odata_hub.specs.Schedules.{Reload}
 use Rattle.odata_hub.specs.Stands.{IsHubStep}
 use Rattle.served_folders.specs.declared.folders.FolderFault.{FolderFault}
-use Rattle.odata_serve.specs.declared.program.ProgramFault.{ProgramFault}
-use Rattle.odata_serve.specs.declared.program.ProgramFault.TheVariants.{Folder, NoMemory}
+use Rattle.program_ends.specs.declared.fault.ProgramFault.{ProgramFault}
+use Rattle.program_ends.specs.declared.fault.ProgramFault.TheVariants.{Folder, NoMemory}
 use Rattle.served_folders.specs.Folders.{folder_cause}
 use Rattle.odata_listen.specs.declared.watch.Look.{Look}
 use Rattle.odata_listen.specs.declared.watch.Look.TheVariants.{Same, Moves, Changed}

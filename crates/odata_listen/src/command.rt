@@ -1,15 +1,16 @@
-//! What the words of the command line ask for, done. Each end has the exit status and the text that `odata_serve` has for it, and a line of its own where that has none.
+//! What the words of the command line ask for, done. Each end has the exit status and the text that `program_ends` has for it, and a line of its own where that has none.
 ghost use Rattle.std.specs.Prelude.{◌≡◌};
-ghost use Rattle.odata_serve.specs.Command.{IsFaultStatus};
+ghost use Rattle.program_ends.specs.Status.{IsFaultStatus};
 
 use crate::folder::Folder;
 use crate::journal::Journal;
 use crate::serving::serve;
+use crate::words::{MOST_PLACES, USAGE_LINE, Words, WordsFault, read_words};
+use command_words::{line_of, system_words};
 use listen_sockets::{Desk, Limits};
-use listen_words::{MOST_PLACES, USAGE_LINE, Words, WordsFault, read_words};
 use mio::net::TcpListener;
-use odata_serve::words::{line_of, system_words};
-use odata_serve::{DEVICE, DONE, Disk, Folders, MEMORY, ProgramFault, USAGE, error_status, report};
+use program_ends::{DEVICE, DONE, MEMORY, ProgramFault, USAGE, error_status, report};
+use served_folders::{Disk, Folders};
 use std::io::{self, ErrorKind};
 use std::net::{IpAddr, Net, SocketAddr};
 use std::rc::Rc;

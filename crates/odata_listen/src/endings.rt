@@ -1,8 +1,9 @@
-//! How connections end: over behind a round, lost or failed; since their peers are slow; or since the system says that they are lost.
+//! How connections end: over after a round, lost or failed; since their peers are slow; or since the system says that they are lost. And how streams
+//! end before their peers end them: those that can bring no head any more, and those whose heads take too long.
 ghost use Rattle.std.specs.Prelude.{◌≡◌, map};
 ghost use Rattle.listen_sockets.specs.Desk.{due_at, stepped_at};
 ghost use Rattle.listen_sockets.specs.Sockets.{is_lost_at};
-ghost use Rattle.odata_listen.specs.Serving.{EndsLost, EndsSlow, Frees, RunsOn, RunsTo, Settles, settled};
+ghost use Rattle.odata_listen.specs.Serving.{EndsLost, EndsSlow, Frees, Notes, RunsOn, RunsTo, Settles, SettlesStreams, settled};
 
 use crate::journal::{Journal, Why};
 use listen_sockets::{Desk, Due, Limits};
@@ -35,6 +36,15 @@ fn part<R: Print + Eprint + AllocGlobal>(
     journal.ended(place, Why::Answered);
 }
 
+/// Notes that something was done at a place, and ends its stream where what came can begin no head any more: its 400 need not wait for the seconds that
+/// a head may take.
+fn note(desk: &mut Desk, place: u32, now: u64)
+    ensures { Notes place desk.old desk.new }
+{
+    desk.sockets.note_work(place, now);
+    desk.end_hopeless(place, now);
+}
+
 /// Notes what the last round did at a place, and frees it where its connection is over, lost or failed.
 fn settle<R: Print + Eprint + AllocGlobal>(
     desk: &mut Desk,
@@ -47,7 +57,7 @@ fn settle<R: Print + Eprint + AllocGlobal>(
 {
     match desk.stepped(place) {
         Stepped::Free | Stepped::Rests => {}
-        Stepped::Worked => desk.sockets.note_work(place, now),
+        Stepped::Worked => note(desk, place, now),
         Stepped::Answered => part(desk, place, poll, journal),
         Stepped::Lost => end(desk, place, Why::Lost, journal),
         Stepped::Failed => end(desk, place, Why::NoMemory, journal),
@@ -63,6 +73,7 @@ pub fn settle_all<R: Print + Eprint + AllocGlobal>(
 )
     ensures runs { RunsTo desk.old desk.new }
     ensures settled { desk.new.seats.items ≡ map settled desk.old.seats.items }
+    ensures streams { SettlesStreams desk.old desk.new }
 {
     for place in 0..desk.places() {
         settle(desk, place, poll, now, journal);

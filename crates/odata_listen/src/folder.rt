@@ -2,8 +2,7 @@
 use crate::journal::Journal;
 use crate::watch::{Look, hand_over, is_final, look_of};
 use odata_hub::Hub;
-use odata_serve::{Disk, Folders};
-use served_folders::{METADATA, look};
+use served_folders::{Disk, Folders, METADATA, look};
 use std::alloc::AllocError;
 use std::fs::Metadata;
 use std::io::ErrorKind;

@@ -1,9 +1,10 @@
 //! What the service tells of itself: a line on standard output for each connection that is opened or ends and for each reload, where that is asked;
 //! and on standard error why a folder was not taken up.
 ghost use Rattle.std.specs.Prelude.{◌≡◌, IfOk, string_bytes};
+ghost use Rattle.odata_listen.specs.Laws.{TellsLines};
 ghost use Rattle.odata_listen.specs.Journal.{ended_text, opened_text, refused_text, why_text};
 
-use odata_serve::{ProgramFault, fault_line};
+use program_ends::{ProgramFault, fault_line};
 use std::alloc::{AllocError, Global};
 
 /// Why a connection ended.
@@ -34,6 +35,13 @@ impl Why {
 
 /// What is told of a changed folder that was not taken up, where nothing more is known of it.
 const NOT_RELOADED: &str = "not reloaded: a device failed or memory ran out";
+
+/// Each line is one line.
+pub fn tells_lines()
+    ensures { TellsLines }
+{
+    program_ends::faults_are_one_line();
+}
 
 /// The line of a connection that was opened at a place.
 fn opened_line(alloc: Global, place: u32) -> Result<String, AllocError>

@@ -8,6 +8,7 @@ mod folder;
 mod journal;
 mod serving;
 mod watch;
+mod words;
 
 use command::command_status;
 use std::process::ExitCode;

@@ -3,7 +3,8 @@ ghost use Rattle.std.specs.Prelude.{◌≡◌};
 ghost use Rattle.odata_listen.specs.Watch.{HandsOver, Looks, is_final};
 
 use odata_hub::Hub;
-use odata_serve::{FolderFault, ProgramFault};
+use program_ends::ProgramFault;
+use served_folders::FolderFault;
 use std::alloc::Global;
 use std::rc::Rc;
 use table_store::Catalog;

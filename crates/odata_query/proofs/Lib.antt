@@ -1,2 +1,3 @@
 pub mod FirstSeenLemmas
 pub mod ColumnLemmas
+mod KeyLemmas

@@ -2,6 +2,7 @@ pub use Rattle.odata_parse.specs.Tree as Trees
 pub use Rattle.odata_types.specs.Columns
 pub use Rattle.odata_types.specs.TypedTree
 pub mod Key
+pub mod KeyValues
 pub mod Selection
 pub mod FirstSeen
 pub mod Aggregate

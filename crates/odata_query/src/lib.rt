@@ -15,6 +15,6 @@ mod selection;
 mod typed_query;
 
 pub use aggregate::{Aggregate, COUNT_SIZE, MOST_ROWS, NamedAggregate, TypedTransformation};
-pub use law::{sizes, worked_keys, worked_transformations};
+pub use law::{keys_are_typed, sizes, worked_keys, worked_transformations};
 pub use query::{OrderBy, Query, Typed};
 pub use typed_query::check;

@@ -21,8 +21,8 @@ use Rattle.odata_types.specs.declared.fault.TypeFault.{TypeFault}
 use Rattle.odata_query.specs.Query.{QueryOf, TypedOf, query_typing}
 use Rattle.row_eval.specs.Input.{IsQueried, IsQueriedItem, IsQueriedTransformation, IsShort}
 use Rattle.row_eval.specs.Laws.{ExpressionsAreQueried, FiltersAreQueried}
-use Rattle.query_plan.specs.Fitting.{AreQueried, IsTypedFor}
-use Rattle.reply_text.specs.declared.code.Code.{Code}
+use Rattle.query_meaning.specs.Fitting.{AreQueried, IsTypedFor}
+use Rattle.reply_codes.specs.declared.code.Code.{Code}
 use Rattle.http_heads.specs.declared.checks.HeadFault.{HeadFault}
 use Rattle.odata_request.specs.Fault.{type_code, url_code}
 use Rattle.odata_request.specs.Reading.{ReadsApply, ReadsOption, ReadsOr, ReadsText, ReadsTokens, ReadsTree, Then, bad_token, goes_on, has_tokens, has_tree, no_tree, stops, too_deep, too_many}

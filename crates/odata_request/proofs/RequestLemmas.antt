@@ -6,7 +6,7 @@ use Rattle.odata_url.specs.declared.fault.UrlFault.{UrlFault}
 use Rattle.odata_url.specs.Target.{TargetOf, QueryOption, target_of}
 use Rattle.odata_parse.specs.declared.format.Format.{Format}
 use Rattle.odata_parse.specs.declared.format.Format.TheVariants.{Json, Csv}
-use Rattle.reply_text.specs.declared.code.Code.{Code}
+use Rattle.reply_codes.specs.declared.code.Code.{Code}
 use Rattle.http_heads.specs.declared.checks.HeadFault.{HeadFault}
 use Rattle.odata_request.specs.Fault.{url_code}
 use Rattle.odata_request.specs.Resource as resource

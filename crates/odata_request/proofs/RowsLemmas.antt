@@ -7,7 +7,7 @@ use Rattle.table_store.specs.Catalog.{CatalogOf}
 use Rattle.table_store.specs.Table.{TableOf}
 use Rattle.odata_parse.specs.declared.format.Format.{Format}
 use Rattle.odata_query.specs.Query.{TypedOf, query_typed_view}
-use Rattle.reply_text.specs.declared.code.Code.{Code}
+use Rattle.reply_codes.specs.declared.code.Code.{Code}
 use Rattle.odata_request.specs.declared.fault.RequestFault.{RequestFault}
 use Rattle.odata_request.specs.declared.fault.RequestFault.TheVariants.{Refused, NoMemory}
 use Rattle.odata_request.specs.declared.request.Request.{Request}

@@ -11,8 +11,8 @@ use Rattle.odata_parse.specs.Options.{IsKey, IsOrder, IsSelection}
 use Rattle.odata_types.specs.declared.fault.TypeFault.{TypeFault}
 use Rattle.csvw_meta.specs.Schema.{SchemaOf}
 use Rattle.odata_query.specs.Query.{TypedOf, query_typing}
-use Rattle.reply_text.specs.declared.code.Code.{Code}
-use Rattle.reply_text.specs.declared.code.Code.TheVariants.{BadToken}
+use Rattle.reply_codes.specs.declared.code.Code.{Code}
+use Rattle.reply_codes.specs.declared.code.Code.TheVariants.{BadToken}
 use Rattle.odata_request.specs.Fault.{type_code}
 use Rattle.odata_request.specs.Options.{TextsOf}
 use Rattle.odata_request.specs.Query.{AsksQuery, IsRefusedBy, IsTyped, ReadsQuery}

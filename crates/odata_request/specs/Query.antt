@@ -5,7 +5,7 @@ use Rattle.odata_parse.specs.Expression.{IsFilter}
 use Rattle.odata_parse.specs.Options.{IsKey, IsOrder, IsSelection}
 use Rattle.odata_types.specs.declared.fault.TypeFault.{TypeFault}
 use Rattle.odata_query.specs.Query.{QueryOf, TypedOf, query_typing}
-use Rattle.reply_text.specs.declared.code.Code.{Code}
+use Rattle.reply_codes.specs.declared.code.Code.{Code}
 use Rattle.odata_request.specs.Fault.{type_code}
 use Rattle.odata_request.specs.Options.{TextsOf}
 use Rattle.odata_request.specs.Reading.{◌>>=◌, Is, ReadsApply, ReadsFlag, ReadsNumber, ReadsOption, ReadsOr, ReadsTree}

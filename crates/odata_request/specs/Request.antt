@@ -7,9 +7,9 @@ use Rattle.odata_url.specs.Target.{TargetOf, QueryOption, target_of}
 use Rattle.odata_parse.specs.declared.format.Format.{Format}
 use Rattle.odata_parse.specs.declared.format.Format.TheVariants.{Json}
 use Rattle.odata_query.specs.Query.{TypedOf, query_typed_view}
-use Rattle.query_plan.specs.Fitting.{IsTypedFor}
-use Rattle.reply_text.specs.declared.code.Code.{Code}
-use Rattle.reply_text.specs.declared.code.Code.TheVariants.{NotAcceptable}
+use Rattle.query_meaning.specs.Fitting.{IsTypedFor}
+use Rattle.reply_codes.specs.declared.code.Code.{Code}
+use Rattle.reply_codes.specs.declared.code.Code.TheVariants.{NotAcceptable}
 use Rattle.http_heads.specs.declared.checks.HeadFault.{HeadFault}
 use Rattle.odata_request.specs.declared.fault.RequestFault.{RequestFault}
 use Rattle.odata_request.specs.declared.fault.RequestFault.TheVariants as fault

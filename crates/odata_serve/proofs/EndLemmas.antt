@@ -1,36 +1,17 @@
 -- The ends of commands that run no script.
-use Rattle.std.proofs.Common.{◌≢◌, ℕ, List, Bool, true, false, if◌then◌else◌, Result, Ok, Err, inl, inr, arith}
-use Rattle.std.specs.Prelude.{⊤, is_none}
-use Rattle.table_store.specs.Fault.{load_cause}
+use Rattle.std.proofs.Common.{ℕ, List, Result, Ok, Err, inl, inr}
+use Rattle.std.specs.Prelude.{⊤}
 use Rattle.odata_http.specs.declared.runs.RunFault.TheVariants as run
 use Rattle.odata_http.specs.Device.{SinkOf}
 use Rattle.odata_http.specs.Runs.{Course}
 use Rattle.served_folders.specs.declared.folders.FolderFault.TheVariants as folder
-use Rattle.odata_serve.specs.declared.program.ProgramFault.{ProgramFault}
-use Rattle.odata_serve.specs.declared.program.ProgramFault.TheVariants.{Folder, Run, Script, Device, NoMemory}
+use Rattle.program_ends.specs.declared.fault.ProgramFault.{ProgramFault}
+use Rattle.program_ends.specs.declared.fault.ProgramFault.TheVariants.{Folder, Run, Script, Device, NoMemory}
 use Rattle.odata_serve.specs.Check.{IsCheck}
-use Rattle.odata_serve.specs.Command.{EndsNoScript, IsNoScript}
-use Rattle.odata_serve.specs.FaultText.{exit_status}
-use Rattle.odata_serve.specs.Program.{Loading, IsAnswer, IsQuery}
+use Rattle.odata_serve.specs.Command.{EndsNoScript}
+use Rattle.served_folders.specs.Loads.{Loading}
+use Rattle.odata_serve.specs.Program.{IsAnswer, IsQuery}
 use Rattle.odata_serve.specs.Serving.{Serving, IsServed}
-
-refused_or_memory : (b : Bool) → ◌≢◌ {A = ℕ} (if b then 4 else 1) 2
-refused_or_memory true e = absurd (omega (arith, e))
-refused_or_memory false e = absurd (omega (arith, e))
-
--- the status of usage is a script's alone
-pub other_status : (fault : ProgramFault) → IsNoScript fault → exit_status fault ≢ 2
-other_status (Folder folder.NoMetadata) h e = absurd (omega (arith, e))
-other_status (Folder (folder.Load fault)) h e = refused_or_memory (is_none (load_cause fault)) e
-other_status (Folder folder.Device) h e = absurd (omega (arith, e))
-other_status (Folder folder.NoMemory) h e = absurd (omega (arith, e))
-other_status (Run run.NoMemory) h e = absurd (omega (arith, e))
-other_status (Run run.Read) h e = absurd (omega (arith, e))
-other_status (Run run.Write) h e = absurd (omega (arith, e))
-other_status (Run run.TooManyReads) h e = absurd (omega (arith, e))
-other_status (Script line) h e = h
-other_status Device h e = absurd (omega (arith, e))
-other_status NoMemory h e = absurd (omega (arith, e))
 
 pub answer_ends : (l : Loading) (c : Course) (end : Result ⊤ ProgramFault) → IsAnswer l c end → EndsNoScript end
 answer_ends l c (Ok u) h = tt

@@ -7,7 +7,3 @@ pub mod PlainRules
 pub mod PlainWalk
 pub mod WalkRows
 pub mod TakenWords
-pub mod TakeLemmas
-pub mod CommandLemmas
-pub mod ReplayLemmas
-pub mod ScriptLemmas

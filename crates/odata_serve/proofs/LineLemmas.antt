@@ -1,7 +1,7 @@
 -- Lines that are written one after another.
-use Rattle.std.proofs.Common.{◌≡◌, ◌≤◌, ◌<◌, ◌+◌, ℕ, List, [], ◌∷◌, ◌++◌, length, take, drop, get_or, refl, sym, ap, ◌∙◌, append-nil, suc, drop-cons, add-one}
+use Rattle.std.proofs.Common.{◌≡◌, ◌≤◌, ◌<◌, ◌+◌, ℕ, List, [], ◌∷◌, ◌++◌, length, take, drop, get_or, sym, ap, ◌∙◌, append-nil, suc, drop-cons, add-one}
 use Rattle.std.specs.Io.KnownBytes.{Appends}
-use Rattle.std.proofs.KnownBytes.{Appends-nil, Appends-trans}
+use Rattle.std.proofs.KnownBytes.{Appends-trans}
 use Rattle.std.proofs.lemmas.List.{take-append-drop, take-append-le, take_more}
 use Rattle.std.proofs.lemmas.Grind.{flat_map-append}
 use Rattle.std.proofs.Math.Seq.{take-append-add}
@@ -9,9 +9,6 @@ use Rattle.table_store.specs.Table.{TableOf}
 use Rattle.odata_http.specs.Device.{Counts, SinkOf}
 use Rattle.odata_http.specs.Answer.{HasWritten, HasFailed}
 use Rattle.odata_serve.specs.Check.{table_line, table_lines}
-
-pub no_lines : (s : SinkOf) → HasWritten s s []
-no_lines s = record { gained = Appends-nil s.taken; failed = refl }
 
 -- the lines of the tables up to one, its own, and those of the tables behind it
 lines_at : (tables : List TableOf) (i : ℕ) (table : TableOf) → i < length tables → table ≡ get_or tables i table

@@ -1,22 +1,14 @@
--- What a typed getter says of a number, and which numbers `clap` takes.
-use Rattle.std.proofs.Common.{◌≡◌, ◌<◌, ◌^◌, ◌==◌, ℕ, Bool, true, false, cond, List, [], ◌∷◌, drop, Option, Some, None, Result, Ok, Err, refl, sym, ap, subst, arith}
+-- Which numbers `clap` takes.
+use Rattle.std.proofs.Common.{◌≡◌, ◌<◌, ◌^◌, ◌==◌, ℕ, Bool, true, false, cond, [], ◌∷◌, drop, Some, None, refl, sym, ap, subst, arith}
 use Rattle.std.specs.Prelude.{pos, unwrap_or}
-use Rattle.std.specs.Str.Parse.{IsNumeral, ParsesUnsigned, digits_value, starts_with_minus, without_leading_plus}
+use Rattle.std.specs.Str.Parse.{IsNumeral, digits_value, starts_with_minus, without_leading_plus}
 use Rattle.std.proofs.lemmas.Bool.{ne_eqb}
 use Rattle.std.proofs.lemmas.Int.{ints}
 use Rattle.std.proofs.lemmas.Str.Parse.{digit_from_value}
 use Rattle.clap.specs.Lexer.{without_minus}
 use Rattle.clap.specs.Values.{IsSignedIn}
-use Rattle.clap.specs.Words.{ReadsOne, Text}
-use Rattle.odata_serve.specs.Words.{IsNumberOf, ReadsNumber}
-
-module _ {E : Type 0} (bits : ℕ) (gives : List ℕ → Result ℕ E → Type 0)
-    (only : (bs : List ℕ) (r : Result ℕ E) → gives bs r → ParsesUnsigned bits 10 bs r) where
-  pub reads_number : (o : Option Text) (r : Option ℕ) → (o ≡ None → r ≡ None) → ((t : Text) → o ≡ Some t → ReadsOne gives t r) → ReadsNumber bits o r
-  reads_number None None a b = λ n h. h
-  reads_number None (Some n) a b = let bad : Some n ≡ None = a refl in absurd (cc bad)
-  reads_number (Some t) None a b = λ n h. let e = b t refl in only t (Err e.0) e.1 h.0
-  reads_number (Some t) (Some n) a b = only t (Ok n) (b t refl)
+use Rattle.clap.specs.Words.{Text}
+use Rattle.command_words.specs.Words.{IsNumberOf}
 
 without_minus-cond : (t : Text) → without_minus t ≡ cond (starts_with_minus t) (drop 1 t) t
 without_minus-cond [] = refl

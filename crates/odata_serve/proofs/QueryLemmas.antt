@@ -3,9 +3,10 @@ use Rattle.std.proofs.Common.{◌≡◌, ℕ, List, Some, Result, Ok, Err}
 use Rattle.std.specs.Prelude.{⊤}
 use Rattle.odata_http.specs.Device.{SinkOf, SourceOf}
 use Rattle.odata_http.specs.Runs.{course}
-use Rattle.odata_serve.specs.declared.program.ProgramFault.{ProgramFault}
-use Rattle.odata_serve.specs.declared.program.ProgramFault.TheVariants.{Folder, Run, Script, Device, NoMemory}
-use Rattle.odata_serve.specs.Program.{Loading, IsAnswer, IsQuery, request_to}
+use Rattle.program_ends.specs.declared.fault.ProgramFault.{ProgramFault}
+use Rattle.program_ends.specs.declared.fault.ProgramFault.TheVariants.{Folder, Run, Script, Device, NoMemory}
+use Rattle.served_folders.specs.Loads.{Loading}
+use Rattle.odata_serve.specs.Program.{IsAnswer, IsQuery, request_to}
 
 pub query_by_answer : (target : List ℕ) (l : Loading) (source source_after : SourceOf) (old new : SinkOf) (r : Result ⊤ ProgramFault)
     → source.left ≡ Some (request_to target) → IsAnswer l (course source source_after old new) r → IsQuery target l old new r

@@ -5,7 +5,8 @@ use Rattle.clap.specs.Kinds.{Kinds}
 use Rattle.clap.specs.declared.error.ErrorKind.{ErrorKind}
 use Rattle.clap.specs.declared.error.ErrorKind.TheVariants.{OutOfMemory}
 use Rattle.clap.proofs.OnLiterals.{clap_on_literals}
-use Rattle.odata_serve.specs.Words.{IsNumberOf, SaysNothing, program_app}
+use Rattle.command_words.specs.Words.{IsNumberOf}
+use Rattle.odata_serve.specs.Words.{SaysNothing, program_app}
 use Rattle.odata_serve.specs.declared.words.Words.TheVariants.{Nothing, Check, Query, Answer, Replay, Serve}
 
 -- a kind other than want of memory is one of the kinds, so there are some

@@ -16,7 +16,8 @@ use Rattle.clap.specs.declared.builder.value_parser.ValueParser.{ValueParser}
 use Rattle.clap.specs.declared.builder.value_parser.ValueParser.TheVariants as parser
 use Rattle.clap.proofs.OnLiterals.{clap_on_literals}
 use Rattle.clap.proofs.ValueTestLemmas.{accepts-Accepts}
-use Rattle.odata_serve.specs.Words.{IsNumberOf, Says, folder_and_app, folder_app, program_app, serve_app}
+use Rattle.command_words.specs.Words.{IsNumberOf}
+use Rattle.odata_serve.specs.Words.{Says, folder_and_app, folder_app, program_app, serve_app}
 use Rattle.odata_serve.specs.declared.words.Words.{Words}
 use Rattle.odata_serve.specs.declared.words.Words.TheVariants.{Nothing, Check, Query, Answer, Replay, Serve}
 use Rattle.odata_serve.proofs.Numbers.{number_taken}

@@ -1,15 +1,14 @@
 -- How checking a folder ended.
-use Rattle.std.specs.Prelude.{ℕ, List, ◌++◌, ◌∷◌, [], codes, length, take, Result, Ok, Err, ⊤}
+use Rattle.std.specs.Prelude.{ℕ, List, ◌++◌, ◌∷◌, [], codes, length, take, Result, Ok, Err, ⊤, ◌≡◌}
 use Rattle.std.specs.List.{flat_map}
 use Rattle.std.specs.Fmt.{decimal}
-use Rattle.std.specs.Prelude.{◌≡◌}
 use Rattle.table_store.specs.Table.{TableOf}
 use Rattle.table_store.specs.Catalog.{CatalogOf}
 use Rattle.odata_http.specs.Device.{SinkOf}
 use Rattle.odata_http.specs.Answer.{HasWritten, HasFailed}
-use Rattle.odata_serve.specs.declared.program.ProgramFault.{ProgramFault}
-use Rattle.odata_serve.specs.declared.program.ProgramFault.TheVariants.{Folder, Device, NoMemory}
-use Rattle.odata_serve.specs.Program.{Loading, IsFolderFault, IsLoaded}
+use Rattle.program_ends.specs.declared.fault.ProgramFault.{ProgramFault}
+use Rattle.program_ends.specs.declared.fault.ProgramFault.TheVariants.{Folder, Device, NoMemory}
+use Rattle.served_folders.specs.Loads.{Loading, IsFolderFault, IsLoaded}
 
 -- the line of a table: its name, its number of rows and its number of columns
 abbrev pub table_line : TableOf → List ℕ

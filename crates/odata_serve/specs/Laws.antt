@@ -1,9 +1,9 @@
 -- The numbers of the program: how often a stream is read at most, how many places the hub of a script has, and the exit statuses.
 use Rattle.std.specs.Prelude.{◌≡◌}
-use Rattle.odata_serve.specs.declared.command.TheConstants.{DONE}
-use Rattle.odata_serve.specs.declared.fault_text.TheConstants.{REFUSED, USAGE, DEVICE, MEMORY}
-use Rattle.odata_serve.specs.declared.program.TheConstants.{MAX_READS}
-use Rattle.odata_serve.specs.declared.replay.TheConstants.{PLACES}
+use Rattle.program_ends.specs.declared.status.TheConstants.{DONE}
+use Rattle.program_ends.specs.declared.text.TheConstants.{REFUSED, USAGE, DEVICE, MEMORY}
+use Rattle.program_ends.specs.declared.fault.TheConstants.{MAX_READS}
+use Rattle.hub_scripts.specs.declared.replay.TheConstants.{PLACES}
 
 pub record Sizes : Type 0 where
   pub reads : MAX_READS ≡ 1_048_576

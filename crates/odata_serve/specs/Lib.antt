@@ -2,10 +2,6 @@ pub mod Program
 pub mod Check
 pub mod Listener
 pub mod Serving
-pub mod FaultText
 pub mod Words
 pub mod Command
-pub mod Answers
-pub mod Replay
-pub mod ScriptFile
 pub mod Laws

@@ -1,36 +1,14 @@
 -- How answering a stream over a folder ended, and the stream of one query.
-use Rattle.std.specs.Prelude.{◌≡◌, ℕ, List, ◌++◌, codes, Some, IfSome, Result, Ok, Err, ⊤}
+use Rattle.std.specs.Prelude.{◌≡◌, ℕ, List, ◌++◌, codes, Some, Result, Ok, Err, ⊤}
 use Rattle.table_store.specs.Catalog.{CatalogOf}
 use Rattle.odata_http.specs.declared.runs.RunFault.{RunFault}
-use Rattle.odata_http.specs.Device.{Counts, SinkOf, SourceOf}
+use Rattle.odata_http.specs.Device.{SinkOf, SourceOf}
 use Rattle.odata_http.specs.Reply.{field_line, line_end, IsReply}
 use Rattle.odata_http.specs.Runs.{Course, IsRun, course}
-use Rattle.odata_serve.specs.declared.program.TheConstants.{MAX_READS}
-use Rattle.odata_serve.specs.declared.program.ProgramFault.{ProgramFault}
-use Rattle.odata_serve.specs.declared.program.ProgramFault.TheVariants.{Folder, NoMemory, Run}
-use Rattle.served_folders.specs.declared.folders.FolderFault.{FolderFault}
-use Rattle.served_folders.specs.Folders.{FoldersOf, MeansTaken, RefusesTaken, folder_cause, KeepsCounts, CountsFault}
-
--- a load under a name: what the folders tell and count before and after it
-pub record Loading : Type 0 where
-  pub name : List ℕ
-  pub folders : FoldersOf
-  pub folders_after : FoldersOf
-
-abbrev pub loading : List ℕ → FoldersOf → FoldersOf → Loading
-loading name folders folders_after = record { name = name; folders = folders; folders_after = folders_after }
-
--- the folder was loaded once and gave no catalog, under this fault's cause, and the answer was counted
-pub record IsFolderFault (l : Loading) (fault : FolderFault) : Type 0 where
-  pub load : Counts l.folders.loads l.folders_after.loads
-  pub cause : IfSome (folder_cause fault) (RefusesTaken (l.folders_after.took l.name))
-  pub counts : CountsFault {X = ⊤} l.folders l.folders_after (Err fault)
-
--- the folder was loaded once and means a catalog, and no other answer was counted
-pub record IsLoaded (l : Loading) (catalog : CatalogOf) : Type 0 where
-  pub load : Counts l.folders.loads l.folders_after.loads
-  pub means : MeansTaken (l.folders_after.took l.name) catalog
-  pub counts : KeepsCounts l.folders l.folders_after
+use Rattle.program_ends.specs.declared.fault.TheConstants.{MAX_READS}
+use Rattle.program_ends.specs.declared.fault.ProgramFault.{ProgramFault}
+use Rattle.program_ends.specs.declared.fault.ProgramFault.TheVariants.{Folder, NoMemory, Run}
+use Rattle.served_folders.specs.Loads.{Loading, IsFolderFault, IsLoaded}
 
 -- a run over the tables that the folder means ended so
 pub record RunsOver (l : Loading) (c : Course) (r : Result ⊤ RunFault) : Type 0 where

@@ -3,8 +3,8 @@ use Rattle.std.specs.Prelude.{◌≡◌, ◌⊎◌, ◌<◌, ◌+◌, ◌^◌, �
 use Rattle.std.specs.Fmt.{decimal}
 use Rattle.odata_http.specs.Device.{SinkOf, Counts}
 use Rattle.odata_http.specs.Answer.{HasWritten, HasFailed}
-use Rattle.odata_serve.specs.declared.program.ProgramFault.{ProgramFault}
-use Rattle.odata_serve.specs.declared.program.ProgramFault.TheVariants.{Device, NoMemory}
+use Rattle.program_ends.specs.declared.fault.ProgramFault.{ProgramFault}
+use Rattle.program_ends.specs.declared.fault.ProgramFault.TheVariants.{Device, NoMemory}
 use Rattle.odata_serve.specs.Listener.{ListenerOf}
 
 -- a listener and a sink, before and after a call

@@ -1,19 +1,11 @@
 -- The program's command, as `clap` describes commands, and what its reading of a command line asks for.
-use Rattle.std.specs.Prelude.{◌≡◌, ◌<◌, ◌^◌, ℕ, List, Option, Some, None, [], codes, map, pos, true}
+use Rattle.std.specs.Prelude.{◌≡◌, List, Option, Some, None, [], codes, pos, true}
 use Rattle.std.specs.Borrow.{Bor}
-use Rattle.std.specs.Str.Parse.{IsNumeral, digits_value, without_leading_plus}
-use Rattle.clap.specs.Words.{App, Row, Rule, Text, fault_of, first_of, new_app, new_rule, one_of, subcommand_of, with_rule, with_subcommand}
+use Rattle.clap.specs.Words.{App, Row, Rule, Text, fault_of, first_of, new_app, one_of, subcommand_of, with_rule, with_subcommand}
 use Rattle.clap.specs.declared.builder.ValueParser.TheVariants as parser
+use Rattle.command_words.specs.Words.{IsNumberOf, port_rule, required_rule}
 use Rattle.odata_serve.specs.declared.words.Words.{Words}
 use Rattle.odata_serve.specs.declared.words.Words.TheVariants.{Nothing, Check, Query, Answer, Replay, Serve}
-
--- an argument that has to be there
-abbrev pub required_rule : Text → Rule
-required_rule id = record (new_rule id) { required = true }
-
--- `--port P`, a number of 16 bits
-abbrev pub port_rule : Rule
-port_rule = record (required_rule (codes "port")) { long = Some (codes "port"); parser = Some (parser.Signed (pos 0) (pos 65535)) }
 
 -- `--connections N`, a number of 32 bits
 abbrev pub connections_rule : Rule
@@ -46,21 +38,6 @@ program_app = with_subcommand (with_subcommand (with_subcommand (with_subcommand
     (folder_and_app (codes "answer") (codes "file")).top)
     (folder_and_app (codes "replay") (codes "script")).top)
     serve_app.top
-
--- the words as texts
-abbrev pub texts : List (Bor Text) → List Text
-texts = map (λ word. word.now)
-
--- the text is there, is a numeral of decimal digits with or without a `+` before it, of a number of so many bits, and n is that number
-abbrev pub IsNumberOf : ℕ → Option Text → ℕ → Type 0
-IsNumberOf bits None n = ⊥
-IsNumberOf bits (Some t) n =
-    (IsNumeral 10 (without_leading_plus t) × (digits_value 10 (without_leading_plus t) < 2 ^ bits)) × (n ≡ digits_value 10 (without_leading_plus t))
-
--- the number of so many bits that the text is, or none where it is no such number
-abbrev pub ReadsNumber : ℕ → Option Text → Option ℕ → Type 0
-ReadsNumber bits t (Some n) = IsNumberOf bits t n
-ReadsNumber bits t None = (n : ℕ) → IsNumberOf bits t n → ⊥
 
 -- what a subcommand with these arguments asks for
 abbrev pub SubcommandSays : Words → Text → List Row → Type 0

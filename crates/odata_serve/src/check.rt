@@ -1,10 +1,10 @@
 //! What a folder has: a line for each table.
 ghost use Rattle.std.specs.Prelude.{◌≡◌, ◌<◌, ◌^◌, IfOk, string_bytes};
 ghost use Rattle.odata_serve.specs.Check.{AreListed, IsCheck, table_line};
-ghost use Rattle.odata_serve.specs.Program.{loading};
+ghost use Rattle.served_folders.specs.Loads.{loading};
 
-use crate::program::ProgramFault;
 use odata_http::{Sink, send};
+use program_ends::ProgramFault;
 use served_folders::Folders;
 use std::alloc::{AllocError, Global};
 use table_store::Table;

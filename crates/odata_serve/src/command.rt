@@ -1,38 +1,24 @@
 //! What the words of the command line ask for, done: each line of words ends with an exit status, and what is said of a fault goes to standard error.
 ghost use Rattle.std.specs.Prelude.{◌≡◌, ◌≢◌, ◌⊎◌};
 ghost use Rattle.std.specs.IoError.{error_kind};
-ghost use Rattle.odata_serve.specs.Command.{EndsNoScript, IsFaultStatus, IsNoScript, IsStatus};
-ghost use Rattle.odata_serve.specs.Words.{AsksForReplay, IsTaken, texts};
+ghost use Rattle.odata_serve.specs.Command.{EndsNoScript, IsStatus};
+ghost use Rattle.odata_serve.specs.Words.{AsksForReplay, IsTaken};
+ghost use Rattle.command_words.specs.Words.{texts};
 
 use crate::check::check_folder;
-use crate::fault_text::{DEVICE, MEMORY, USAGE, fault_line};
 use crate::listener::CountedListener;
-use crate::program::{self, ProgramFault, answer};
-use crate::replay::replay_script;
-use crate::script_file::read_script;
+use crate::program::{self, answer};
 use crate::serving::serve;
-use crate::words::{Words, WordsFault, line_of, read_words, system_words};
+use crate::words::{Words, WordsFault, read_words};
+use command_words::{line_of, system_words};
+use hub_scripts::{read_script, replay_script};
 use odata_http::Counted;
+use program_ends::{DEVICE, DONE, MEMORY, ProgramFault, USAGE, error_status, report};
 use served_folders::{BuiltIn, Disk, Folders, NOTES};
 use std::io::ErrorKind;
 use std::net::{Net, TcpListener, TcpStream};
 use std::rt::{Env, Files};
 use std::{fs, io};
-
-/// The exit status where all was done.
-pub const DONE: u8 = 0;
-
-/// The exit status of an error of the system.
-pub fn error_status(error: &io::Error) -> u8
-    ensures memory { error_kind error.now ≡ ErrorKind.OutOfMemory → result ≡ MEMORY }
-    ensures device { error_kind error.now ≢ ErrorKind.OutOfMemory → result ≡ DEVICE }
-    ensures other { result ≢ USAGE }
-{
-    match error.kind() {
-        ErrorKind::OutOfMemory => MEMORY,
-        _ => DEVICE,
-    }
-}
 
 /// Says that the words are no command of the program.
 pub fn usage_status(rt: &impl Eprint) -> u8
@@ -53,23 +39,6 @@ pub fn unread_status(rt: &impl Eprint, error: &io::Error) -> u8
     match error.kind() {
         ErrorKind::InvalidData => usage_status(rt),
         _ => error_status(error),
-    }
-}
-
-/// Writes what is said of a fault to standard error, and gives its exit status.
-#[tactic(auto, using(crate::proofs::EndLemmas::other_status))]
-pub fn report(rt: &(impl Eprint + AllocGlobal), fault: &ProgramFault) -> u8
-    ensures status { IsFaultStatus fault.now result }
-    ensures other { IsNoScript fault.now → result ≢ USAGE }
-{
-    match fault_line(rt.alloc(), fault) {
-        Ok((line, status)) => {
-            if !line.is_empty() {
-                let _ = rt.eprintln(line);
-            }
-            status
-        }
-        Err(_) => MEMORY,
     }
 }
 

@@ -3,44 +3,18 @@ ghost use Rattle.std.specs.Prelude.{◌≡◌, ◌<◌, ◌^◌, IfOk, string_by
 ghost use Rattle.odata_http.specs.Device.{CountsFit};
 ghost use Rattle.odata_http.specs.Runs.{course};
 ghost use Rattle.odata_serve.specs.Laws.{Sizes};
-ghost use Rattle.odata_serve.specs.Program.{IsAnswer, IsQuery, loading, request_to};
+ghost use Rattle.odata_serve.specs.Program.{IsAnswer, IsQuery, request_to};
+ghost use Rattle.served_folders.specs.Loads.{loading};
 
-use odata_http::{Counted, RunFault, Sink, Source, run};
-use served_folders::{FolderFault, Folders};
+use odata_http::{Counted, Sink, Source, run};
+use program_ends::{MAX_READS, ProgramFault};
+use served_folders::Folders;
 use std::alloc::{AllocError, Global};
-
-/// The most reads of one stream.
-pub const MAX_READS: u32 = 1_048_576;
 
 /// The numbers of the program: its limits and its exit statuses.
 pub fn sizes()
     ensures { Sizes }
 {}
-
-/// Why the program ended early.
-#[derive(Drop)]
-pub enum ProgramFault {
-    /// The folder gave no catalog.
-    Folder(FolderFault),
-    /// The stream was not answered to its end.
-    Run(RunFault),
-    /// A line of a script, counted from 1, is no command; those before it were run.
-    Script { line: u64 },
-    /// A write of the program's own failed.
-    Device,
-    /// Memory ran out.
-    NoMemory,
-}
-
-impl From<AllocError> for ProgramFault {
-    ghost use Rattle.odata_serve.specs.declared.program.ProgramFault.TheVariants.{NoMemory};
-
-    ghost from_gives = { λ _ fault. fault ≡ NoMemory };
-
-    fn from(_error: AllocError) -> ProgramFault {
-        ProgramFault::NoMemory
-    }
-}
 
 /// Loads the folder of that name, and answers the input's stream over it in the output, in at most [`MAX_READS`] reads.
 pub fn answer<F: Folders, R: Source, W: Sink>(

@@ -1,15 +1,15 @@
 //! The words of the program's command line, read by `clap` as one command with a subcommand for each thing that the program does.
-//! What is read is `clap`'s reading of that command, no more and no less. The arguments that another program over folders has too are public.
-ghost use Rattle.std.specs.Prelude.{◌≡◌, IfOk, IfErr, IfNone, IfSome, codes, map, option_map, false, string_bytes, Some};
-ghost use Rattle.clap.specs.Words.{app_of, first_of, found_of, one_of, rows_of, rule_of, subcommand_rows_of, with_subcommand};
+//! What is read is `clap`'s reading of that command, no more and no less.
+ghost use Rattle.std.specs.Prelude.{◌≡◌, IfOk, IfErr, IfNone, IfSome, false, Some};
+ghost use Rattle.clap.specs.Words.{app_of, found_of, rows_of, rule_of, subcommand_rows_of, with_subcommand};
 ghost use Rattle.clap.specs.declared.Command.TheViews.{out-Command};
-ghost use Rattle.odata_serve.specs.Words.{AreWords, IsTaken, ReadsNumber, Says, SaysNothing, connections_rule, folder_app, folder_and_app, port_rule, program_app, required_rule, serve_app, texts};
+ghost use Rattle.odata_serve.specs.Words.{AreWords, IsTaken, Says, SaysNothing, connections_rule, folder_app, folder_and_app, program_app, serve_app};
+ghost use Rattle.command_words.specs.Words.{texts};
 
 use clap::error::ErrorKind;
 use clap::{Arg, ArgMatches, Command, value_parser};
+use command_words::{number, port, port_option, required, text};
 use std::alloc::{AllocError, Global};
-use std::rt::Env;
-use std::{env, io};
 
 /// What the program is asked to do.
 #[derive(Clone, Copy)]
@@ -60,23 +60,6 @@ impl From<AllocError> for WordsFault {
     fn from(_e: AllocError) -> WordsFault {
         WordsFault::NoMemory
     }
-}
-
-/// An argument that has to be there.
-pub fn required<'a>(alloc: Global, id: &'a str) -> Arg<'a>
-    ensures rule { rule_of result ≡ required_rule id.entry.now }
-    ensures local { result.global ≡ false }
-{
-    Arg::new(alloc, id).required(true)
-}
-
-/// The option `--port P`.
-pub fn port_option<'a>(alloc: Global) -> Arg<'a>
-    ensures rule { rule_of result ≡ port_rule }
-    ensures local { result.global ≡ false }
-{
-    let option = required(alloc, "port").long("port");
-    option.value_parser(value_parser!(u16))
 }
 
 /// The option `--connections N`.
@@ -143,27 +126,6 @@ fn program_command<'a>(alloc: Global) -> Result<Command<'a>, AllocError>
     four.subcommand(serve_command(alloc)?)
 }
 
-/// The text of an argument.
-pub fn text<'a>(matches: &ArgMatches<'a>, id: &str) -> Option<&'a str>
-    ensures { option_map (λ s. s.now) result ≡ first_of id.now (rows_of (found_of matches.now)) }
-{
-    matches.get_str(id)
-}
-
-/// The number behind `--port`.
-pub fn port<'a>(matches: &ArgMatches<'a>) -> Option<u16>
-    ensures { ReadsNumber 16 (one_of (codes "port") (rows_of (found_of matches.now))) result }
-{
-    matches.get_one::<u16>("port")
-}
-
-/// The number of 32 bits behind an option.
-pub fn number<'a>(matches: &ArgMatches<'a>, id: &str) -> Option<u32>
-    ensures { ReadsNumber 32 (one_of id.now (rows_of (found_of matches.now))) result }
-{
-    matches.get_one::<u32>(id)
-}
-
 /// What a subcommand with these arguments asks for.
 #[tactic(auto, using(crate::proofs::Readings::no_connections))]
 fn subcommand_words<'a>(name: &'a str, inner: &ArgMatches<'a>) -> Option<Words<'a>>
@@ -214,26 +176,6 @@ fn matches_words<'a>(matches: &ArgMatches<'a>) -> Option<Words<'a>>
         None => Some(Words::Nothing),
         Some((name, inner)) => subcommand_words(name, inner),
     }
-}
-
-/// The words that the system hands over, the first of which is the program's own name. Which these are no clause says.
-pub fn system_words<R: Env + AllocGlobal>(rt: &R) -> io::Result<Vec<String>> {
-    let mut words = Vec::new(rt.alloc());
-    for word in env::args(rt)? {
-        words.push(word)?;
-    }
-    Ok(words)
-}
-
-/// Words as a line of texts.
-pub fn line_of<'a>(alloc: Global, words: &'a [String]) -> Result<Vec<&'a str>, AllocError>
-    ensures { IfOk result (λ line. texts line.items ≡ map string_bytes words.now) }
-{
-    let mut line = Vec::new(alloc);
-    for word in words {
-        line.push(word.as_str())?;
-    }
-    Ok(line)
 }
 
 /// What the words of the command line ask for, the first of which is the program's own name: `Usage` exactly where `clap` does not take them, or they ask for help.

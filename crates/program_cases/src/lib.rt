@@ -14,4 +14,6 @@ mod devices;
 #[cfg(test)]
 mod folders;
 #[cfg(test)]
+mod rests;
+#[cfg(test)]
 mod sessions;

@@ -13,8 +13,8 @@ use Rattle.row_eval.specs.Outcome.{outcome}
 use Rattle.row_columns.specs.Picked.{numbered}
 use Rattle.row_order.specs.Best.{best_rows, BestInPieces}
 use Rattle.query_plan.specs.Fitting.{NodesFit}
-use Rattle.query_plan.specs.Meaning.{ResultOf}
-use Rattle.query_plan.specs.Order.{Item, are_plain, order_faults, plain_column, rows_cmp, sorted}
+use Rattle.query_meaning.specs.Meaning.{ResultOf}
+use Rattle.query_meaning.specs.Order.{Item, are_plain, order_faults, plain_column, rows_cmp, sorted}
 use Rattle.query_plan.specs.Plan.{NodeOf, aggregating, choosing, filtering, grouping, node_result, nodes_result, projecting, slicing, sorting}
 use Rattle.query_plan.specs.Plan.{node_view}
 use Rattle.query_plan.specs.Push.{room_of}

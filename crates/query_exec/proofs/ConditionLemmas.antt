@@ -4,10 +4,10 @@ use Rattle.std.specs.Prelude.{option_and_then, option_map}
 use Rattle.std.proofs.lemmas.List.{map-append}
 use Rattle.cell_types.specs.Value.{CellValue}
 use Rattle.odata_types.specs.TypedTree.{TruthExprOf}
-use Rattle.query_plan.specs.Filter.{passing}
+use Rattle.query_meaning.specs.Filter.{passing}
 use Rattle.query_plan.specs.Fitting.{NodesFit}
 use Rattle.query_plan.specs.Laws.{NodesInTurn}
-use Rattle.query_plan.specs.Meaning.{ResultOf, selected_names}
+use Rattle.query_meaning.specs.Meaning.{ResultOf, selected_names}
 use Rattle.query_plan.specs.Plan.{NodeOf, nodes_result, select_nodes}
 use Rattle.row_columns.specs.Picked.{values_at}
 use Rattle.block_filter.specs.Conditions.{joined, passing_all}

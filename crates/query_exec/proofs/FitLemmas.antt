@@ -9,9 +9,10 @@ use Rattle.odata_types.specs.TypedTree.{TruthExprOf}
 use Rattle.table_store.specs.Fits.{HasTableRows, IsTableRow}
 use Rattle.table_store.specs.Table.{TableOf}
 use Rattle.row_columns.specs.Kinds.{kinds_of}
-use Rattle.query_plan.specs.Fitting.{AreTableRows, IsFitFor, NodesFit}
+use Rattle.query_plan.specs.Fitting.{IsFitFor, NodesFit}
+use Rattle.query_meaning.specs.Fitting.{AreTableRows}
 use Rattle.query_plan.specs.Laws.{NodesInTurn}
-use Rattle.query_plan.specs.Meaning.{table_names}
+use Rattle.query_meaning.specs.Meaning.{table_names}
 use Rattle.query_plan.specs.Plan.{NodeOf, PlanOf, select_nodes, table_result}
 use Rattle.query_exec.specs.declared.run.Run.{Run}
 use Rattle.block_filter.specs.Conditions.{ConditionsFit, ConditionsInTurn}

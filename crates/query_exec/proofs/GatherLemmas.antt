@@ -8,9 +8,10 @@ use Rattle.block_summary.specs.Blocks.{block_at}
 use Rattle.cell_types.specs.Value.{CellValue}
 use Rattle.csvw_meta.specs.Schema.{SchemaOf}
 use Rattle.row_eval.specs.Input.{IsTableRow}
-use Rattle.query_plan.specs.Fitting.{AreTableRows, NodesFit}
+use Rattle.query_plan.specs.Fitting.{NodesFit}
+use Rattle.query_meaning.specs.Fitting.{AreTableRows}
 use Rattle.query_plan.specs.Laws.{ScansReadTableRows}
-use Rattle.query_plan.specs.Meaning.{ResultOf}
+use Rattle.query_meaning.specs.Meaning.{ResultOf}
 use Rattle.query_plan.specs.Plan.{NodeOf, PlanOf, aggregating, choosing, filtering, grouping, leading, needed, node_result, node_view, projecting, slicing, sorting}
 use Rattle.query_plan.specs.Scan.{rows_of_blocks}
 use Rattle.row_columns.specs.Picked.{numbered}

@@ -10,7 +10,7 @@ use Rattle.block_summary.specs.Cells.{cell}
 use Rattle.block_summary.specs.Types.{cell_of}
 use Rattle.block_summary.specs.declared.number.PackedType.{PackedType}
 use Rattle.cell_types.specs.Value.{CellValue, null}
-use Rattle.query_plan.specs.Order.{Item, are_plain, rows_cmp, sorted}
+use Rattle.query_meaning.specs.Order.{Item, are_plain, rows_cmp, sorted}
 use Rattle.query_plan.specs.Plan.{choosing, node_view}
 use Rattle.query_plan.specs.declared.plan.Node.{Node}
 use Rattle.row_columns.specs.Picked.{numbered, values_at}

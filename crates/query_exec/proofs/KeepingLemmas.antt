@@ -13,8 +13,8 @@ use Rattle.block_filter.specs.Passing.{unless_faulted, ArePassing}
 use Rattle.query_exec.specs.Taking.{room_behind, HasKept, HasTaken, IsSpare, LooksOn, MayCount}
 use Rattle.query_exec.specs.Useful.{useful}
 use Rattle.block_filter.specs.Conditions.{joined, passing_all}
-use Rattle.query_plan.specs.Meaning.{first_rows}
-use Rattle.query_plan.specs.Scan.{passes_each}
+use Rattle.query_meaning.specs.Meaning.{first_rows}
+use Rattle.query_meaning.specs.Filter.{passes_each}
 use Rattle.query_exec.proofs.PieceLemmas.{first_selected}
 
 looks_on : (old new : Run) (most : Option ℕ) (rows : List (List CellValue)) (found : Passed) → ArePassing (conditions_of old) most rows found

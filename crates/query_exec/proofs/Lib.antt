@@ -1,6 +1,5 @@
 pub mod ConditionLemmas
 pub mod CountLemmas
-pub mod RowLemmas
 pub mod PieceLemmas
 pub mod KeepingLemmas
 pub mod InTimeLemmas

@@ -4,9 +4,9 @@ use Rattle.std.specs.Prelude.{Err, IsErrAnd, Ok, Result, option_and_then, slice_
 use Rattle.std.proofs.lemmas.List.{length-append, length-map, take_all}
 use Rattle.cell_types.specs.Value.{CellValue}
 use Rattle.odata_query.specs.Aggregate.{NamedAggregateOf}
-use Rattle.query_plan.specs.Apply.{computed_values, names_at}
+use Rattle.query_meaning.specs.Apply.{computed_values, names_at}
 use Rattle.query_plan.specs.Fitting.{NodesFit}
-use Rattle.query_plan.specs.Meaning.{ResultOf}
+use Rattle.query_meaning.specs.Meaning.{ResultOf}
 use Rattle.query_plan.specs.Plan.{NodeOf, aggregating, choosing, filtering, grouping, node_result, node_view, nodes_result, projecting, slicing, sorting}
 use Rattle.query_plan.specs.declared.plan.Node.{Node}
 use Rattle.query_plan.specs.declared.plan.Node.TheVariants as variants
@@ -21,7 +21,7 @@ use Rattle.query_exec.specs.declared.run.Run.{Run}
 use Rattle.query_exec.specs.Gathers.{behind, uncounted, GathersFor, GivesOfGathered, IsMade, MayBeMade}
 use Rattle.query_exec.specs.declared.fault.ExecFault.{ExecFault}
 use Rattle.query_exec.specs.Fault.{exec_fault}
-use Rattle.query_exec.specs.Rows.{RowsOf}
+use Rattle.query_rows.specs.Rows.{RowsOf}
 use Rattle.query_exec.specs.Run.{kept_result, steps_of, wanted_block, GoesOn, IsKeptAnswer, IsReady}
 use Rattle.query_exec.specs.Underway.{underway_view, GivesUnderway, IsUnderway, Makes}
 use Rattle.query_exec.specs.Useful.{first_result, steps_result, StepsFit}

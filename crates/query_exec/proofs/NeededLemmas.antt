@@ -11,7 +11,8 @@ use Rattle.odata_types.specs.TypedTree.{TruthExprOf}
 use Rattle.table_store.specs.Block.{block_of}
 use Rattle.table_store.specs.Table.{TableOf}
 use Rattle.query_plan.specs.Plan.{PlanOf, needed}
-use Rattle.query_plan.specs.Scan.{passes_each, reached, rows_of_blocks, up_to}
+use Rattle.query_plan.specs.Scan.{reached, rows_of_blocks, up_to}
+use Rattle.query_meaning.specs.Filter.{passes_each}
 use Rattle.query_exec.specs.Run.{handed_block, handed_rows, next_block, wanted}
 use Rattle.query_exec.specs.Taking.{room_behind}
 

@@ -6,7 +6,7 @@ use Rattle.std.proofs.lemmas.List.{drop-take, drop_min, length-drop, take-map, t
 use Rattle.std.proofs.Math.Nat.{min-le_right}
 use Rattle.cell_types.specs.Value.{CellValue}
 use Rattle.row_columns.specs.Picked.{numbered, values_at}
-use Rattle.query_plan.specs.Meaning.{ResultOf, first_rows}
+use Rattle.query_meaning.specs.Meaning.{ResultOf, first_rows}
 use Rattle.query_plan.specs.Plan.{SliceOf, node_result, node_view, slicing}
 use Rattle.query_plan.specs.Push.{room_of}
 use Rattle.query_plan.specs.declared.plan.Node.{Node}

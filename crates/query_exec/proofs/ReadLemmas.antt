@@ -10,11 +10,13 @@ use Rattle.odata_query.specs.Query.{optional_numbers}
 use Rattle.odata_types.specs.TypedTree.{boxed_truth, TruthExprOf}
 use Rattle.table_store.specs.Block.{block_of}
 use Rattle.table_store.specs.Table.{TableOf}
-use Rattle.query_plan.specs.Fitting.{AreTableRows, IsFitFor, NodesFit}
+use Rattle.query_plan.specs.Fitting.{IsFitFor, NodesFit}
+use Rattle.query_meaning.specs.Fitting.{AreTableRows}
 use Rattle.query_plan.specs.Laws.{NodesInTurn, ScansReadTableRows}
-use Rattle.query_plan.specs.Meaning.{ResultOf, selected_names, table_names}
+use Rattle.query_meaning.specs.Meaning.{ResultOf, selected_names, table_names}
 use Rattle.query_plan.specs.Plan.{NodeOf, PlanOf, leading, needed, node_view, nodes_result, select_nodes, table_result}
-use Rattle.query_plan.specs.Scan.{passes_each, rows_of_blocks, up_to}
+use Rattle.query_plan.specs.Scan.{rows_of_blocks, up_to}
+use Rattle.query_meaning.specs.Filter.{passes_each}
 use Rattle.row_order.specs.Best.{BestInPieces}
 use Rattle.row_columns.specs.Kinds.{any, kinds_of, KindOf}
 use Rattle.query_exec.specs.declared.run.Run.{Run}

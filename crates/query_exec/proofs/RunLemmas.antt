@@ -9,16 +9,16 @@ use Rattle.std.proofs.lemmas.Option.{slice_get_within}
 use Rattle.table_store.specs.Table.{TableOf}
 use Rattle.query_plan.specs.Fitting.{NodesFit}
 use Rattle.query_plan.specs.Laws.{NodesInTurn, ScansReadTableRows}
-use Rattle.query_plan.specs.Meaning.{selected_names, table_names}
+use Rattle.query_meaning.specs.Meaning.{selected_names, table_names}
 use Rattle.query_plan.specs.Plan.{PlanOf, needed, select_nodes, table_result}
-use Rattle.query_plan.specs.Scan.{passes_each}
+use Rattle.query_meaning.specs.Filter.{passes_each}
 use Rattle.row_order.specs.Best.{BestInPieces}
 use Rattle.query_exec.specs.declared.fault.ExecFault.{ExecFault}
 use Rattle.query_exec.specs.declared.fault.ExecFault.TheVariants.{DivisionByZero, NoMemory, Failed}
 use Rattle.query_exec.specs.declared.run.Run.{Run}
 use Rattle.block_filter.specs.Conditions.{joined, passing_all, ConditionsInTurn}
 use Rattle.query_exec.specs.Conditions.{condition_nodes}
-use Rattle.query_exec.specs.Rows.{RowsOf}
+use Rattle.query_rows.specs.Rows.{RowsOf}
 use Rattle.query_exec.specs.Picked.{selected_rows}
 use Rattle.query_exec.specs.Run.{conditions_of, handed_block, handed_rows, next_block, places_of, rows_so_far, run_length, steps_of, wanted_block, GoesOn, IsReady, StandsFor, StepsTo}
 use Rattle.query_exec.specs.Gathers.{behind, GathersFor, MayGather}

@@ -10,9 +10,9 @@ use Rattle.row_eval.specs.declared.fault.EvalFault.TheVariants.{DivisionByZero, 
 use Rattle.odata_query.specs.declared.aggregate.Aggregate.{Aggregate}
 use Rattle.odata_query.specs.declared.aggregate.Aggregate.TheVariants.{Count, SumOfIntegers, SumOfDecimals, Min, Max, CountDistinct}
 use Rattle.odata_query.specs.Aggregate.{NamedAggregateOf}
-use Rattle.query_plan.specs.Apply.{names_at}
+use Rattle.query_meaning.specs.Apply.{names_at}
 use Rattle.query_plan.specs.Fitting.{AggregateFits, IsFitNode, NodesFit}
-use Rattle.query_plan.specs.Meaning.{ResultOf}
+use Rattle.query_meaning.specs.Meaning.{ResultOf}
 use Rattle.query_plan.specs.Plan.{node_result, node_view, nodes_result}
 use Rattle.query_plan.specs.declared.plan.Node.{Node}
 use Rattle.row_columns.specs.Picked.{numbered}

@@ -2,7 +2,7 @@
 use Rattle.std.specs.Prelude.{◌≡◌, ◌++◌, ℕ, false, Option, Some, None, Result, List, [], ◌∷◌, length, option_map}
 use Rattle.cell_types.specs.Value.{CellValue}
 use Rattle.query_plan.specs.Fitting.{IsFitNode}
-use Rattle.query_plan.specs.Meaning.{ResultOf}
+use Rattle.query_meaning.specs.Meaning.{ResultOf}
 use Rattle.query_plan.specs.Plan.{NodeOf, aggregating, grouping, node_result}
 use Rattle.row_eval.specs.declared.fault.EvalFault.{EvalFault}
 use Rattle.row_groups.specs.declared.gathering.Gathering.{Gathering}

@@ -1,13 +1,11 @@
 pub use Rattle.table_store.specs.Table
 pub use Rattle.table_store.specs.Block
 pub use Rattle.query_plan.specs.Fitting
-pub use Rattle.query_plan.specs.Meaning
+pub use Rattle.query_meaning.specs.Meaning
 pub use Rattle.query_plan.specs.Plan as Plans
 pub use Rattle.block_filter.specs.Passing
 pub use Rattle.block_filter.specs.Conditions as Filters
 pub mod Fault
-pub mod Rows
-pub mod Inside
 pub mod Answer
 pub mod Conditions
 pub mod Picked

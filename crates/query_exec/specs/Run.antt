@@ -7,10 +7,12 @@ use Rattle.odata_types.specs.TypedTree.{TruthExprOf, boxed_truth}
 use Rattle.table_store.specs.Block.{block_of}
 use Rattle.table_store.specs.Table.{TableOf}
 use Rattle.row_columns.specs.Kinds.{kinds_of}
-use Rattle.query_plan.specs.Fitting.{AreTableRows, IsFitFor}
-use Rattle.query_plan.specs.Meaning.{ResultOf, selected_names, table_names}
+use Rattle.query_plan.specs.Fitting.{IsFitFor}
+use Rattle.query_meaning.specs.Fitting.{AreTableRows}
+use Rattle.query_meaning.specs.Meaning.{ResultOf, selected_names, table_names}
 use Rattle.query_plan.specs.Plan.{NodeOf, PlanOf, leading, needed, node_view, select_nodes}
-use Rattle.query_plan.specs.Scan.{passes_each, rows_of_blocks, up_to}
+use Rattle.query_plan.specs.Scan.{rows_of_blocks, up_to}
+use Rattle.query_meaning.specs.Filter.{passes_each}
 use Rattle.query_exec.specs.declared.fault.ExecFault.{ExecFault}
 use Rattle.query_exec.specs.declared.fault.ExecFault.TheVariants.{DivisionByZero, NoMemory, Failed}
 use Rattle.query_exec.specs.declared.run.Run.{Run}
@@ -22,7 +24,7 @@ use Rattle.block_filter.specs.Conditions.{passing_all}
 use Rattle.query_exec.specs.Conditions.{condition_nodes}
 use Rattle.query_exec.specs.Gathers.{behind, IsGathered}
 use Rattle.query_exec.specs.Picked.{selected_kinds, selected_rows}
-use Rattle.query_exec.specs.Rows.{RowsOf}
+use Rattle.query_rows.specs.Rows.{RowsOf}
 use Rattle.query_exec.specs.Useful.{steps_result, useful, StepsFit}
 
 -- the number of the block that is needed behind those that were handed in, where there is one

@@ -5,8 +5,8 @@ use Rattle.cell_types.specs.Value.{CellValue}
 use Rattle.row_columns.specs.Kinds.{kinds_of}
 use Rattle.row_columns.specs.Picked.{numbered}
 use Rattle.table_store.specs.Table.{TableOf}
-use Rattle.query_plan.specs.Meaning.{first_rows}
-use Rattle.query_plan.specs.Scan.{passes_each}
+use Rattle.query_meaning.specs.Meaning.{first_rows}
+use Rattle.query_meaning.specs.Filter.{passes_each}
 use Rattle.query_exec.specs.declared.run.Run.{Run}
 use Rattle.block_filter.specs.Conditions.{joined, passing_all}
 use Rattle.query_exec.specs.Gathers.{behind, GathersFor, KeepsNone}

@@ -5,7 +5,7 @@ use Rattle.cell_types.specs.Value.{CellValue}
 use Rattle.row_columns.specs.Picked.{numbered}
 use Rattle.row_eval.specs.declared.fault.EvalFault.{EvalFault}
 use Rattle.row_eval.specs.declared.fault.EvalFault.TheVariants.{DivisionByZero, NoMemory}
-use Rattle.query_plan.specs.Meaning.{ResultOf, first_rows}
+use Rattle.query_meaning.specs.Meaning.{ResultOf, first_rows}
 use Rattle.query_plan.specs.Plan.{SliceOf}
 use Rattle.query_exec.specs.declared.underway.Underway.{Underway}
 

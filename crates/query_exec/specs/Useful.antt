@@ -2,8 +2,8 @@
 use Rattle.std.specs.Prelude.{◌≡◌, ℕ, false, List, [], ◌∷◌, Option, Some, drop, option_and_then, take, if◌then◌else◌}
 use Rattle.cell_types.specs.Value.{CellValue}
 use Rattle.query_plan.specs.Fitting.{IsFitNode, NodesFit}
-use Rattle.query_plan.specs.Order.{are_plain, rows_cmp, sorted}
-use Rattle.query_plan.specs.Meaning.{ResultOf, first_rows}
+use Rattle.query_meaning.specs.Order.{are_plain, rows_cmp, sorted}
+use Rattle.query_meaning.specs.Meaning.{ResultOf, first_rows}
 use Rattle.query_plan.specs.Plan.{NodeOf, SliceOf, choosing, node_result, nodes_result, slicing}
 use Rattle.query_plan.specs.Push.{room_of}
 

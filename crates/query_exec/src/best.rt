@@ -2,7 +2,7 @@
 ghost use Rattle.std.specs.Prelude.{◌≡◌, IfOk, OnOk, map, take, true};
 ghost use Rattle.std.specs.List.{All};
 ghost use Rattle.odata_query.specs.Query.{order_view};
-ghost use Rattle.query_plan.specs.Order.{are_plain, rows_cmp, sorted};
+ghost use Rattle.query_meaning.specs.Order.{are_plain, rows_cmp, sorted};
 ghost use Rattle.block_filter.specs.Conditions.{ConditionsFit};
 ghost use Rattle.query_exec.specs.Gathers.{MayGather};
 ghost use Rattle.query_exec.specs.Run.{conditions_of, rows_so_far, steps_of};

@@ -4,11 +4,12 @@ ghost use Rattle.odata_query.specs.Aggregate.{named_view};
 ghost use Rattle.query_plan.specs.Plan.{node_view};
 ghost use Rattle.query_exec.specs.Gathers.{GathersFor, GivesOfGathered, IsMade, KeepsNone, MakesOfGathered, MayBeFirst, MayBeMade};
 
-use crate::names::{picked_names, push_aliases};
+use crate::names::push_aliases;
 use crate::steps::{apply_all, apply_to_all};
 use crate::underway::Underway;
 use odata_query::NamedAggregate;
 use query_plan::Node;
+use query_rows::picked_names;
 use row_columns::Columns;
 use row_eval::EvalFault;
 use row_groups::Gathering;

@@ -9,12 +9,11 @@ mod gathers;
 mod in_time;
 mod names;
 mod parts;
-mod rows;
 mod run;
 mod steps;
 mod taking;
 mod underway;
 
 pub use fault::ExecFault;
-pub use rows::Rows;
+pub use query_rows::Rows;
 pub use run::{Run, Step};

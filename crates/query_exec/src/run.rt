@@ -6,7 +6,7 @@ ghost use Rattle.table_store.specs.Summaries.{AreSummariesOf};
 ghost use Rattle.table_store.specs.Table.{TableOf};
 ghost use Rattle.query_plan.specs.Fitting.{IsFitFor};
 ghost use Rattle.query_plan.specs.Plan.{plan_view, PlanOf};
-ghost use Rattle.query_exec.specs.Rows.{RowsOf};
+ghost use Rattle.query_rows.specs.Rows.{RowsOf};
 ghost use Rattle.query_exec.specs.declared.fault.ExecFault.TheVariants.{NoMemory, Failed};
 ghost use Rattle.query_exec.specs.declared.run.Step.TheVariants.{Done};
 ghost use Rattle.query_exec.specs.Run.{handed_block, next_block, AdvancesTo, Gives, GoesOn, HasFailed, IsAwaited, IsDone, IsReady, MayBeHanded, StandsFor, StepsTo, wanted_block};
@@ -15,12 +15,12 @@ use crate::admitted::admitted;
 use crate::fault::ExecFault;
 use crate::gathers::{gathering_of, made_of};
 use crate::parts::{Parts, kept_columns, kept_names, split};
-use crate::rows::Rows;
 use block_filter::{Lanes, conditions_in_turn};
 use block_summary::{Summary, one_range};
 use csvw_meta::Schema;
 use odata_types::TruthExpr;
 use query_plan::{Node, Plan, nodes_in_turn, scans_read_table_rows};
+use query_rows::Rows;
 use row_columns::Columns;
 use row_groups::Gathering;
 use row_order::best_in_pieces;
@@ -98,11 +98,7 @@ impl Run {
         let names = mem::replace(&mut self.names, Vec::new(alloc));
         let kept = mem::replace(&mut self.kept, Columns::none(alloc));
         if self.steps.is_empty() {
-            return Ok(Some(Rows {
-                names,
-                columns: kept,
-                count: None,
-            }));
+            return Ok(Some(Rows::new(names, kept, None)));
         }
         let gathering = self.gathering.take();
         let made = made_of(alloc, &self.steps, names, kept, gathering, self.count)?;

@@ -9,10 +9,11 @@ ghost use Rattle.query_exec.specs.Gathers.{uncounted};
 ghost use Rattle.query_exec.specs.Underway.{underway_view, AreOfPiece, GivesUnderway, IsUnderway, Makes};
 ghost use Rattle.query_exec.specs.Useful.{first_result, piece_of_kept, steps_result, StepsFit};
 
-use crate::names::{picked_names, push_aliases};
+use crate::names::push_aliases;
 use crate::underway::{Underway, numbers_between};
 use odata_query::{NamedAggregate, OrderBy};
 use query_plan::{Node, Slice};
+use query_rows::picked_names;
 use row_columns::Columns;
 use row_eval::EvalFault;
 use row_groups::gathered;

@@ -2,6 +2,7 @@
 ghost use Rattle.std.specs.Prelude.{◌≡◌, ◌≤◌, IfOk, IsTrue, length, map, string_bytes};
 ghost use Rattle.query_exec.specs.Underway.{underway_view, AreAll, AreBetween, IsUnderway};
 
+use query_rows::Rows;
 use row_columns::Columns;
 use std::alloc::{AllocError, Global};
 
@@ -73,5 +74,23 @@ impl Underway {
             numbers,
             count,
         })
+    }
+
+    /// The rows in columns of their own.
+    pub(crate) fn into_rows(self, alloc: Global) -> Result<Rows, AllocError>
+        requires { IsUnderway self }
+        ensures { IfOk result (λ rows. rows ≡ underway_view self) }
+    {
+        let Underway {
+            names,
+            columns,
+            numbers,
+            count,
+        } = self;
+        if are_all(&numbers, columns.len()) {
+            return Ok(Rows::new(names, columns, count));
+        }
+        let columns = columns.in_order(alloc, &numbers)?;
+        Ok(Rows::new(names, columns, count))
     }
 }

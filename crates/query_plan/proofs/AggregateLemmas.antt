@@ -23,9 +23,10 @@ use Rattle.odata_query.specs.Apply.{computed_typing, free_typing, has_alias, ite
 use Rattle.odata_query.specs.Selection.{has_name}
 use Rattle.row_eval.specs.Input.{IsOfType, IsRowOf}
 use Rattle.row_eval.specs.Row.{cell, decimal_in, integer_in}
-use Rattle.query_plan.specs.Apply.{computed_value, computed_values, values_in}
-use Rattle.query_plan.specs.Fitting.{AggregateFits, AreSummable}
-use Rattle.query_plan.specs.Meaning.{ResultOf}
+use Rattle.query_meaning.specs.Apply.{computed_value, computed_values, values_in}
+use Rattle.query_plan.specs.Fitting.{AggregateFits}
+use Rattle.query_meaning.specs.Fitting.{AreSummable}
+use Rattle.query_meaning.specs.Meaning.{ResultOf}
 use Rattle.query_plan.proofs.TypingLemmas.{Told, told_then, told_within}
 use Rattle.query_plan.proofs.ValueLemmas.{AtMost, decimal_sum_fits, decimals_within, distinct_few, filter_map_length, greatest_fits, integer_sum_fits, integers_within, least_fits, numbers_within, values_fit}
 

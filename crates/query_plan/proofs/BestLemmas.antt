@@ -4,8 +4,8 @@ use Rattle.std.specs.Prelude.{drop, nat_lt, option_and_then, option_map, take}
 use Rattle.std.proofs.lemmas.List.{drop-take, take-take}
 use Rattle.cell_types.specs.Value.{CellValue}
 use Rattle.query_plan.specs.Fitting.{NodesFit}
-use Rattle.query_plan.specs.Meaning.{ResultOf}
-use Rattle.query_plan.specs.Order.{Item, ordered}
+use Rattle.query_meaning.specs.Meaning.{ResultOf}
+use Rattle.query_meaning.specs.Order.{Item, ordered}
 use Rattle.query_plan.specs.Plan.{NodeOf, SliceOf, node_result, nodes_result, slicing, sorting}
 use Rattle.query_plan.specs.Rewrite.{best_nodes, chosen, room_of, rows_needed}
 use Rattle.query_plan.proofs.MeaningLemmas.{under}

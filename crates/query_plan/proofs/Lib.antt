@@ -1,11 +1,7 @@
-pub mod FilterLemmas
+pub mod ListLemmas
 pub mod ScanLemmas
 pub mod PlanLemmas
 pub mod MeaningLemmas
-pub mod SortLemmas
-pub mod OrderLemmas
-pub mod GroupLemmas
-pub mod ComputedLemmas
 pub mod ResultLemmas
 pub mod ValueLemmas
 pub mod TypingLemmas

@@ -11,14 +11,14 @@ use Rattle.csvw_meta.specs.Schema.{SchemaOf}
 use Rattle.odata_types.specs.TypedTree.{TruthExprOf}
 use Rattle.odata_query.specs.Aggregate.{TypedTransformationOf, filter_rows, aggregate_rows, group_rows}
 use Rattle.odata_query.specs.Query.{TypedOf}
-use Rattle.query_plan.specs.Apply.{applied, applied_names, transformed, transformed_names, values_at}
-use Rattle.query_plan.specs.Filter.{passing}
-use Rattle.query_plan.specs.Meaning.{ResultOf, asked_count, first_rows, keyed_meaning, kept_rows, number, piece, result, rows_meaning, selected_names, selected_values, table_names}
-use Rattle.query_plan.specs.Order.{Item, order_faults, ordered, placed, rows_cmp, sorted}
+use Rattle.query_meaning.specs.Apply.{applied, applied_names, transformed, transformed_names, values_at}
+use Rattle.query_meaning.specs.Filter.{passing}
+use Rattle.query_meaning.specs.Meaning.{ResultOf, asked_count, first_rows, keyed_meaning, kept_rows, number, piece, result, rows_meaning, selected_names, selected_values, table_names}
+use Rattle.query_meaning.specs.Order.{Item, order_faults, ordered, placed, rows_cmp, sorted}
 use Rattle.query_plan.specs.Plan.{Means, NodeOf, PlanOf, answer_of, apply_nodes, asked_slice, count_nodes, filter_nodes, naive_plan, node_result, nodes_result, order_nodes, leading, piece_nodes, select_nodes, slice_nodes, table_result, transformation_node}
-use Rattle.query_plan.specs.Query.{filtered}
+use Rattle.query_meaning.specs.Query.{filtered}
 use Rattle.query_plan.specs.Scan.{ScanOf}
-use Rattle.query_plan.proofs.FilterLemmas.{some_if}
+use Rattle.query_plan.proofs.ListLemmas.{some_if}
 use Rattle.query_plan.proofs.PlanLemmas.{turn}
 use Rattle.query_plan.proofs.ScanLemmas.{bare_rows}
 

@@ -12,11 +12,11 @@ use Rattle.odata_query.specs.declared.aggregate.Aggregate.TheVariants.{Count, Su
 use Rattle.odata_query.specs.Aggregate.{NamedAggregateOf}
 use Rattle.row_eval.specs.Bounds.{NumbersFit}
 use Rattle.row_eval.specs.Row.{decimal_in, integer_in}
-use Rattle.query_plan.specs.Apply.{names_at}
+use Rattle.query_meaning.specs.Apply.{names_at}
 use Rattle.query_plan.specs.Fitting.{AggregateFits, AreFitItems, NodesFit}
-use Rattle.query_plan.specs.Meaning.{ResultOf}
+use Rattle.query_meaning.specs.Meaning.{ResultOf}
 use Rattle.query_plan.specs.Narrow.{aggregate_column, aggregate_columns, item_columns, leading_filters, moved_to, named_columns, narrowed, narrowed_nodes, place_in, renumbered, renumbered_aggregate, renumbered_expression, renumbered_item, renumbered_named, selected_first, with_columns}
-use Rattle.query_plan.specs.Order.{Item, plain_column, rows_cmp, sorted}
+use Rattle.query_meaning.specs.Order.{Item, plain_column, rows_cmp, sorted}
 use Rattle.query_plan.specs.Plan.{NodeOf, aggregating, choosing, filtering, grouping, node_result, nodes_result, projecting, slicing, sorting}
 use Rattle.query_plan.proofs.BestLemmas.{then_same}
 use Rattle.query_plan.proofs.MeaningLemmas.{under}

@@ -7,10 +7,10 @@ use Rattle.std.proofs.lemmas.List.{drop-map, length-map, take-map}
 use Rattle.std.proofs.lemmas.List.Folds.{list_any-append}
 use Rattle.cell_types.specs.Value.{CellValue}
 use Rattle.odata_query.specs.Aggregate.{NamedAggregateOf}
-use Rattle.query_plan.specs.Apply.{names_at, values_at}
-use Rattle.query_plan.specs.Meaning.{ResultOf, first_rows}
+use Rattle.query_meaning.specs.Apply.{names_at, values_at}
+use Rattle.query_meaning.specs.Meaning.{ResultOf, first_rows}
 use Rattle.query_plan.specs.Narrow.{aggregate_columns, item_columns, named_columns, node_columns, place_in, renumbered, renumbered_item, renumbered_named, with_column, with_columns}
-use Rattle.query_plan.specs.Order.{Item, plain_column, rows_cmp, sorted}
+use Rattle.query_meaning.specs.Order.{Item, plain_column, rows_cmp, sorted}
 use Rattle.query_plan.specs.Plan.{NodeOf, SliceOf, aggregating, choosing, counted, filtering, grouping, node_result, nodes_result, projecting, slicing, sorting}
 use Rattle.query_plan.proofs.MeaningLemmas.{under}
 use Rattle.query_plan.proofs.RenumberLemmas.{AreNamed, ArePlain, IsNamed, all_computed, grouped_same, narrow_row, ordered_narrowed, ordered_plain, plain_items, same_aliases, same_names, same_places, map_after}

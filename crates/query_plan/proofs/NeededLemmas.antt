@@ -17,10 +17,11 @@ use Rattle.odata_query.specs.Query.{TypedOf}
 use Rattle.query_plan.specs.Laws.{NeededBlocksAreRead, PlansNeedBlocks}
 use Rattle.query_plan.specs.Narrow.{narrowed_nodes}
 use Rattle.query_plan.specs.Needed.{conditions_can_fault, conditions_of, gives_first_rows, is_filter, last_row, row_conditions}
-use Rattle.query_plan.specs.Order.{Item}
+use Rattle.query_meaning.specs.Order.{Item}
 use Rattle.query_plan.specs.Plan.{NodeOf, PlanOf, apply_nodes, asked_slice, count_nodes, filter_nodes, leading, naive_plan, needed, order_nodes, select_nodes, slice_nodes}
 use Rattle.query_plan.specs.Push.{conjuncts, early_stop, pushed, pushed_down, rewritten, room_of, split_nodes}
-use Rattle.query_plan.specs.Scan.{admits_all, admitted_blocks, block_numbers, passes_each, reached, read_blocks, rows_of_blocks, up_to}
+use Rattle.query_plan.specs.Scan.{admits_all, admitted_blocks, block_numbers, reached, read_blocks, rows_of_blocks, up_to}
+use Rattle.query_meaning.specs.Filter.{passes_each}
 use Rattle.query_plan.specs.Tests.{test_of}
 use Rattle.query_plan.proofs.MeaningLemmas.{last_nodes}
 use Rattle.query_plan.proofs.PushLemmas.{leading-split, passes-split}

@@ -30,7 +30,7 @@ use Rattle.odata_types.specs.Columns.{InputOf}
 use Rattle.odata_types.specs.Result.{◌>>=◌}
 use Rattle.odata_types.specs.TypedTree.{TypedExprOf, DecimalExprOf, IntegerExprOf, TextExprOf, TruthExprOf, compare_dates, compare_decimals, compare_integers, compare_texts, compare_truths, date, date_in, decimal, decimal_in, decimal_literal, decimal_sum, decimal_difference, arithmetic, integer, integer_in, integer_literal, length_of, negation, nothing, part_of, text, text_in, truth, truth_in}
 use Rattle.odata_types.specs.Typing.{Typing, arithmetic_as, as_date, as_decimal, as_integer, as_text, as_truth, binary_call_typing, binary_typing, column_at, column_expr, common_type, comparison_as, date_item, decimal_items, decimals_typing, computed_size, fits, in_typing, integer_item, integers_typing, is_small, list_as, list_in_type, list_type, literal_type, literal_typing, logic_expr, part_typing, place_of, text_call, text_item, truth_item, type_of, typing, unary_call_typing, unary_typing, within}
-use Rattle.query_plan.specs.Order.{plain_column}
+use Rattle.query_meaning.specs.Order.{plain_column}
 use Rattle.query_plan.proofs.AggregateLemmas.{place_below}
 use Rattle.query_plan.proofs.TypingLemmas.{Told, told_any, told_then, told_within}
 

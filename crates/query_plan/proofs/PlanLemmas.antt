@@ -2,7 +2,7 @@
 use Rattle.std.proofs.Common.{◌≡◌, Option, Some, None, List, [], ◌∷◌, ◌++◌, refl, ap, ◌∙◌, subst}
 use Rattle.std.specs.Prelude.{option_and_then}
 use Rattle.query_plan.specs.Fitting.{NodesFit}
-use Rattle.query_plan.specs.Meaning.{ResultOf}
+use Rattle.query_meaning.specs.Meaning.{ResultOf}
 use Rattle.query_plan.specs.Plan.{node_result, nodes_result, NodeOf}
 
 inside : (below above : List NodeOf) (o : Option ResultOf) → ((r : ResultOf) → nodes_result (below ++ above) r ≡ option_and_then (nodes_result above) (nodes_result below r))

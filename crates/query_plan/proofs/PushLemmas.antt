@@ -12,10 +12,9 @@ use Rattle.row_eval.specs.declared.truth.Truth.TheVariants.{False, Null, True}
 use Rattle.row_eval.specs.Laws.{FaultsAreForeseen}
 use Rattle.row_eval.specs.Logic.{and_then}
 use Rattle.row_eval.specs.Outcome.{truth_outcome}
-use Rattle.query_plan.specs.Filter.{faults, is_true, passes, passing}
+use Rattle.query_meaning.specs.Filter.{faults, is_true, passes, passing, passes_each}
 use Rattle.query_plan.specs.Plan.{NodeOf, filtering, leading, nodes_result}
 use Rattle.query_plan.specs.Push.{conjuncts, split_nodes}
-use Rattle.query_plan.specs.Scan.{passes_each}
 use Rattle.query_plan.proofs.MeaningLemmas.{under}
 
 abbrev pub Row : Type 0

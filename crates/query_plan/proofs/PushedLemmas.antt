@@ -14,13 +14,15 @@ use Rattle.query_plan.specs.Laws.{UnadmittedBlocksPassNone}
 use Rattle.query_plan.specs.Tests.{test_of}
 use Rattle.query_plan.specs.Types.{IsTruthOver, IsTypedPlan}
 use Rattle.query_plan.proofs.TestedLemmas.{over_split, same_admitted}
-use Rattle.query_plan.specs.Meaning.{ResultOf, table_names}
+use Rattle.query_meaning.specs.Meaning.{ResultOf, table_names}
 use Rattle.query_plan.specs.Plan.{NodeOf, PlanOf, leading, nodes_result, table_result}
-use Rattle.query_plan.specs.Fitting.{AreTableRows, IsFitFor}
+use Rattle.query_plan.specs.Fitting.{IsFitFor}
+use Rattle.query_meaning.specs.Fitting.{AreTableRows}
 use Rattle.query_plan.specs.Narrow.{narrowed_nodes}
 use Rattle.query_plan.specs.Push.{early_stop, may_be_pushed, pushed, pushed_down, rewritten, split_nodes}
 use Rattle.query_plan.specs.Rewrite.{MeansTheSame, best_nodes, narrowed_plan}
-use Rattle.query_plan.specs.Scan.{ScanOf, TestOf, admitted_blocks, bare, block_numbers, is_bare, passes_each, read_blocks, rows_of_blocks, up_to}
+use Rattle.query_plan.specs.Scan.{ScanOf, TestOf, admitted_blocks, bare, block_numbers, is_bare, read_blocks, rows_of_blocks, up_to}
+use Rattle.query_meaning.specs.Filter.{passes_each}
 use Rattle.query_plan.proofs.BestLemmas.{best_fit, best_result}
 use Rattle.query_plan.proofs.NarrowFitLemmas.{narrowed_fits, narrowed_means}
 use Rattle.query_plan.proofs.RewriteLemmas.{leading_best, leading_narrowed, same_steps}

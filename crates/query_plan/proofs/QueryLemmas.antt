@@ -2,11 +2,12 @@
 use Rattle.std.proofs.Common.{◌≡◌, inl, inr, ℕ, zero, ◌+◌, ◌<◌, ◌≤◌, Bool, true, false, cond, Option, Some, None, Ok, List, [], ◌∷◌, ◌++◌, length, map, sym, ap, ◌∙◌, subst, arith}
 use Rattle.std.specs.Prelude.{drop, take, option_map, IfSome}
 use Rattle.std.specs.List.{All, AllByRecursion, list_all, list_any}
+use Rattle.std.specs.Ordering.{is_lt}
+use Rattle.std.specs.declared.cmp.Ordering.{Ordering}
 use Rattle.std.proofs.lemmas.Option.{same_Some}
 use Rattle.std.proofs.lemmas.Bool.{cases_Bool}
 use Rattle.std.proofs.lemmas.List.{length-drop, length-map, length-take}
 use Rattle.std.proofs.lemmas.List.Elements.{All-drop, All-from_recursion, All-take, All-weaker, recursion_from_All}
-use Rattle.std.proofs.lemmas.List.Sorted.{All-permutation}
 use Rattle.cell_types.specs.Value.{CellValue}
 use Rattle.csvw_meta.specs.Schema.{SchemaOf}
 use Rattle.odata_parse.specs.Tree.{ExprOf, OrderItemOf, SelectItemOf, TransformationOf, order_item}
@@ -24,18 +25,18 @@ use Rattle.odata_query.specs.Selection.{is_known, optional_selection_typing, sel
 use Rattle.row_eval.specs.Bounds.{NumbersFit, TruthFits}
 use Rattle.row_eval.specs.Input.{IsInput, IsQueried, IsQueriedItem, IsQueriedTransformation, IsRowOf, IsTableRow}
 use Rattle.row_eval.specs.Laws.{BoundsHold, TablesAreInputs}
-use Rattle.query_plan.specs.Apply.{applied, applied_names}
-use Rattle.query_plan.specs.Fitting.{AreFitItems, AreQueried, AreRowsOf, AreTableRows, NodesFit}
-use Rattle.query_plan.specs.Meaning.{ResultOf, first_rows}
-use Rattle.query_plan.specs.Order.{Item, order_faults, plain_column, rows_cmp, sorted}
+use Rattle.query_meaning.specs.Apply.{applied, applied_names}
+use Rattle.query_plan.specs.Fitting.{AreFitItems, NodesFit}
+use Rattle.query_meaning.specs.Fitting.{AreQueried, AreRowsOf, AreTableRows}
+use Rattle.query_meaning.specs.Meaning.{ResultOf, first_rows}
+use Rattle.query_meaning.specs.Order.{Item, order_faults, placed, plain_column, rows_cmp, sorted}
 use Rattle.query_plan.specs.Plan.{NodeOf, SliceOf, apply_nodes, asked_slice, filter_nodes, filtering, naive_plan, node_result, nodes_result, order_nodes, piece_nodes, select_nodes, slice_nodes, slicing, sorting, table_result}
 use Rattle.query_plan.proofs.AggregateLemmas.{Stands}
-use Rattle.query_plan.proofs.FilterLemmas.{some_if}
+use Rattle.query_plan.proofs.ListLemmas.{some_if}
 use Rattle.query_plan.proofs.MeaningLemmas.{apply_result, last_nodes, sorted_length, under}
 use Rattle.query_plan.proofs.PlainLemmas.{IsThere, expression_there}
 use Rattle.query_plan.proofs.PlanLemmas.{both_fit, turn}
 use Rattle.query_plan.proofs.ResultLemmas.{result_input}
-use Rattle.query_plan.proofs.SortLemmas.{sorted_shuffles}
 use Rattle.query_plan.proofs.StepLemmas.{Gives, SuitAll, apply_suits, filter_gives, gives_rows, rows_all, then_from}
 use Rattle.query_plan.proofs.TypingLemmas.{Told, told_any, told_both, told_self, told_then}
 
@@ -58,13 +59,23 @@ both_lead a b c below above first second r last stands e =
 
 -- ---- `$orderby`, `$skip` and `$top`
 
+placed_each : {X : Type 0} (P : X → Type 0) (cmp : X → X → Ordering) (x : X) (ys : List X) → P x → AllByRecursion P ys → AllByRecursion P (placed cmp x ys)
+placed_each P cmp x [] h all = (h, all)
+placed_each P cmp x (y ∷ ys) h all = elim (cases_Bool (is_lt (cmp y x))) [
+  | inl e ↦ rw e (all.0, placed_each P cmp x ys h all.1)
+  | inr e ↦ rw e (h, all)
+]
+
+sorted_each : {X : Type 0} (P : X → Type 0) (cmp : X → X → Ordering) (xs : List X) → AllByRecursion P xs → AllByRecursion P (sorted cmp xs)
+sorted_each P cmp [] all = all
+sorted_each P cmp (x ∷ xs) all = placed_each P cmp x (sorted cmp xs) all.0 (sorted_each P cmp xs all.1)
+
 sort_gives : (inputs : List InputOf) (items : List Item) → Gives inputs inputs (sorting items)
 sort_gives inputs items = gives_rows inputs inputs (sorting items) (λ r rows stands is.
     let same : sorted (rows_cmp items) r.rows ≡ rows = some_if (list_any (order_faults items) r.rows) (sorted (rows_cmp items) r.rows) rows is in (
       stands.named,
       subst (λ (xs : List (List CellValue)). AllByRecursion (IsRowOf inputs) xs) same
-          (recursion_from_All (IsRowOf inputs) (sorted (rows_cmp items) r.rows) (All-permutation (IsRowOf inputs) r.rows (sorted (rows_cmp items) r.rows)
-          (sorted_shuffles (rows_cmp items) r.rows) (All-from_recursion (IsRowOf inputs) r.rows stands.each))),
+          (sorted_each (IsRowOf inputs) (rows_cmp items) r.rows stands.each),
       subst (λ (xs : List (List CellValue)). length xs ≤ MOST_ROWS) same
           (let few : length r.rows ≤ MOST_ROWS = stands.few in omega (arith, sorted_length (rows_cmp items) r.rows)),
     ))

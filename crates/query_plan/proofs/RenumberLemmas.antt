@@ -16,9 +16,9 @@ use Rattle.odata_query.specs.FirstSeen.{first_seen}
 use Rattle.row_eval.specs.Logic.{option_of_truth, truth_of_option}
 use Rattle.row_eval.specs.Outcome.{cell_of, day_value, outcome}
 use Rattle.row_eval.specs.Row.{cell, boolean_in, day_in, decimal_in, integer_in, text_in}
-use Rattle.query_plan.specs.Apply.{computed_value, computed_values, greatest_value, group_values, is_value, least_value, names_at, rows_of_group, same_values, sum_value, value_at, values_at, values_in}
+use Rattle.query_meaning.specs.Apply.{computed_value, computed_values, greatest_value, group_values, is_value, least_value, names_at, rows_of_group, same_values, sum_value, value_at, values_at, values_in}
 use Rattle.query_plan.specs.Narrow.{aggregate_column, aggregate_columns, moved_to, place_in, renumbered_aggregate, renumbered_expression, renumbered_item, renumbered_named}
-use Rattle.query_plan.specs.Order.{Item, order_faults, ordered, placed, plain_column, rows_cmp, sorted}
+use Rattle.query_meaning.specs.Order.{Item, order_faults, ordered, placed, plain_column, rows_cmp, sorted}
 
 -- the column is named
 abbrev pub IsNamed : List ℕ → ℕ → Type 0

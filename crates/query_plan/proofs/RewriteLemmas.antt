@@ -3,7 +3,7 @@ use Rattle.std.proofs.Common.{◌≡◌, ℕ, suc, ◌+◌, Option, Some, None, 
 use Rattle.cell_types.specs.Value.{CellValue}
 use Rattle.csvw_meta.specs.Schema.{SchemaOf}
 use Rattle.odata_types.specs.TypedTree.{TruthExprOf}
-use Rattle.query_plan.specs.Order.{Item}
+use Rattle.query_meaning.specs.Order.{Item}
 use Rattle.query_plan.specs.Narrow.{leading_filters, narrowed, narrowed_nodes, selected_first, wanted_columns}
 use Rattle.query_plan.specs.Plan.{NodeOf, PlanOf, aggregating, choosing, filtering, grouping, projecting, slicing, leading, needed, nodes_result, sorting, table_result}
 use Rattle.query_plan.specs.Rewrite.{MeansTheSame, best_nodes, chosen, rows_needed}

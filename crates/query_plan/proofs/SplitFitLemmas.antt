@@ -9,12 +9,11 @@ use Rattle.odata_types.specs.CanFault.{truth_can_fault}
 use Rattle.odata_types.specs.TypedTree.{TruthExprOf, conjunction}
 use Rattle.row_eval.specs.Bounds.{TruthFits}
 use Rattle.row_eval.specs.Laws.{FaultsAreForeseen}
-use Rattle.query_plan.specs.Filter.{faults, passes}
+use Rattle.query_meaning.specs.Filter.{faults, passes, passes_each}
 use Rattle.query_plan.specs.Fitting.{NodesFit}
-use Rattle.query_plan.specs.Meaning.{ResultOf}
+use Rattle.query_meaning.specs.Meaning.{ResultOf}
 use Rattle.query_plan.specs.Plan.{NodeOf, filtering, leading, node_result, nodes_result}
 use Rattle.query_plan.specs.Push.{conjuncts, split_nodes}
-use Rattle.query_plan.specs.Scan.{passes_each}
 use Rattle.query_plan.proofs.MeaningLemmas.{under}
 use Rattle.query_plan.proofs.PlanLemmas.{both_fit}
 use Rattle.query_plan.proofs.PushLemmas.{Row, faults-conjuncts, filter_always, filter_both, filters, passes-conjuncts, passing_all}

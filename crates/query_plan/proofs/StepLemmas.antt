@@ -17,14 +17,14 @@ use Rattle.odata_query.specs.Apply.{apply_typing, columns_at, grouped_places, it
 use Rattle.odata_query.specs.FirstSeen.{first_seen}
 use Rattle.row_eval.specs.Input.{IsInput, IsQueriedTransformation, IsRowOf}
 use Rattle.row_eval.specs.Laws.{BoundsHold}
-use Rattle.query_plan.specs.Apply.{computed_values, group_values, names_at, rows_of_group, same_values, value_at, values_at}
-use Rattle.query_plan.specs.Filter.{faults, passes}
+use Rattle.query_meaning.specs.Apply.{computed_values, group_values, names_at, rows_of_group, same_values, value_at, values_at}
+use Rattle.query_meaning.specs.Filter.{faults, passes}
 use Rattle.row_eval.specs.Bounds.{TruthFits}
 use Rattle.query_plan.specs.Fitting.{AggregateFits, IsFitNode, NodesFit}
-use Rattle.query_plan.specs.Meaning.{ResultOf}
+use Rattle.query_meaning.specs.Meaning.{ResultOf}
 use Rattle.query_plan.specs.Plan.{NodeOf, aggregating, apply_nodes, filtering, grouping, node_count, node_names, node_result, node_rows, nodes_result, transformation_node}
 use Rattle.query_plan.proofs.AggregateLemmas.{AreGood, Stands, aggregates_fit, computed_row, items_good, optional_good, place_below}
-use Rattle.query_plan.proofs.FilterLemmas.{some_if}
+use Rattle.query_plan.proofs.ListLemmas.{some_if}
 use Rattle.query_plan.proofs.ResultLemmas.{GivesInput, transformation_input}
 use Rattle.query_plan.proofs.TypingLemmas.{Told, told_both, told_self, told_then}
 use Rattle.query_plan.proofs.ValueLemmas.{OfColumn, filter_length, value_fits}

@@ -8,10 +8,11 @@ use Rattle.std.proofs.lemmas.List.Sums.{length-filter}
 use Rattle.block_summary.specs.Blocks.{block_at}
 use Rattle.cell_types.specs.Value.{CellValue}
 use Rattle.odata_types.specs.TypedTree.{TruthExprOf}
-use Rattle.query_plan.specs.Meaning.{first_rows}
+use Rattle.query_meaning.specs.Meaning.{first_rows}
 use Rattle.query_plan.specs.Plan.{NodeOf, filtering, nodes_result, slicing}
 use Rattle.query_plan.specs.Push.{early_stop, room_of}
-use Rattle.query_plan.specs.Scan.{passes_each, reached, rows_of_blocks, up_to}
+use Rattle.query_plan.specs.Scan.{reached, rows_of_blocks, up_to}
+use Rattle.query_meaning.specs.Filter.{passes_each}
 use Rattle.query_plan.proofs.BestLemmas.{when_some}
 use Rattle.query_plan.proofs.MeaningLemmas.{under}
 use Rattle.query_plan.proofs.PushLemmas.{behind}

@@ -26,7 +26,7 @@ use Rattle.row_eval.specs.Input.{IsOfType, IsRowOf}
 use Rattle.row_eval.specs.Logic.{option_of_truth, truth_of, truth_of_option}
 use Rattle.row_eval.specs.Outcome.{both, cell_of, date_outcome, day_value, decimal_outcome, integer_outcome, text_outcome, truth_outcome}
 use Rattle.row_eval.specs.Row.{boolean_in, cell, day_in, decimal_in, integer_in, text_in}
-use Rattle.query_plan.specs.Filter.{is_true, passes}
+use Rattle.query_meaning.specs.Filter.{is_true, passes}
 use Rattle.query_plan.specs.Scan.{TestOf, passes_test}
 use Rattle.query_plan.specs.Tests.{comparison_of, compared_with, date_value, decimal_value, integer_value, scaled_number, test_of, text_value, truth_value}
 use Rattle.query_plan.specs.Types.{IsTruthOver, column_kind}

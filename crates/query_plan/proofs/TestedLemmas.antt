@@ -12,11 +12,11 @@ use Rattle.odata_types.specs.Schema.{inputs_of}
 use Rattle.odata_types.specs.TypedTree.{TruthExprOf, conjunction}
 use Rattle.row_eval.specs.Input.{IsRowOf, IsTableRow}
 use Rattle.row_eval.specs.Laws.{TablesAreInputs}
-use Rattle.query_plan.specs.Filter.{passes}
-use Rattle.query_plan.specs.Fitting.{AreTableRows}
+use Rattle.query_meaning.specs.Filter.{passes, passes_each}
+use Rattle.query_meaning.specs.Fitting.{AreTableRows}
 use Rattle.query_plan.specs.Laws.{UnadmittedBlocksPassNone}
 use Rattle.query_plan.specs.Push.{conjuncts}
-use Rattle.query_plan.specs.Scan.{TestOf, admits_all, passes_each, passes_tests, rows_of_blocks}
+use Rattle.query_plan.specs.Scan.{TestOf, admits_all, passes_tests, rows_of_blocks}
 use Rattle.query_plan.specs.Tests.{test_of}
 use Rattle.query_plan.specs.Types.{IsTruthOver}
 use Rattle.query_plan.proofs.PushLemmas.{Row}

@@ -17,7 +17,7 @@ use Rattle.odata_query.specs.Apply.{apply_typing, grouped_places, items_typing, 
 use Rattle.odata_query.specs.Key.{optional_key_typing}
 use Rattle.odata_query.specs.Query.{QueryOf, TypedOf, optional_typing, order_typing, query_typing}
 use Rattle.odata_query.specs.Selection.{optional_selection_typing}
-use Rattle.query_plan.specs.Order.{Item}
+use Rattle.query_meaning.specs.Order.{Item}
 use Rattle.query_plan.specs.Plan.{NodeOf, SliceOf, apply_nodes, asked_slice, filter_nodes, leading, naive_plan, order_nodes, piece_nodes, select_nodes, slice_nodes, transformation_node}
 use Rattle.query_plan.specs.Types.{IsTypedPlan, IsTruthOver}
 use Rattle.query_plan.proofs.MeaningLemmas.{last_nodes}

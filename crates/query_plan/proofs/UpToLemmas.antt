@@ -9,8 +9,9 @@ use Rattle.std.proofs.lemmas.List.Sums.{sum_by-append}
 use Rattle.block_summary.specs.Blocks.{block_at, block_count}
 use Rattle.cell_types.specs.Value.{CellValue}
 use Rattle.odata_types.specs.TypedTree.{TruthExprOf}
-use Rattle.query_plan.specs.Scan.{ScanOf, TestOf, admits_all, admitted_blocks, passes_each, reached, read_blocks, rows_of_blocks, up_to}
-use Rattle.query_plan.proofs.FilterLemmas.{here, later}
+use Rattle.query_plan.specs.Scan.{ScanOf, TestOf, admits_all, admitted_blocks, reached, read_blocks, rows_of_blocks, up_to}
+use Rattle.query_meaning.specs.Filter.{passes_each}
+use Rattle.query_plan.proofs.ListLemmas.{here, later}
 use Rattle.query_plan.proofs.NeededLemmas.{reached_each}
 
 abbrev Row : Type 0

@@ -16,7 +16,7 @@ use Rattle.odata_types.specs.declared.types.ColumnType.TheVariants as column
 use Rattle.odata_types.specs.Columns.{InputOf}
 use Rattle.row_eval.specs.Input.{IsOfType, IsRowOf}
 use Rattle.row_eval.specs.Row.{cell, decimal_in, integer_in}
-use Rattle.query_plan.specs.Apply.{greatest_value, integer_sum, is_value, least_value, sum_value, value_at, values_in}
+use Rattle.query_meaning.specs.Apply.{greatest_value, integer_sum, is_value, least_value, sum_value, value_at, values_in}
 
 -- ---- values of a row
 

@@ -8,7 +8,8 @@ use Rattle.std.proofs.lemmas.List.Sums.{length-filter}
 use Rattle.block_summary.specs.declared.test.Comparison.TheVariants.{GreaterThan}
 use Rattle.block_summary.specs.Blocks.{block_at, block_count}
 use Rattle.cell_types.specs.Value.{CellValue, integer, value_cmp}
-use Rattle.query_plan.specs.Scan.{TestOf, admits_all, admitted_blocks, block_numbers, passes_each, reached}
+use Rattle.query_plan.specs.Scan.{TestOf, admits_all, admitted_blocks, block_numbers, reached}
+use Rattle.query_meaning.specs.Filter.{passes_each}
 use Rattle.query_plan.specs.Worked.{greatest_in, test}
 use Rattle.query_plan.proofs.PushLemmas.{filter_always}
 use Rattle.query_plan.proofs.ScanLemmas.{no_test_fails}

@@ -1,26 +1,16 @@
 -- What must hold of rows before a step may compute on them: each column is there, and each number that is computed fits 128 bits.
-use Rattle.std.specs.Prelude.{◌≡◌, ℕ, ℤ, ◌*◌, ◌^◌, ◌<◌, ◌≤◌, List, [], ◌∷◌, length, Some, Ok, IfSome, unsigned_abs}
+use Rattle.std.specs.Prelude.{◌≡◌, ◌<◌, List, [], ◌∷◌, length, Some, IfSome}
 use Rattle.std.specs.List.{All, filter_map}
 use Rattle.cell_types.specs.Value.{CellValue}
 use Rattle.csvw_meta.specs.Schema.{SchemaOf}
-use Rattle.csvw_meta.specs.declared.limits.TheConstants.{MOST_FILE_BYTES}
-use Rattle.odata_types.specs.Columns.{InputOf}
 use Rattle.odata_query.specs.declared.aggregate.Aggregate.{Aggregate}
 use Rattle.odata_query.specs.declared.aggregate.Aggregate.TheVariants.{Count, SumOfIntegers, SumOfDecimals, Min, Max, CountDistinct}
-use Rattle.odata_query.specs.declared.aggregate.TheConstants.{MOST_ROWS}
-use Rattle.odata_query.specs.Query.{QueryOf, TypedOf, query_typing}
 use Rattle.row_eval.specs.Bounds.{NumbersFit, TruthFits}
-use Rattle.row_eval.specs.Input.{IsQueried, IsQueriedItem, IsQueriedTransformation, IsRowOf, IsTableRow}
 use Rattle.row_eval.specs.Row.{cell, decimal_in, integer_in}
-use Rattle.query_plan.specs.Meaning.{ResultOf}
-use Rattle.query_plan.specs.Order.{Item, plain_column}
+use Rattle.query_meaning.specs.Meaning.{ResultOf}
+use Rattle.query_meaning.specs.Order.{Item, plain_column}
 use Rattle.query_plan.specs.Plan.{NodeOf, PlanOf, aggregating, choosing, filtering, grouping, node_result, projecting, slicing, sorting, table_result}
-
--- numbers of at most so many rows, of which the sums, also of some of them, fit 128 bits
-pub record AreSummable (numbers : List ℤ) (rows : ℕ) : Type 0 where
-  pub bound : ℕ
-  pub each : All (λ n. unsigned_abs n ≤ bound) numbers
-  pub small : bound * rows ≤ 2 ^ 126
+use Rattle.query_meaning.specs.Fitting.{AreSummable, AreTableRows}
 
 abbrev pub AggregateFits : ResultOf → Aggregate → Type 0
 AggregateFits r Count = Unit {0}
@@ -50,27 +40,5 @@ abbrev pub NodesFit : List NodeOf → ResultOf → Type 0
 NodesFit [] r = Unit {0}
 NodesFit (n ∷ ns) r = IsFitNode n r × ((made : ResultOf) → node_result n r ≡ Some made → NodesFit ns made)
 
--- the rows of some table: each fits the columns, and there are no more than a file has bytes
-pub record AreTableRows (schema : SchemaOf) (rows : List (List CellValue)) : Type 0 where
-  pub each : All (IsTableRow schema.columns) rows
-  pub count : length rows ≤ MOST_FILE_BYTES
-
--- rows of an input, no more than 2 to the 30
-pub record AreRowsOf (inputs : List InputOf) (rows : List (List CellValue)) : Type 0 where
-  pub each : All (IsRowOf inputs) rows
-  pub count : length rows ≤ MOST_ROWS
-
 abbrev pub IsFitFor : SchemaOf → PlanOf → Type 0
 IsFitFor schema plan = (rows : List (List CellValue)) → AreTableRows schema rows → NodesFit plan.nodes (table_result schema rows)
-
--- ---- queries that were typed
-
--- each expression of the query has few nodes and short texts
-pub record AreQueried (q : QueryOf) : Type 0 where
-  pub apply : All IsQueriedTransformation q.apply
-  pub filter : IfSome q.filter IsQueried
-  pub order : All IsQueriedItem q.order
-
--- the query with types is that of a query on the table
-abbrev pub IsTypedFor : SchemaOf → TypedOf → Type 0
-IsTypedFor schema q = (query : QueryOf) × AreQueried query × (query_typing schema query ≡ Ok q)

@@ -3,11 +3,10 @@ pub use Rattle.odata_query.specs.Query as Queries
 pub use Rattle.odata_types.specs.TypedTree
 pub use Rattle.row_eval.specs.Bounds
 pub use Rattle.row_eval.specs.Input
-pub mod Filter
-pub mod Query
-pub mod Order
-pub mod Apply
-pub mod Meaning
+pub use Rattle.query_meaning.specs.Filter
+pub use Rattle.query_meaning.specs.Order
+pub use Rattle.query_meaning.specs.Apply
+pub use Rattle.query_meaning.specs.Meaning
 pub mod Scan
 pub mod Plan
 pub mod Fitting

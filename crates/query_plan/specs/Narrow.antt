@@ -6,7 +6,7 @@ use Rattle.odata_types.specs.TypedTree.{TypedExprOf}
 use Rattle.odata_query.specs.declared.aggregate.Aggregate.{Aggregate}
 use Rattle.odata_query.specs.declared.aggregate.Aggregate.TheVariants.{Count, SumOfIntegers, SumOfDecimals, Min, Max, CountDistinct}
 use Rattle.odata_query.specs.Aggregate.{NamedAggregateOf}
-use Rattle.query_plan.specs.Order.{Item, are_plain, plain_column}
+use Rattle.query_meaning.specs.Order.{Item, are_plain, plain_column}
 use Rattle.query_plan.specs.Plan.{NodeOf, aggregating, filtering, grouping, projecting, slicing, sorting}
 
 -- ---- the columns that steps name

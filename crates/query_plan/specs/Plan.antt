@@ -10,10 +10,10 @@ use Rattle.query_plan.specs.declared.plan.Node.{Node}
 use Rattle.query_plan.specs.declared.plan.Node.TheVariants as node
 use Rattle.query_plan.specs.declared.plan.Plan.{Plan}
 use Rattle.query_plan.specs.declared.plan.Slice.{Slice}
-use Rattle.query_plan.specs.Apply.{computed_values, group_values, names_at, rows_of_group, values_at}
-use Rattle.query_plan.specs.Filter.{passing}
-use Rattle.query_plan.specs.Meaning.{MeaningOf, ResultOf, first_rows, number, query_meaning, result, table_names}
-use Rattle.query_plan.specs.Order.{Item, ordered}
+use Rattle.query_meaning.specs.Apply.{computed_values, group_values, names_at, rows_of_group, values_at}
+use Rattle.query_meaning.specs.Filter.{passing}
+use Rattle.query_meaning.specs.Meaning.{MeaningOf, ResultOf, first_rows, number, query_meaning, result, table_names}
+use Rattle.query_meaning.specs.Order.{Item, ordered}
 use Rattle.query_plan.specs.Scan.{ScanOf, bare, read_blocks, rows_of_blocks, scan_view}
 
 -- a piece of the rows, and whether the number of all of them is the count

@@ -2,7 +2,7 @@
 use Rattle.std.specs.Prelude.{◌≡◌, ℕ, ◌+◌, ◌^◌, Bool, false, List, [], ◌∷◌, Option, Some, None, nat_lt, if◌then◌else◌}
 use Rattle.cell_types.specs.Value.{CellValue}
 use Rattle.csvw_meta.specs.Schema.{SchemaOf}
-use Rattle.query_plan.specs.Fitting.{AreTableRows}
+use Rattle.query_meaning.specs.Fitting.{AreTableRows}
 use Rattle.query_plan.specs.Narrow.{narrowed_nodes}
 use Rattle.query_plan.specs.Plan.{NodeOf, PlanOf, choosing, plan_result, slicing, sorting}
 

@@ -9,7 +9,7 @@ use Rattle.block_summary.specs.Tests.{admits, passes as passes_comparison}
 use Rattle.odata_types.specs.TypedTree.{TruthExprOf}
 use Rattle.query_plan.specs.declared.scan.ColumnTest.{ColumnTest}
 use Rattle.query_plan.specs.declared.scan.Scan.{Scan}
-use Rattle.query_plan.specs.Filter.{passes}
+use Rattle.query_meaning.specs.Filter.{passes_each}
 
 -- a column, by its number, compared with a literal
 pub record TestOf : Type 0 where
@@ -56,10 +56,6 @@ abbrev pub admitted_blocks : List TestOf → List (List CellValue) → List ℕ
 admitted_blocks tests rows = filter (λ number. admits_all tests (block_at rows number)) (block_numbers rows)
 
 -- ---- blocks up to a stop
-
--- all conditions are true on the row
-abbrev pub passes_each : List TruthExprOf → List CellValue → Bool
-passes_each conditions row = list_all (λ e. passes e row) conditions
 
 -- Of blocks those up to that of the row that is number `room` among the rows that pass the conditions, counted from 1: a block is reached
 -- where fewer than `room` rows of the blocks before it pass.

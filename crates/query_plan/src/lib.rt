@@ -13,11 +13,10 @@ mod scan;
 mod test;
 
 pub use law::{
-    bare_scans_read_all, blocks_up_to_the_stop, distinct_values_are_counted, extremes_are_values,
-    needed_blocks_are_read, nodes_in_turn, plans_need_blocks, queries_are_typed, queries_fit,
-    results_are_inputs, results_are_rows, rows_are_in_groups, rows_are_in_order,
-    scans_read_table_rows, sums_add_up, tests_are_passed, true_rows_pass,
-    unadmitted_blocks_pass_none, worked_blocks, worked_queries, worked_tests,
+    bare_scans_read_all, blocks_up_to_the_stop, needed_blocks_are_read, nodes_in_turn,
+    plans_need_blocks, queries_are_typed, queries_fit, results_are_inputs, results_are_rows,
+    scans_read_table_rows, tests_are_passed, unadmitted_blocks_pass_none, worked_blocks,
+    worked_tests,
 };
 pub use narrow::are_plain;
 pub use plan::{Node, Plan, Slice, naive};

@@ -5,7 +5,7 @@ ghost use Rattle.odata_types.specs.TypedTree.{typed_view};
 ghost use Rattle.odata_query.specs.Aggregate.{named_view};
 ghost use Rattle.odata_query.specs.Query.{optional_numbers, order_view};
 ghost use Rattle.query_plan.specs.Narrow.{aggregate_column, aggregate_columns, item_columns, keeps_columns, named_columns, node_columns, wanted_columns, with_columns};
-ghost use Rattle.query_plan.specs.Order.{are_plain, plain_column};
+ghost use Rattle.query_meaning.specs.Order.{are_plain, plain_column};
 ghost use Rattle.query_plan.specs.Plan.{node_view};
 
 use crate::plan::Node;

@@ -8,3 +8,6 @@ pub mod HeadLemmas
 pub mod CsvLemmas
 pub mod RecordLemmas
 pub mod TableLemmas
+pub mod NumberLemmas
+pub mod PrintLemmas
+pub mod TreeLemmas

@@ -2,9 +2,9 @@
 use Rattle.std.specs.Prelude.{List, [], ℕ, ◌++◌, map, codes, get_or}
 use Rattle.std.specs.List.{join_with_byte}
 use Rattle.table_store.specs.Table.{TableOf}
-use Rattle.query_exec.specs.Rows.{RowsOf}
-use Rattle.reply_text.specs.declared.code.Code.{Code}
-use Rattle.reply_text.specs.Code.{code_name, message_of}
+use Rattle.query_rows.specs.Rows.{RowsOf}
+use Rattle.reply_codes.specs.declared.code.Code.{Code}
+use Rattle.reply_codes.specs.Code.{code_name, message_of}
 use Rattle.reply_text.specs.Json.{json_text, json_row, json_count, text_member}
 
 -- rows: an object whose member `value` has an object for each

@@ -6,7 +6,7 @@ use Rattle.std.specs.Fmt.{signed_decimal}
 use Rattle.reply_text.specs.Value.{bool_text, day_text}
 use Rattle.cell_types.specs.Decimal.{decimal_text}
 use Rattle.cell_types.specs.Value.{CellValue, null, integer, text, boolean, date, decimal}
-use Rattle.query_exec.specs.Rows.{RowsOf}
+use Rattle.query_rows.specs.Rows.{RowsOf}
 
 -- a byte that stands in double quotes alone
 abbrev pub is_quoted_byte : ℕ → Bool

@@ -1,14 +1,18 @@
 -- What holds of the bodies.
-use Rattle.std.specs.Prelude.{◌≡◌, ℕ, ◌<◌, ◌≤◌, Bool, false, true, List, [], ◌∷◌, length, map, IsTrue}
+use Rattle.std.specs.Prelude.{◌≡◌, ℕ, ◌<◌, ◌≤◌, Bool, false, true, List, [], ◌∷◌, Some, length, map, IsTrue}
 use Rattle.std.specs.List.{All, AllByRecursion}
 use Rattle.std.specs.Fmt.{signed_decimal}
+use Rattle.json.specs.Json.{document}
 use Rattle.csv_grammar.specs.Records.{Field, unquoted, quoted, content, is_plain, AreRecords}
 use Rattle.cell_types.specs.Decimal.{decimal_text}
 use Rattle.cell_types.specs.Value.{CellValue, null, integer, text, boolean, date, decimal}
 use Rattle.table_store.specs.Catalog.{FolderOf, CatalogOf, Means}
-use Rattle.query_exec.specs.Rows.{RowsOf, rows_of_table}
+use Rattle.query_rows.specs.Rows.{RowsOf, rows_of_table}
 use Rattle.reply_text.specs.Value.{bool_text, day_text}
+use Rattle.reply_text.specs.Body.{rows_text}
 use Rattle.reply_text.specs.Csv.{needs_quotes, csv_text}
+use Rattle.reply_text.specs.Json.{json_row, json_value}
+use Rattle.reply_text.specs.JsonTree.{body_of, json_of, object_of, CountFits, FitJson, FitsJson}
 
 -- the text of a value; null has the empty one
 abbrev pub value_text : CellValue → List ℕ
@@ -58,3 +62,10 @@ pub record CsvReadsBack : Type 0 where
 abbrev pub TablesFitCsv : Type 0
 TablesFitCsv = (folder : FolderOf) (catalog : CatalogOf) → 1 ≤ folder.limits.tables → Means folder catalog
     → All (λ table. FitCsv (rows_of_table table)) catalog.tables
+
+-- What we publish as JSON, a reader of JSON (RFC 8259) gives back: the text of a value, of a row and of the body of rows is that of one value of JSON, which has the
+-- names, texts and digits that were written, each once and in order.
+pub record JsonReadsBack : Type 0 where
+  pub values : (value : CellValue) → FitsJson value → document (json_value value) ≡ Some (json_of value)
+  pub rows : (names : List (List ℕ)) (values : List CellValue) → AllByRecursion FitsJson values → document (json_row names values) ≡ Some (object_of names values)
+  pub bodies : (rows : RowsOf) → FitJson rows.rows → CountFits rows.count → document (rows_text rows) ≡ Some (body_of rows.names rows.rows rows.count)

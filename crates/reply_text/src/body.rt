@@ -4,11 +4,11 @@ ghost use Rattle.std.specs.Fmt.{decimal};
 ghost use Rattle.std.specs.List.{join_with_byte};
 ghost use Rattle.reply_text.specs.Body.{entry_text, error_text, named_text, row_text, rows_text, service_text};
 
-use crate::code::Code;
-use crate::json::{
+use crate::json_text::{
     push_comma, push_count, push_number, push_row, push_rows, push_text, push_text_member,
 };
-use query_exec::Rows;
+use query_rows::Rows;
+use reply_codes::Code;
 use std::alloc::{AllocError, Global};
 use table_store::{Catalog, Table};
 

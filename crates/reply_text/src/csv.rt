@@ -5,12 +5,12 @@ ghost use Rattle.cell_types.specs.Value.{value_view};
 ghost use Rattle.reply_text.specs.Csv.{csv_field, csv_text, csv_value, doubled_byte, is_quoted_byte, needs_quotes, row_line};
 
 use crate::decimal::push_decimal;
-use crate::json::push_comma;
+use crate::json_text::push_comma;
 use crate::lanes::unquoted_in;
 use crate::value::{push_bool, push_date, push_integer};
 use cell_types::Value;
 use memchr::memchr;
-use query_exec::Rows;
+use query_rows::Rows;
 use std::alloc::{AllocError, Global};
 
 /// Whether a byte stands in double quotes alone.

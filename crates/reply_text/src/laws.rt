@@ -1,5 +1,5 @@
 //! The laws of the bodies: each function is a theorem, and does nothing.
-ghost use Rattle.reply_text.specs.Laws.{CsvReadsBack, TablesFitCsv};
+ghost use Rattle.reply_text.specs.Laws.{CsvReadsBack, JsonReadsBack, TablesFitCsv};
 
 use csv_grammar::one_list_of_records;
 use csvw_meta::accepted_schemas;
@@ -18,3 +18,8 @@ pub fn tables_fit_csv()
 {
     accepted_schemas();
 }
+
+/// What we publish as JSON, a reader of JSON (RFC 8259) gives back: the values of cells, rows, and bodies of rows.
+pub fn json_reads_back()
+    ensures { JsonReadsBack }
+{}

@@ -3,15 +3,14 @@
 #![tactic(auto)]
 
 mod body;
-mod code;
 mod csv;
 mod decimal;
-mod json;
+mod json_text;
 mod lanes;
 mod laws;
 mod value;
 
 pub use body::{error_body, json_body, number_body, row_body, service_body};
-pub use code::Code;
 pub use csv::csv_body;
-pub use laws::{csv_reads_back, tables_fit_csv};
+pub use laws::{csv_reads_back, json_reads_back, tables_fit_csv};
+pub use reply_codes::Code;

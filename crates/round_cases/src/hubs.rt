@@ -22,3 +22,30 @@ fn one_place(rt: HostRuntime) -> Result<(), Fail> {
     assert!(rt; is_right(&mut hub));
     Ok(())
 }
+
+/// The front of a reply to what is no head.
+const REFUSED: &[u8] = b"HTTP/1.1 400 Bad Request\r\n";
+
+/// Whether the rest of a connection is told hopeless with the byte that no head has at its place, and not before; and its end brings the reply.
+fn tells_rests(hub: &mut Hub, place: Conn) -> bool {
+    let may_begin = hub.is_hopeless(place) == Ok(false)
+        && hub.piece(place, b"GET / HTTP/1.1\r\nX") == Ok(())
+        && hub.is_hopeless(place) == Ok(false);
+    let is_hopeless = hub.piece(place, b" ") == Ok(()) && hub.is_hopeless(place) == Ok(true);
+    let ends = hub.turn(place) == Ok(Turned::Idle)
+        && hub.end(place) == Ok(())
+        && hub.turn(place) == Ok(Turned::Worked);
+    let mut front = [0u8; 26];
+    let is_refused = hub.take(place, &mut front) == Ok(REFUSED.len())
+        && front.as_slice() == REFUSED;
+    may_begin && is_hopeless && ends && is_refused && hub.is_hopeless(place) == Ok(false)
+}
+
+#[test]
+fn rests(rt: HostRuntime) -> Result<(), Fail> {
+    let mut hub = Hub::new(rt.alloc(), tables(rt.alloc(), "Id\n")?, 2)?;
+    assert!(rt; hub.open() == Ok(Conn(0)));
+    assert!(rt; tells_rests(&mut hub, Conn(0)));
+    assert!(rt; hub.is_hopeless(Conn(1)) == Err(HubFault::NoSuchConnection));
+    Ok(())
+}

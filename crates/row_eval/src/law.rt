@@ -1,7 +1,7 @@
 //! The laws of outcomes: each function is a theorem, and does nothing.
 
 ghost use Rattle.row_eval.specs.Laws.{BoundsHold, ExpressionsAreQueried, FaultsAreForeseen, FiltersAreQueried, Sizes, TablesAreInputs};
-ghost use Rattle.row_eval.specs.Worked.{WorkedColumns, WorkedComparisons};
+ghost use Rattle.row_eval.specs.Worked.{WorkedColumns, WorkedComparisons, WorkedFunctions};
 ghost use Rattle.row_eval.specs.WorkedLogic.{WorkedLogic, WorkedNumbers};
 
 /// An expression that cannot divide by zero has a value on each row.
@@ -43,6 +43,11 @@ pub fn worked_columns()
 /// The six comparisons of values of each type, and beside null.
 pub fn worked_comparisons()
     ensures { WorkedComparisons }
+{}
+
+/// Functions of texts and dates, and beside null.
+pub fn worked_functions()
+    ensures { WorkedFunctions }
 {}
 
 /// `and`, `or` and `not` of true, false and null, `in`, and the right sides that are passed over.

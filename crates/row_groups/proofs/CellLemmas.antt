@@ -5,8 +5,8 @@ use Rattle.std.proofs.lemmas.List.{length-map}
 use Rattle.std.proofs.Math.ListN.{get_or-map as get_or-map_default}
 use Rattle.cell_types.specs.Value.{CellValue, null}
 use Rattle.row_eval.specs.Row.{cell}
-use Rattle.query_plan.specs.Apply.{value_at}
-use Rattle.query_plan.specs.Fitting.{AreSummable}
+use Rattle.query_meaning.specs.Apply.{value_at}
+use Rattle.query_meaning.specs.Fitting.{AreSummable}
 use Rattle.row_columns.specs.Cells.{value_or_null}
 use Rattle.row_columns.specs.Picked.{numbered}
 use Rattle.row_groups.specs.declared.sums.Summed.{Summed}

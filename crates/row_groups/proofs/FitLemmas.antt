@@ -10,7 +10,7 @@ use Rattle.cell_types.specs.Value.{CellValue}
 use Rattle.row_eval.specs.Row.{cell, decimal_in, integer_in}
 use Rattle.odata_query.specs.declared.aggregate.Aggregate.{Aggregate}
 use Rattle.odata_query.specs.declared.aggregate.Aggregate.TheVariants.{Count, SumOfIntegers, SumOfDecimals, Min, Max, CountDistinct}
-use Rattle.query_plan.specs.Fitting.{AreSummable}
+use Rattle.query_meaning.specs.Fitting.{AreSummable}
 use Rattle.row_columns.specs.Kinds.{AreOfKinds, any}
 use Rattle.row_groups.specs.Tallies.{FitsAll}
 use Rattle.row_groups.proofs.ListLemmas.{all_behind, all_by_each, all_front}

@@ -12,7 +12,7 @@ use Rattle.odata_query.specs.declared.aggregate.Aggregate.{Aggregate}
 use Rattle.odata_query.specs.Aggregate.{NamedAggregateOf}
 use Rattle.odata_query.specs.FirstSeen.{first_seen}
 use Rattle.odata_query.specs.Query.{optional_numbers}
-use Rattle.query_plan.specs.Apply.{computed_value, computed_values, group_values, rows_of_group, is_value, same_values, value_at, values_at, values_in}
+use Rattle.query_meaning.specs.Apply.{computed_value, computed_values, group_values, rows_of_group, is_value, same_values, value_at, values_at, values_in}
 use Rattle.row_columns.specs.Kinds.{AreOfKinds, KindOf, any}
 use Rattle.row_columns.specs.Picked.{numbered}
 use Rattle.row_groups.specs.declared.gathering.Gathering.{Gathering}

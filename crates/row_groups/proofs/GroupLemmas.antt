@@ -9,7 +9,7 @@ use Rattle.std.proofs.lemmas.List.Elements.{filter-append}
 use Rattle.indexmap.specs.IndexSet.{insert_key}
 use Rattle.cell_types.specs.Value.{CellValue, value_eq}
 use Rattle.odata_query.specs.FirstSeen.{first_seen}
-use Rattle.query_plan.specs.Apply.{group_values, rows_of_group, same_values, values_at}
+use Rattle.query_meaning.specs.Apply.{group_values, rows_of_group, same_values, values_at}
 use Rattle.row_groups.proofs.ListLemmas.{all_at, zip_push}
 
 module _ {X : Type 0} (eq : X → X → Bool) (is : (a b : X) → eq a b ≡ true → a ≡ b) (self : (a : X) → eq a a ≡ true) where

@@ -5,7 +5,7 @@ use Rattle.std.specs.Cmp.Lexicographic.{pointwise}
 use Rattle.std.specs.List.{list_any, position_or_len}
 use Rattle.std.proofs.lemmas.List.{length-map}
 use Rattle.cell_types.specs.Value.{CellValue, value_eq}
-use Rattle.query_plan.specs.Apply.{same_values}
+use Rattle.query_meaning.specs.Apply.{same_values}
 
 -- ---- keys of any values
 

@@ -6,7 +6,7 @@ use Rattle.std.proofs.Math.Seq.{drop-cons}
 use Rattle.std.proofs.lemmas.Option.{get_or_from_slice_get}
 use Rattle.cell_types.specs.Value.{CellValue, null}
 use Rattle.row_eval.specs.Row.{cell}
-use Rattle.query_plan.specs.Apply.{value_at}
+use Rattle.query_meaning.specs.Apply.{value_at}
 use Rattle.row_columns.specs.Picked.{numbered}
 
 -- the value of a row and a column is that of the row with that number

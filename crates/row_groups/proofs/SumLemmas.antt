@@ -13,8 +13,8 @@ use Rattle.cell_types.specs.Value.{CellValue, null}
 use Rattle.row_eval.specs.Row.{cell}
 use Rattle.row_columns.specs.Picked.{numbered}
 use Rattle.row_groups.proofs.RowLemmas.{cells_before, numbered_drop}
-use Rattle.query_plan.specs.Apply.{integer_sum, sum_value}
-use Rattle.query_plan.specs.Fitting.{AreSummable}
+use Rattle.query_meaning.specs.Apply.{integer_sum, sum_value}
+use Rattle.query_meaning.specs.Fitting.{AreSummable}
 use Rattle.row_groups.specs.Sums.{sum_of, sums_joined, FitSums}
 
 pub sum_or_zero : (ns : List ℤ) → unwrap_or (sum_of ns) (pos 0) ≡ integer_sum ns

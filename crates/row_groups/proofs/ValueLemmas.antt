@@ -10,7 +10,7 @@ use Rattle.std.proofs.lemmas.List.Elements.{filter-append}
 use Rattle.std.proofs.lemmas.List.Folds.{list_any-append}
 use Rattle.cell_types.specs.Value.{CellValue, value_cmp, value_eq}
 use Rattle.odata_query.specs.declared.aggregate.Aggregate.TheVariants.{Max, Min}
-use Rattle.query_plan.specs.Apply.{computed_value, is_value, least_value, greatest_value, value_at, values_in}
+use Rattle.query_meaning.specs.Apply.{computed_value, is_value, least_value, greatest_value, value_at, values_in}
 use Rattle.row_groups.specs.Computed.{greater_value, lesser_value}
 use Rattle.row_groups.specs.Tallies.{HasDistinct}
 use Rattle.row_groups.proofs.ExtremeLemmas.{below_trans, not_below, pick, picked}

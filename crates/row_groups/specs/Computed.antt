@@ -4,7 +4,7 @@ use Rattle.std.specs.List.{filter_map}
 use Rattle.std.specs.Ordering.{is_lt}
 use Rattle.cell_types.specs.Value.{CellValue, value_cmp}
 use Rattle.row_eval.specs.Row.{cell, decimal_in, integer_in}
-use Rattle.query_plan.specs.Apply.{is_value}
+use Rattle.query_meaning.specs.Apply.{is_value}
 
 -- the integers that rows have in a column, and the decimals
 abbrev pub integers_in : ℕ → List (List CellValue) → List ℤ

@@ -6,7 +6,7 @@ use Rattle.cell_types.specs.Value.{CellValue, value_view}
 use Rattle.odata_query.specs.declared.aggregate.Aggregate.{Aggregate}
 use Rattle.odata_query.specs.Aggregate.{NamedAggregateOf}
 use Rattle.odata_query.specs.Query.{optional_numbers}
-use Rattle.query_plan.specs.Apply.{computed_value, computed_values, group_values, rows_of_group, values_at}
+use Rattle.query_meaning.specs.Apply.{computed_value, computed_values, group_values, rows_of_group, values_at}
 use Rattle.row_groups.specs.declared.gathering.Gathering.{Gathering}
 use Rattle.row_groups.specs.declared.groups.Groups.{Groups}
 use Rattle.row_groups.specs.Groups.{grouped_rows}

@@ -2,7 +2,7 @@
 use Rattle.std.specs.Prelude.{ℕ, List, ◌++◌, map}
 use Rattle.cell_types.specs.Value.{CellValue}
 use Rattle.odata_query.specs.Aggregate.{NamedAggregateOf}
-use Rattle.query_plan.specs.Apply.{computed_values, group_values, rows_of_group}
+use Rattle.query_meaning.specs.Apply.{computed_values, group_values, rows_of_group}
 
 -- for each group its values, and behind them what is computed of its rows
 abbrev pub grouped_rows : List ℕ → List NamedAggregateOf → List (List CellValue) → List (List CellValue)

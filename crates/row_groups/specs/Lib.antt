@@ -1,7 +1,7 @@
 pub use Rattle.odata_query.specs.Aggregate as Aggregates
-pub use Rattle.query_plan.specs.Apply
-pub use Rattle.query_plan.specs.Fitting
-pub use Rattle.query_plan.specs.Meaning
+pub use Rattle.query_meaning.specs.Apply
+pub use Rattle.query_meaning.specs.Fitting
+pub use Rattle.query_meaning.specs.Meaning
 pub use Rattle.row_columns.specs.Columns
 pub use Rattle.row_columns.specs.Kinds
 pub use Rattle.row_columns.specs.Picked

@@ -4,8 +4,8 @@ use Rattle.std.specs.Int.{w128}
 use Rattle.std.specs.List.{filter_map}
 use Rattle.cell_types.specs.Value.{CellValue, decimal, integer}
 use Rattle.row_eval.specs.Row.{cell, decimal_in, integer_in}
-use Rattle.query_plan.specs.Apply.{integer_sum}
-use Rattle.query_plan.specs.Fitting.{AreSummable}
+use Rattle.query_meaning.specs.Apply.{integer_sum}
+use Rattle.query_meaning.specs.Fitting.{AreSummable}
 use Rattle.row_groups.specs.declared.sums.Summed.{Summed}
 use Rattle.row_groups.specs.declared.sums.Summed.TheVariants.{Integers, Decimals}
 

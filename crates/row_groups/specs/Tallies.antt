@@ -5,8 +5,8 @@ use Rattle.std.specs.Set.{distinct_count}
 use Rattle.cell_types.specs.Value.{CellValue, value_eq, value_view}
 use Rattle.odata_query.specs.declared.aggregate.Aggregate.{Aggregate}
 use Rattle.odata_query.specs.declared.aggregate.Aggregate.TheVariants.{Count, SumOfIntegers, SumOfDecimals, Min, Max, CountDistinct}
-use Rattle.query_plan.specs.Apply.{computed_value, values_in}
-use Rattle.query_plan.specs.Fitting.{AreSummable}
+use Rattle.query_meaning.specs.Apply.{computed_value, values_in}
+use Rattle.query_meaning.specs.Fitting.{AreSummable}
 use Rattle.row_groups.specs.declared.tally.Tally.{Tally}
 use Rattle.row_groups.specs.declared.tally.Tally.TheVariants as tally
 use Rattle.row_groups.specs.Computed.{decimals_in, integers_in}

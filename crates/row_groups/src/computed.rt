@@ -3,7 +3,7 @@ ghost use Rattle.std.specs.Prelude.{◌≡◌, ◌<◌, length, not};
 ghost use Rattle.std.specs.List.{All};
 ghost use Rattle.cell_types.specs.Value.{value_view};
 ghost use Rattle.odata_query.specs.declared.aggregate.Aggregate.TheVariants.{Max, Min};
-ghost use Rattle.query_plan.specs.Apply.{computed_value, is_value};
+ghost use Rattle.query_meaning.specs.Apply.{computed_value, is_value};
 ghost use Rattle.row_columns.specs.Picked.{numbered};
 ghost use Rattle.row_groups.specs.Computed.{greater_value, lesser_value};
 

@@ -3,7 +3,7 @@ ghost use Rattle.std.specs.Prelude.{◌≡◌, ◌<◌, ◌+◌, ◌^◌, [], �
 ghost use Rattle.std.specs.List.{All};
 ghost use Rattle.cell_types.specs.Value.{CellValue, value_view};
 ghost use Rattle.odata_query.specs.declared.aggregate.Aggregate.{Aggregate};
-ghost use Rattle.query_plan.specs.Apply.{values_at};
+ghost use Rattle.query_meaning.specs.Apply.{values_at};
 ghost use Rattle.row_columns.specs.Kinds.{any};
 ghost use Rattle.row_columns.specs.Picked.{numbered};
 ghost use Rattle.row_groups.specs.Gathered.{key_width, HasGroups, JoinsGroups, JoinsRow, MakesRows, MayJoinGroups, MayJoinRow};
@@ -107,7 +107,7 @@ impl Groups {
     {
         cell_types::values_are_ordered();
         cell_types::values_compare_as_their_views();
-        query_plan::rows_are_in_groups();
+        query_meaning::rows_are_in_groups();
         let row = [number];
         match self.keys.get_index_of(key) {
             Some(group) => join_each(alloc, &mut self.tallies[group], columns, &row, aggregates)?,

@@ -1,8 +1,8 @@
 //! Sums of the numbers of a column (OData Data Aggregation 4.0, section 3.1.3.1): nulls are passed over. Each goes from the last row to the first.
 ghost use Rattle.std.specs.Prelude.{◌≡◌, ◌<◌, [], None, IfSome, length, map, slice_index_or};
 ghost use Rattle.std.specs.List.{All, filter_map};
-ghost use Rattle.query_plan.specs.Apply.{value_at};
-ghost use Rattle.query_plan.specs.Fitting.{AreSummable};
+ghost use Rattle.query_meaning.specs.Apply.{value_at};
+ghost use Rattle.query_meaning.specs.Fitting.{AreSummable};
 ghost use Rattle.row_columns.specs.Cells.{value_or_null};
 ghost use Rattle.row_columns.specs.Picked.{numbered};
 ghost use Rattle.row_eval.specs.Row.{cell, decimal_in, integer_in};

@@ -3,7 +3,7 @@ ghost use Rattle.std.specs.Prelude.{◌≡◌, ◌≢◌, ◌↔◌, ◌<◌, �
 ghost use Rattle.cell_types.specs.Column.{ColumnOf};
 ghost use Rattle.cell_types.specs.Datatype.{integer};
 ghost use Rattle.cell_types.specs.Value.{CellValue, null, value_eq, value_view};
-ghost use Rattle.csv_index.specs.Raw.{RawField};
+ghost use Rattle.raw_fields.specs.Raw.{RawField};
 ghost use Rattle.csvw_meta.specs.Schema.{schema_view};
 ghost use Rattle.row_keys.specs.Key.{row_key, row_keys, has_null as has_null_in, repeated_row, row_of};
 ghost use Rattle.row_keys.specs.Numbers.{integer_key};

@@ -14,8 +14,8 @@ use Rattle.block_summary.specs.Types.{cell_of}
 use Rattle.block_summary.specs.declared.number.PackedType.{PackedType}
 use Rattle.block_summary.specs.declared.number.PackedType.TheVariants.{Integer}
 use Rattle.cell_types.specs.Value.{CellValue, null, value_cmp}
-use Rattle.query_plan.specs.Laws.{RowsAreInOrder}
-use Rattle.query_plan.specs.Order.{Item, directed, item_value, rows_cmp, sorted}
+use Rattle.query_meaning.specs.Laws.{RowsAreInOrder}
+use Rattle.query_meaning.specs.Order.{Item, directed, item_value, rows_cmp, sorted}
 use Rattle.odata_query.specs.Query.{order_view}
 use Rattle.odata_query.specs.declared.query.OrderBy.{OrderBy}
 use Rattle.row_columns.specs.Picked.{numbered}

@@ -9,7 +9,7 @@ use Rattle.std.proofs.lemmas.List.Sorted.{ranks_by}
 use Rattle.block_summary.specs.Types.{cell_of}
 use Rattle.block_summary.specs.declared.number.PackedType.TheVariants.{Integer}
 use Rattle.cell_types.specs.Value.{value_cmp}
-use Rattle.query_plan.specs.Order.{directed}
+use Rattle.query_meaning.specs.Order.{directed}
 use Rattle.row_order.specs.InTime.{is_before}
 use Rattle.row_order.proofs.ItemLemmas.{directed_total}
 

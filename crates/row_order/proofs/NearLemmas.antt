@@ -4,7 +4,7 @@ use Rattle.std.specs.Cmp.{IsStrictWeakOrder}
 use Rattle.std.specs.Ordering.{is_lt}
 use Rattle.std.specs.declared.cmp.Ordering.{Ordering}
 use Rattle.std.proofs.lemmas.Bool.{cases_Bool, false≢true}
-use Rattle.query_plan.specs.Order.{placed, sorted}
+use Rattle.query_meaning.specs.Order.{placed, sorted}
 use Rattle.row_order.proofs.BestLemmas.{in_place}
 use Rattle.row_order.proofs.StableLemmas.{Leads, Rises}
 

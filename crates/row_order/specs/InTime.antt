@@ -8,7 +8,7 @@ use Rattle.block_summary.specs.Types.{cell_of}
 use Rattle.block_summary.specs.declared.number.PackedType.{PackedType}
 use Rattle.block_summary.specs.declared.number.PackedType.TheVariants.{Integer}
 use Rattle.cell_types.specs.Value.{CellValue, null, value_cmp}
-use Rattle.query_plan.specs.Order.{Item, directed, item_value, ordered, rows_cmp, sorted}
+use Rattle.query_meaning.specs.Order.{Item, directed, item_value, ordered, rows_cmp, sorted}
 use Rattle.row_columns.specs.Picked.{numbered}
 use Rattle.row_order.specs.Best.{best_rows}
 use Rattle.row_columns.specs.declared.keys.Keys.{Keys}

@@ -1,8 +1,8 @@
 pub use Rattle.odata_query.specs.Query as Queries
 pub use Rattle.odata_types.specs.TypedTree
 pub use Rattle.row_eval.specs.Bounds
-pub use Rattle.query_plan.specs.Filter
-pub use Rattle.query_plan.specs.Order
+pub use Rattle.query_meaning.specs.Filter
+pub use Rattle.query_meaning.specs.Order
 pub mod Numbers
 pub mod Keys
 pub mod Best

@@ -10,7 +10,7 @@ use crate::keys_in_time::{Bound, last_of, near, within};
 use crate::plain::{PlainColumn, plain_column};
 use block_summary::PackedType;
 use odata_query::OrderBy;
-use query_plan::rows_are_in_order;
+use query_meaning::rows_are_in_order;
 use row_columns::{Columns, KeyColumn, Keys};
 use std::alloc::{AllocError, Global};
 

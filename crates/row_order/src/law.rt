@@ -5,6 +5,6 @@ ghost use Rattle.row_order.specs.Best.{BestInPieces};
 pub fn best_in_pieces()
     ensures { BestInPieces }
 {
-    query_plan::rows_are_in_order();
+    query_meaning::rows_are_in_order();
     cell_types::values_are_ordered();
 }

@@ -3,14 +3,14 @@ ghost use Rattle.std.specs.Prelude.{◌<◌, [], true, length, slice_index_or};
 ghost use Rattle.std.specs.List.{All};
 ghost use Rattle.odata_types.specs.TypedTree.{truth_view};
 ghost use Rattle.row_eval.specs.Bounds.{TruthFits};
-ghost use Rattle.query_plan.specs.Filter.{passing};
+ghost use Rattle.query_meaning.specs.Filter.{passing};
 ghost use Rattle.row_eval.specs.Outcome.{truth_outcome};
 ghost use Rattle.row_eval.specs.Result.{Evaluates};
 ghost use Rattle.row_columns.specs.Picked.{numbered};
 ghost use Rattle.row_order.specs.Numbers.{GivesNumbers};
 
 use odata_types::TruthExpr;
-use query_plan::true_rows_pass;
+use query_meaning::true_rows_pass;
 use row_columns::Columns;
 use row_eval::{EvalFault, Truth, eval_truth};
 use std::alloc::{AllocError, Global};

@@ -2,7 +2,7 @@
 ghost use Rattle.std.specs.Prelude.{◌≡◌, ◌<◌, ℕ, List, drop};
 ghost use Rattle.std.specs.List.{All};
 ghost use Rattle.cell_types.specs.Value.{CellValue};
-ghost use Rattle.query_plan.specs.Meaning.{first_rows};
+ghost use Rattle.query_meaning.specs.Meaning.{first_rows};
 ghost use Rattle.row_columns.specs.Picked.{numbered};
 
 /// All but the first `skip` of the rows with those numbers, and of these the first `top`.

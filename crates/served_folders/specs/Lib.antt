@@ -1,4 +1,5 @@
 pub mod Folders
+pub mod Loads
 pub mod Disk
 pub mod Names
 pub mod Laws

@@ -3,7 +3,7 @@ use Rattle.std.proofs.Common.{◌≡◌, ℕ, zero, suc, ◌+◌, ◌-◌, ◌<�
 use Rattle.std.specs.List.{AllByRecursion}
 use Rattle.std.proofs.lemmas.List.{length-map, take-map, drop-map, take_at, drop_at, take_more, map_push}
 use Rattle.std.proofs.lemmas.Option.{slice_get-get_or, slice_get_within, get_or_from_slice_get}
-use Rattle.csv_index.specs.Raw.{RawField}
+use Rattle.raw_fields.specs.Raw.{RawField}
 use Rattle.csv_index.specs.Index.{row_fields}
 use Rattle.cell_types.specs.declared.column.Column.{Column}
 use Rattle.cell_types.specs.Column.{ColumnOf, column_view}

@@ -5,7 +5,7 @@ use Rattle.std.proofs.lemmas.List.{length-map, take_more}
 use Rattle.std.proofs.lemmas.List.Elements.{All-from_recursion}
 use Rattle.std.proofs.lemmas.Option.{slice_get-map, slice_get-get_or, slice_get_within, get_or_from_slice_get}
 use Rattle.std.proofs.lemmas.Slice.Zip.{length-zip}
-use Rattle.csv_index.specs.Raw.{RawField, raw_content}
+use Rattle.raw_fields.specs.Raw.{RawField, raw_content}
 use Rattle.csv_index.specs.Index.{cell_at}
 use Rattle.cell_types.specs.Column.{ColumnOf}
 use Rattle.cell_types.specs.Cell.{value_of}

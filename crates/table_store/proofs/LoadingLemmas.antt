@@ -4,8 +4,9 @@ use Rattle.std.specs.List.{AllByRecursion}
 use Rattle.std.specs.Result.{result_err}
 use Rattle.std.proofs.lemmas.List.{length-map, map-append}
 use Rattle.csv_grammar.specs.Files.{HasWidth}
-use Rattle.csv_index.specs.Raw.{RawField, field_of}
-use Rattle.csv_index.specs.Index.{RawTable, IsRawTable}
+use Rattle.raw_fields.specs.Raw.{RawField, field_of}
+use Rattle.raw_fields.specs.Raw.{RawTable}
+use Rattle.csv_index.specs.Index.{IsRawTable}
 use Rattle.cell_types.specs.declared.fault.CellFault.{CellFault}
 use Rattle.cell_types.specs.declared.fault.CellFault.TheVariants.{NoMemory}
 use Rattle.cell_types.specs.Column.{ColumnOf}

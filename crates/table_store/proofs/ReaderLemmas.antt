@@ -12,7 +12,7 @@ use Rattle.cell_types.specs.declared.column.Column.{Column}
 use Rattle.cell_types.specs.Column.{ColumnOf, column_view, takes_all_texts}
 use Rattle.cell_types.specs.Datatype.{DatatypeOf, is_text, integer, text, boolean, date, decimal}
 use Rattle.cell_types.specs.Value.{CellValue, null}
-use Rattle.csv_index.specs.Raw.{RawField}
+use Rattle.raw_fields.specs.Raw.{RawField}
 use Rattle.typed_columns.specs.ColumnReader.{ReaderOf, cells_read, read_on, reader_at, AreReadOn, HasReader, HaveRead, HaveReaders}
 use Rattle.table_store.specs.Cursor.{HoldRow}
 use Rattle.typed_columns.specs.TypedColumn.{AreTyped}

@@ -5,7 +5,7 @@ use Rattle.std.proofs.lemmas.Bool.{and_parts, cases_order, eq-eqb}
 use Rattle.std.proofs.lemmas.List.{drop_all, length-take, get_or_past, get_or-set_other, get_or-set_same}
 use Rattle.std.proofs.lemmas.Option.{get_or_from_slice_get, slice_get-map}
 use Rattle.std.specs.Result.{result_err}
-use Rattle.csv_index.specs.Raw.{RawField, raw_content, field_of}
+use Rattle.raw_fields.specs.Raw.{RawField, raw_content, field_of}
 use Rattle.cell_types.specs.Value.{CellValue, null}
 use Rattle.cell_types.specs.declared.fault.CellFault.{CellFault}
 use Rattle.cell_types.specs.Column.{ColumnOf, column_view, takes_all_texts}

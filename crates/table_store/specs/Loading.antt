@@ -4,8 +4,9 @@ use Rattle.std.specs.Result.{result_err}
 use Rattle.std.specs.List.{IsDistinct}
 use Rattle.std.specs.Str.{bytes_eq}
 use Rattle.csv_grammar.specs.Files.{IsFileFault}
-use Rattle.csv_index.specs.Raw.{RawField, field_of}
-use Rattle.csv_index.specs.Index.{RawTable, IsRawTable}
+use Rattle.raw_fields.specs.Raw.{RawField, field_of}
+use Rattle.raw_fields.specs.Raw.{RawTable}
+use Rattle.csv_index.specs.Index.{IsRawTable}
 use Rattle.csv_index.specs.Fault.{text_cause}
 use Rattle.cell_types.specs.declared.fault.CellFault.{CellFault}
 use Rattle.cell_types.specs.declared.fault.CellFault.TheVariants as cell

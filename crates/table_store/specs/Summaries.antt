@@ -5,7 +5,7 @@ use Rattle.block_summary.specs.Ranges.{RangeOf, column_of, no_range, widened, Ar
 use Rattle.cell_types.specs.Column.{ColumnOf}
 use Rattle.cell_types.specs.Datatype.{is_text}
 use Rattle.cell_types.specs.Value.{CellValue, null}
-use Rattle.csv_index.specs.Index.{RawTable}
+use Rattle.raw_fields.specs.Raw.{RawTable}
 use Rattle.csvw_meta.specs.Schema.{SchemaOf}
 use Rattle.table_store.specs.Block.{block_count, block_of}
 use Rattle.table_store.specs.Table.{TableOf}

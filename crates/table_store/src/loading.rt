@@ -3,7 +3,7 @@ ghost use Rattle.std.specs.Prelude.{◌≡◌, ◌≤◌, ◌⊎◌, ◌==◌, L
 ghost use Rattle.std.specs.List.{list_all, list_any};
 ghost use Rattle.cell_types.specs.Value.{CellValue, value_view};
 ghost use Rattle.cell_types.specs.Column.{column_view, takes_all_texts};
-ghost use Rattle.csv_index.specs.Raw.{raw_view};
+ghost use Rattle.raw_fields.specs.Raw.{raw_view};
 ghost use Rattle.csvw_meta.specs.Schema.{schema_view};
 ghost use Rattle.table_store.specs.Fault.{bad_cell, cell_cause};
 ghost use Rattle.typed_columns.specs.ColumnReader.{cells_read, read_on, AreReadOn, HasReader, HaveReaders};

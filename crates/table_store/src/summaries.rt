@@ -4,7 +4,7 @@ ghost use Rattle.std.specs.List.{list_any};
 ghost use Rattle.block_summary.specs.Ranges.{no_range, widened};
 ghost use Rattle.cell_types.specs.Column.{column_view};
 ghost use Rattle.cell_types.specs.Datatype.{is_text as is_text_of};
-ghost use Rattle.csv_index.specs.Raw.{raw_view};
+ghost use Rattle.raw_fields.specs.Raw.{raw_view};
 ghost use Rattle.csvw_meta.specs.Schema.{schema_view};
 ghost use Rattle.table_store.specs.Block.{block_count, block_of};
 ghost use Rattle.table_store.specs.Summaries.{table_at, AreCellsOf, AreRangesFrom, AreSummariesOf, AreWithRow, HasBlock, IsRangeFrom, IsSummaryOf};

@@ -6,7 +6,7 @@ ghost use Rattle.block_summary.specs.Types.{cell_of, IsNumberOf};
 ghost use Rattle.cell_types.specs.Column.{column_view};
 ghost use Rattle.cell_types.specs.Datatype.{datatype_view};
 ghost use Rattle.cell_types.specs.Value.{value_view};
-ghost use Rattle.csv_index.specs.Raw.{raw_view};
+ghost use Rattle.raw_fields.specs.Raw.{raw_view};
 ghost use Rattle.typed_columns.specs.ColumnReader.{cells_read, reader_at, with_cell};
 ghost use Rattle.typed_columns.specs.Values.{value_in};
 
@@ -15,7 +15,7 @@ use block_summary::{
     BLOCK_ROWS, CellBuffer, PackedColumn, PackedType, packed_type_of, read_number, typed_value,
 };
 use cell_types::{CellFault, Column, Value};
-use csv_index::Raw;
+use raw_fields::Raw;
 use std::alloc::{AllocError, Global};
 use std::marker::Model;
 

@@ -3,11 +3,11 @@ ghost use Rattle.std.specs.Prelude.{◌≡◌, ◌⊎◌, Ok, Err, IfOk, IfErr, 
 ghost use Rattle.cell_types.specs.Value.{value_view};
 ghost use Rattle.cell_types.specs.Cell.{NeedsMemory};
 ghost use Rattle.cell_types.specs.Column.{column_view};
-ghost use Rattle.csv_index.specs.Raw.{raw_content, raw_view};
+ghost use Rattle.raw_fields.specs.Raw.{raw_content, raw_view};
 ghost use Rattle.typed_columns.specs.Values.{value_in, value_or_null, HasValue};
 
 use cell_types::{CellFault, Column, Value, read_text};
-use csv_index::Raw;
+use raw_fields::Raw;
 use std::alloc::{AllocError, Global};
 
 /// The value of a field in a column.

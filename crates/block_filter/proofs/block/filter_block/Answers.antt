@@ -13,10 +13,10 @@ returns-in_ok-numbers-in-Ok c =
     (rw c.deref.ensures.value at c.in_ok-numbers-in-Ok.ensures.within)
     (rw c.deref-in-Ok.ensures.value at c.count_of-count.ensures) refl
 
-pub returns-in_ok-found-in-Err : goal.returns-in_ok-found-in-Err
-returns-in_ok-found-in-Err c =
-    first_of_all (map boxed_truth c.args.conditions.now) c.args.block.now.rows c.args.most c.limit_of-limit.result c.in_ok-found-in-Err.found c.first_of.result
-    c.in_ok-found-in-Err.ensures (rw c.rows.ensures at c.limit_of-limit.ensures) c.first_of.ensures
+pub returns-in_ok-found-in-Err-Rows : goal.returns-in_ok-found-in-Err-Rows
+returns-in_ok-found-in-Err-Rows c =
+    first_of_all (map boxed_truth c.args.conditions.now) c.args.block.now.rows c.args.most c.limit_of-limit.result c.in_ok-found-in-Err-Rows.found c.first_of.result
+    c.in_ok-found-in-Err-Rows.ensures (rw c.rows.ensures at c.limit_of-limit.ensures) c.first_of.ensures
 
 pub passing_rows-requires : goal.passing_rows-requires
 passing_rows-requires c = c.in_ok-all.ensures.items_if_clones_equal (λ y e. e) ∙ ap (λ n. replicate n true) c.rows-2.ensures

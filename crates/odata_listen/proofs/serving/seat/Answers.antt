@@ -1,5 +1,5 @@
 use Rattle.odata_hub.specs.Connections.{Done, answer_of}
-use Rattle.odata_listen.proofs.ServingLemmas.{on_free, on_join, on_open}
+use Rattle.odata_listen.proofs.ServingLemmas.{on_given, on_join, on_open}
 use Rattle.odata_listen.proofs.serving.seat.Goals as goal
 
 pub returns-in_default : goal.returns-in_default
@@ -10,4 +10,4 @@ returns-then-register g c = on_open _ _ c.open.result c.open.ensures.step c.open
 
 pub returns : goal.returns
 returns g c = on_join _ c.open.new.self _ (on_open _ _ c.open.result c.open.ensures.step c.open.ensures.seats c.open.ensures.kept)
-    (on_free c.in-Ok.field-0.0 _ _ (record { answer = answer_of (λ _. Done) c.free.result; step = c.free.ensures.step; seats = c.free.ensures.seats }))
+    (on_given c.in-Ok.field-0.0 (answer_of (λ _. Done) c.free.result) c.open.new.self _ c.free.ensures.step c.free.ensures.seats)

@@ -1,4 +1,4 @@
-use Rattle.odata_listen.proofs.ServingLemmas.{on_join, on_kept, on_reload}
+use Rattle.odata_listen.proofs.ServingLemmas.{on_join, on_reload}
 use Rattle.std.proofs.Common.{refl}
 use Rattle.odata_listen.proofs.serving.tend.Goals as goal
 

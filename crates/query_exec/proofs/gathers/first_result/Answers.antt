@@ -2,7 +2,7 @@ use Rattle.std.proofs.Common.{◌≡◌, ◌<◌, ◌++◌, ◌∷◌, [], Some,
 use Rattle.std.specs.List.{All}
 use Rattle.std.proofs.lemmas.List.{length-map}
 use Rattle.odata_query.specs.Aggregate.{named_view, NamedAggregateOf}
-use Rattle.query_plan.specs.Apply.{names_at}
+use Rattle.query_meaning.specs.Apply.{names_at}
 use Rattle.query_plan.specs.Fitting.{IsFitNode}
 use Rattle.query_plan.specs.Plan.{node_result, node_view}
 use Rattle.row_groups.specs.Gathered.{Gathers}

@@ -1,6 +1,6 @@
 use Rattle.std.proofs.Common.{ap}
 use Rattle.odata_types.specs.Schema.{inputs_of}
-use Rattle.query_plan.specs.Filter.{is_true}
+use Rattle.query_meaning.specs.Filter.{is_true}
 use Rattle.query_plan.proofs.TestLemmas.{test_passed}
 use Rattle.query_plan.proofs.law.tests_are_passed.Goals as goal
 

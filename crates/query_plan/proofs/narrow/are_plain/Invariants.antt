@@ -1,6 +1,6 @@
 use Rattle.std.proofs.Common.{◌≡◌, drop, map}
 use Rattle.odata_query.specs.Query.{order_view}
-use Rattle.query_plan.specs.Order.{are_plain}
+use Rattle.query_meaning.specs.Order.{are_plain}
 use Rattle.query_plan.proofs.narrow.are_plain.Given as goal
 
 -- the items so far are columns, so those left decide

@@ -1,7 +1,7 @@
 use Rattle.std.proofs.Common.{◌≡◌, ◌++◌, drop, map}
 use Rattle.std.specs.List.{filter_map}
 use Rattle.odata_query.specs.Query.{order_view}
-use Rattle.query_plan.specs.Order.{plain_column}
+use Rattle.query_meaning.specs.Order.{plain_column}
 use Rattle.query_plan.proofs.narrow.plain_columns.Given as goal
 
 abbrev pub invariant-loop-item : goal.invariant-loop-item

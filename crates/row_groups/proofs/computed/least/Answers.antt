@@ -1,6 +1,6 @@
 use Rattle.std.proofs.Common.{filter, map, drop, sym, ap, ◌∙◌, arith}
 use Rattle.cell_types.specs.Value.{value_view}
-use Rattle.query_plan.specs.Apply.{is_value, least_value, value_at}
+use Rattle.query_meaning.specs.Apply.{is_value, least_value, value_at}
 use Rattle.row_columns.specs.Picked.{numbered}
 use Rattle.row_groups.specs.Computed.{lesser_value}
 use Rattle.row_groups.proofs.RowLemmas.{values_before}

@@ -1,6 +1,6 @@
 use Rattle.std.proofs.Common.{◌≡◌, ◌≤◌, drop, length}
 use Rattle.cell_types.specs.Value.{value_view}
-use Rattle.query_plan.specs.Apply.{least_value, values_in}
+use Rattle.query_meaning.specs.Apply.{least_value, values_in}
 use Rattle.row_columns.specs.Picked.{numbered}
 use Rattle.row_groups.proofs.computed.least.Given as goal
 

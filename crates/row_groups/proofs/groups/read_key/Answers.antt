@@ -2,7 +2,7 @@ use Rattle.std.proofs.Common.{[], ◌∷◌, ◌++◌, get_or, take, map, sym, a
 use Rattle.std.specs.Prelude.{slice_index_or}
 use Rattle.std.proofs.lemmas.List.{map-append, take_all, take_more}
 use Rattle.cell_types.specs.Value.{value_view}
-use Rattle.query_plan.specs.Apply.{value_at, values_at}
+use Rattle.query_meaning.specs.Apply.{value_at, values_at}
 use Rattle.row_groups.proofs.RowLemmas.{value_there}
 use Rattle.row_groups.proofs.groups.read_key.Goals as goal
 

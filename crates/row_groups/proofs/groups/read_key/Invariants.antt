@@ -1,7 +1,7 @@
 use Rattle.std.proofs.Common.{◌≡◌, [], map, take}
 use Rattle.std.specs.Prelude.{slice_index_or}
 use Rattle.cell_types.specs.Value.{value_view}
-use Rattle.query_plan.specs.Apply.{values_at}
+use Rattle.query_meaning.specs.Apply.{values_at}
 use Rattle.row_groups.proofs.groups.read_key.Given as goal
 
 -- the values so far

@@ -2,7 +2,7 @@ use Rattle.std.proofs.Common.{◌≡◌, ◌++◌, ◌∷◌, [], append_assoc, 
 use Rattle.std.proofs.lemmas.List.{map-append, take_more}
 use Rattle.cell_types.specs.Value.{value_view}
 use Rattle.odata_query.specs.declared.aggregate.Aggregate.TheVariants.{Count}
-use Rattle.query_plan.specs.Apply.{computed_value}
+use Rattle.query_meaning.specs.Apply.{computed_value}
 use Rattle.row_groups.specs.declared.tally.Tally.{Tally}
 use Rattle.row_groups.specs.Tallies.{IsTally}
 use Rattle.row_groups.proofs.ListLemmas.{zip_at, zip_long}

@@ -1,6 +1,6 @@
 use Rattle.std.proofs.Common.{◌≡◌, ◌++◌, List, map, take}
 use Rattle.cell_types.specs.Value.{CellValue, value_view}
-use Rattle.query_plan.specs.Apply.{computed_value}
+use Rattle.query_meaning.specs.Apply.{computed_value}
 use Rattle.row_groups.specs.Tallies.{AreTallies}
 use Rattle.row_groups.proofs.tallies.row_of.Given as goal
 

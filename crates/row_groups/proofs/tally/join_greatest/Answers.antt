@@ -1,7 +1,7 @@
 use Rattle.std.proofs.Common.{◌≡◌, Bool, true, false, cond, sym, ap, ◌∙◌}
 use Rattle.cell_types.specs.Value.{CellValue, value_view}
 use Rattle.odata_query.specs.declared.aggregate.Aggregate.TheVariants.{Max}
-use Rattle.query_plan.specs.Apply.{computed_value}
+use Rattle.query_meaning.specs.Apply.{computed_value}
 use Rattle.row_columns.specs.Picked.{numbered}
 use Rattle.row_groups.specs.Computed.{greater_value}
 use Rattle.row_groups.proofs.ValueLemmas.{greatest_joined}

@@ -3,7 +3,7 @@ use Rattle.std.specs.List.{list_any}
 use Rattle.std.proofs.lemmas.Bool.{not-false}
 use Rattle.std.proofs.lemmas.List.{map-append}
 use Rattle.cell_types.specs.Value.{value_eq, value_view}
-use Rattle.query_plan.specs.Apply.{is_value}
+use Rattle.query_meaning.specs.Apply.{is_value}
 use Rattle.row_groups.specs.Tallies.{HasDistinct}
 use Rattle.row_groups.proofs.ValueLemmas.{any_view, seen_again, seen_first}
 use Rattle.row_groups.proofs.tally.join_value.Goals as goal

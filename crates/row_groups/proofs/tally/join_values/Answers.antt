@@ -1,7 +1,7 @@
 use Rattle.std.proofs.Common.{◌++◌, get_or, map, sym, subst, take}
 use Rattle.std.proofs.lemmas.List.{take_all}
 use Rattle.cell_types.specs.Value.{value_view}
-use Rattle.query_plan.specs.Apply.{values_in}
+use Rattle.query_meaning.specs.Apply.{values_in}
 use Rattle.row_columns.specs.Picked.{numbered}
 use Rattle.row_groups.specs.Tallies.{HasDistinct}
 use Rattle.row_groups.proofs.GatheredLemmas.{values_more}

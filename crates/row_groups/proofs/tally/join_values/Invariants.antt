@@ -1,6 +1,6 @@
 use Rattle.std.proofs.Common.{◌++◌, List, map, take}
 use Rattle.cell_types.specs.Value.{CellValue, value_view}
-use Rattle.query_plan.specs.Apply.{values_in}
+use Rattle.query_meaning.specs.Apply.{values_in}
 use Rattle.row_columns.specs.Picked.{numbered}
 use Rattle.row_groups.specs.Tallies.{HasDistinct}
 use Rattle.row_groups.proofs.tally.join_values.Given as goal

@@ -1,6 +1,6 @@
 use Rattle.std.proofs.Common.{sym, ap, subst, ◌∙◌}
 use Rattle.std.proofs.lemmas.List.{length-map}
-use Rattle.query_plan.specs.Fitting.{AreSummable}
+use Rattle.query_meaning.specs.Fitting.{AreSummable}
 use Rattle.row_eval.specs.Row.{cell}
 use Rattle.row_columns.specs.Picked.{numbered}
 use Rattle.row_groups.specs.Sums.{numbers_in, read_of, sum_of, sums_joined, FitSums}

@@ -1,5 +1,5 @@
 use Rattle.std.proofs.Common.{◌≡◌, ◌∙◌, None, Some, drop, take, min, length, sym, ap, rules}
-use Rattle.query_plan.specs.Meaning.{first_rows}
+use Rattle.query_meaning.specs.Meaning.{first_rows}
 use Rattle.row_columns.specs.Picked.{numbered}
 use Rattle.row_order.proofs.NumberLemmas.{rows_first, rows_without, without_first}
 use Rattle.row_order.proofs.pieces.piece.Goals as goal

@@ -4,7 +4,7 @@ use Rattle.std.proofs.lemmas.Option.{slice_get-get_or, slice_get-map}
 use Rattle.std.specs.Option.{option_copied}
 use Rattle.cell_types.specs.Column.{column_view}
 use Rattle.cell_types.specs.Value.{null, value_view}
-use Rattle.csv_index.specs.Raw.{raw_view}
+use Rattle.raw_fields.specs.Raw.{raw_view}
 use Rattle.typed_columns.specs.Values.{values_in}
 use Rattle.table_store.proofs.PlaceLemmas.{drop-first, slice_get-from_read, slice_get-take}
 use Rattle.table_store.proofs.InsideLemmas.{length-values_in}

@@ -2,7 +2,7 @@ use Rattle.std.proofs.Common.{rules, ◌≡◌, ◌<◌, ◌≤◌, ℕ, List, [
 use Rattle.std.specs.Result.{result_err}
 use Rattle.std.proofs.lemmas.List.{length-map, length-take, take_all}
 use Rattle.std.proofs.lemmas.Result.{IfErr-weaker, IfOk-weaker}
-use Rattle.csv_index.specs.Raw.{RawField}
+use Rattle.raw_fields.specs.Raw.{RawField}
 use Rattle.cell_types.specs.declared.column.Column.{Column}
 use Rattle.cell_types.specs.Column.{column_view}
 use Rattle.cell_types.specs.Value.{CellValue, value_view}

@@ -1,5 +1,5 @@
 use Rattle.std.proofs.Common.{◌≡◌, List, drop, length, take}
-use Rattle.csv_index.specs.Raw.{RawField}
+use Rattle.raw_fields.specs.Raw.{RawField}
 use Rattle.csv_index.specs.Index.{row_fields}
 use Rattle.csvw_meta.specs.Schema.{schema_view}
 use Rattle.typed_columns.specs.Values.{rows_in, values_in}

@@ -5,7 +5,7 @@ use Rattle.std.specs.List.{list_any}
 use Rattle.std.specs.Result.{result_err}
 use Rattle.cell_types.specs.Column.{column_view}
 use Rattle.cell_types.specs.Value.{null, value_view}
-use Rattle.csv_index.specs.Raw.{raw_view, raw_content}
+use Rattle.raw_fields.specs.Raw.{raw_view, raw_content}
 use Rattle.cell_types.specs.Cell.{value_of}
 use Rattle.typed_columns.specs.ColumnReader.{ReaderOf, read_on, HasReader}
 use Rattle.typed_columns.specs.Values.{value_or_null, values_in}

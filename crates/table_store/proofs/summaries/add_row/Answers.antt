@@ -4,7 +4,7 @@ use Rattle.std.proofs.lemmas.Option.{get_or_from_slice_get, slice_get-map, slice
 use Rattle.block_summary.specs.Ranges.{RangeOf, no_range, widened}
 use Rattle.cell_types.specs.Column.{column_view}
 use Rattle.cell_types.specs.Value.{null}
-use Rattle.csv_index.specs.Raw.{raw_view}
+use Rattle.raw_fields.specs.Raw.{raw_view}
 use Rattle.typed_columns.specs.Values.{value_in, value_or_null, values_in}
 use Rattle.table_store.proofs.PlaceLemmas.{drop-first, slice_get-from_read, slice_get-take}
 use Rattle.table_store.proofs.RowLemmas.{read_at, slice_get-values_in}

@@ -1,5 +1,5 @@
 use Rattle.std.proofs.Common.{◌≡◌, Ok, Err, inl, inr, sym, ◌∙◌}
-use Rattle.csv_index.specs.Raw.{raw_view}
+use Rattle.raw_fields.specs.Raw.{raw_view}
 use Rattle.cell_types.specs.Column.{column_view}
 use Rattle.typed_columns.specs.Values.{value_or_null, value_in}
 use Rattle.typed_columns.proofs.field.field_value.Goals as goal

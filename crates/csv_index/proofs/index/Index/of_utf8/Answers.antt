@@ -25,5 +25,5 @@ invariant_of-result c =
 
 pub returns-clause-table : goal.returns-clause-table
 returns-clause-table c =
-    index_of c.args.bytes.now c.mark_len-start.result _ _ _ c.requires c.mark_len-start.ensures.mark
+    index_of c.fields_stand_so.ensures c.args.bytes.now c.mark_len-start.result _ _ _ c.requires c.mark_len-start.ensures.mark
     c.in_ok-structure.ensures.records c.in_default.is c.if-widths-eq0.false

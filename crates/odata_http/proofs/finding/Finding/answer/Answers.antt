@@ -4,7 +4,7 @@ use Rattle.cell_types.specs.Value.{value_view}
 use Rattle.csvw_meta.specs.Schema.{SchemaOf, schema_view}
 use Rattle.row_keys.specs.Key.{row_of}
 use Rattle.table_store.specs.Table.{keys_of}
-use Rattle.query_plan.specs.Meaning.{selected_names, selected_values, table_names}
+use Rattle.query_meaning.specs.Meaning.{selected_names, selected_values, table_names}
 use Rattle.row_eval.specs.Row.{row_view}
 use Rattle.odata_http.specs.Work.{response_view}
 use Rattle.odata_http.proofs.FindingLemmas.{finds_none, finds_row, if_ok, row_told, select_there, select_within}

@@ -1,7 +1,7 @@
 use Rattle.std.proofs.Common.{◌≡◌, ◌∙◌, Some, ap, map, refl, sym, take, true}
 use Rattle.std.specs.Prelude.{slice_get}
 use Rattle.odata_query.specs.Query.{order_view}
-use Rattle.query_plan.specs.Order.{are_plain, rows_cmp, sorted}
+use Rattle.query_meaning.specs.Order.{are_plain, rows_cmp, sorted}
 use Rattle.query_plan.specs.Plan.{node_view}
 use Rattle.query_exec.proofs.BestLemmas.{first_are_useful}
 use Rattle.query_exec.proofs.run.Run.cut.Goals as goal

@@ -1,7 +1,7 @@
 use Rattle.std.proofs.Common.{◌≡◌, ◌∙◌, Some, true, ap, map, rules, sym}
 use Rattle.std.specs.Prelude.{slice_get}
 use Rattle.odata_query.specs.Query.{order_view}
-use Rattle.query_plan.specs.Order.{are_plain}
+use Rattle.query_meaning.specs.Order.{are_plain}
 use Rattle.query_plan.specs.Plan.{choosing, node_view}
 use Rattle.row_order.specs.InTime.{AreEnoughByKeys}
 use Rattle.block_filter.specs.Lanes.{AreKeysOf}

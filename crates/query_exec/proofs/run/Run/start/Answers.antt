@@ -10,7 +10,7 @@ use Rattle.odata_query.specs.Query.{optional_numbers}
 use Rattle.odata_types.specs.TypedTree.{boxed_truth}
 use Rattle.row_columns.specs.Kinds.{kinds_of}
 use Rattle.query_plan.specs.Fitting.{IsFitFor}
-use Rattle.query_plan.specs.Meaning.{selected_names}
+use Rattle.query_meaning.specs.Meaning.{selected_names}
 use Rattle.query_plan.specs.Plan.{leading, needed, node_view, plan_view}
 use Rattle.query_plan.specs.Scan.{up_to}
 use Rattle.query_plan.specs.Scan.{test_view}

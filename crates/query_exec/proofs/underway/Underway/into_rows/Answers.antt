@@ -1,4 +1,4 @@
-use Rattle.std.proofs.Common.{length, subst, sym, rules}
+use Rattle.std.proofs.Common.{length, subst, sym, rules, ◌∙◌}
 use Rattle.query_exec.specs.Underway.{AreAll}
 use Rattle.query_exec.proofs.StepLemmas.{whole_is}
 use Rattle.query_exec.proofs.underway.Underway.into_rows.Goals as goal
@@ -8,4 +8,4 @@ returns-then-are_all c =
     let here : AreAll c.deref.result.now c.len.result = search rules in
     let all : AreAll c.args.self.numbers.items (length c.args.self.columns.rows) =
     subst (λ ns. AreAll ns (length c.args.self.columns.rows)) c.deref.ensures.value (subst (AreAll c.deref.result.now) c.len.ensures here) in
-    sym (whole_is c.args.self all)
+    c.new.ensures ∙ sym (whole_is c.args.self all)

@@ -2,7 +2,7 @@ use Rattle.std.proofs.Common.{◌≡◌, ◌++◌, ◌∷◌, [], Some, cond, fa
 use Rattle.std.specs.Prelude.{is_some, slice_index_or}
 use Rattle.std.specs.List.{list_any}
 use Rattle.cell_types.specs.Value.{value_view}
-use Rattle.query_plan.specs.Apply.{same_values, values_at}
+use Rattle.query_meaning.specs.Apply.{same_values, values_at}
 use Rattle.row_groups.proofs.FitLemmas.{all_fit_rest}
 use Rattle.row_groups.proofs.GatheredLemmas.{inside, may_join, row_begins, row_found, views}
 use Rattle.row_groups.proofs.KeyLemmas.{any_key, position_key}

@@ -1,6 +1,6 @@
 use Rattle.std.proofs.Common.{◌≡◌, ◌<◌, ◌++◌, ◌∷◌, [], Vec, Global, get_or, length, map, sym, ap, subst, ◌∙◌, arith}
 use Rattle.cell_types.specs.Value.{value_view}
-use Rattle.query_plan.specs.Apply.{computed_value}
+use Rattle.query_meaning.specs.Apply.{computed_value}
 use Rattle.row_groups.specs.declared.tally.Tally.{Tally}
 use Rattle.row_groups.specs.Gathered.{keys_of, part_of}
 use Rattle.row_groups.specs.Tallies.{AreTallies}

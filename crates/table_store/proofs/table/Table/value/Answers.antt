@@ -6,7 +6,7 @@ use Rattle.std.specs.Option.{option_copied}
 use Rattle.cell_types.specs.Value.{CellValue, null}
 use Rattle.typed_columns.specs.Values.{rows_in}
 use Rattle.table_store.proofs.ReaderLemmas.{hold_row}
-use Rattle.csv_index.specs.Raw.{raw_view}
+use Rattle.raw_fields.specs.Raw.{raw_view}
 use Rattle.cell_types.specs.Column.{column_view}
 use Rattle.csvw_meta.specs.Schema.{schema_view}
 use Rattle.table_store.proofs.PlaceLemmas.{slice_get-from_read}

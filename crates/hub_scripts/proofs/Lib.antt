@@ -1,0 +1,4 @@
+pub mod TakeLemmas
+pub mod CommandLemmas
+pub mod ReplayLemmas
+pub mod ScriptLemmas

@@ -1,0 +1,4 @@
+pub mod Answers
+pub mod Replay
+pub mod ScriptFile
+pub mod Laws

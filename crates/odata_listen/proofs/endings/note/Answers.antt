@@ -1,0 +1,8 @@
+use Rattle.odata_listen.proofs.StreamLemmas.{kept_then}
+use Rattle.odata_listen.proofs.endings.note.Goals as goal
+
+pub returns : goal.returns
+returns c = record {
+  kept = (c.end_hopeless.ensures.hub, c.end_hopeless.ensures.seats);
+  streams = kept_then c.args.place _ _ _ _ c.note_work.ensures c.end_hopeless.ensures.ends;
+}

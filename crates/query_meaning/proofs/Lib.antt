@@ -1,0 +1,5 @@
+pub mod FilterLemmas
+pub mod SortLemmas
+pub mod OrderLemmas
+pub mod GroupLemmas
+pub mod ComputedLemmas

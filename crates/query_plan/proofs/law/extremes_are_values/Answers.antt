@@ -1,5 +1,0 @@
-use Rattle.query_plan.proofs.ComputedLemmas.{extremes_are_values}
-use Rattle.query_plan.proofs.law.extremes_are_values.Goals as goal
-
-pub returns : goal.returns
-returns c = extremes_are_values c.values_are_ordered.ensures.total

@@ -1,0 +1,22 @@
+-- The rows of an answer (OData 4.01 Part 2, URL Conventions, section 4.3): names, the values under them row by row, and how many rows there are where that
+-- was asked for.
+use Rattle.std.specs.Prelude.{ℕ, List, [], ◌∷◌, Option, None}
+use Rattle.cell_types.specs.Value.{CellValue}
+use Rattle.csvw_meta.specs.Schema.{SchemaOf}
+use Rattle.table_store.specs.Table.{TableOf}
+use Rattle.query_meaning.specs.Meaning.{ResultOf, selected_names, selected_values, table_names}
+
+abbrev pub RowsOf : Type 0
+RowsOf = ResultOf
+
+-- every row of a table, under the names of its columns
+abbrev pub rows_of_table : TableOf → RowsOf
+rows_of_table table = record { names = table_names table.schema; rows = table.rows; count = None }
+
+-- a row of a table, in the columns that are selected
+abbrev pub rows_of_row : SchemaOf → Option (List ℕ) → List CellValue → RowsOf
+rows_of_row schema select values = record {
+  names = selected_names select (table_names schema);
+  rows = selected_values select values ∷ [];
+  count = None;
+}

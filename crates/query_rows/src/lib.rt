@@ -1,0 +1,9 @@
+//! The rows of an answer (OData 4.01 Part 2, URL Conventions, section 4.3): names, the values under them row by row, and how many rows there are where that
+//! was asked for.
+#![tactic(auto)]
+
+mod names;
+mod rows;
+
+pub use names::{names_of, picked_names};
+pub use rows::Rows;
