@@ -1,17 +1,21 @@
 -- The columns of a block that are read for a condition.
-use Rattle.std.specs.Prelude.{◌≡◌, ◌<◌, ℕ, ℤ, Bool, List, [], MatchOption, Option, Some, Vec, length, map, option_map, slice_get, slice_index_or}
+use Rattle.std.specs.Prelude.{◌≡◌, ◌<◌, ℕ, ℤ, Bool, List, [], MatchOption, Option, Some, Vec, length, map, option_and_then, option_map, slice_get, slice_index_or}
 use Rattle.block_eval.specs.declared.columns.Column.{Column}
 use Rattle.block_eval.specs.Columns.{number_at, IsCell, IsRowAt}
 use Rattle.block_summary.specs.Cells.{AreBetween}
 use Rattle.block_summary.specs.Ranges.{column_of}
+use Rattle.block_summary.specs.Reading.{packed_type_of}
 use Rattle.block_summary.specs.Types.{cell_of, numbers_of}
 use Rattle.block_summary.specs.declared.bounds.Bounds.{Bounds}
 use Rattle.block_summary.specs.declared.number.PackedType.{PackedType}
+use Rattle.block_summary.specs.declared.number.PackedType.TheVariants.{Decimal, Integer}
 use Rattle.cell_types.specs.declared.value.Value.{Value}
 use Rattle.cell_types.specs.Value.{CellValue, null, value_view}
 use Rattle.row_columns.specs.declared.keys.KeyColumn.{KeyColumn}
 use Rattle.row_columns.specs.declared.keys.Keys.{Keys}
+use Rattle.table_store.specs.Table.{TableOf}
 use Rattle.block_filter.specs.declared.lanes.Lane.{Lane}
+use Rattle.block_filter.specs.declared.lanes.Lanes.{Lanes}
 
 -- a column has the cells of rows at a place
 abbrev pub IsColumnOf : List (List CellValue) → ℕ → Column → Type 0
@@ -67,3 +71,30 @@ pub record AreKeysOf (rows : List (List CellValue)) (place : ℕ) (column : KeyC
   pub long : length keys.numbers.now ≡ length rows
   pub marked : length keys.nulls.now ≡ length rows
   pub stand : StandAt rows place column.packed_type keys.numbers.now keys.nulls.now
+
+-- ---- which columns have keys
+
+-- so many columns of which numbers can be read
+abbrev pub AreWide : ℕ → Lanes → Type 0
+AreWide width lanes = length lanes.lanes.items ≡ width
+
+-- what the numbers of a column stand for; nothing where it has texts
+abbrev pub type_at : TableOf → ℕ → Option PackedType
+type_at block col = option_and_then (λ column. packed_type_of column.datatype) (slice_get block.schema.columns col)
+
+-- numbers of these types are keys of an order: integers and decimals
+abbrev pub IsKeyType : PackedType → Type 0
+IsKeyType Integer = Unit {0}
+IsKeyType Decimal = Unit {0}
+IsKeyType type = ⊥
+
+-- numbers of a type were read, one for each of so many rows, and marks of their nulls
+abbrev pub HasRead : Lane → PackedType → ℕ → Type 0
+HasRead lane type rows = (lane.packed_type ≡ Some type) × (length lane.numbers.items ≡ rows) × (length lane.nulls.items ≡ rows)
+
+abbrev pub HoldsKeys : Lane → PackedType → ℕ → Type 0
+HoldsKeys lane type rows = HasRead lane type rows × IsKeyType type
+
+-- the numbers of a column that has numbers were read
+abbrev pub IsReadOf : TableOf → ℕ → Lane → Type 0
+IsReadOf block col lane = (type : PackedType) → type_at block col ≡ Some type → HasRead lane type (length block.rows)

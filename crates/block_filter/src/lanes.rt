@@ -1,8 +1,8 @@
 //! The columns of a block that are read for conditions, or for an order.
-ghost use Rattle.std.specs.Prelude.{◌≡◌, ◌<◌, ℕ, List, OnOk, IfOk, IfSome, length, map, option_map};
+ghost use Rattle.std.specs.Prelude.{◌≡◌, ◌<◌, ℕ, List, Some, OnOk, IfOk, IfSome, IsSome, length, map, option_map};
 ghost use Rattle.cell_types.specs.Value.{CellValue, value_view};
 ghost use Rattle.table_store.specs.Block.{HasNumbers};
-ghost use Rattle.block_filter.specs.Lanes.{AreColumnsOf, AreKeysIn, AreKeysOf, AreLanesOf, AreTextsOf, IsLaneOf, IsMadeOf, LieBetween};
+ghost use Rattle.block_filter.specs.Lanes.{type_at, AreColumnsOf, AreKeysIn, AreKeysOf, AreLanesOf, AreTextsOf, AreWide, HoldsKeys, IsKeyType, IsLaneOf, IsMadeOf, IsReadOf, LieBetween};
 
 use crate::named::is_marked;
 use crate::texts::texts_at;
@@ -71,7 +71,8 @@ impl Lane {
     /// Reads the numbers of a column, if it has numbers.
     fn read(&mut self, alloc: Global, block: &Block<'_>, col: usize) -> Result<(), AllocError>
         requires { col < length block.now.schema.columns }
-        ensures { OnOk result (IsLaneOf block.now.rows col self.new) }
+        ensures lane { OnOk result (IsLaneOf block.now.rows col self.new) }
+        ensures read { OnOk result (IsReadOf block.now col self.new) }
     {
         block.values_fit();
         tables_are_inputs();
@@ -102,7 +103,8 @@ impl Lane {
 
     /// The numbers of so many rows as keys of a column, if they were read and are of its type.
     fn keys(&self, column: KeyColumn, rows: usize) -> Option<Keys<'_>>
-        ensures { IfSome result (AreKeysIn self.now column rows) }
+        ensures keys { IfSome result (AreKeysIn self.now column rows) }
+        ensures found { HoldsKeys self.now column.packed_type rows → IsSome result }
     {
         if self.numbers.len() != rows || self.nulls.len() != rows {
             return None;
@@ -127,7 +129,9 @@ pub struct Lanes {
 
 impl Lanes {
     /// So many columns, none of which was read.
-    pub fn new(alloc: Global, width: usize) -> Result<Lanes, AllocError> {
+    pub fn new(alloc: Global, width: usize) -> Result<Lanes, AllocError>
+        ensures { IfOk result (AreWide width) }
+    {
         let mut lanes = Vec::with_capacity(alloc, width)?;
         for _ in 0..width {
             lanes.push(Lane {
@@ -168,7 +172,7 @@ impl Lanes {
         Ok(())
     }
 
-    /// Reads one column of a block: its numbers as keys, if they are of the type of these.
+    /// Reads one column of a block as keys, if it has integers, or decimals, and these are asked for.
     pub fn keys(
         &mut self,
         alloc: Global,
@@ -177,7 +181,10 @@ impl Lanes {
         column: KeyColumn,
     ) -> Result<Option<Keys<'_>>, AllocError>
         requires { col < length block.now.schema.columns }
-        ensures { IfOk result (λ made. IfSome made (AreKeysOf block.now.rows col column)) }
+        ensures keys { IfOk result (λ made. IfSome made (AreKeysOf block.now.rows col column)) }
+        ensures found { IfOk result (λ made. (width : ℕ) → AreWide width self.old → col < width
+            → type_at block.now col ≡ Some column.packed_type → IsKeyType column.packed_type
+            → IsSome made) }
     {
         let Some(lane) = self.lanes.get_mut(col) else {
             return Ok(None);

@@ -1,0 +1,97 @@
+//! The CSV files of a folder on a disk.
+use crate::stop::Stop;
+use csvw_meta::MOST_FILE_BYTES;
+use message_text::escaped;
+use served_folders::look;
+use std::fs::{self, File, OpenFile};
+use std::io::{ErrorKind, Read};
+use std::rt::Files;
+use table_store::NamedFile;
+
+/// The bytes of a file from which on its reading is told.
+const LONG: u64 = 50_000_000;
+
+/// Whether a name is that of a CSV file, in letters of either case.
+fn is_csv(name: &str) -> bool {
+    match name.as_bytes() {
+        [.., b'.', b'c' | b'C', b's' | b'S', b'v' | b'V'] => true,
+        _ => false,
+    }
+}
+
+/// The names of the CSV files of a folder, in the order of their bytes. A name that is not UTF-8 is passed.
+fn csv_names<R>(rt: &R, folder: &str) -> Result<Vec<String>, Stop>
+where
+    R: Files + AllocGlobal + Clone + Drop,
+{
+    let mut names = Vec::new(rt.alloc());
+    for entry in fs::read_dir(rt, folder)? {
+        match entry {
+            Ok(entry) => {
+                if is_csv(entry.file_name())
+                    && names
+                        .push(String::from_str(rt.alloc(), entry.file_name())?)
+                        .is_err()
+                {
+                    return Err(Stop::NoMemory);
+                }
+            }
+            Err(error) if error.kind() == ErrorKind::InvalidFilename => {}
+            Err(error) => return Err(Stop::from(error)),
+        }
+    }
+    names.sort()?;
+    Ok(names)
+}
+
+/// The bytes of a plain file, or one more than the limit.
+fn read_plain<R>(rt: &R, path: &str) -> Result<Vec<u8>, Stop>
+where
+    R: Files + AllocGlobal,
+{
+    let file = File::open(rt, path)?;
+    // what was opened may be another than what was looked at
+    if !file.metadata()?.is_file() {
+        return Err(Stop::Device);
+    }
+    let mut bytes = Vec::new(rt.alloc());
+    file.take(u64::from(MOST_FILE_BYTES) + 1)
+        .read_to_end(&mut bytes)?;
+    Ok(bytes)
+}
+
+/// A file of a folder, where it is a plain one; else that is told.
+fn take_file<R>(rt: &R, folder: &str, name: String, tells: bool) -> Result<Option<NamedFile>, Stop>
+where
+    R: Files + Eprint + AllocGlobal,
+{
+    let path = format!(in rt.alloc(); "{folder}/{name}")?;
+    let found = look(rt, path.as_str(), true)?;
+    let shown = escaped(rt.alloc(), name.as_str())?;
+    if !found.is_file() {
+        rt.eprintln(format!(in rt.alloc(); "warning: {shown}: left out: no plain file")?)?;
+        return Ok(None);
+    }
+    if tells && found.len() > LONG {
+        let megabytes = found.len() / 1_000_000;
+        rt.eprintln(format!(in rt.alloc(); "reading {shown}, {megabytes} MB")?)?;
+    }
+    let bytes = read_plain(rt, path.as_str())?;
+    Ok(Some(NamedFile { name, bytes }))
+}
+
+/// The CSV files of a folder, in the order of their names.
+pub fn csv_files<R>(rt: &R, folder: &str, tells: bool) -> Result<Vec<NamedFile>, Stop>
+where
+    R: Files + Eprint + AllocGlobal + Clone + Drop,
+{
+    let mut files = Vec::new(rt.alloc());
+    for name in csv_names(rt, folder)? {
+        if let Some(file) = take_file(rt, folder, name, tells)? {
+            if files.push(file).is_err() {
+                return Err(Stop::NoMemory);
+            }
+        }
+    }
+    Ok(files)
+}

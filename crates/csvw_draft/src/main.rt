@@ -1,0 +1,19 @@
+//! A draft of the metadata of a folder of CSV files, which the service accepts. The program ends with the status 0; a fault is told on standard error and
+//! by the exit status.
+#![tactic(auto)]
+
+mod command;
+mod draft;
+mod folder;
+mod stop;
+mod warning;
+mod words;
+
+use command::command_status;
+use std::io::IsTerminal;
+use std::process::ExitCode;
+
+fn main(rt: HostRuntime) -> ExitCode {
+    let tells = rt.stderr().is_terminal();
+    ExitCode::from(command_status(&rt, tells))
+}

@@ -1,0 +1,124 @@
+-- The drafts of files, one file after another.
+use Rattle.std.proofs.Common.{◌≡◌, ℕ, zero, suc, ◌<◌, ◌≤◌, ◌||◌, ◌⊎◌, true, false, List, [], ◌∷◌, ◌++◌, length, map, take, get_or, inl, inr, refl, ap, sym, subst, ◌∙◌, append_assoc, arith}
+use Rattle.std.specs.Prelude.{string_bytes}
+use Rattle.std.specs.List.{list_any}
+use Rattle.std.specs.Str.{bytes_eq}
+use Rattle.std.proofs.lemmas.List.{get_or-map, length-map}
+use Rattle.raw_fields.specs.Raw.{RawTable, field_of}
+use Rattle.csv_index.specs.Index.{IsRawTable}
+use Rattle.csvw_meta.specs.Forms.{is_table_url}
+use Rattle.table_store.specs.declared.file.NamedFile.{NamedFile}
+use Rattle.csvw_guess.specs.Fault.{DraftCause, bad_text, file_too_large, no_tables, too_many_tables}
+use Rattle.csvw_guess.specs.Table.{schema_in}
+use Rattle.std.proofs.lemmas.List.{append-nil}
+use Rattle.csvw_meta.specs.Limits.{LimitsOf}
+use Rattle.csvw_meta.specs.Schema.{SchemaOf}
+use Rattle.table_store.specs.File.{FileOf, file_view, files_view}
+use Rattle.csvw_guess.specs.declared.draft.Outcome.{Outcome}
+use Rattle.csvw_guess.specs.declared.draft.Outcome.TheVariants.{Drafted, LeftOut}
+use Rattle.csvw_guess.specs.Draft.{HasNoDraft, HaveDrafts, IsBadAt, IsBadFile, IsDraft, IsFirstBad, IsLeftOut, IsOutcome, file_at, has_file_name, schemas_in}
+
+-- one file more that is left out
+out_more : (limits : LimitsOf) (earlier files : List FileOf) (schemas : List SchemaOf) (file : FileOf) → HaveDrafts limits earlier files schemas
+    → IsLeftOut limits (earlier ++ files) file → HaveDrafts limits earlier (files ++ file ∷ []) schemas
+out_more limits earlier [] schemas file none out =
+    subst (HaveDrafts limits earlier (file ∷ [])) (sym none) (subst (λ (before : List FileOf). IsLeftOut limits before file) (append-nil earlier) out, refl)
+out_more limits earlier (first ∷ files) [] file have out = (
+  have.0,
+  out_more limits (earlier ++ first ∷ []) files [] file have.1
+      (subst (λ (before : List FileOf). IsLeftOut limits before file) (sym (append_assoc earlier (first ∷ []) files)) out),
+)
+out_more limits earlier (first ∷ files) (schema ∷ schemas) file (inl have) out =
+    inl (
+      have.0,
+      out_more limits (earlier ++ first ∷ []) files (schema ∷ schemas) file have.1
+          (subst (λ (before : List FileOf). IsLeftOut limits before file) (sym (append_assoc earlier (first ∷ []) files)) out),
+    )
+out_more limits earlier (first ∷ files) (schema ∷ schemas) file (inr have) out =
+    inr (
+      have.0,
+      have.1,
+      out_more limits (earlier ++ first ∷ []) files schemas file have.2
+          (subst (λ (before : List FileOf). IsLeftOut limits before file) (sym (append_assoc earlier (first ∷ []) files)) out),
+    )
+
+-- one file is drafted
+one_draft : (limits : LimitsOf) (earlier : List FileOf) (file : FileOf) (schema : SchemaOf) → has_file_name earlier file.name ≡ false → IsDraft limits file schema
+    → HaveDrafts limits earlier (file ∷ []) (schema ∷ [])
+one_draft limits earlier file schema fresh is = inr (fresh, is, refl)
+
+-- one file more that is drafted
+draft_more : (limits : LimitsOf) (earlier files : List FileOf) (schemas : List SchemaOf) (file : FileOf) (last : SchemaOf) → HaveDrafts limits earlier files schemas
+    → has_file_name (earlier ++ files) file.name ≡ false → IsDraft limits file last → HaveDrafts limits earlier (files ++ file ∷ []) (schemas ++ last ∷ [])
+draft_more limits earlier [] schemas file last none fresh is =
+    subst (λ (before : List SchemaOf). HaveDrafts limits earlier (file ∷ []) (before ++ last ∷ [])) (sym none)
+    (one_draft limits earlier file last (subst (λ (before : List FileOf). has_file_name before file.name ≡ false) (append-nil earlier) fresh) is)
+draft_more limits earlier (first ∷ files) [] file last have fresh is =
+    inl (
+      have.0,
+      draft_more limits (earlier ++ first ∷ []) files [] file last have.1
+          (subst (λ (before : List FileOf). has_file_name before file.name ≡ false) (sym (append_assoc earlier (first ∷ []) files)) fresh) is,
+    )
+draft_more limits earlier (first ∷ files) (schema ∷ schemas) file last (inl have) fresh is =
+    inl (
+      have.0,
+      draft_more limits (earlier ++ first ∷ []) files (schema ∷ schemas) file last have.1
+          (subst (λ (before : List FileOf). has_file_name before file.name ≡ false) (sym (append_assoc earlier (first ∷ []) files)) fresh) is,
+    )
+draft_more limits earlier (first ∷ files) (schema ∷ schemas) file last (inr have) fresh is =
+    inr (
+      have.0,
+      have.1,
+      draft_more limits (earlier ++ first ∷ []) files schemas file last have.2
+          (subst (λ (before : List FileOf). has_file_name before file.name ≡ false) (sym (append_assoc earlier (first ∷ []) files)) fresh) is,
+    )
+
+-- what came of one file more
+pub have_more : (limits : LimitsOf) (files : List FileOf) (schemas : List SchemaOf) (file : FileOf) (outcome : Outcome) → HaveDrafts limits [] files schemas
+    → IsOutcome limits files file outcome → HaveDrafts limits [] (files ++ file ∷ []) (schemas ++ schemas_in outcome)
+have_more limits files schemas file (Drafted schema) have is = draft_more limits [] files schemas file _ have is.0 is.1
+have_more limits files schemas file (LeftOut warning) have is =
+    subst (HaveDrafts limits [] (files ++ file ∷ [])) (sym (append-nil schemas)) (out_more limits [] files schemas file have is)
+
+-- ---- files as they are given
+pub file-there : (files : List NamedFile) (number : ℕ) (file : NamedFile) → number < length files → file ≡ get_or files number file
+    → file_at (files_view files) number ≡ file_view file
+file-there files number file less is = get_or-map file_view files number file (record { name = []; bytes = [] }) less ∙ ap file_view (sym is)
+
+pub has-name : (files : List NamedFile) (number : ℕ) (name : List ℕ)
+    → has_file_name (take number (files_view files)) name ≡ list_any (λ file. bytes_eq (string_bytes file.name) name) (take number files)
+has-name files zero name = refl
+has-name [] (suc number) name = refl
+has-name (file ∷ files) (suc number) name = ap (λ rest. bytes_eq (string_bytes file.name) name || rest) (has-name files number name)
+
+pub bad-at : (limits : LimitsOf) (files : List FileOf) (number : ℕ) (file : FileOf) (cause : DraftCause) → file_at files number ≡ file → is_table_url file.name ≡ true
+    → has_file_name (take number files) file.name ≡ false → IsBadFile limits number file cause → IsBadAt limits files number cause
+bad-at limits files number file cause at url fresh bad = record {
+  url = subst (λ (f : FileOf). is_table_url f.name ≡ true) (sym at) url;
+  fresh = subst (λ (f : FileOf). has_file_name (take number files) f.name ≡ false) (sym at) fresh;
+  bad = subst (λ (f : FileOf). IsBadFile limits number f cause) (sym at) bad;
+}
+
+pub is-draft : (limits : LimitsOf) (file : FileOf) (table : RawTable) (schema : SchemaOf) → is_table_url file.name ≡ true → length file.bytes ≤ limits.file
+    → IsRawTable file.bytes table → length table.header ≤ limits.columns → schema ≡ schema_in file.name table → IsDraft limits file schema
+is-draft limits file table schema url size is width drafted = record {
+  url = url;
+  size = size;
+  header = map field_of table.header;
+  records = map (map field_of) table.rows;
+  is = is.is;
+  width = omega (arith, width, length-map table.header field_of);
+  drafted = drafted;
+}
+
+first_bad : (limits : LimitsOf) (files : List FileOf) (number n : ℕ) (cause : DraftCause) (schemas : List SchemaOf) → n ≡ number → number < length files
+    → HaveDrafts limits [] (take number files) schemas → IsBadAt limits files number cause → IsFirstBad limits files n cause
+first_bad limits files number n cause schemas same less have bad =
+    subst (λ (m : ℕ). IsFirstBad limits files m cause) (sym same) (record { within = less; schemas = schemas; earlier = have; here = bad })
+
+pub no-draft : (limits : LimitsOf) (files : List FileOf) (number : ℕ) (cause : DraftCause) (schemas : List SchemaOf) → number < length files
+    → HaveDrafts limits [] (take number files) schemas → IsBadAt limits files number cause → HasNoDraft limits files cause
+no-draft limits files number (file_too_large n) schemas less have bad = first_bad limits files number n (file_too_large n) schemas bad.bad.0 less have bad
+no-draft limits files number (bad_text n fault) schemas less have bad = first_bad limits files number n (bad_text n fault) schemas bad.bad.0 less have bad
+no-draft limits files number no_tables schemas less have bad = absurd bad.bad
+no-draft limits files number too_many_tables schemas less have bad = absurd bad.bad

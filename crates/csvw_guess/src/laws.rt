@@ -1,0 +1,28 @@
+//! The laws of drafts: each function is a theorem, and does nothing.
+ghost use Rattle.csvw_guess.specs.Laws.{DraftsAreAccepted, DraftsAreServed, DraftsAreWellFormed, DraftsHaveTables};
+
+use csvw_writer::schemas_read_back;
+
+/// Each schema of a draft has a table, that of its file.
+pub fn drafts_have_tables()
+    ensures { DraftsHaveTables }
+{}
+
+/// A folder of files, with metadata that says the schemas of their draft, is served: its tables have the rows of the files.
+pub fn drafts_are_accepted()
+    ensures { DraftsAreAccepted }
+{}
+
+/// The schemas of a draft are as those of metadata that is accepted.
+pub fn drafts_are_well_formed()
+    ensures { DraftsAreWellFormed }
+{}
+
+/// A folder of files, with the text that is written of their draft for its metadata, is served: its tables have the rows of the files.
+pub fn drafts_are_served()
+    ensures { DraftsAreServed }
+{
+    schemas_read_back();
+    drafts_are_accepted();
+    drafts_are_well_formed();
+}

@@ -1,0 +1,11 @@
+pub mod TokenLemmas
+pub mod PrettyLemmas
+pub mod DataLemmas
+pub mod FieldLemmas
+pub mod DatatypeLemmas
+pub mod WalkLemmas
+pub mod KeyLemmas
+pub mod ColumnLemmas
+pub mod TableLemmas
+pub mod GroupLemmas
+pub mod TextLemmas

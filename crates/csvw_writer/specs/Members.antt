@@ -1,0 +1,39 @@
+-- The members of objects that are written (RFC 8259, section 4), of which some may be left out.
+use Rattle.std.specs.Prelude.{ℕ, Bool, List, [], ◌∷◌, map, flat_map, Option, None, Some, if◌then◌else◌}
+use Rattle.json.specs.Token.{Token, key}
+use Rattle.json.specs.Json.{Json, string, array, object, Members, no_members, member}
+use Rattle.json.specs.Tree.{json_tokens}
+use Rattle.json.specs.Value.{items_of}
+
+-- a member's name, and its value where it has one
+abbrev pub Field : Type 0
+Field = List ℕ × Option Json
+
+-- the members that have a value, in order
+abbrev pub members_with : List Field → Members
+members_with [] = no_members
+members_with ((name, None) ∷ fields) = members_with fields
+members_with ((name, Some value) ∷ fields) = member name value (members_with fields)
+
+abbrev pub object_with : List Field → Json
+object_with fields = object (members_with fields)
+
+-- the value, unless it goes without saying
+abbrev pub unless : Bool → Json → Option Json
+unless is_plain value = if is_plain then None else Some value
+
+-- an array of values, and one of texts
+abbrev pub array_of : List Json → Json
+array_of values = array (items_of values)
+
+abbrev pub texts_json : List (List ℕ) → Json
+texts_json texts = array_of (map string texts)
+
+-- ---- for private clauses: the tokens of a member
+
+abbrev pub field_tokens : Field → List Token
+field_tokens (name, None) = []
+field_tokens (name, Some value) = key name ∷ json_tokens value
+
+abbrev pub fields_tokens : List Field → List Token
+fields_tokens fields = flat_map field_tokens fields
