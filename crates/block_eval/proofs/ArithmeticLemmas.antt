@@ -3,10 +3,10 @@ use Rattle.std.proofs.Common.{◌≡◌, Bool, Option, None, Some, List, refl, s
 use Rattle.std.specs.Prelude.{ℤ, pos, neg_ℤ, ◌+ℤ◌, ◌-ℤ◌, ◌*ℤ◌, option_and_then, option_map}
 use Rattle.std.proofs.lemmas.Int.{ints}
 use Rattle.cell_types.specs.Value.{CellValue}
-use Rattle.odata_parse.specs.declared.tree.ArithmeticOperator.{ArithmeticOperator}
-use Rattle.odata_parse.specs.declared.tree.ArithmeticOperator.TheVariants as operators
-use Rattle.odata_types.specs.TypedTree.{arithmetic, decimal_difference, decimal_negated, decimal_sum, negated, scaled, DecimalExprOf, IntegerExprOf}
-use Rattle.odata_types.specs.declared.types.TheConstants.{MILLIONTHS}
+use Rattle.typed_trees.specs.declared.operator.ArithmeticOperator.{ArithmeticOperator}
+use Rattle.typed_trees.specs.declared.operator.ArithmeticOperator.TheVariants as operators
+use Rattle.typed_trees.specs.TypedTree.{arithmetic, decimal_difference, decimal_negated, decimal_sum, negated, scaled, DecimalExprOf, IntegerExprOf}
+use Rattle.typed_trees.specs.declared.tree.TheConstants.{MILLIONTHS}
 use Rattle.row_eval.specs.Outcome.{both, computed, decimal_outcome, integer_outcome, joined}
 use Rattle.block_eval.specs.declared.bounded.Bounded.{Bounded}
 use Rattle.block_eval.specs.declared.columns.Column.{Column}

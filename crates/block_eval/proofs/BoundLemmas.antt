@@ -6,13 +6,13 @@ use Rattle.std.proofs.lemmas.Bool.{cond_both}
 use Rattle.std.proofs.lemmas.Int.{clamps, ints}
 use Rattle.std.proofs.Math.IntN.{pred_ℤ-*ℤ, suc_ℤ-*ℤ, zero-*ℤ, *ℤ_comm}
 use Rattle.block_summary.specs.declared.bounds.Bounds.{Bounds}
-use Rattle.odata_parse.specs.declared.tree.ArithmeticOperator.{ArithmeticOperator}
-use Rattle.odata_parse.specs.declared.tree.ArithmeticOperator.TheVariants.{Add, Sub, Mul, Div, Mod}
+use Rattle.typed_trees.specs.declared.operator.ArithmeticOperator.{ArithmeticOperator}
+use Rattle.typed_trees.specs.declared.operator.ArithmeticOperator.TheVariants.{Add, Sub, Mul, Div, Mod}
 use Rattle.row_eval.specs.Outcome.{computed, operation}
 use Rattle.block_lanes.specs.Lanes.{AreComputed, AreComputedFitting, LanesFit}
 use Rattle.block_eval.specs.declared.bounded.Bounded.{Bounded}
 use Rattle.block_eval.specs.Bounded.{joined_bounds, AreJoined}
-use Rattle.block_eval.specs.Bounds.{bounds_of, difference_bounds, product_bounds, sum_bounds, AreFitting, Fit, IsBetween, IsWithin, IsWithinKnown}
+use Rattle.block_eval.specs.Bounds.{bounds_of, difference_bounds, product_bounds, sum_bounds, AreFitting, Fit, IsBetween, LiesWithin, IsWithinKnown}
 use Rattle.block_eval.specs.Lanes.{number_lane}
 
 pub between-fits : (a b z : ℤ) → FitsSigned w64 a → FitsSigned w64 b → a ≤ℤ z → z ≤ℤ b → FitsSigned w64 z
@@ -143,12 +143,12 @@ result-fits : (b : Bounds) (m : Option ℤ) → IfSome m (IsMadeWithin b) → If
 result-fits b None h = tt
 result-fits b (Some n) h = h.1
 
-result-within : (b : Bounds) (m z : Option ℤ) → option_map (λ n. Some n) m ≡ Some z → IfSome m (IsMadeWithin b) → IsWithin b z
+result-within : (b : Bounds) (m z : Option ℤ) → option_map (λ n. Some n) m ≡ Some z → IfSome m (IsMadeWithin b) → LiesWithin b z
 result-within b None z e h = absurd (cc)
 result-within b (Some n) None e h = tt
 result-within b (Some n) (Some k) e h = let is : n ≡ k = cc in subst (IsBetween b) is h.0
 
-null-within : (b : Bounds) (z : Option ℤ) → Some None ≡ Some z → IsWithin b z
+null-within : (b : Bounds) (z : Option ℤ) → Some None ≡ Some z → LiesWithin b z
 null-within b None e = tt
 null-within b (Some n) e = absurd (cc)
 
@@ -164,7 +164,7 @@ lanes-fit o (Some a) None b (Some x) (Some y) h p q = absurd (cc)
 lanes-fit o (Some a) (Some c) b (Some x) (Some y) h p q = result-fits b (operation o x y) (operation-within o a c b x y h p q)
 
 lane-within : (o : ArithmeticOperator) (l r : Option Bounds) (b : Bounds) (x y z : Option ℤ) → AreFitting (bounds_between o l r) (Some b) → IsWithinKnown l x → IsWithinKnown r y
-    → computed o x y ≡ Some z → IsWithin b z
+    → computed o x y ≡ Some z → LiesWithin b z
 lane-within o l r b None y z h p q e = null-within b z e
 lane-within o l r b (Some x) None z h p q e = null-within b z e
 lane-within o None r b (Some x) (Some y) z h p q e = absurd (cc)

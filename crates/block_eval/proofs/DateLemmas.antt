@@ -11,8 +11,8 @@ use Rattle.std.proofs.lemmas.Int.{ints}
 use denote.Ref.{Bor}
 use Rattle.jiff.specs.Words.{days_in_month}
 use Rattle.cell_types.specs.Value.{CellValue}
-use Rattle.odata_parse.specs.declared.tree.ComparisonOperator.{ComparisonOperator}
-use Rattle.odata_types.specs.TypedTree.{DayOf}
+use Rattle.typed_trees.specs.declared.operator.ComparisonOperator.{ComparisonOperator}
+use Rattle.typed_trees.specs.TypedTree.{DayOf}
 use Rattle.block_summary.specs.declared.bounds.Bounds.{Bounds}
 use Rattle.block_summary.specs.declared.number.PackedType.TheVariants.{Date}
 use Rattle.block_summary.specs.Types.{cell_of, day_number, place_in_year}

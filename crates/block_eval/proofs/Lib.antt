@@ -1,6 +1,7 @@
 pub mod LogicLemmas
 pub mod NumberLemmas
 pub mod TextLemmas
+pub mod PartLemmas
 pub mod DateLemmas
 pub mod ListLemmas
 pub mod TruthLemmas

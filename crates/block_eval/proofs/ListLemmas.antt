@@ -7,18 +7,17 @@ use Rattle.std.specs.Cmp.Lexicographic.{slice_cmp}
 use Rattle.std.specs.Ordering.{int_cmp, nat_cmp}
 use Rattle.std.specs.declared.cmp.Ordering.{Ordering}
 use Rattle.cell_types.specs.Value.{CellValue}
-use Rattle.odata_parse.specs.declared.tree.ComparisonOperator.TheVariants as operators
-use Rattle.odata_types.specs.TypedTree.{DayOf}
+use Rattle.typed_trees.specs.declared.operator.ComparisonOperator.TheVariants as operators
+use Rattle.typed_trees.specs.TypedTree.{DayOf}
 use Rattle.row_eval.specs.declared.truth.Truth.{Truth}
 use Rattle.row_eval.specs.Comparison.{compared, day_cmp, is_among, is_equal}
 use Rattle.row_eval.specs.Logic.{greatest, truth_of}
 use Rattle.block_eval.specs.declared.columns.Column.{Column}
 use Rattle.block_lanes.specs.declared.numbers.Numbers.{Numbers}
-use Rattle.block_eval.specs.declared.relation.TextRelation.TheVariants.{Comparison}
 use Rattle.block_eval.specs.declared.texts.Texts.{Texts}
 use Rattle.block_eval.specs.Dates.{day_of, GivesDays}
 use Rattle.block_eval.specs.Lanes.{comparison, number_lane, truth_lane, GivesNumbers, GivesTruths, HasTruths}
-use Rattle.block_eval.specs.Texts.{related, text_lane, AreAmong, AreFoundOrEqual, AreRelated, GivesTexts}
+use Rattle.block_eval.specs.Texts.{AreAmong, GivesTexts}
 use Rattle.block_eval.proofs.DateLemmas.{day-order}
 use Rattle.block_eval.proofs.LogicLemmas.{all-gives, wanted_within}
 
@@ -71,26 +70,6 @@ numbers-found v side item rows so_far equal ts is equal_is either_is = record {
   each = λ row h.
       let inside : row < length equal = omega (arith, h, equal_is.long) in
       either_is.each row inside ∙ ap (greatest (truth_lane so_far row)) (equal_is.each row h ∙ ap (comparison operators.Equal (number_lane v row)) (is row));
-  long = either_is.long ∙ equal_is.long;
-}
-
-pub texts-more : (v : Texts) (items : List (Option (List ℕ))) (k : ℕ) (wanted : List Bool) (so_far ts : List Truth) → k < length items
-    → AreAmong v (take k items) wanted so_far → AreFoundOrEqual so_far v (get_or items k None) wanted ts → AreAmong v (take (k + 1) items) wanted ts
-texts-more v items k wanted so_far ts within so_far_is is = record {
-  each = λ row h w.
-      is.each row h w
-      ∙ one_more (slice_cmp nat_cmp) (text_lane v row) items k None (truth_lane so_far row) (truth_of (is_equal (compared (slice_cmp nat_cmp) (text_lane v row) (get_or items k None)))) within (so_far_is.each row h w) refl;
-  long = is.long;
-}
-
-pub texts-found : (v side : Texts) (item : Option (List ℕ)) (wanted : List Bool) (so_far equal ts : List Truth) → ((row : ℕ) → text_lane side row ≡ item)
-    → AreRelated (Comparison operators.Equal) v side wanted equal → HasTruths (length equal) (λ row. greatest (truth_lane so_far row) (truth_lane equal row)) ts
-    → AreFoundOrEqual so_far v item wanted ts
-texts-found v side item wanted so_far equal ts is equal_is either_is = record {
-  each = λ row h w.
-      let inside : row < length equal = omega (arith, h, equal_is.long) in
-      either_is.each row inside
-      ∙ ap (greatest (truth_lane so_far row)) (equal_is.each row h w ∙ ap (related (Comparison operators.Equal) (text_lane v row)) (is row));
   long = either_is.long ∙ equal_is.long;
 }
 

@@ -8,7 +8,7 @@ use Rattle.block_summary.specs.declared.bounds.Bounds.{Bounds}
 use Rattle.block_summary.specs.declared.number.PackedType.{PackedType}
 use Rattle.block_summary.specs.declared.number.PackedType.TheVariants.{Boolean, Decimal, Integer}
 use Rattle.block_summary.specs.Types.{cell_of, number_of}
-use Rattle.odata_parse.specs.declared.tree.ComparisonOperator.{ComparisonOperator}
+use Rattle.typed_trees.specs.declared.operator.ComparisonOperator.{ComparisonOperator}
 use Rattle.row_eval.specs.declared.truth.Truth.{Truth}
 use Rattle.row_eval.specs.Logic.{truth_of_option}
 use Rattle.row_eval.specs.Outcome.{both}
@@ -21,7 +21,7 @@ use Rattle.block_eval.specs.Columns.{number_at, unless_null, IsRowAt}
 use Rattle.block_eval.specs.Lanes.{comparison, number_lane, truth_in, AreLong, GivesNumbers, GivesTruths, HasTruths}
 use Rattle.block_eval.specs.declared.bounded.Bounded.{Bounded}
 use Rattle.block_eval.specs.Bounded.{GivesBounded, IsLaneWithin}
-use Rattle.block_eval.specs.Bounds.{IsWithin, IsWithinKnown}
+use Rattle.block_eval.specs.Bounds.{LiesWithin, IsWithinKnown}
 use Rattle.block_eval.proofs.LogicLemmas.{all-gives, wanted_within}
 
 -- the column that is found at a place
@@ -39,7 +39,7 @@ read-numbers read columns place row type values nulls bounds cells e at =
 -- and it lies between the bounds of the column
 number-within : (columns : List Column) (place row : ℕ) (type : PackedType) (values : Bor (List ℤ)) (nulls : Bor (List Bool)) (bounds : Bounds) (cells : List CellValue)
     → slice_get columns place ≡ Some (Numbers type values nulls bounds) → IsRowAt columns row cells
-    → IsWithin bounds (number_of (cell_of type (number_at values.now nulls.now row)))
+    → LiesWithin bounds (number_of (cell_of type (number_at values.now nulls.now row)))
 number-within columns place row type values nulls bounds cells e at =
     let is = at.each place (Numbers type values nulls bounds) e in
     is.1
@@ -64,9 +64,9 @@ truth-cell : (null : Bool) (n : ℤ) → truth_of_option (boolean_in (cell_of Bo
 truth-cell true n = refl
 truth-cell false n = refl
 
-bounds-within : (bounds : Bounds) (v : Bounded) (numbers : vector.Numbers) (row : ℕ) → v.numbers ≡ numbers → v.bounds ≡ Some bounds → IsWithin bounds (number_lane numbers row) → IsLaneWithin v row
+bounds-within : (bounds : Bounds) (v : Bounded) (numbers : vector.Numbers) (row : ℕ) → v.numbers ≡ numbers → v.bounds ≡ Some bounds → LiesWithin bounds (number_lane numbers row) → IsLaneWithin v row
 bounds-within bounds v numbers row is within h =
-    subst (λ k. IsWithinKnown k (number_lane v.numbers row)) (sym within) (subst (λ x. IsWithin bounds (number_lane x row)) (sym is) h)
+    subst (λ k. IsWithinKnown k (number_lane v.numbers row)) (sym within) (subst (λ x. LiesWithin bounds (number_lane x row)) (sym is) h)
 
 -- the integers of a column
 pub integers-give : (columns : List Column) (place : ℕ) (values : Bor (List ℤ)) (nulls : Bor (List Bool)) (bounds : Bounds) (wanted : List Bool) (v : Bounded)
@@ -80,7 +80,7 @@ integers-give columns place values nulls bounds wanted v e is within long = reco
     long = long;
   };
   within = λ row cells h at.
-      let lies = subst (IsWithin bounds) (integer-number (number_at values.now nulls.now row)) (number-within columns place row Integer values nulls bounds cells e at) in
+      let lies = subst (LiesWithin bounds) (integer-number (number_at values.now nulls.now row)) (number-within columns place row Integer values nulls bounds cells e at) in
       bounds-within bounds v (Cells values nulls) row is within lies;
 }
 
@@ -96,7 +96,7 @@ decimals-give columns place values nulls bounds wanted v e is within long = reco
     long = long;
   };
   within = λ row cells h at.
-      let lies = subst (IsWithin bounds) (decimal-number (number_at values.now nulls.now row)) (number-within columns place row Decimal values nulls bounds cells e at) in
+      let lies = subst (LiesWithin bounds) (decimal-number (number_at values.now nulls.now row)) (number-within columns place row Decimal values nulls bounds cells e at) in
       bounds-within bounds v (Cells values nulls) row is within lies;
 }
 

@@ -1,27 +1,34 @@
 -- Texts on the rows that are wanted.
-use Rattle.std.proofs.Common.{◌≡◌, ℕ, Bool, Option, Some, List, length, slice_get, sym, ap, ◌∙◌}
-use Rattle.std.specs.Prelude.{option_and_then}
+use Rattle.std.proofs.Common.{◌≡◌, ◌<◌, ℕ, Bool, Option, Some, List, length, get_or, refl, sym, subst, ap, ◌∙◌, arith}
+use Rattle.std.specs.Cmp.Lexicographic.{slice_cmp}
+use Rattle.std.specs.Ordering.{is_eq, nat_cmp}
+use Rattle.std.specs.Str.{bytes_eq}
+use Rattle.std.specs.declared.cmp.Ordering.{Ordering}
+use Rattle.std.specs.declared.cmp.Ordering.TheVariants.{Less, Equal, Greater}
+use Rattle.std.proofs.lemmas.Map.Text.{is_eq-slice_cmp}
 use denote.Ref.{Bor}
-use Rattle.cell_types.specs.declared.value.Value.{Value}
-use Rattle.cell_types.specs.Value.{CellValue}
+use Rattle.cell_types.specs.Value.{CellValue, null}
+use Rattle.typed_trees.specs.declared.tree.TextTest.TheVariants.{Contains}
 use Rattle.row_eval.specs.declared.truth.Truth.{Truth}
-use Rattle.row_eval.specs.Row.{cell, text_in}
+use Rattle.row_eval.specs.Comparison.{is_equal}
+use Rattle.row_eval.specs.Row.{text_in}
 use Rattle.block_eval.specs.declared.columns.Column.{Column}
-use Rattle.block_eval.specs.declared.columns.Column.TheVariants as columns
 use Rattle.block_eval.specs.declared.relation.TextRelation.{TextRelation}
 use Rattle.block_eval.specs.declared.texts.Texts.{Texts}
-use Rattle.block_eval.specs.declared.texts.Texts.TheVariants as texts
-use Rattle.block_eval.specs.Lanes.{GivesTruths}
-use Rattle.block_eval.specs.Texts.{related, text_lane, AreRelated, AreTextsLong, GivesTexts}
+use Rattle.block_eval.specs.declared.relation.TextRelation.TheVariants.{Test}
+use Rattle.block_eval.specs.declared.texts.Texts.TheVariants.{Cells, Same}
+use Rattle.block_eval.specs.Lanes.{GivesTruths, HasTruths}
+use Rattle.block_eval.specs.Texts.{related, text_lane, AreRelated, GivesTexts}
 use Rattle.block_eval.proofs.LogicLemmas.{wanted_within}
 
--- the texts of a column
-pub values-give : (cs : List Column) (place : ℕ) (vs : Bor (List Value)) (wanted : List Bool) (v : Texts) → slice_get cs place ≡ Some (columns.Values vs)
-    → v ≡ texts.Values vs → AreTextsLong (length wanted) v → GivesTexts (λ cells. cell text_in cells place) cs wanted v
-values-give cs place vs wanted v e is long = record {
-  each = λ row cells h at. ap (option_and_then text_in) (at.each place (columns.Values vs) e) ∙ ap (λ x. text_lane x row) (sym is);
-  long = long;
-}
+-- texts are the same where none comes before the other
+order_is_equal : (o : Ordering) → is_equal (Some o) ≡ is_eq o
+order_is_equal Less = refl
+order_is_equal Equal = refl
+order_is_equal Greater = refl
+
+pub same_text : (s t : List ℕ) → is_equal (Some (slice_cmp nat_cmp s t)) ≡ bytes_eq s t
+same_text s t = order_is_equal (slice_cmp nat_cmp s t) ∙ is_eq-slice_cmp s t
 
 -- what a relation says of texts that are there on each wanted row
 pub related-gives : (r : TextRelation) (f g : List CellValue → Option (List ℕ)) (cs : List Column) (wanted : List Bool) (a b : Texts) (ts : List Truth)
@@ -36,3 +43,17 @@ related-gives r f g cs wanted a b ts left right is = record {
 -- a truth of two texts that are known under other names
 pub of-lanes : (r : TextRelation) {x y a b : Option (List ℕ)} (t : Truth) → t ≡ related r x y → x ≡ a → y ≡ b → t ≡ related r a b
 of-lanes r {x} {y} {a} {b} t e f g = e ∙ ap (λ z. related r z y) f ∙ ap (related r a) g
+
+-- the truths of one search are those of each row
+pub search-relates : (texts : Bor (List CellValue)) (part : Bor (List ℕ)) (wanted : List Bool) (ts : List Truth) → length texts.now ≡ length wanted
+    → HasTruths (length texts.now) (λ row. related (Test Contains) (text_in (get_or texts.now row null)) (Some part.now)) ts → AreRelated (Test Contains) (Cells texts) (Same part) wanted ts
+search-relates texts part wanted ts size has = record {
+  each = λ row h w. let within : row < length texts.now = omega (arith, h, size) in has.each row within;
+  long = has.long ∙ size;
+}
+
+-- of vectors that are known under other names
+pub of-vectors : (r s : TextRelation) (left right a b : Texts) (wanted : List Bool) (ts : List Truth) → r ≡ s → left ≡ a → right ≡ b → AreRelated s a b wanted ts
+    → AreRelated r left right wanted ts
+of-vectors r s left right a b wanted ts e f g is =
+    subst (λ x. AreRelated x left right wanted ts) (sym e) (subst (λ x. AreRelated s x right wanted ts) (sym f) (subst (λ x. AreRelated s a x wanted ts) (sym g) is))

@@ -4,7 +4,7 @@ use Rattle.std.specs.Prelude.{ℤ, option_map}
 use Rattle.std.specs.Ordering.{bool_cmp, int_cmp}
 use Rattle.block_summary.specs.Ranges.{RangeOf}
 use Rattle.cell_types.specs.Value.{CellValue}
-use Rattle.odata_parse.specs.declared.tree.ComparisonOperator.{ComparisonOperator}
+use Rattle.typed_trees.specs.declared.operator.ComparisonOperator.{ComparisonOperator}
 use Rattle.row_eval.specs.declared.truth.Truth.{Truth}
 use Rattle.row_eval.specs.Comparison.{holds, is_among}
 use Rattle.row_eval.specs.Logic.{option_of_truth, truth_of}

@@ -1,7 +1,7 @@
 -- Numbers on the rows of a block that are wanted, and bounds of them where such are known.
 use Rattle.std.specs.Prelude.{◌≡◌, ℕ, ℤ, Bool, List, Option, Some, length, option_and_then}
 use Rattle.cell_types.specs.Value.{CellValue}
-use Rattle.odata_parse.specs.declared.tree.ArithmeticOperator.{ArithmeticOperator}
+use Rattle.typed_trees.specs.declared.operator.ArithmeticOperator.{ArithmeticOperator}
 use Rattle.row_eval.specs.Outcome.{computed}
 use Rattle.block_summary.specs.declared.bounds.Bounds.{Bounds}
 use Rattle.block_eval.specs.declared.bounded.Bounded.{Bounded}

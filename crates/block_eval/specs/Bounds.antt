@@ -2,19 +2,19 @@
 use Rattle.std.specs.Prelude.{◌≡◌, ℤ, ◌+ℤ◌, ◌-ℤ◌, ◌*ℤ◌, ◌≤ℤ◌, Option, None, Some, FitsSigned, IfSome, MatchOption, SomeIff}
 use Rattle.std.specs.Int.{int_max, int_min, w64}
 use Rattle.block_summary.specs.declared.bounds.Bounds.{Bounds}
-use Rattle.odata_parse.specs.declared.tree.ArithmeticOperator.{ArithmeticOperator}
-use Rattle.odata_parse.specs.declared.tree.ArithmeticOperator.TheVariants.{Add, Sub, Mul, Div, Mod}
+use Rattle.typed_trees.specs.declared.operator.ArithmeticOperator.{ArithmeticOperator}
+use Rattle.typed_trees.specs.declared.operator.ArithmeticOperator.TheVariants.{Add, Sub, Mul, Div, Mod}
 
 abbrev pub IsBetween : Bounds → ℤ → Type 0
 IsBetween b n = (b.least ≤ℤ n) × (n ≤ℤ b.greatest)
 
 -- a number lies between them, or there is none
-abbrev pub IsWithin : Bounds → Option ℤ → Type 0
-IsWithin b n = IfSome n (IsBetween b)
+abbrev pub LiesWithin : Bounds → Option ℤ → Type 0
+LiesWithin b n = IfSome n (IsBetween b)
 
 -- and so it is for bounds that are known
 abbrev pub IsWithinKnown : Option Bounds → Option ℤ → Type 0
-IsWithinKnown known n = IfSome known (λ b. IsWithin b n)
+IsWithinKnown known n = IfSome known (λ b. LiesWithin b n)
 
 -- the sums, the differences and the products of numbers between bounds lie between these
 abbrev pub sum_bounds : Bounds → Bounds → Bounds

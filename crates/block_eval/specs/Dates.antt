@@ -2,7 +2,7 @@
 use Rattle.std.specs.Prelude.{◌≡◌, ℕ, ℤ, pos, ◌/◌, ◌%◌, Bool, List, Option, length, option_map}
 use Rattle.std.specs.Int.{int_div_euclid}
 use Rattle.cell_types.specs.Value.{CellValue}
-use Rattle.odata_types.specs.TypedTree.{DateExprOf, DayOf}
+use Rattle.typed_trees.specs.TypedTree.{DateExprOf, DayOf}
 use Rattle.block_summary.specs.Types.{place_in_year}
 use Rattle.row_eval.specs.Outcome.{date_outcome}
 use Rattle.block_eval.specs.declared.columns.Column.{Column}

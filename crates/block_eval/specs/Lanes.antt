@@ -3,7 +3,7 @@ pub use Rattle.block_lanes.specs.Lanes.{comparison, number_lane, truth_in, truth
 use Rattle.std.specs.Prelude.{◌≡◌, ℕ, ℤ, Bool, Option, Some, List, length}
 use Rattle.cell_types.specs.Value.{CellValue}
 use Rattle.row_eval.specs.declared.truth.Truth.{Truth}
-use Rattle.odata_types.specs.TypedTree.{DecimalExprOf, IntegerExprOf, TruthExprOf}
+use Rattle.typed_trees.specs.TypedTree.{DecimalExprOf, IntegerExprOf, TruthExprOf}
 use Rattle.row_eval.specs.Outcome.{decimal_outcome, integer_outcome, truth_outcome}
 use Rattle.block_eval.specs.declared.columns.Column.{Column}
 use Rattle.block_lanes.specs.declared.numbers.Numbers.{Numbers}

@@ -1,13 +1,12 @@
 -- Texts on the rows of a block that are wanted.
-use Rattle.std.specs.Prelude.{◌≡◌, ◌<◌, ℕ, Bool, Option, None, Some, List, length, map, slice_index_or}
+use Rattle.std.specs.Prelude.{◌≡◌, ◌<◌, ℕ, Bool, Option, None, Some, List, length, option_map, slice_index_or}
 use Rattle.std.specs.Cmp.Lexicographic.{slice_cmp}
 use Rattle.std.specs.Ordering.{nat_cmp}
-use Rattle.cell_types.specs.Value.{CellValue, null, value_view}
-use Rattle.odata_parse.specs.declared.tree.ComparisonOperator.TheVariants as operators
-use Rattle.odata_types.specs.TypedTree.{TextExprOf}
+use Rattle.cell_types.specs.Value.{CellValue, null}
+use Rattle.typed_trees.specs.TypedTree.{TextExprOf}
 use Rattle.row_eval.specs.declared.truth.Truth.{Truth}
 use Rattle.row_eval.specs.Comparison.{compared, holds, is_among}
-use Rattle.row_eval.specs.Logic.{greatest, truth_of, truth_of_option}
+use Rattle.row_eval.specs.Logic.{truth_of, truth_of_option}
 use Rattle.row_eval.specs.Outcome.{joined, text_outcome}
 use Rattle.row_eval.specs.Row.{text_in}
 use Rattle.row_eval.specs.Text.{text_passes}
@@ -15,19 +14,23 @@ use Rattle.block_eval.specs.declared.columns.Column.{Column}
 use Rattle.block_eval.specs.declared.relation.TextRelation.{TextRelation}
 use Rattle.block_eval.specs.declared.relation.TextRelation.TheVariants.{Comparison, Test}
 use Rattle.block_eval.specs.declared.texts.Texts.{Texts}
-use Rattle.block_eval.specs.declared.texts.Texts.TheVariants.{Null, Same, Values}
+use Rattle.block_eval.specs.declared.texts.Texts.TheVariants.{Cells, Null, Same}
 use Rattle.block_eval.specs.Columns.{IsRowAt}
 use Rattle.block_eval.specs.Lanes.{truth_lane, IsWanted}
+
+-- the text of a row of a column
+abbrev pub text_at : List CellValue → ℕ → Option (List ℕ)
+text_at cells row = text_in (slice_index_or cells row null)
 
 abbrev pub text_lane : Texts → ℕ → Option (List ℕ)
 text_lane Null row = None
 text_lane (Same t) row = Some t.now
-text_lane (Values vs) row = text_in (slice_index_or (map value_view vs.now) row null)
+text_lane (Cells texts) row = text_at texts.now row
 
 abbrev pub AreTextsLong : ℕ → Texts → Type 0
 AreTextsLong rows Null = Unit {0}
 AreTextsLong rows (Same t) = Unit {0}
-AreTextsLong rows (Values vs) = length vs.now ≡ rows
+AreTextsLong rows (Cells texts) = length texts.now ≡ rows
 
 -- for each wanted row the lane is what f makes of its cells
 pub record GivesTexts (f : List CellValue → Option (List ℕ)) (columns : List Column) (wanted : List Bool) (v : Texts) : Type 0 where
@@ -42,6 +45,10 @@ abbrev pub related : TextRelation → Option (List ℕ) → Option (List ℕ) �
 related (Comparison o) x y = truth_of (holds o (compared (slice_cmp nat_cmp) x y))
 related (Test test) x y = truth_of_option (joined (text_passes test) x y)
 
+-- what a mark says of a text; null of null
+abbrev pub marked_truth : Bool → Option (List ℕ) → Truth
+marked_truth mark text = truth_of_option (option_map (λ t. mark) text)
+
 -- on each wanted row, what a relation says of the texts of two vectors
 pub record AreRelated (r : TextRelation) (left right : Texts) (wanted : List Bool) (truths : List Truth) : Type 0 where
   pub each : (row : ℕ) → row < length wanted → IsWanted wanted row → truth_lane truths row ≡ related r (text_lane left row) (text_lane right row)
@@ -50,9 +57,4 @@ pub record AreRelated (r : TextRelation) (left right : Texts) (wanted : List Boo
 -- on each wanted row, whether the text of a vector is one of a list
 pub record AreAmong (v : Texts) (items : List (Option (List ℕ))) (wanted : List Bool) (truths : List Truth) : Type 0 where
   pub each : (row : ℕ) → row < length wanted → IsWanted wanted row → truth_lane truths row ≡ truth_of (is_among (slice_cmp nat_cmp) (text_lane v row) items)
-  pub long : length truths ≡ length wanted
-
--- on each wanted row, whether it was found before, or the text of a vector equals an item
-pub record AreFoundOrEqual (found : List Truth) (v : Texts) (item : Option (List ℕ)) (wanted : List Bool) (truths : List Truth) : Type 0 where
-  pub each : (row : ℕ) → row < length wanted → IsWanted wanted row → truth_lane truths row ≡ greatest (truth_lane found row) (related (Comparison operators.Equal) (text_lane v row) item)
   pub long : length truths ≡ length wanted

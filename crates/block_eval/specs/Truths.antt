@@ -2,7 +2,7 @@
 use Rattle.std.specs.Prelude.{◌≡◌, ◌<◌, ℕ, ℤ, pos, Bool, true, false, List, length, option_map}
 use Rattle.row_eval.specs.declared.truth.Truth.{Truth}
 use Rattle.std.specs.Ordering.{bool_cmp}
-use Rattle.odata_parse.specs.declared.tree.ComparisonOperator.{ComparisonOperator}
+use Rattle.typed_trees.specs.declared.operator.ComparisonOperator.{ComparisonOperator}
 use Rattle.row_eval.specs.Comparison.{compared, holds}
 use Rattle.row_eval.specs.Logic.{option_of_truth, truth_of}
 use Rattle.block_lanes.specs.declared.numbers.Numbers.{Numbers}

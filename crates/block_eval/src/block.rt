@@ -2,7 +2,7 @@
 
 ghost use Rattle.std.specs.Prelude.{IfOk, IfSome, List};
 ghost use Rattle.block_summary.specs.Ranges.{RangeOf};
-ghost use Rattle.odata_types.specs.TypedTree.{truth_view};
+ghost use Rattle.typed_trees.specs.TypedTree.{truth_view};
 ghost use Rattle.block_eval.specs.Lanes.{AreOutcomesWithin};
 
 use crate::columns::Column;
@@ -10,10 +10,10 @@ use crate::leaf::eval_leaf;
 use crate::truths::{compare_truths, truths_among};
 use block_lanes::{Fallback, conjunction, disjunction, negation, open_rows, same_truth};
 use block_summary::Summary;
-use odata_types::TruthExpr;
 use row_eval::Truth;
 use std::alloc::Global;
 use summary_eval::known_truth;
+use typed_trees::TruthExpr;
 
 /// The truths of a condition on the wanted rows of a block, where the ranges tell them.
 fn known_truths(

@@ -8,8 +8,8 @@ ghost use Rattle.block_eval.specs.Lanes.{AreLong};
 use crate::bounds::joined_bounds;
 use block_lanes::{Fallback, Numbers, join, join_fitting};
 use block_summary::Bounds;
-use odata_parse::tree::ArithmeticOperator;
 use std::alloc::Global;
+use typed_trees::ArithmeticOperator;
 
 /// A number or null for each row, and two numbers between which all lie, where such are known.
 #[derive(Drop)]

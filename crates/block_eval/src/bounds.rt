@@ -4,7 +4,7 @@ ghost use Rattle.std.specs.Prelude.{SomeIff};
 ghost use Rattle.block_eval.specs.Bounds.{bounds_of, difference_bounds as difference_bounds_of, product_bounds as product_bounds_of, sum_bounds as sum_bounds_of, AreFitting, Fit};
 
 use block_summary::Bounds;
-use odata_parse::tree::ArithmeticOperator;
+use typed_trees::ArithmeticOperator;
 
 /// The bounds of sums, where they fit.
 fn sum_bounds(left: Bounds, right: Bounds) -> Option<Bounds>

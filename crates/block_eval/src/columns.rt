@@ -1,7 +1,7 @@
 //! The columns of a block.
 
 use block_summary::{Bounds, PackedType};
-use cell_types::Value;
+use text_columns::TextColumn;
 
 /// The cells of a column, one for each row of the block.
 #[derive(Clone, Copy)]
@@ -11,6 +11,6 @@ pub enum Column<'a> {
     /// The numbers that stand for the cells of a type, which cells are null, and two numbers between which the others lie. At a null the number
     /// may be any.
     Numbers(PackedType, &'a [i64], &'a [bool], Bounds),
-    /// The cells themselves, of any types. The texts of such a column are read, and what names it otherwise falls back.
-    Values(&'a [Value<'a>]),
+    /// The texts of a column and its nulls, as they are kept.
+    Texts(&'a TextColumn<'a>),
 }

@@ -1,16 +1,15 @@
 //! Comparisons of numbers on the wanted rows of a block.
 
 ghost use Rattle.std.specs.Prelude.{IfOk};
-ghost use Rattle.odata_types.specs.TypedTree.{compare_decimals as decimals_compared, compare_integers as integers_compared, decimal_view, integer_view};
+ghost use Rattle.typed_trees.specs.TypedTree.{compare_decimals as decimals_compared, compare_integers as integers_compared, decimal_view, integer_view};
 ghost use Rattle.block_eval.specs.Lanes.{AreOutcomes};
 
 use crate::columns::Column;
 use crate::numbers::{eval_decimals, eval_integers};
 use block_lanes::{Fallback, compare};
-use odata_parse::tree::ComparisonOperator;
-use odata_types::{DecimalExpr, IntegerExpr};
 use row_eval::Truth;
 use std::alloc::Global;
+use typed_trees::{ComparisonOperator, DecimalExpr, IntegerExpr};
 
 /// Whether a comparison holds between integers, on the wanted rows of a block.
 pub fn compare_integers(

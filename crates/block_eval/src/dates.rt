@@ -1,7 +1,7 @@
 //! Dates on the rows of a block, by the numbers of their days.
 
 ghost use Rattle.std.specs.Prelude.{◌≡◌, IfOk};
-ghost use Rattle.odata_types.specs.TypedTree.{compare_dates as dates_compared, date_view, day_view};
+ghost use Rattle.typed_trees.specs.TypedTree.{compare_dates as dates_compared, date_view, day_view};
 ghost use Rattle.row_eval.specs.Row.{cell, day_in};
 ghost use Rattle.block_eval.specs.Dates.{day_of, AreDays, GivesDays};
 ghost use Rattle.block_eval.specs.Lanes.{AreOutcomes};
@@ -10,10 +10,9 @@ use crate::columns::Column;
 use block_lanes::{Fallback, Numbers, cells, compare};
 use block_summary::{PackedType, day_number};
 use jiff::civil::Date;
-use odata_parse::tree::ComparisonOperator;
-use odata_types::DateExpr;
 use row_eval::Truth;
 use std::alloc::Global;
+use typed_trees::{ComparisonOperator, DateExpr};
 
 /// The number of a day.
 pub fn number_of(day: Date) -> i64

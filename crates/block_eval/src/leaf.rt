@@ -1,7 +1,7 @@
 //! Conditions that have no condition as a part.
 
 ghost use Rattle.std.specs.Prelude.{IfOk};
-ghost use Rattle.odata_types.specs.TypedTree.{truth_view};
+ghost use Rattle.typed_trees.specs.TypedTree.{truth_view};
 ghost use Rattle.block_eval.specs.Lanes.{AreOutcomes};
 
 use crate::columns::Column;
@@ -11,9 +11,9 @@ use crate::lists::{dates_in, decimals_in, integers_in, texts_in};
 use crate::relation::{compare_texts, test_texts};
 use crate::truths::truths_in;
 use block_lanes::{Fallback, same_truth};
-use odata_types::TruthExpr;
 use row_eval::{Truth, truth_of};
 use std::alloc::Global;
+use typed_trees::TruthExpr;
 
 /// The truths of such a condition on the wanted rows of a block; for any other it falls back.
 pub fn eval_leaf(

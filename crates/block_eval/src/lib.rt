@@ -12,6 +12,7 @@ mod leaf;
 mod lists;
 mod numbers;
 mod relation;
+mod search;
 mod texts;
 mod truths;
 

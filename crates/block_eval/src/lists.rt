@@ -1,26 +1,26 @@
 //! Lists of values on the rows of a block (`in`, OData 4.01 URL Conventions, section 5.1.1.1.11): a value is in a list where it equals one
 //! of the items. The value is evaluated once.
 
-ghost use Rattle.std.specs.Prelude.{◌≡◌, ℕ, Option, IfOk, length, map, option_map};
-ghost use Rattle.std.specs.Ordering.{int_cmp};
-ghost use Rattle.odata_types.specs.TypedTree.{date_in as date_in_of, date_view, decimal_in as decimal_in_of, decimal_view, integer_in as integer_in_of, integer_view, optional_day, optional_text, text_in as text_in_of, text_view};
+ghost use Rattle.std.specs.Prelude.{◌≡◌, ◌<◌, ℕ, Option, IfOk, IsTrue, length, map, option_map};
+ghost use Rattle.std.specs.Cmp.Lexicographic.{slice_cmp};
+ghost use Rattle.std.specs.Ordering.{int_cmp, nat_cmp};
+ghost use Rattle.typed_trees.specs.TypedTree.{date_in as date_in_of, date_view, decimal_in as decimal_in_of, decimal_view, integer_in as integer_in_of, integer_view, optional_day, optional_text, text_in as text_in_of, text_view};
 ghost use Rattle.row_eval.specs.Comparison.{is_among};
-ghost use Rattle.row_eval.specs.Logic.{greatest, truth_of};
+ghost use Rattle.row_eval.specs.Logic.{greatest, truth_of as truth_of_bool};
 ghost use Rattle.block_eval.specs.Dates.{day_of};
-ghost use Rattle.block_eval.specs.Lanes.{comparison, number_lane, truth_lane, AreLong, AreOutcomes, HasTruths};
-ghost use Rattle.block_eval.specs.Texts.{text_lane, AreAmong, AreFoundOrEqual, AreTextsLong};
+ghost use Rattle.block_eval.specs.Lanes.{comparison, number_lane, truth_lane, AreLong, AreOutcomes, HasTruths, IsWanted};
+ghost use Rattle.block_eval.specs.Texts.{text_lane, AreAmong, AreTextsLong};
 
 use crate::columns::Column;
 use crate::dates::{eval_dates, number_of};
 use crate::numbers::{eval_decimals, eval_integers};
-use crate::relation::{TextRelation, relate};
+use crate::relation::are_same;
 use crate::texts::{Texts, eval_texts};
 use block_lanes::{Fallback, Numbers, compare, disjunction};
 use jiff::civil::Date;
-use odata_parse::tree::ComparisonOperator;
-use odata_types::{DateExpr, DecimalExpr, IntegerExpr, TextExpr};
-use row_eval::Truth;
+use row_eval::{Truth, truth_of};
 use std::alloc::Global;
+use typed_trees::{ComparisonOperator, DateExpr, DecimalExpr, IntegerExpr, TextExpr};
 
 /// An item on each row.
 fn item_of<'a>(item: Option<i64>) -> Numbers<'a>
@@ -60,8 +60,8 @@ pub fn among(
     rows: usize,
 ) -> Result<Vec<Truth>, Fallback>
     requires { AreLong rows numbers.now }
-    ensures { IfOk result (λ truths. HasTruths rows
-        (λ row. truth_of (is_among int_cmp (number_lane numbers.now row) items.now)) truths.items) }
+    ensures { IfOk result (λ truths. HasTruths rows (λ row. truth_of_bool
+        (is_among int_cmp (number_lane numbers.now row) items.now)) truths.items) }
 {
     let mut truths = Vec::from_elem(alloc, Truth::False, rows)?;
     for item in items {
@@ -173,36 +173,56 @@ pub fn dates_in(
     Ok(truths)
 }
 
-/// An item on each row.
-fn text_item<'a>(item: &'a Option<String>) -> Texts<'a>
-    ensures lane { (row : ℕ) → text_lane result row ≡ optional_text item.now }
-    ensures long { (rows : ℕ) → AreTextsLong rows result }
+/// The text of an item.
+fn item_text(item: &Option<String>) -> Option<&str>
+    ensures { option_map (λ t. t.now) result ≡ optional_text item.now }
 {
     match item {
-        Some(text) => Texts::Same(text.as_str()),
-        None => Texts::Null,
+        Some(text) => Some(text.as_str()),
+        None => None,
     }
 }
 
-/// Which texts of the wanted rows were found in the items before, or equal this one.
-fn with_text(
-    alloc: Global,
-    found: Vec<Truth>,
-    texts: Texts<'_>,
-    item: &Option<String>,
-    wanted: &[bool],
-) -> Result<Vec<Truth>, Fallback>
-    requires texts { AreTextsLong (length wanted.now) texts }
-    requires found { length found.items ≡ length wanted.now }
-    ensures { IfOk result (λ more. AreFoundOrEqual found.items texts.entry (optional_text item.now)
-        wanted.now more.items) }
+/// Whether a text is one of the items.
+fn is_item(text: Option<&str>, items: &[Option<String>]) -> bool
+    ensures { result ≡ is_among (slice_cmp nat_cmp) (option_map (λ t. t.now) text.entry)
+        (map optional_text items.now) }
 {
-    let equal = TextRelation::Comparison(ComparisonOperator::Equal);
-    let equal = relate(alloc, equal, texts, text_item(item), wanted)?;
-    Ok(disjunction(found, equal))
+    for item in items {
+        if are_same(text, item_text(item)) {
+            return true;
+        }
+    }
+    false
+}
+
+/// Whether the text of a row is one of the items, where it is wanted.
+#[inline(always)]
+fn among_at(is_wanted: bool, texts: Texts<'_>, items: &[Option<String>], row: usize) -> Truth
+    requires { (rows : ℕ) × (row < rows) × AreTextsLong rows texts }
+    ensures { IsTrue is_wanted → result ≡ truth_of_bool (is_among (slice_cmp nat_cmp)
+        (text_lane texts.entry row) (map optional_text items.now)) }
+{
+    if !is_wanted {
+        return Truth::False;
+    }
+    truth_of(is_item(texts.at(row), items))
 }
 
 /// Which texts of the wanted rows are in a list.
+fn among_each(texts: Texts<'_>, items: &[Option<String>], wanted: &[bool], out: &mut [Truth])
+    requires texts { AreTextsLong (length out.old) texts }
+    requires wanted { length wanted.now ≡ length out.old }
+    ensures { (i : ℕ) → i < length out.new → IsWanted wanted.now i → truth_lane out.new i
+        ≡ truth_of_bool (is_among (slice_cmp nat_cmp) (text_lane texts.entry i)
+        (map optional_text items.now)) }
+{
+    for i in 0..out.len() {
+        out[i] = among_at(wanted[i], texts, items, i);
+    }
+}
+
+/// Which texts of the wanted rows are in a list, in a list of its own.
 fn texts_among(
     alloc: Global,
     texts: Texts<'_>,
@@ -214,9 +234,7 @@ fn texts_among(
         (λ truths. AreAmong texts.entry (map optional_text items.now) wanted.now truths.items) }
 {
     let mut truths = Vec::from_elem(alloc, Truth::False, wanted.len())?;
-    for item in items {
-        truths = with_text(alloc, truths, texts, item, wanted)?;
-    }
+    among_each(texts, items, wanted, truths.as_mut_slice());
     Ok(truths)
 }
 

@@ -1,7 +1,7 @@
 //! Integers and decimals on the rows of a block.
 
 ghost use Rattle.std.specs.Prelude.{Some, IfOk};
-ghost use Rattle.odata_types.specs.TypedTree.{decimal_view, integer_view};
+ghost use Rattle.typed_trees.specs.TypedTree.{decimal_view, integer_view};
 ghost use Rattle.row_eval.specs.Outcome.{decimal_outcome, integer_outcome};
 ghost use Rattle.row_eval.specs.Row.{cell, decimal_in, integer_in};
 ghost use Rattle.block_eval.specs.Bounded.{GivesBounded};
@@ -11,9 +11,8 @@ use crate::bounded::{Bounded, constant, join_bounded, nulls, same};
 use crate::columns::Column;
 use block_lanes::{Fallback, Numbers, cells};
 use block_summary::PackedType;
-use odata_parse::tree::ArithmeticOperator;
-use odata_types::{DecimalExpr, IntegerExpr, MILLIONTHS};
 use std::alloc::Global;
+use typed_trees::{ArithmeticOperator, DecimalExpr, IntegerExpr, MILLIONTHS};
 
 /// The integers of a column.
 fn integers_in<'a>(

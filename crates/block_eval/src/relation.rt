@@ -4,19 +4,19 @@
 ghost use Rattle.std.specs.Prelude.{◌≡◌, ◌<◌, ℕ, IfOk, IsTrue, length, option_map};
 ghost use Rattle.std.specs.Cmp.Lexicographic.{slice_cmp};
 ghost use Rattle.std.specs.Ordering.{nat_cmp};
-ghost use Rattle.odata_types.specs.TypedTree.{compare_texts as texts_compared, test_text as text_tested, text_view};
-ghost use Rattle.row_eval.specs.Comparison.{compared};
+ghost use Rattle.typed_trees.specs.TypedTree.{compare_texts as texts_compared, test_text as text_tested, text_view};
+ghost use Rattle.row_eval.specs.Comparison.{compared, holds as holds_of, is_equal};
 ghost use Rattle.block_eval.specs.Lanes.{truth_lane, AreOutcomes, IsWanted};
 ghost use Rattle.block_eval.specs.Texts.{related, text_lane, AreRelated, AreTextsLong};
 
 use crate::columns::Column;
+use crate::search::contain;
 use crate::texts::{Texts, eval_texts};
 use block_lanes::Fallback;
-use odata_parse::tree::ComparisonOperator;
-use odata_types::{TextExpr, TextTest};
 use row_eval::{Truth, holds, text_passes, truth_of};
 use std::alloc::Global;
 use std::cmp::Ordering;
+use typed_trees::{ComparisonOperator, TextExpr, TextTest};
 
 /// What two texts are asked for.
 #[derive(Clone, Copy)]
@@ -37,6 +37,30 @@ fn text_order(left: Option<&str>, right: Option<&str>) -> Option<Ordering>
     }
 }
 
+/// Whether both are the same text, or null. Of texts of different lengths no byte is looked at.
+pub fn are_same(left: Option<&str>, right: Option<&str>) -> bool
+    ensures { result ≡ is_equal (compared (slice_cmp nat_cmp) (option_map (λ t. t.now) left.entry)
+        (option_map (λ t. t.now) right.entry)) }
+{
+    match (left, right) {
+        (None, None) => true,
+        (Some(left), Some(right)) => left == right,
+        _ => false,
+    }
+}
+
+/// Whether a comparison holds of two texts.
+fn texts_hold(operator: ComparisonOperator, left: Option<&str>, right: Option<&str>) -> bool
+    ensures { result ≡ holds_of operator (compared (slice_cmp nat_cmp)
+        (option_map (λ t. t.now) left.entry) (option_map (λ t. t.now) right.entry)) }
+{
+    match operator {
+        ComparisonOperator::Equal => are_same(left, right),
+        ComparisonOperator::NotEqual => !are_same(left, right),
+        _ => holds(operator, text_order(left, right)),
+    }
+}
+
 /// `contains`, `startswith` and `endswith`; null beside a null.
 fn test_of(test: TextTest, text: Option<&str>, part: Option<&str>) -> Truth
     ensures { result ≡ related (TextRelation.Test test) (option_map (λ t. t.now) text.entry)
@@ -54,7 +78,7 @@ fn relation_of(relation: TextRelation, left: Option<&str>, right: Option<&str>) 
         (option_map (λ t. t.now) right.entry) }
 {
     match relation {
-        TextRelation::Comparison(operator) => truth_of(holds(operator, text_order(left, right))),
+        TextRelation::Comparison(operator) => truth_of(texts_hold(operator, left, right)),
         TextRelation::Test(test) => test_of(test, left, right),
     }
 }
@@ -99,8 +123,8 @@ fn relate_each(
     }
 }
 
-/// What a relation says of texts, on the wanted rows, in a list of its own.
-pub fn relate(
+/// What a relation says of texts, on the wanted rows, in a list of its own, one text after another.
+fn relate_texts(
     alloc: Global,
     relation: TextRelation,
     left: Texts<'_>,
@@ -115,6 +139,32 @@ pub fn relate(
     let mut truths = Vec::from_elem(alloc, Truth::False, wanted.len())?;
     relate_each(relation, left, right, wanted, truths.as_mut_slice());
     Ok(truths)
+}
+
+/// What a relation says of texts, on the wanted rows, in a list of its own. A part that is the same on each row is sought in all texts of a column at once, also
+/// where few rows are wanted: to pass over the others costs as much.
+fn relate(
+    alloc: Global,
+    relation: TextRelation,
+    left: Texts<'_>,
+    right: Texts<'_>,
+    wanted: &[bool],
+) -> Result<Vec<Truth>, Fallback>
+    requires left { AreTextsLong (length wanted.now) left }
+    requires right { AreTextsLong (length wanted.now) right }
+    ensures { IfOk result
+        (λ truths. AreRelated relation left.entry right.entry wanted.now truths.items) }
+{
+    match (relation, left, right) {
+        (TextRelation::Test(TextTest::Contains), Texts::Cells(texts), Texts::Same(part)) => {
+            let truths = contain(alloc, texts, part)?;
+            Ok(truths)
+        }
+        _ => {
+            let truths = relate_texts(alloc, relation, left, right, wanted)?;
+            Ok(truths)
+        }
+    }
 }
 
 /// Whether a comparison holds between texts, on the wanted rows of a block.

@@ -1,16 +1,16 @@
 //! Texts on the rows of a block.
 
 ghost use Rattle.std.specs.Prelude.{◌≡◌, ◌<◌, ℕ, Option, IfOk, option_and_then, option_map};
-ghost use Rattle.cell_types.specs.Value.{CellValue, value_view};
-ghost use Rattle.odata_types.specs.TypedTree.{text_view};
+ghost use Rattle.cell_types.specs.Value.{CellValue};
+ghost use Rattle.typed_trees.specs.TypedTree.{text_view};
 ghost use Rattle.row_eval.specs.Row.{cell, text_in as text_in_cell};
 ghost use Rattle.block_eval.specs.Columns.{IsCell};
 ghost use Rattle.block_eval.specs.Texts.{text_lane, AreTexts, AreTextsLong, GivesTexts};
 
 use crate::columns::Column;
 use block_lanes::Fallback;
-use cell_types::Value;
-use odata_types::TextExpr;
+use text_columns::TextColumn;
+use typed_trees::TextExpr;
 
 /// A text or null for each row of a block.
 #[derive(Clone, Copy)]
@@ -19,19 +19,8 @@ pub enum Texts<'a> {
     Null,
     /// The same text on each row.
     Same(&'a str),
-    /// The cells of a column; null for one that is no text.
-    Values(&'a [Value<'a>]),
-}
-
-/// The text of a cell.
-#[inline(always)]
-fn text_of<'a>(cell: &'a Value<'_>) -> Option<&'a str>
-    ensures { option_map (λ t. t.now) result ≡ text_in_cell (value_view cell.now) }
-{
-    match cell {
-        Value::Text(text) => Some(text.as_str()),
-        _ => None,
-    }
+    /// The texts of a column and its nulls.
+    Cells(&'a TextColumn<'a>),
 }
 
 impl<'a> Texts<'a> {
@@ -44,7 +33,7 @@ impl<'a> Texts<'a> {
         match self {
             Texts::Null => None,
             Texts::Same(text) => Some(text),
-            Texts::Values(cells) => text_of(&cells[row]),
+            Texts::Cells(texts) => texts.text(row),
         }
     }
 }
@@ -56,7 +45,7 @@ fn texts_of<'a>(column: Column<'a>, rows: usize) -> Result<Texts<'a>, Fallback>
     ensures long { IfOk result (AreTextsLong rows) }
 {
     match column {
-        Column::Values(cells) if cells.len() == rows => Ok(Texts::Values(cells)),
+        Column::Texts(texts) if texts.len() == rows => Ok(Texts::Cells(texts)),
         _ => Err(Fallback::Rows),
     }
 }

@@ -13,9 +13,9 @@ use crate::columns::Column;
 use crate::lists::among;
 use block_lanes::{Fallback, Numbers, compare, truths_of};
 use block_summary::PackedType;
-use odata_parse::tree::ComparisonOperator;
 use row_eval::Truth;
 use std::alloc::Global;
+use typed_trees::ComparisonOperator;
 
 /// The number of a truth value.
 #[inline(always)]

@@ -7,15 +7,15 @@ use Rattle.std.proofs.lemmas.List.Filters.{length-filter_more}
 use Rattle.std.proofs.lemmas.List.Sums.{length-filter}
 use Rattle.std.proofs.lemmas.List.Elements.{All-push}
 use Rattle.cell_types.specs.Value.{CellValue}
-use Rattle.odata_types.specs.declared.tree.TruthExpr.{TruthExpr}
-use Rattle.odata_types.specs.TypedTree.{boxed_truth, TruthExprOf}
+use Rattle.typed_trees.specs.declared.tree.TruthExpr.{TruthExpr}
+use Rattle.typed_trees.specs.TypedTree.{boxed_truth, TruthExprOf}
 use Rattle.row_eval.specs.declared.truth.Truth.{Truth}
 use Rattle.row_eval.specs.declared.truth.Truth.TheVariants.{False, Null, True}
 use Rattle.row_eval.specs.Outcome.{truth_outcome}
 use Rattle.query_meaning.specs.Filter.{faults, is_true, passes, passing, passes_each}
 use Rattle.query_meaning.specs.Laws.{TrueRowsPass}
 use Rattle.row_columns.specs.Picked.{numbered}
-use Rattle.block_filter.specs.Conditions.{joined, passing_all, ConditionsFit}
+use Rattle.block_filter.specs.Conditions.{rows_joined, passing_all, ConditionsFit}
 use Rattle.block_filter.specs.declared.in_turn.InTurn.{InTurn}
 use Rattle.block_filter.specs.Passing.{unless_faulted, AreAllPassing}
 use Rattle.block_filter.proofs.ConditionLemmas.{joined_none, joined_nothing, none_pass, pass_in_parts}
@@ -107,7 +107,7 @@ pub record AreFound (es : List TruthExprOf) (rows : List (List CellValue)) (i : 
 pub none_found : (es : List TruthExprOf) (rows : List (List CellValue)) → AreFound es rows 0 rows [] false
 none_found es rows = record { left_are = refl; passed = none_pass es; within = λ k d h. absurd (omega (arith, h)); count = refl }
 
-one_behind : (faulted : Bool) (rows : List (List CellValue)) (row : List CellValue) → joined (unless_faulted faulted rows) (Some (row ∷ [])) ≡ unless_faulted faulted (rows ++ row ∷ [])
+one_behind : (faulted : Bool) (rows : List (List CellValue)) (row : List CellValue) → rows_joined (unless_faulted faulted rows) (Some (row ∷ [])) ≡ unless_faulted faulted (rows ++ row ∷ [])
 one_behind true rows row = refl
 one_behind false rows row = refl
 
@@ -122,11 +122,11 @@ module _ (law : TrueRowsPass) (es : List TruthExprOf) (rows : List (List CellVal
   behind_are : behind ≡ drop (i + 1) rows
   behind_are = let h = here in cc
 
-  one_more : passing_all es (take (i + 1) rows) ≡ joined (unless_faulted faulted (numbered numbers rows)) (passing_all es (row ∷ []))
+  one_more : passing_all es (take (i + 1) rows) ≡ rows_joined (unless_faulted faulted (numbered numbers rows)) (passing_all es (row ∷ []))
   one_more =
       ap (passing_all es) (take_more rows i [] inside) ∙ pass_in_parts law es (take i rows) (get_or rows i [] ∷ [])
-      ∙ ap (λ front. joined front (passing_all es (get_or rows i [] ∷ []))) so_far.passed
-      ∙ ap (λ r. joined (unless_faulted faulted (numbered numbers rows)) (passing_all es (r ∷ []))) (sym row_is)
+      ∙ ap (λ front. rows_joined front (passing_all es (get_or rows i [] ∷ []))) so_far.passed
+      ∙ ap (λ r. rows_joined (unless_faulted faulted (numbered numbers rows)) (passing_all es (r ∷ []))) (sym row_is)
 
   counted : (made : Option (List (List CellValue))) → passing_all es (row ∷ []) ≡ made → count_by (passes_each es) (take (i + 1) rows) ≡ length numbers + cond (is_kept made) 1 0
   counted made made_is =
@@ -140,7 +140,7 @@ module _ (law : TrueRowsPass) (es : List TruthExprOf) (rows : List (List CellVal
   row_kept kept = record {
     left_are = behind_are;
     passed =
-        one_more ∙ ap (joined (unless_faulted faulted (numbered numbers rows))) kept
+        one_more ∙ ap (rows_joined (unless_faulted faulted (numbered numbers rows))) kept
         ∙ one_behind faulted (numbered numbers rows) row
         ∙ ap (λ r. unless_faulted faulted (numbered numbers rows ++ r ∷ [])) row_is
         ∙ ap (unless_faulted faulted) (sym (map_push (λ n. get_or rows n []) numbers i));
@@ -152,7 +152,7 @@ module _ (law : TrueRowsPass) (es : List TruthExprOf) (rows : List (List CellVal
   row_left dropped = record {
     left_are = behind_are;
     passed =
-        one_more ∙ ap (joined (unless_faulted faulted (numbered numbers rows))) dropped
+        one_more ∙ ap (rows_joined (unless_faulted faulted (numbered numbers rows))) dropped
         ∙ joined_nothing (unless_faulted faulted (numbered numbers rows));
     within = so_far.within;
     count = let more = counted (Some []) dropped in omega (arith, more);
@@ -161,7 +161,7 @@ module _ (law : TrueRowsPass) (es : List TruthExprOf) (rows : List (List CellVal
   pub row_faults : passing_all es (row ∷ []) ≡ None → AreFound es rows (i + 1) behind numbers true
   row_faults faults = record {
     left_are = behind_are;
-    passed = one_more ∙ ap (joined (unless_faulted faulted (numbered numbers rows))) faults ∙ joined_none (unless_faulted faulted (numbered numbers rows));
+    passed = one_more ∙ ap (rows_joined (unless_faulted faulted (numbered numbers rows))) faults ∙ joined_none (unless_faulted faulted (numbered numbers rows));
     within = so_far.within;
     count = let more = counted None faults in omega (arith, more);
   }

@@ -1,13 +1,13 @@
 -- The numbers of a column stand for its cells.
 use Rattle.std.proofs.Common.{◌≡◌, inl, inr, ℕ, zero, suc, ◌+◌, ◌*◌, ◌/◌, ◌%◌, ◌<◌, ◌≤◌, Bool, true, false, Option, Some, None, List, [], ◌∷◌, ◌++◌, length, map, get_or, refl, sym, ap, ◌∙◌, subst, arith}
-use Rattle.std.specs.Prelude.{ℤ, pos, ◌+ℤ◌, ◌*ℤ◌, MatchOption, Vec, set, slice_get, unsigned_abs}
+use Rattle.std.specs.Prelude.{ℤ, pos, ◌+ℤ◌, ◌*ℤ◌, MatchOption, set, option_and_then, if◌then◌else◌, slice_get, unsigned_abs}
 use Rattle.std.specs.Int.{int_div_euclid, int_rem_euclid}
-use Rattle.std.proofs.lemmas.Bool.{cases_eq}
-use Rattle.std.proofs.lemmas.List.{get_or_push, get_or_append_left, get_or-map, get_or-set_other, get_or-set_same, length-map, length_push, length-set}
+use Rattle.std.proofs.lemmas.Bool.{cases_eq, cases_lt}
+use Rattle.std.proofs.lemmas.List.{get_or_past, get_or_push, get_or_append_left, get_or-map, get_or-set_other, get_or-set_same, length-map, length_push, length-set}
 use Rattle.std.proofs.lemmas.Option.{slice_get-get_or}
 use Rattle.block_eval.specs.declared.columns.Column.{Column}
 use Rattle.block_eval.specs.declared.columns.Column.TheVariants.{Numbers}
-use Rattle.block_eval.specs.Bounds.{IsWithin}
+use Rattle.block_eval.specs.Bounds.{LiesWithin}
 use Rattle.block_eval.specs.Columns.{number_at, unless_null, IsCell}
 use Rattle.block_summary.specs.declared.bounds.Bounds.{Bounds}
 use denote.Ref.{Bor}
@@ -19,17 +19,17 @@ use Rattle.block_summary.specs.Reading.{packed_type_of}
 use Rattle.block_summary.specs.Types.{cell_of, day_number, number_of, numbers_of, place_in_year, typed_cell}
 use Rattle.cell_types.specs.Column.{ColumnOf}
 use Rattle.cell_types.specs.Datatype as datatype
-use Rattle.cell_types.specs.Datatype.{DatatypeOf}
+use Rattle.cell_types.specs.Datatype.{is_text, DatatypeOf}
 use Rattle.cell_types.specs.Laws.{IsOfColumn, IsOfDatatype}
-use Rattle.cell_types.specs.declared.value.Value.{Value}
 use Rattle.cell_types.specs.Value.{CellValue, null, integer, text, boolean, date, decimal}
 use Rattle.odata_types.specs.Schema.{input_of, type_of_datatype}
-use Rattle.row_eval.specs.Input.{IsOfType, IsRowOf}
-use Rattle.row_eval.specs.Laws.{TablesAreInputs}
+use Rattle.odata_types.specs.Input.{IsOfType, IsRowOf}
+use Rattle.odata_types.specs.Laws.{TablesAreInputs}
+use Rattle.table_store.specs.Block.{text_cells}
 use Rattle.table_store.specs.Fits.{HasTableRows, IsTableRow}
 use Rattle.table_store.specs.Table.{TableOf}
 use Rattle.block_filter.specs.declared.lanes.Lane.{Lane}
-use Rattle.block_filter.specs.Lanes.{texts_view, AreColumnsOf, AreLanesOf, AreTextsOf, AreValuesOf, IsColumnOf, IsLaneOf, IsMadeOf, LieBetween, StandAt}
+use Rattle.block_filter.specs.Lanes.{AreColumnsOf, AreLanesOf, AreTextsOf, AreValuesOf, IsColumnOf, IsLaneOf, IsMadeOf, LieBetween, StandAt}
 
 -- ---- the cell that a number stands for
 
@@ -132,7 +132,7 @@ got (y ∷ xs) zero x e = (omega arith, cc)
 got (y ∷ xs) (suc i) x e = let is = got xs i x e in (omega (arith, is.0), is.1)
 
 cell_within : (rows : List (List CellValue)) (place row : ℕ) (bounds : Bounds) (v : CellValue) (m : Option ℤ) → m ≡ number_of v → row < length rows → LieBetween rows place bounds
-    → slice_get (get_or rows row []) place ≡ Some v → IsWithin bounds m
+    → slice_get (get_or rows row []) place ≡ Some v → LiesWithin bounds m
 cell_within rows place row bounds v None e h lie is = tt
 cell_within rows place row bounds v (Some n) e h lie is =
     let values = get_or rows row [] in
@@ -183,14 +183,14 @@ lane_more rows lanes i y is are place lane inside =
     ]
 
 -- the columns so far are those of the first lanes, or of the texts
-pub record AreOfLanes {A : Type 0} (lanes : List Lane) (texts : List (Option (Vec Value A))) (columns : List Column) (i : ℕ) : Type 0 where
+pub record AreOfLanes (lanes : List Lane) (texts : List (Option (List CellValue))) (columns : List Column) (i : ℕ) : Type 0 where
   pub long : length columns ≡ i
   pub each : (rows : List (List CellValue)) → AreLanesOf rows lanes → AreTextsOf rows texts → (place : ℕ) (column : Column) → place < i → IsColumnOf rows place (get_or columns place column)
 
-pub none_of_lanes : {A : Type 0} (lanes : List Lane) (texts : List (Option (Vec Value A))) → AreOfLanes lanes texts [] 0
+pub none_of_lanes : (lanes : List Lane) (texts : List (Option (List CellValue))) → AreOfLanes lanes texts [] 0
 none_of_lanes lanes texts = record { long = refl; each = λ rows are those place column h. absurd (omega arith) }
 
-pub one_of_lanes : {A : Type 0} (lanes : List Lane) (texts : List (Option (Vec Value A))) (columns : List Column) (i : ℕ) (lane : Lane) (values : Option (List CellValue)) (column : Column)
+pub one_of_lanes : (lanes : List Lane) (texts : List (Option (List CellValue))) (columns : List Column) (i : ℕ) (lane : Lane) (values : Option (List CellValue)) (column : Column)
     → i < length lanes → lane ≡ get_or lanes i lane → ((rows : List (List CellValue)) → AreTextsOf rows texts → AreValuesOf rows i values)
     → ((rows : List (List CellValue)) (place : ℕ) → IsLaneOf rows place lane → AreValuesOf rows place values → IsColumnOf rows place column)
     → AreOfLanes lanes texts columns i → AreOfLanes lanes texts (columns ++ column ∷ []) (i + 1)
@@ -207,7 +207,7 @@ one_of_lanes lanes texts columns i lane values column h at read is so_far = reco
   ];
 }
 
-pub columns_are : {A : Type 0} (rows : List (List CellValue)) (lanes : List Lane) (texts : List (Option (Vec Value A))) (columns : List Column) (i : ℕ) → AreOfLanes lanes texts columns i
+pub columns_are : (rows : List (List CellValue)) (lanes : List Lane) (texts : List (Option (List CellValue))) (columns : List Column) (i : ℕ) → AreOfLanes lanes texts columns i
     → AreLanesOf rows lanes → AreTextsOf rows texts → AreColumnsOf rows columns
 columns_are rows lanes texts columns i is are those row h =
     record {
@@ -233,23 +233,43 @@ values_stand block col values fit h are row within =
     slice_get-get_or cells col null (omega (arith, h, wide))
     ∙ ap (λ v. Some v) (sym (ap (λ vs. get_or vs row null) are ∙ get_or-map cell block.rows row [] null within))
 
-pub no_texts_more : {A : Type 0} (rows : List (List CellValue)) (texts : List (Option (Vec Value A))) → AreTextsOf rows texts → AreTextsOf rows (texts ++ None ∷ [])
-no_texts_more rows texts are place d within = elim (cases_eq place (length texts)) [
-  | inl same ↦
-      let at : None ≡ get_or (texts ++ None ∷ []) place d = sym (get_or_push texts None d place (sym same)) in
-      subst (λ t. AreValuesOf rows place (texts_view t)) at tt
-  | inr other ↦
-      let inside : place < length texts = omega (arith, within, other, length_push texts None) in
-      subst (λ t. AreValuesOf rows place (texts_view t)) (sym (get_or_append_left texts (None ∷ []) d place inside)) (are place d inside)
-]
+pub texts_stand : (block : TableOf) (col : ℕ) (texts : Option (List CellValue)) → HasTableRows block → col < length block.schema.columns → texts ≡ text_cells block col
+    → AreValuesOf block.rows col texts
+texts_stand block col None fit h are = tt
+texts_stand block col (Some values) fit h are = values_stand block col values fit h (by (slice_get block.schema.columns col) are)
+  where
+    by : (o : Option ColumnOf) → Some values ≡ option_and_then (λ (column : ColumnOf). if is_text column.datatype then Some (column_of block.rows col) else None) o
+        → values ≡ column_of block.rows col
+    by None e = absurd (cc)
+    by (Some column) e = of_text (is_text column.datatype) e
+      where
+        of_text : (b : Bool) → Some values ≡ (if b then Some (column_of block.rows col) else None) → values ≡ column_of block.rows col
+        of_text true e = cc
+        of_text false e = absurd (cc)
 
-pub texts_more : {A : Type 0} (rows : List (List CellValue)) (texts : List (Option (Vec Value A))) (i : ℕ) (new : Option (Vec Value A)) → AreValuesOf rows i (texts_view new)
-    → AreTextsOf rows texts → AreTextsOf rows (set texts i new)
-texts_more rows texts i new is are place d within =
-    let len = length-set texts i new in
-    elim (cases_eq place i) [
+-- the columns of texts so far
+pub record AreTextsTo (rows : List (List CellValue)) (texts : List (Option (List CellValue))) (i : ℕ) : Type 0 where
+  pub long : length texts ≡ i
+  pub each : AreTextsOf rows texts
+
+pub one_of_texts : (rows : List (List CellValue)) (texts : List (Option (List CellValue))) (i : ℕ) (new : Option (List CellValue)) → AreValuesOf rows i new → AreTextsTo rows texts i
+    → AreTextsTo rows (texts ++ new ∷ []) (i + 1)
+one_of_texts rows texts i new is so_far = record {
+  long = length_push texts new ∙ ap (λ k. k + 1) so_far.long;
+  each = λ place. elim (cases_lt place i) [
+    | inl before ↦
+        let inside : place < length texts = omega (arith, so_far.long, before) in
+        subst (AreValuesOf rows place) (sym (get_or_append_left texts (new ∷ []) None place inside)) (so_far.each place)
+    | inr other ↦ elim (cases_eq place i) [
       | inl same ↦
-          let at : new ≡ get_or (set texts i new) i d = sym (get_or-set_same texts i new d (omega (arith, within, len, same))) in
-          subst (λ j. AreValuesOf rows j (texts_view (get_or (set texts i new) j d))) (sym same) (subst (λ t. AreValuesOf rows i (texts_view t)) at is)
-      | inr other ↦ rw (get_or-set_other texts i place new d other) (are place d (omega (arith, within, len)))
+          let at : new ≡ get_or (texts ++ new ∷ []) i None = sym (get_or_push texts new None i so_far.long) in
+          subst (λ j. AreValuesOf rows j (get_or (texts ++ new ∷ []) j None)) (sym same) (subst (AreValuesOf rows i) at is)
+      | inr after ↦
+          let past : length (texts ++ new ∷ []) ≤ place = omega (arith, length_push texts new, so_far.long, other, after) in
+          subst (AreValuesOf rows place) (sym (get_or_past (texts ++ new ∷ []) place None past)) tt
     ]
+  ];
+}
+
+pub no_texts_yet : (rows : List (List CellValue)) → AreTextsTo rows [] 0
+no_texts_yet rows = record { long = refl; each = λ place. subst (AreValuesOf rows place) (sym (get_or_past [] place None (omega arith))) tt }

@@ -6,8 +6,8 @@ use Rattle.std.proofs.lemmas.List.{append-nil, drop_more, map_push, nil_from_len
 use Rattle.std.proofs.lemmas.List.Elements.{All-push}
 use Rattle.std.proofs.lemmas.List.Sums.{length-filter}
 use Rattle.cell_types.specs.Value.{CellValue}
-use Rattle.odata_types.specs.declared.tree.TruthExpr.{TruthExpr}
-use Rattle.odata_types.specs.TypedTree.{boxed_truth, TruthExprOf}
+use Rattle.typed_trees.specs.declared.tree.TruthExpr.{TruthExpr}
+use Rattle.typed_trees.specs.TypedTree.{boxed_truth, TruthExprOf}
 use Rattle.row_eval.specs.declared.truth.Truth.{Truth}
 use Rattle.row_eval.specs.declared.truth.Truth.TheVariants.{False, Null, True}
 use Rattle.row_eval.specs.Outcome.{both, truth_outcome}
@@ -19,12 +19,12 @@ use Rattle.query_meaning.specs.Laws.{TrueRowsPass}
 use Rattle.block_filter.specs.Lanes.{AreColumnsOf}
 use Rattle.row_columns.specs.Picked.{numbered}
 use Rattle.block_filter.specs.Conditions.{passing_all}
-use Rattle.block_filter.specs.Marks.{is_marked, is_true, marked}
+use Rattle.block_filter.specs.Marks.{is_marked, keeps_row, marked}
 use Rattle.block_filter.proofs.ConditionLemmas.{none_pass}
 
 -- ---- a filter on the rows that are marked
 
-one_row : (e : TruthExprOf) (row : List CellValue) (truth : Truth) → truth_outcome e row ≡ Some truth → passing e (row ∷ []) ≡ Some (cond (is_true truth) (row ∷ []) [])
+one_row : (e : TruthExprOf) (row : List CellValue) (truth : Truth) → truth_outcome e row ≡ Some truth → passing e (row ∷ []) ≡ Some (cond (keeps_row truth) (row ∷ []) [])
 one_row e row True is = rw is refl
 one_row e row False is = rw is refl
 one_row e row Null is = rw is refl
@@ -32,7 +32,7 @@ one_row e row Null is = rw is refl
 -- a row is marked anew just where it was marked and the condition is true on it
 pub record IsNarrowed (e : TruthExprOf) (row : List CellValue) (was now : Bool) : Type 0 where
   pub out : was ≡ false → now ≡ false
-  pub stays : was ≡ true → (truth : Truth) × (truth_outcome e row ≡ Some truth) × (now ≡ is_true truth)
+  pub stays : was ≡ true → (truth : Truth) × (truth_outcome e row ≡ Some truth) × (now ≡ keeps_row truth)
 
 head_passes : (e : TruthExprOf) (row : List CellValue) (was now : Bool) → IsNarrowed e row was now
     → passing e (cond was (row ∷ []) []) ≡ Some (cond now (row ∷ []) [])
@@ -59,23 +59,23 @@ passing_marked law e (row ∷ rows) (w ∷ was) (n ∷ now) h g each =
 
 -- what the truths of a block leave of the rows that were wanted
 pub narrowed_by : (e : TruthExprOf) (rows : List (List CellValue)) (ranges : List RangeOf) (columns : List Column) (was now : List Bool) (truths : List Truth) → AreColumnsOf rows columns
-    → AreRangesOf ranges rows → AreOutcomesWithin e ranges columns was truths → length was ≡ length rows → ((row : ℕ) → row < length was → get_or now row false ≡ (get_or was row false && is_true (truth_lane truths row)))
+    → AreRangesOf ranges rows → AreOutcomesWithin e ranges columns was truths → length was ≡ length rows → ((row : ℕ) → row < length was → get_or now row false ≡ (get_or was row false && keeps_row (truth_lane truths row)))
     → (row : ℕ) → row < length rows → IsNarrowed e (get_or rows row []) (get_or was row false) (get_or now row false)
 narrowed_by e rows ranges columns was now truths are within outcomes long each row h =
     let inside : row < length was = omega arith in
     let is = each row inside in
     record {
-      out = λ unmarked. is ∙ ap (λ b. b && is_true (truth_lane truths row)) unmarked;
+      out = λ unmarked. is ∙ ap (λ b. b && keeps_row (truth_lane truths row)) unmarked;
       stays = λ marked_is. (
         truth_lane truths row,
         outcomes.each row (get_or rows row []) marked_is (are row h) (record { rows = rows; row = row; are_ranges = within; within = h; cells_are = refl }),
-        is ∙ ap (λ b. b && is_true (truth_lane truths row)) marked_is,
+        is ∙ ap (λ b. b && keeps_row (truth_lane truths row)) marked_is,
       );
     }
 
 pub filter_narrows : TrueRowsPass → (e : TruthExprOf) (rows : List (List CellValue)) (ranges : List RangeOf) (columns : List Column) (was now : List Bool) (truths : List Truth) → AreColumnsOf rows columns
     → AreRangesOf ranges rows → AreOutcomesWithin e ranges columns was truths → length was ≡ length rows → length now ≡ length was
-    → ((row : ℕ) → row < length was → get_or now row false ≡ (get_or was row false && is_true (truth_lane truths row))) → passing e (marked was rows) ≡ Some (marked now rows)
+    → ((row : ℕ) → row < length was → get_or now row false ≡ (get_or was row false && keeps_row (truth_lane truths row))) → passing e (marked was rows) ≡ Some (marked now rows)
 filter_narrows law e rows ranges columns was now truths are within outcomes long same each =
     passing_marked law e rows was now long (same ∙ long) (narrowed_by e rows ranges columns was now truths are within outcomes long each)
 

@@ -1,5 +1,5 @@
 -- The columns of a block that are read for a condition.
-use Rattle.std.specs.Prelude.{◌≡◌, ◌<◌, ℕ, ℤ, Bool, List, [], MatchOption, Option, Some, Vec, length, map, option_and_then, option_map, slice_get, slice_index_or}
+use Rattle.std.specs.Prelude.{◌≡◌, ◌<◌, ℕ, ℤ, Bool, List, [], MatchOption, None, Option, Some, length, option_and_then, slice_get, slice_index_or}
 use Rattle.block_eval.specs.declared.columns.Column.{Column}
 use Rattle.block_eval.specs.Columns.{number_at, IsCell, IsRowAt}
 use Rattle.block_summary.specs.Cells.{AreBetween}
@@ -9,8 +9,7 @@ use Rattle.block_summary.specs.Types.{cell_of, numbers_of}
 use Rattle.block_summary.specs.declared.bounds.Bounds.{Bounds}
 use Rattle.block_summary.specs.declared.number.PackedType.{PackedType}
 use Rattle.block_summary.specs.declared.number.PackedType.TheVariants.{Decimal, Integer}
-use Rattle.cell_types.specs.declared.value.Value.{Value}
-use Rattle.cell_types.specs.Value.{CellValue, null, value_view}
+use Rattle.cell_types.specs.Value.{CellValue, null}
 use Rattle.row_columns.specs.declared.keys.KeyColumn.{KeyColumn}
 use Rattle.row_columns.specs.declared.keys.Keys.{Keys}
 use Rattle.table_store.specs.Table.{TableOf}
@@ -41,18 +40,15 @@ IsLaneOf rows place lane =
 abbrev pub AreLanesOf : List (List CellValue) → List Lane → Type 0
 AreLanesOf rows lanes = (place : ℕ) (lane : Lane) → place < length lanes → IsLaneOf rows place (slice_index_or lanes place lane)
 
--- the values of a column, if they were read
+-- the values of a column, if there are such
 abbrev pub AreValuesOf : List (List CellValue) → ℕ → Option (List CellValue) → Type 0
 AreValuesOf rows place values = MatchOption values (Unit {0}) (λ vs. (row : ℕ) → row < length rows → slice_get (slice_index_or rows row []) place ≡ Some (slice_index_or vs row null))
 
-abbrev pub texts_view : {A : Type 0} → Option (Vec Value A) → Option (List CellValue)
-texts_view texts = option_map (λ values. map value_view values.items) texts
+-- and of each column of texts
+abbrev pub AreTextsOf : List (List CellValue) → List (Option (List CellValue)) → Type 0
+AreTextsOf rows texts = (place : ℕ) → AreValuesOf rows place (slice_index_or texts place None)
 
--- and of each column
-abbrev pub AreTextsOf : {A : Type 0} → List (List CellValue) → List (Option (Vec Value A)) → Type 0
-AreTextsOf {A} rows texts = (place : ℕ) (default : Option (Vec Value A)) → place < length texts → AreValuesOf rows place (texts_view (slice_index_or texts place default))
-
--- a column is made of what was read: of numbers and nulls, or of values
+-- a column is made of what was read, numbers and nulls, or of texts
 abbrev pub IsMadeOf : Lane → Option (List CellValue) → Column → Type 0
 IsMadeOf lane values column = (rows : List (List CellValue)) (place : ℕ) → IsLaneOf rows place lane → AreValuesOf rows place values → IsColumnOf rows place column
 
@@ -66,7 +62,7 @@ pub record AreKeysIn (lane : Lane) (column : KeyColumn) (rows : ℕ) (keys : Key
   pub marked : length keys.nulls.now ≡ rows
 
 -- keys stand for the cells of rows at a place
-pub record AreKeysOf (rows : List (List CellValue)) (place : ℕ) (column : KeyColumn) (keys : Keys) : Type 0 where
+pub record AreKeysAt (rows : List (List CellValue)) (place : ℕ) (column : KeyColumn) (keys : Keys) : Type 0 where
   pub column_is : keys.column ≡ column
   pub long : length keys.numbers.now ≡ length rows
   pub marked : length keys.nulls.now ≡ length rows
@@ -89,12 +85,12 @@ IsKeyType Decimal = Unit {0}
 IsKeyType type = ⊥
 
 -- numbers of a type were read, one for each of so many rows, and marks of their nulls
-abbrev pub HasRead : Lane → PackedType → ℕ → Type 0
-HasRead lane type rows = (lane.packed_type ≡ Some type) × (length lane.numbers.items ≡ rows) × (length lane.nulls.items ≡ rows)
+abbrev pub HoldsLane : Lane → PackedType → ℕ → Type 0
+HoldsLane lane type rows = (lane.packed_type ≡ Some type) × (length lane.numbers.items ≡ rows) × (length lane.nulls.items ≡ rows)
 
 abbrev pub HoldsKeys : Lane → PackedType → ℕ → Type 0
-HoldsKeys lane type rows = HasRead lane type rows × IsKeyType type
+HoldsKeys lane type rows = HoldsLane lane type rows × IsKeyType type
 
 -- the numbers of a column that has numbers were read
 abbrev pub IsReadOf : TableOf → ℕ → Lane → Type 0
-IsReadOf block col lane = (type : PackedType) → type_at block col ≡ Some type → HasRead lane type (length block.rows)
+IsReadOf block col lane = (type : PackedType) → type_at block col ≡ Some type → HoldsLane lane type (length block.rows)

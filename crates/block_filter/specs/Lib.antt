@@ -1,6 +1,6 @@
 pub use Rattle.block_eval.specs.Columns
 pub use Rattle.block_summary.specs.Types
-pub use Rattle.odata_types.specs.TypedTree
+pub use Rattle.typed_trees.specs.TypedTree
 pub use Rattle.row_columns.specs.Picked
 pub use Rattle.row_eval.specs.Bounds
 pub use Rattle.query_meaning.specs.Filter

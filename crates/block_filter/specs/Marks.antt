@@ -4,9 +4,9 @@ use Rattle.row_eval.specs.declared.truth.Truth.{Truth}
 use Rattle.row_eval.specs.declared.truth.Truth.TheVariants.{True}
 
 -- a condition keeps a row where it is true, not where it is false or null
-abbrev pub is_true : Truth → Bool
-is_true True = true
-is_true _ = false
+abbrev pub keeps_row : Truth → Bool
+keeps_row True = true
+keeps_row _ = false
 
 -- a row is marked
 abbrev pub is_marked : Bool → Bool

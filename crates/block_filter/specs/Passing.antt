@@ -2,7 +2,7 @@
 use Rattle.std.specs.Prelude.{◌≡◌, ◌<◌, ◌∷◌, [], ℕ, Bool, Option, Some, None, List, count_by, if◌then◌else◌, length, option_map, take}
 use Rattle.std.specs.List.{All}
 use Rattle.cell_types.specs.Value.{CellValue}
-use Rattle.odata_types.specs.TypedTree.{TruthExprOf}
+use Rattle.typed_trees.specs.TypedTree.{TruthExprOf}
 use Rattle.row_columns.specs.Picked.{numbered}
 use Rattle.query_meaning.specs.Meaning.{first_rows}
 use Rattle.query_meaning.specs.Filter.{passes_each}

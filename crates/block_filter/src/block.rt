@@ -2,7 +2,7 @@
 ghost use Rattle.std.specs.Prelude.{◌≡◌, ◌≤◌, IfOk, List, length, map, take};
 ghost use Rattle.std.specs.List.{All};
 ghost use Rattle.cell_types.specs.Value.{CellValue};
-ghost use Rattle.odata_types.specs.TypedTree.{boxed_truth};
+ghost use Rattle.typed_trees.specs.TypedTree.{boxed_truth};
 ghost use Rattle.query_meaning.specs.Meaning.{first_rows};
 ghost use Rattle.block_filter.specs.Conditions.{ConditionsFit};
 ghost use Rattle.block_filter.specs.Passing.{AreFirstOf, ArePassing};
@@ -11,9 +11,9 @@ use crate::in_turn::{InTurn, passing_in_turn};
 use crate::lanes::Lanes;
 use crate::passing::{count_of, numbers_of, passing_rows};
 use block_eval::Fallback;
-use odata_types::TruthExpr;
 use std::alloc::{AllocError, Global};
 use table_store::Block;
+use typed_trees::TruthExpr;
 
 /// What conditions make of the rows of a block.
 #[derive(Drop)]

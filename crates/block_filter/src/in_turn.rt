@@ -1,7 +1,7 @@
 //! The rows of a block that pass conditions, found one row after another.
 ghost use Rattle.std.specs.Prelude.{◌≡◌, ◌∷◌, [], IfOk, map};
 ghost use Rattle.std.specs.List.{All};
-ghost use Rattle.odata_types.specs.TypedTree.{boxed_truth, truth_view};
+ghost use Rattle.typed_trees.specs.TypedTree.{boxed_truth, truth_view};
 ghost use Rattle.row_eval.specs.Bounds.{TruthFits};
 ghost use Rattle.row_eval.specs.Row.{row_view};
 ghost use Rattle.query_meaning.specs.Filter.{passing};
@@ -9,11 +9,11 @@ ghost use Rattle.block_filter.specs.Conditions.{passing_all, ConditionsFit};
 ghost use Rattle.block_filter.specs.Passing.{fate_rows, AreAllPassing};
 
 use cell_types::Value;
-use odata_types::TruthExpr;
 use query_meaning::true_rows_pass;
 use row_eval::{EvalFault, Truth, eval_truth};
 use std::alloc::{AllocError, Global};
 use table_store::Block;
+use typed_trees::TruthExpr;
 
 /// What conditions make of all rows of a block.
 #[derive(Drop)]

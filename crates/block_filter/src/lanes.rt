@@ -1,18 +1,17 @@
 //! The columns of a block that are read for conditions, or for an order.
-ghost use Rattle.std.specs.Prelude.{◌≡◌, ◌<◌, ℕ, List, Some, OnOk, IfOk, IfSome, IsSome, length, map, option_map};
-ghost use Rattle.cell_types.specs.Value.{CellValue, value_view};
+ghost use Rattle.std.specs.Prelude.{◌≡◌, ◌<◌, ℕ, List, Some, OnOk, IfOk, IfSome, IsSome, length, option_map};
+ghost use Rattle.cell_types.specs.Value.{CellValue};
 ghost use Rattle.table_store.specs.Block.{HasNumbers};
-ghost use Rattle.block_filter.specs.Lanes.{type_at, AreColumnsOf, AreKeysIn, AreKeysOf, AreLanesOf, AreTextsOf, AreWide, HoldsKeys, IsKeyType, IsLaneOf, IsMadeOf, IsReadOf, LieBetween};
+ghost use Rattle.block_filter.specs.Lanes.{type_at, AreColumnsOf, AreKeysIn, AreKeysAt, AreLanesOf, AreTextsOf, AreValuesOf, AreWide, HoldsKeys, IsKeyType, IsLaneOf, IsMadeOf, IsReadOf, LieBetween};
 
 use crate::named::is_marked;
-use crate::texts::texts_at;
 use block_eval::Column;
 use block_summary::{Bounds, PackedType, packed_type_of};
-use cell_types::Value;
+use odata_types::tables_are_inputs;
 use row_columns::{KeyColumn, Keys};
-use row_eval::tables_are_inputs;
 use std::alloc::{AllocError, Global};
 use table_store::Block;
+use text_columns::TextColumn;
 
 /// The numbers of a column in a block. The buffers are kept for the next block.
 #[derive(Drop)]
@@ -88,15 +87,14 @@ impl Lane {
     }
 
     /// The column of these numbers, or else of the texts, or one that was not read.
-    fn column<'a, 't>(&'a self, texts: Option<&'a [Value<'t>]>) -> Column<'a>
-        ensures { IsMadeOf self.now
-            (option_map (λ values. map value_view values.now) texts.entry) result }
+    fn column<'a, 't>(&'a self, texts: Option<&'a TextColumn<'t>>) -> Column<'a>
+        ensures { IsMadeOf self.now (option_map (λ texts. texts.now) texts.entry) result }
     {
         match (self.packed_type, texts) {
             (Some(packed_type), _) => {
                 Column::Numbers(packed_type, &self.numbers, &self.nulls, self.bounds)
             }
-            (None, Some(values)) => Column::Values(values),
+            (None, Some(texts)) => Column::Texts(texts),
             (None, None) => Column::Unread,
         }
     }
@@ -118,6 +116,33 @@ impl Lane {
             }),
             _ => None,
         }
+    }
+}
+
+/// The columns of texts of a block, each at its place.
+pub(crate) fn block_texts<'t>(
+    alloc: Global,
+    block: &Block<'t>,
+) -> Result<Vec<Option<TextColumn<'t>>>, AllocError>
+    ensures { IfOk result (λ texts. AreTextsOf block.now.rows texts.items) }
+{
+    block.values_fit();
+    let width = block.schema().columns.len();
+    let mut texts = Vec::with_capacity(alloc, width)?;
+    for col in 0..width {
+        texts.push(block.texts(col))?;
+    }
+    Ok(texts)
+}
+
+/// The texts of a column, if it has texts.
+fn texts_at<'a, 't>(texts: &'a [Option<TextColumn<'t>>], place: usize) -> Option<&'a TextColumn<'t>>
+    ensures { (rows : List (List CellValue)) → AreTextsOf rows texts.now
+        → AreValuesOf rows place (option_map (λ texts. texts.now) result) }
+{
+    match texts.get(place) {
+        Some(Some(texts)) => Some(texts),
+        Some(None) | None => None,
     }
 }
 
@@ -181,7 +206,7 @@ impl Lanes {
         column: KeyColumn,
     ) -> Result<Option<Keys<'_>>, AllocError>
         requires { col < length block.now.schema.columns }
-        ensures keys { IfOk result (λ made. IfSome made (AreKeysOf block.now.rows col column)) }
+        ensures keys { IfOk result (λ made. IfSome made (AreKeysAt block.now.rows col column)) }
         ensures found { IfOk result (λ made. (width : ℕ) → AreWide width self.old → col < width
             → type_at block.now col ≡ Some column.packed_type → IsKeyType column.packed_type
             → IsSome made) }
@@ -193,11 +218,11 @@ impl Lanes {
         Ok(lane.keys(column, block.rows()))
     }
 
-    /// The columns that were read, as numbers or texts.
+    /// The columns whose numbers were read, and those of texts.
     pub(crate) fn columns<'a, 't>(
         &'a self,
         alloc: Global,
-        texts: &'a [Option<Vec<Value<'t>>>],
+        texts: &'a [Option<TextColumn<'t>>],
     ) -> Result<Vec<Column<'a>>, AllocError>
         ensures { IfOk result (λ columns. (rows : List (List CellValue))
             → AreLanesOf rows self.now.lanes.items → AreTextsOf rows texts.now

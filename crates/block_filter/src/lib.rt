@@ -1,6 +1,6 @@
 //! The rows of a block that pass conditions (OData 4.01 URL Conventions, section 5.1.2). [`filter_block`] takes the conditions a column at a time, and where
-//! that does not go one row after another. Of the columns of a block those alone are read that a condition names, once for all conditions and not before
-//! one comes to a row, or an order.
+//! that does not go one row after another. Of the columns of numbers of a block those alone are read that a condition names, once for all conditions and not
+//! before one comes to a row, or an order; texts are looked at where they stand.
 #![tactic(auto)]
 
 mod block;
@@ -9,7 +9,6 @@ mod lanes;
 mod law;
 mod named;
 mod passing;
-mod texts;
 
 pub use block::{Passed, filter_block};
 pub use lanes::Lanes;

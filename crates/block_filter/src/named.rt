@@ -2,8 +2,8 @@
 ghost use Rattle.std.specs.Prelude.{◌<◌, IsTrue, length};
 
 use block_summary::Summary;
-use odata_types::{DateExpr, DecimalExpr, IntegerExpr, TextExpr, TruthExpr};
 use summary_eval::known_truth;
+use typed_trees::{DateExpr, DecimalExpr, IntegerExpr, TextExpr, TruthExpr};
 
 /// Whether a place is marked.
 pub(crate) fn is_marked(marks: &[bool], place: usize) -> bool

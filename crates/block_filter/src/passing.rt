@@ -3,53 +3,46 @@ ghost use Rattle.std.specs.Prelude.{◌≡◌, ◌<◌, ◌&&◌, ℕ, List, Som
 ghost use Rattle.std.specs.List.{All, count_by};
 ghost use Rattle.cell_types.specs.Value.{CellValue};
 ghost use Rattle.block_eval.specs.Lanes.{truth_lane};
-ghost use Rattle.odata_types.specs.TypedTree.{boxed_truth, truth_view};
+ghost use Rattle.typed_trees.specs.TypedTree.{boxed_truth, truth_view};
 ghost use Rattle.query_meaning.specs.Filter.{passing};
 ghost use Rattle.row_columns.specs.Picked.{numbered};
 ghost use Rattle.block_filter.specs.Conditions.{passing_all};
-ghost use Rattle.block_filter.specs.Lanes.{AreColumnsOf, AreLanesOf, AreTextsOf};
-ghost use Rattle.block_filter.specs.Marks.{is_marked, is_true, marked};
+ghost use Rattle.block_filter.specs.Lanes.{AreColumnsOf, AreLanesOf};
+ghost use Rattle.block_filter.specs.Marks.{is_marked, keeps_row, marked};
 
-use crate::lanes::Lanes;
+use crate::lanes::{Lanes, block_texts};
 use crate::named::mark_truth;
-use crate::texts::{no_texts, read_texts};
 use block_eval::{Column, Fallback, eval_block};
-use cell_types::Value;
-use odata_types::TruthExpr;
 use query_meaning::true_rows_pass;
 use row_eval::Truth;
 use std::alloc::{AllocError, Global};
 use table_store::Block;
+use typed_trees::TruthExpr;
 
 /// Leaves those rows wanted whose truth is true.
 fn keep_true(truths: &[Truth], wanted: &mut [bool])
     requires { length truths.now ≡ length wanted.old }
     ensures { (row : ℕ) → row < length wanted.old → slice_index_or wanted.new row false
-        ≡ (slice_index_or wanted.old row false && is_true (truth_lane truths.now row)) }
+        ≡ (slice_index_or wanted.old row false && keeps_row (truth_lane truths.now row)) }
 {
     for row in 0..wanted.len() {
         wanted[row] = wanted[row] & (truths[row] == Truth::True);
     }
 }
 
-/// Reads the columns of a block that a condition names, beside those that were read of it.
-fn read_named<'t>(
+/// Reads the numbers of the columns of a block that a condition names, beside those that were read of it.
+fn read_named(
     alloc: Global,
     condition: &TruthExpr,
-    block: &Block<'t>,
+    block: &Block<'_>,
     lanes: &mut Lanes,
-    texts: &mut [Option<Vec<Value<'t>>>],
 ) -> Result<(), AllocError>
-    requires lanes { AreLanesOf block.now.rows lanes.old.lanes.items }
-    requires texts { AreTextsOf block.now.rows texts.old }
-    ensures lanes { OnOk result (AreLanesOf block.now.rows lanes.new.lanes.items) }
-    ensures texts { OnOk result (AreTextsOf block.now.rows texts.new) }
+    requires { AreLanesOf block.now.rows lanes.old.lanes.items }
+    ensures { OnOk result (AreLanesOf block.now.rows lanes.new.lanes.items) }
 {
     let mut named = Vec::from_elem(alloc, false, block.schema().columns.len())?;
     mark_truth(condition, block.summary(), named.as_mut_slice());
-    lanes.read(alloc, block, named.as_slice())?;
-    read_texts(alloc, block, named.as_slice(), texts)?;
-    Ok(())
+    lanes.read(alloc, block, named.as_slice())
 }
 
 /// Leaves those rows of a block wanted on which a condition is true.
@@ -107,8 +100,8 @@ pub(crate) fn count_of(wanted: &[bool]) -> usize
     count
 }
 
-/// Which rows of a block pass conditions, in turn, of all that are marked. Each column is read once, and none for a condition that comes to no row; without
-/// conditions no room is made. Where it falls back to rows, these are to be taken one by one: so it is where a condition divides by zero.
+/// Which rows of a block pass conditions, in turn, of all that are marked. Numbers are read once, and none for a condition that comes to no row; texts are looked at
+/// where they stand. Without conditions no room is made. Where it falls back to rows, these are to be taken one by one: so it is where a condition divides by zero.
 pub(crate) fn passing_rows(
     alloc: Global,
     conditions: &[Box<TruthExpr>],
@@ -125,12 +118,12 @@ pub(crate) fn passing_rows(
     if conditions.is_empty() {
         return Ok(wanted);
     }
-    let mut texts = no_texts(alloc, block.schema().columns.len())?;
+    let texts = block_texts(alloc, block)?;
     for condition in conditions {
         if count_of(&wanted) == 0 {
             return Ok(wanted);
         }
-        read_named(alloc, condition, block, lanes, texts.as_mut_slice())?;
+        read_named(alloc, condition, block, lanes)?;
         let columns = lanes.columns(alloc, texts.as_slice())?;
         narrow_by(alloc, condition, block, &columns, wanted.as_mut_slice())?;
     }

@@ -7,15 +7,15 @@ use Rattle.std.proofs.lemmas.Bool.{false≢true}
 use Rattle.block_lanes.specs.declared.arithmetic.ExactOperator.{ExactOperator}
 use Rattle.block_lanes.specs.Arithmetic.{exact}
 use Rattle.std.specs.Ordering.{int_cmp}
-use Rattle.odata_parse.specs.declared.tree.ComparisonOperator.{ComparisonOperator}
+use Rattle.typed_trees.specs.declared.operator.ComparisonOperator.{ComparisonOperator}
 use Rattle.row_eval.specs.declared.truth.Truth.{Truth}
 use Rattle.row_eval.specs.Comparison.{compared, holds}
 use Rattle.row_eval.specs.Logic.{truth_of}
 use Rattle.block_lanes.specs.declared.operand.Operand.{Operand}
 use Rattle.block_lanes.specs.Lanes.{comparison, unless_null, IsWanted}
-use Rattle.block_lanes.specs.Operands.{null_at, value_at, operand_lane}
+use Rattle.block_lanes.specs.Operands.{null_at, lane_value, operand_lane}
 
-pub compared-more : (o : ComparisonOperator) (l r : Operand) (i : ℕ) (ln rn : Bool) (lv rv : ℤ) (h : Bool) (t : Truth) → ln ≡ null_at l i → lv ≡ value_at l i → rn ≡ null_at r i → rv ≡ value_at r i
+pub compared-more : (o : ComparisonOperator) (l r : Operand) (i : ℕ) (ln rn : Bool) (lv rv : ℤ) (h : Bool) (t : Truth) → ln ≡ null_at l i → lv ≡ lane_value l i → rn ≡ null_at r i → rv ≡ lane_value r i
     → h ≡ holds o (compared int_cmp (unless_null ln lv) (unless_null rn rv)) → t ≡ truth_of h
     → t ≡ comparison o (operand_lane l i) (operand_lane r i)
 compared-more o l r i ln rn lv rv h t eln elv ern erv eh et =
@@ -25,10 +25,10 @@ compared-more o l r i ln rn lv rv h t eln elv ern erv eh et =
     ∙ ap (λ n. holds o (compared int_cmp (operand_lane l i) (unless_null n rv))) ern
     ∙ ap (λ v. holds o (compared int_cmp (operand_lane l i) (unless_null (null_at r i) v))) erv)
 
-pub exact-more : (o : ExactOperator) (l r : Operand) (i : ℕ) (lv rv v : ℤ) → lv ≡ value_at l i → rv ≡ value_at r i → (FitsSigned w64 (exact o lv rv) → v ≡ exact o lv rv)
-    → FitsSigned w64 (exact o (value_at l i) (value_at r i)) → v ≡ exact o (value_at l i) (value_at r i)
+pub exact-more : (o : ExactOperator) (l r : Operand) (i : ℕ) (lv rv v : ℤ) → lv ≡ lane_value l i → rv ≡ lane_value r i → (FitsSigned w64 (exact o lv rv) → v ≡ exact o lv rv)
+    → FitsSigned w64 (exact o (lane_value l i) (lane_value r i)) → v ≡ exact o (lane_value l i) (lane_value r i)
 exact-more o l r i lv rv v elv erv e fits =
-    let same : exact o lv rv ≡ exact o (value_at l i) (value_at r i) = ap (λ x. exact o x rv) elv ∙ ap (exact o (value_at l i)) erv in
+    let same : exact o lv rv ≡ exact o (lane_value l i) (lane_value r i) = ap (λ x. exact o x rv) elv ∙ ap (exact o (lane_value l i)) erv in
     e (subst (FitsSigned w64) (sym same) fits) ∙ same
 
 -- a wanted row is a row

@@ -2,8 +2,8 @@
 use Rattle.std.proofs.Common.{◌≡◌, ◌||◌, ℕ, Bool, true, false, Some, List, length, get_or, refl, sym, ap, ◌∙◌, subst, arith}
 use Rattle.std.specs.Prelude.{ℤ, pos, ◌<◌, option_map, FitsSigned}
 use Rattle.std.specs.Int.{w64}
-use Rattle.odata_parse.specs.declared.tree.ArithmeticOperator.{ArithmeticOperator}
-use Rattle.odata_parse.specs.declared.tree.ComparisonOperator.{ComparisonOperator}
+use Rattle.typed_trees.specs.declared.operator.ArithmeticOperator.{ArithmeticOperator}
+use Rattle.typed_trees.specs.declared.operator.ComparisonOperator.{ComparisonOperator}
 use Rattle.row_eval.specs.declared.truth.Truth.{Truth}
 use Rattle.row_eval.specs.Outcome.{computed, operation}
 use Rattle.block_lanes.specs.declared.arithmetic.ExactOperator.{ExactOperator}
@@ -14,7 +14,7 @@ use Rattle.block_lanes.specs.declared.operand.Operand.{Operand}
 use Rattle.block_lanes.specs.Arithmetic.{exact, operator_of, operator_of_quotient, AllFit, HasNulls, HasQuotients, HasValues}
 use Rattle.block_lanes.specs.Lanes.{number_at, unless_null}
 use Rattle.block_lanes.specs.Lanes.{comparison, number_lane, AreComputed, AreComputedFitting, AreLong, HasTruths, LanesFit}
-use Rattle.block_lanes.specs.Operands.{null_at, value_at, operand_lane, IsOperandOf}
+use Rattle.block_lanes.specs.Operands.{null_at, lane_value, operand_lane, IsOperandOf}
 use Rattle.block_lanes.proofs.LaneLemmas.{wanted_within}
 
 pub operands-compared : (o : ComparisonOperator) (rows : ℕ) (l r : Numbers) (a b : Operand) (ts : List Truth) → IsOperandOf l a → IsOperandOf r b
@@ -59,7 +59,7 @@ operands-computed o wanted l r v a b nulls values is_left is_right has_nulls has
           subst (λ y. LanesFit op (operand_lane a row) y) (sym (is_right.each row)) (subst (λ x. LanesFit op x (number_lane r row)) (sym (is_left.each row)) fits) in
           ap (λ x. computed op x (number_lane r row)) (sym (is_left.each row))
           ∙ ap (λ y. computed op (operand_lane a row) y) (sym (is_right.each row))
-          ∙ lanes o (null_at a row) (null_at b row) (get_or nulls row true) (value_at a row) (value_at b row) (get_or values row (pos 0)) (has_nulls.each row within) (has_values.each row inside) fit
+          ∙ lanes o (null_at a row) (null_at b row) (get_or nulls row true) (lane_value a row) (lane_value b row) (get_or values row (pos 0)) (has_nulls.each row within) (has_values.each row inside) fit
           ∙ ap Some (sym (is row));
       long = long;
     }
@@ -75,7 +75,7 @@ pub all-computed : (o : ExactOperator) (wanted : List Bool) (l r v : Numbers) (a
     → AreComputedFitting (operator_of o) l r wanted v → AreComputed (operator_of o) l r wanted v
 all-computed o wanted l r v a b is_left is_right all is = record {
   each = λ row h.
-      let fits = small-lanes o (null_at a row) (null_at b row) (value_at a row) (value_at b row) (all row (wanted_within wanted row h)) in
+      let fits = small-lanes o (null_at a row) (null_at b row) (lane_value a row) (lane_value b row) (all row (wanted_within wanted row h)) in
       is.each row h (subst (λ y. LanesFit (operator_of o) (number_lane l row) y) (is_right.each row) (subst (λ x. LanesFit (operator_of o) x (operand_lane b row)) (is_left.each row) fits));
   long = is.long;
 }
@@ -101,7 +101,7 @@ operands-divided o wanted l r v a b nulls values is_left is_right has_nulls has 
           let inside : row < length values = omega (arith, within, has.long) in
           ap (λ x. computed op x (number_lane r row)) (sym (is_left.each row))
           ∙ ap (λ y. computed op (operand_lane a row) y) (sym (is_right.each row))
-          ∙ quotient-lanes o (null_at a row) (null_at b row) (get_or nulls row true) (value_at a row) (value_at b row) (get_or values row (pos 0)) (has_nulls.each row within) (has.each row inside h)
+          ∙ quotient-lanes o (null_at a row) (null_at b row) (get_or nulls row true) (lane_value a row) (lane_value b row) (get_or values row (pos 0)) (has_nulls.each row within) (has.each row inside h)
           ∙ ap Some (sym (is row));
       long = long;
     }

@@ -1,8 +1,8 @@
 -- Sums, differences and products, which any two numbers have.
 use Rattle.std.specs.Prelude.{◌≡◌, ◌<◌, ℕ, ℤ, pos, ◌||◌, ◌+ℤ◌, ◌-ℤ◌, ◌*ℤ◌, Bool, true, false, FitsSigned, List, Some, length, slice_index_or}
 use Rattle.std.specs.Int.{w64}
-use Rattle.odata_parse.specs.declared.tree.ArithmeticOperator.{ArithmeticOperator}
-use Rattle.odata_parse.specs.declared.tree.ArithmeticOperator.TheVariants as operators
+use Rattle.typed_trees.specs.declared.operator.ArithmeticOperator.{ArithmeticOperator}
+use Rattle.typed_trees.specs.declared.operator.ArithmeticOperator.TheVariants as operators
 use Rattle.block_lanes.specs.declared.arithmetic.ExactOperator.{ExactOperator}
 use Rattle.block_lanes.specs.declared.arithmetic.ExactOperator.TheVariants.{Add, Sub, Mul}
 use Rattle.block_lanes.specs.declared.operand.Operand.{Operand}
@@ -10,7 +10,7 @@ use Rattle.row_eval.specs.Outcome.{operation}
 use Rattle.block_lanes.specs.declared.division.QuotientOperator.{QuotientOperator}
 use Rattle.block_lanes.specs.declared.division.QuotientOperator.TheVariants.{Div, Mod}
 use Rattle.block_lanes.specs.Lanes.{IsWanted}
-use Rattle.block_lanes.specs.Operands.{null_at, value_at}
+use Rattle.block_lanes.specs.Operands.{null_at, lane_value}
 
 abbrev pub exact : ExactOperator → ℤ → ℤ → ℤ
 exact Add a b = a +ℤ b
@@ -24,12 +24,12 @@ operator_of Mul = operators.Mul
 
 -- the joined numbers, where they fit 64 bits
 abbrev pub AreExact : ExactOperator → Operand → Operand → List ℤ → Type 0
-AreExact o left right values = (row : ℕ) → row < length values → FitsSigned w64 (exact o (value_at left row) (value_at right row))
-    → slice_index_or values row (pos 0) ≡ exact o (value_at left row) (value_at right row)
+AreExact o left right values = (row : ℕ) → row < length values → FitsSigned w64 (exact o (lane_value left row) (lane_value right row))
+    → slice_index_or values row (pos 0) ≡ exact o (lane_value left row) (lane_value right row)
 
 -- on each row the joined number fits 64 bits, whether there is a null or not
 abbrev pub AllFit : ℕ → ExactOperator → Operand → Operand → Type 0
-AllFit rows o left right = (row : ℕ) → row < rows → FitsSigned w64 (exact o (value_at left row) (value_at right row))
+AllFit rows o left right = (row : ℕ) → row < rows → FitsSigned w64 (exact o (lane_value left row) (lane_value right row))
 
 -- the rows that have a null on a side
 pub record HasNulls (rows : ℕ) (left right : Operand) (nulls : List Bool) : Type 0 where
@@ -48,7 +48,7 @@ operator_of_quotient Mod = operators.Mod
 -- the quotients or remainders of the wanted rows that have no null
 abbrev pub AreQuotients : QuotientOperator → Operand → Operand → List Bool → List Bool → List ℤ → Type 0
 AreQuotients o left right wanted nulls values = (row : ℕ) → row < length values → IsWanted wanted row → slice_index_or nulls row true ≡ false
-    → operation (operator_of_quotient o) (value_at left row) (value_at right row) ≡ Some (slice_index_or values row (pos 0))
+    → operation (operator_of_quotient o) (lane_value left row) (lane_value right row) ≡ Some (slice_index_or values row (pos 0))
 
 -- and there are as many as rows
 pub record HasQuotients (o : QuotientOperator) (left right : Operand) (wanted nulls : List Bool) (values : List ℤ) : Type 0 where

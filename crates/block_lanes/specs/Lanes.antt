@@ -2,8 +2,8 @@
 use Rattle.std.specs.Prelude.{◌≡◌, ◌≢◌, ◌<◌, ℕ, ℤ, pos, Bool, true, false, Option, None, Some, List, length, slice_index_or, FitsSigned, IfSome, IsTrue}
 use Rattle.std.specs.Int.{w64}
 use Rattle.std.specs.Ordering.{int_cmp, int_eq}
-use Rattle.odata_parse.specs.declared.tree.ArithmeticOperator.{ArithmeticOperator}
-use Rattle.odata_parse.specs.declared.tree.ComparisonOperator.{ComparisonOperator}
+use Rattle.typed_trees.specs.declared.operator.ArithmeticOperator.{ArithmeticOperator}
+use Rattle.typed_trees.specs.declared.operator.ComparisonOperator.{ComparisonOperator}
 use Rattle.row_eval.specs.declared.truth.Truth.{Truth}
 use Rattle.row_eval.specs.declared.truth.Truth.TheVariants.{False, Null as NullTruth}
 use Rattle.row_eval.specs.Logic.{truth_of}

@@ -11,13 +11,13 @@ null_at Null row = true
 null_at (Same n) row = false
 null_at (Each values nulls) row = slice_index_or nulls.now row true
 
-abbrev pub value_at : Operand → ℕ → ℤ
-value_at Null row = pos 0
-value_at (Same n) row = n
-value_at (Each values nulls) row = slice_index_or values.now row (pos 0)
+abbrev pub lane_value : Operand → ℕ → ℤ
+lane_value Null row = pos 0
+lane_value (Same n) row = n
+lane_value (Each values nulls) row = slice_index_or values.now row (pos 0)
 
 abbrev pub operand_lane : Operand → ℕ → Option ℤ
-operand_lane o row = unless_null (null_at o row) (value_at o row)
+operand_lane o row = unless_null (null_at o row) (lane_value o row)
 
 abbrev pub IsLong : ℕ → Operand → Type 0
 IsLong rows Null = Unit {0}

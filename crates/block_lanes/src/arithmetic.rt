@@ -5,7 +5,7 @@ ghost use Rattle.std.specs.Prelude.{◌≡◌, ◌<◌, ◌||◌, ℕ, true, IfO
 ghost use Rattle.std.specs.Int.{w64};
 ghost use Rattle.block_lanes.specs.Arithmetic.{exact as exact_of, operator_of, AllFit, AreExact, HasNulls, HasValues};
 ghost use Rattle.block_lanes.specs.Lanes.{AreComputed, AreComputedFitting, AreLong};
-ghost use Rattle.block_lanes.specs.Operands.{null_at, value_at, IsLong};
+ghost use Rattle.block_lanes.specs.Operands.{null_at, lane_value, IsLong};
 
 use crate::fallback::Fallback;
 use crate::numbers::Numbers;
@@ -43,7 +43,7 @@ fn exact(operator: ExactOperator, left: i64, right: i64) -> i64
 #[inline(always)]
 fn each_below(operand: Operand<'_>, rows: usize, limit: u64) -> bool
     requires { IsLong rows operand }
-    ensures { IsTrue result → (i : ℕ) → i < rows → unsigned_abs (value_at operand.entry i) < limit }
+    ensures { IsTrue result → (i : ℕ) → i < rows → unsigned_abs (lane_value operand.entry i) < limit }
 {
     let mut below = true;
     for i in 0..rows {
@@ -55,7 +55,7 @@ fn each_below(operand: Operand<'_>, rows: usize, limit: u64) -> bool
 /// The same, with a loop of its own for the numbers of a column.
 fn are_below(operand: Operand<'_>, rows: usize, limit: u64) -> bool
     requires { IsLong rows operand }
-    ensures { IsTrue result → (i : ℕ) → i < rows → unsigned_abs (value_at operand.entry i) < limit }
+    ensures { IsTrue result → (i : ℕ) → i < rows → unsigned_abs (lane_value operand.entry i) < limit }
 {
     match operand {
         Operand::Each(values, nulls) => each_below(Operand::Each(values, nulls), rows, limit),

@@ -11,9 +11,9 @@ ghost use Rattle.block_lanes.specs.Operands.{operand_lane, IsLong};
 use crate::fallback::Fallback;
 use crate::numbers::Numbers;
 use crate::operand::Operand;
-use odata_parse::tree::ComparisonOperator;
 use row_eval::{Truth, truth_of};
 use std::alloc::Global;
+use typed_trees::ComparisonOperator;
 
 /// Whether a comparison holds between two numbers, each with a mark that it is null.
 #[inline(always)]

@@ -1,7 +1,7 @@
 //! The numbers that an operator joins.
 
 ghost use Rattle.std.specs.Prelude.{◌≡◌, ◌<◌, ℕ};
-ghost use Rattle.block_lanes.specs.Operands.{null_at, value_at, IsLong};
+ghost use Rattle.block_lanes.specs.Operands.{null_at, lane_value, IsLong};
 
 /// A number or null for each row.
 #[derive(Clone, Copy)]
@@ -28,7 +28,7 @@ impl<'v> Operand<'v> {
     #[inline(always)]
     pub fn value(self, row: usize) -> i64
         requires { (rows : ℕ) × (row < rows) × IsLong rows self }
-        ensures { result ≡ value_at self.entry row }
+        ensures { result ≡ lane_value self.entry row }
     {
         match self {
             Operand::Null => 0,

@@ -6,8 +6,8 @@ use crate::arithmetic::{ExactOperator, compute, compute_fitting};
 use crate::division::{QuotientOperator, divide};
 use crate::fallback::Fallback;
 use crate::numbers::Numbers;
-use odata_parse::tree::ArithmeticOperator;
 use std::alloc::Global;
+use typed_trees::ArithmeticOperator;
 
 /// Two vectors joined by an operator, on the wanted rows.
 pub fn join<'a>(

@@ -5,7 +5,7 @@ use Rattle.std.specs.Int.{int_max, int_min}
 use Rattle.std.specs.Prelude.{int_lt}
 use Rattle.std.proofs.lemmas.Bool.{cond_both, true≢false}
 use Rattle.std.proofs.lemmas.Int.{clamps, ints}
-use Rattle.block_summary.specs.Cells.{AreBounds, AreNull, AreWithin, cell, cells_of}
+use Rattle.block_summary.specs.Cells.{AreBounds, AreNull, AreWithin, number_or_null, cells_of}
 use Rattle.block_summary.proofs.CellLemmas.{cells_of-at, cells_between, number_at}
 
 abbrev most : ℤ
@@ -94,7 +94,7 @@ greatest_reached n nulls values least greatest ordered bottom (inl f) (inl e) = 
 among : (nulls : List Bool) (values : List ℤ) (z : ℤ) → IsReached (length values) nulls values z → (i : ℕ) × (get_or (cells_of nulls values) i None ≡ Some z)
 among nulls values z r = (
   r.place,
-  cells_of-at nulls values r.place r.below ∙ ap (λ b. cell b (get_or values r.place (pos 0))) r.number ∙ ap Some r.is,
+  cells_of-at nulls values r.place r.below ∙ ap (λ b. number_or_null b (get_or values r.place (pos 0))) r.number ∙ ap Some r.is,
 )
 
 pub bounds_found : (nulls : List Bool) (values : List ℤ) (least greatest : ℤ) → least ≤ℤ greatest → fewest ≤ℤ least → greatest ≤ℤ most
@@ -123,11 +123,11 @@ bounds_ordered least greatest cells are = (are.between are.least_among.0 least a
 
 pub bounds_within : (least greatest : ℤ) (nulls : List Bool) (values : List ℤ) → AreBounds least greatest (cells_of nulls values) → AreWithin least greatest nulls values
 bounds_within least greatest nulls values are = λ i h is.
-    are.between i (get_or values i (pos 0)) (cells_of-at nulls values i h ∙ ap (λ b. cell b (get_or values i (pos 0))) is)
+    are.between i (get_or values i (pos 0)) (cells_of-at nulls values i h ∙ ap (λ b. number_or_null b (get_or values i (pos 0))) is)
 
 some_none : (v : ℤ) → ◌≡◌ {A = Option ℤ} (Some v) None → ⊥
 some_none v e = cc
 
 pub nulls_within : (least greatest : ℤ) (nulls : List Bool) (values : List ℤ) → AreNull (cells_of nulls values) → AreWithin least greatest nulls values
 nulls_within least greatest nulls values none = λ i h is.
-    absurd (some_none (get_or values i (pos 0)) (sym (cells_of-at nulls values i h ∙ ap (λ b. cell b (get_or values i (pos 0))) is) ∙ none i))
+    absurd (some_none (get_or values i (pos 0)) (sym (cells_of-at nulls values i h ∙ ap (λ b. number_or_null b (get_or values i (pos 0))) is) ∙ none i))

@@ -5,23 +5,23 @@ use Rattle.std.specs.Option.{ForSome}
 use Rattle.std.proofs.Math.Seq.{take-suc-set}
 use Rattle.std.proofs.lemmas.Bool.{true≢false}
 use Rattle.std.proofs.lemmas.List.{length-map, length-set, length-take}
-use Rattle.block_summary.specs.Reading.{BufferOf, with_cell}
-use Rattle.block_summary.specs.Cells.{cell, cells_of}
-use Rattle.block_summary.specs.Types.{cell_of, cells_of_type, packed_cells, AllNumbersOf, AreNumbersOf, IsNumberOf}
+use Rattle.block_summary.specs.Reading.{BufferOf, buffer_with_cell}
+use Rattle.block_summary.specs.Cells.{number_or_null, cells_of}
+use Rattle.block_summary.specs.Types.{cell_of, cells_of_type, number_cells, AllNumbersOf, AreNumbersOf, IsNumberOf}
 use Rattle.block_summary.specs.declared.number.PackedType.{PackedType}
 use Rattle.block_summary.proofs.CellLemmas.{cells_of-at, length-cells_of}
 
-cells-more : (nulls : List Bool) (values : List ℤ) (b : Bool) (v : ℤ) → length nulls ≡ length values → cells_of (nulls ++ b ∷ []) (values ++ v ∷ []) ≡ cells_of nulls values ++ cell b v ∷ []
+cells-more : (nulls : List Bool) (values : List ℤ) (b : Bool) (v : ℤ) → length nulls ≡ length values → cells_of (nulls ++ b ∷ []) (values ++ v ∷ []) ≡ cells_of nulls values ++ number_or_null b v ∷ []
 cells-more [] [] b v e = refl
 cells-more [] (x ∷ xs) b v e = absurd (omega arith)
 cells-more (n ∷ ns) [] b v e = absurd (omega arith)
-cells-more (n ∷ ns) (x ∷ xs) b v e = ap (λ rest. cell n x ∷ rest) (cells-more ns xs b v (omega arith))
+cells-more (n ∷ ns) (x ∷ xs) b v e = ap (λ rest. number_or_null n x ∷ rest) (cells-more ns xs b v (omega arith))
 
 typed-more : (type : PackedType) (numbers : List (Option ℤ)) (o : Option ℤ) → cells_of_type type (numbers ++ o ∷ []) ≡ cells_of_type type numbers ++ cell_of type o ∷ []
 typed-more type [] o = refl
 typed-more type (x ∷ xs) o = ap (λ rest. cell_of type x ∷ rest) (typed-more type xs o)
 
-cell-option : (o : Option ℤ) → cell (is_none o) (unwrap_or o (pos 0)) ≡ o
+cell-option : (o : Option ℤ) → number_or_null (is_none o) (unwrap_or o (pos 0)) ≡ o
 cell-option None = refl
 cell-option (Some z) = refl
 
@@ -41,7 +41,7 @@ cells-pushed nulls values len o free =
     ∙ ap (λ x. cells_of (take len nulls) (take len values) ++ x ∷ []) (cell-option o)
 
 pub pushed : (type : PackedType) (nulls : List Bool) (values : List ℤ) (len : ℕ) (o : Option ℤ) → IsFree nulls values len
-    → packed_cells type (take (len + 1) (set nulls len (is_none o))) (take (len + 1) (set values len (unwrap_or o (pos 0)))) ≡ packed_cells type (take len nulls) (take len values) ++ cell_of type o ∷ []
+    → number_cells type (take (len + 1) (set nulls len (is_none o))) (take (len + 1) (set values len (unwrap_or o (pos 0)))) ≡ number_cells type (take len nulls) (take len values) ++ cell_of type o ∷ []
 pushed type nulls values len o free = ap (cells_of_type type) (cells-pushed nulls values len o free) ∙ typed-more type (cells_of (take len nulls) (take len values)) o
 
 all-more : (type : PackedType) (numbers : List (Option ℤ)) (o : Option ℤ) → AllNumbersOf type numbers → ForSome o (IsNumberOf type) → AllNumbersOf type (numbers ++ o ∷ [])
@@ -55,7 +55,7 @@ pub all-pushed : (type : PackedType) (nulls : List Bool) (values : List ℤ) (le
 all-pushed type nulls values len o free all is =
     subst (AllNumbersOf type) (sym (cells-pushed nulls values len o free)) (all-more type (cells_of (take len nulls) (take len values)) o all is)
 
-pub length-packed : (type : PackedType) (nulls : List Bool) (values : List ℤ) (len : ℕ) → len ≤ length values → length (packed_cells type (take len nulls) (take len values)) ≡ len
+pub length-packed : (type : PackedType) (nulls : List Bool) (values : List ℤ) (len : ℕ) → len ≤ length values → length (number_cells type (take len nulls) (take len values)) ≡ len
 length-packed type nulls values len le =
     length-map (cells_of (take len nulls) (take len values)) (cell_of type)
     ∙ length-cells_of (take len nulls) (take len values)
@@ -63,12 +63,12 @@ length-packed type nulls values len le =
 
 pub numbers-of-all : (type : PackedType) (nulls : List Bool) (values : List ℤ) → AllNumbersOf type (cells_of nulls values) → AreNumbersOf type nulls values
 numbers-of-all type nulls values all = λ i lt number.
-    all i (get_or values i (pos 0)) (cells_of-at nulls values i lt ∙ ap (λ b. cell b (get_or values i (pos 0))) number)
+    all i (get_or values i (pos 0)) (cells_of-at nulls values i lt ∙ ap (λ b. number_or_null b (get_or values i (pos 0))) number)
 
 -- ---- a push
 
 abbrev view : PackedType → List Bool → List ℤ → ℕ → BufferOf
-view type nulls values len = record { packed_type = type; room = length values; cells = packed_cells type (take len nulls) (take len values) }
+view type nulls values len = record { packed_type = type; room = length values; cells = number_cells type (take len nulls) (take len values) }
 
 pub free-of : (type : PackedType) (nulls : List Bool) (values : List ℤ) (len : ℕ) (buffer : BufferOf) → view type nulls values len ≡ buffer → length buffer.cells < buffer.room
     → length nulls ≡ length values → len ≤ length values → IsFree nulls values len
@@ -93,14 +93,14 @@ all-put type nulls values len o b v null value free all is = (
 )
 
 pub view-put : (type : PackedType) (nulls : List Bool) (values : List ℤ) (len : ℕ) (buffer : BufferOf) (o : Option ℤ) (b : Bool) (v : ℤ) → b ≡ is_none o → v ≡ unwrap_or o (pos 0)
-    → IsFree nulls values len → view type nulls values len ≡ buffer → view type (set nulls len b) (set values len v) (len + 1) ≡ with_cell buffer (cell_of buffer.packed_type o)
+    → IsFree nulls values len → view type nulls values len ≡ buffer → view type (set nulls len b) (set values len v) (len + 1) ≡ buffer_with_cell buffer (cell_of buffer.packed_type o)
 view-put type nulls values len buffer o b v null value free is =
     ap (λ x. view type (set nulls len x) (set values len v) (len + 1)) null
     ∙ ap (λ y. view type (set nulls len (is_none o)) (set values len y) (len + 1)) value
-    ∙ ap (λ n. record { packed_type = type; room = n; cells = packed_cells type (take (len + 1) (set nulls len (is_none o))) (take (len + 1) (set values len (unwrap_or o (pos 0)))) })
+    ∙ ap (λ n. record { packed_type = type; room = n; cells = number_cells type (take (len + 1) (set nulls len (is_none o))) (take (len + 1) (set values len (unwrap_or o (pos 0)))) })
     (length-set values len (unwrap_or o (pos 0)))
     ∙ ap (λ cells. record { packed_type = type; room = length values; cells = cells }) (pushed type nulls values len o free)
-    ∙ ap (λ (r : BufferOf). with_cell r (cell_of r.packed_type o)) is
+    ∙ ap (λ (r : BufferOf). buffer_with_cell r (cell_of r.packed_type o)) is
 
 pub none-of : (o : Option ℤ) (b : Bool) → is_some o ≡ not b → b ≡ is_none o
 none-of None true e = refl

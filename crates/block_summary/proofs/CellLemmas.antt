@@ -7,7 +7,7 @@ use Rattle.std.proofs.lemmas.Bool.{true≢false}
 use Rattle.std.proofs.lemmas.Int.{ints}
 use Rattle.std.proofs.lemmas.List.Sums.{sum_by-cons}
 use Rattle.std.proofs.lemmas.List.{ext_get_or, get_or-map, get_or-replicate, get_or_past, length-map, length-replicate}
-use Rattle.block_summary.specs.Cells.{AreBelow, AreBetween, AreOffsets, AreWithin, cell, cells_of, sums}
+use Rattle.block_summary.specs.Cells.{AreBelow, AreBetween, AreOffsets, AreWithin, number_or_null, cells_of, sums}
 
 pub length-cells_of : (nulls : List Bool) (values : List ℤ) → length (cells_of nulls values) ≡ length values
 length-cells_of nulls [] = refl
@@ -18,14 +18,14 @@ pub length-sums : (least : ℤ) (offsets : List ℕ) → length (sums least offs
 length-sums least [] = refl
 length-sums least (o ∷ os) = ap suc (length-sums least os)
 
-pub cells_of-at : (nulls : List Bool) (values : List ℤ) (i : ℕ) → i < length values → get_or (cells_of nulls values) i None ≡ cell (get_or nulls i false) (get_or values i (pos 0))
+pub cells_of-at : (nulls : List Bool) (values : List ℤ) (i : ℕ) → i < length values → get_or (cells_of nulls values) i None ≡ number_or_null (get_or nulls i false) (get_or values i (pos 0))
 cells_of-at nulls [] i h = absurd (omega arith)
 cells_of-at [] (v ∷ vs) zero h = refl
 cells_of-at [] (v ∷ vs) (suc i) h = cells_of-at [] vs i (omega arith)
 cells_of-at (n ∷ ns) (v ∷ vs) zero h = refl
 cells_of-at (n ∷ ns) (v ∷ vs) (suc i) h = cells_of-at ns vs i (omega arith)
 
-cell-same : (n : Bool) (v w : ℤ) → (n ≡ false → v ≡ w) → cell n v ≡ cell n w
+cell-same : (n : Bool) (v w : ℤ) → (n ≡ false → v ≡ w) → number_or_null n v ≡ number_or_null n w
 cell-same true v w h = refl
 cell-same false v w h = ap Some (h refl)
 
@@ -33,7 +33,7 @@ cell-same false v w h = ap Some (h refl)
 some-same : (v w : ℤ) → ◌≡◌ {A = Option ℤ} (Some v) (Some w) → v ≡ w
 some-same v w e = cc
 
-cell-some : (n : Bool) (v w : ℤ) → cell n v ≡ Some w → (n ≡ false) × (v ≡ w)
+cell-some : (n : Bool) (v w : ℤ) → number_or_null n v ≡ Some w → (n ≡ false) × (v ≡ w)
 cell-some true v w e = absurd (cc)
 cell-some false v w e = (refl, some-same v w e)
 
@@ -66,7 +66,7 @@ packed least greatest nulls kept values offsets are same =
     let in_sums : i < length (sums least offsets) = omega (arith, length-sums least offsets) in
     let in_values : i < length values = omega (arith, are.long) in
     cells_of-at kept (sums least offsets) i in_sums
-    ∙ ap (λ n. cell n (get_or (sums least offsets) i (pos 0))) (same i)
+    ∙ ap (λ n. number_or_null n (get_or (sums least offsets) i (pos 0))) (same i)
     ∙ cell-same (get_or nulls i false) _ _ (λ is. sums-at least offsets i lt ∙ are.each i lt is)
     ∙ sym (cells_of-at nulls values i in_values))
 
@@ -80,7 +80,7 @@ cells_between least greatest nulls values within = λ i v e.
 
 -- ---- nulls
 
-cell-null : (n : Bool) (v : ℤ) → is_none (cell n v) ≡ n
+cell-null : (n : Bool) (v : ℤ) → is_none (number_or_null n v) ≡ n
 cell-null true v = refl
 cell-null false v = refl
 
@@ -93,21 +93,21 @@ nulls_counted (n ∷ ns) (v ∷ vs) e =
     sum_by-cons (λ b. cond b 1 0) n ns
     ∙ ap (λ k. cond n 1 0 + k) rest
     ∙ ap (λ b. cond b 1 0 + count_by is_none (cells_of ns vs)) (sym (cell-null n v))
-    ∙ sym (sum_by-cons (λ c. cond (is_none c) 1 0) (cell n v) (cells_of ns vs))
+    ∙ sym (sum_by-cons (λ c. cond (is_none c) 1 0) (number_or_null n v) (cells_of ns vs))
 
 -- ---- what is read
 
 pub read_null : (nulls : List Bool) (values : List ℤ) (i : ℕ) → get_or nulls i false ≡ true → None ≡ get_or (cells_of nulls values) i None
 read_null nulls [] i e = refl
 read_null [] (v ∷ vs) i e = absurd (true≢false (sym e))
-read_null (n ∷ ns) (v ∷ vs) zero e = sym (ap (λ b. cell b v) e)
+read_null (n ∷ ns) (v ∷ vs) zero e = sym (ap (λ b. number_or_null b v) e)
 read_null (n ∷ ns) (v ∷ vs) (suc i) e = read_null ns vs i e
 
 pub read_sum : (nulls : List Bool) (least : ℤ) (offsets : List ℕ) (i : ℕ) → get_or nulls i false ≡ false → i < length offsets
     → Some (least +ℤ pos (get_or offsets i 0)) ≡ get_or (cells_of nulls (sums least offsets)) i None
 read_sum nulls least offsets i is h =
     let inside : i < length (sums least offsets) = omega (arith, length-sums least offsets) in
-    sym (cells_of-at nulls (sums least offsets) i inside ∙ ap (λ n. cell n (get_or (sums least offsets) i (pos 0))) is ∙ ap Some (sums-at least offsets i h))
+    sym (cells_of-at nulls (sums least offsets) i inside ∙ ap (λ n. number_or_null n (get_or (sums least offsets) i (pos 0))) is ∙ ap Some (sums-at least offsets i h))
 
 pub read_past : (nulls : List Bool) (least : ℤ) (offsets : List ℕ) (i : ℕ) → length offsets ≤ i → None ≡ get_or (cells_of nulls (sums least offsets)) i None
 read_past nulls least offsets i h =

@@ -17,7 +17,7 @@ use Rattle.block_summary.specs.declared.test.Comparison.TheVariants as op
 use Rattle.block_summary.specs.Laws.{SkipsNoRow}
 use Rattle.std.proofs.lemmas.List.{get_or-map, length-map}
 use Rattle.block_summary.specs.Ranges.{RangeOf, column_of, no_range, is_null, AreAllNull, IsAtMost, IsGreatest, IsLeast, IsRangeOf}
-use Rattle.block_summary.specs.Tests.{admits, admits_null, admits_value, has_null, order_to, passes}
+use Rattle.block_summary.specs.Tests.{admits, admits_null, admits_value, counts_nulls, order_to, test_passes}
 
 -- ---- three orders: of a cell, the least and the greatest to a literal
 
@@ -116,7 +116,7 @@ between range cells i (Some l) (Some g) e f low high value = record {
   below_high = high.above i value;
 }
 
-passes-value : (o : Comparison) (c v : CellValue) → is_null c ≡ false → is_null v ≡ false → passes o c v ≡ passes_by o (value_cmp c v)
+passes-value : (o : Comparison) (c v : CellValue) → is_null c ≡ false → is_null v ≡ false → test_passes o c v ≡ passes_by o (value_cmp c v)
 passes-value op.Equal c v e f = refl
 passes-value op.NotEqual c v e f = refl
 passes-value op.GreaterThan c v e f = rw (e, f) refl
@@ -137,7 +137,7 @@ admits-value op.Equal range v l g e f none =
 admits-value op.NotEqual range v l g e f none =
     ap (λ o. is_some_and is_ne (order_to o v) || is_some_and is_ne (order_to (Some g) v)) (sym e)
     ∙ ap (λ o. is_some_and is_ne (order_to range.least v) || is_some_and is_ne (order_to o v)) (sym f)
-    ∙ or_tail (has_null range) (is_some_and is_ne (order_to range.least v)) (is_some_and is_ne (order_to range.greatest v)) none
+    ∙ or_tail (counts_nulls range) (is_some_and is_ne (order_to range.least v)) (is_some_and is_ne (order_to range.greatest v)) none
 admits-value op.GreaterThan range v l g e f none = ap (λ o. is_some_and is_gt (order_to o v)) (sym f) ∙ none
 admits-value op.GreaterOrEqual range v l g e f none = ap (λ o. is_some_and is_ge (order_to o v)) (sym f) ∙ none
 admits-value op.LessThan range v l g e f none = ap (λ o. is_some_and is_lt (order_to o v)) (sym e) ∙ none
@@ -162,10 +162,10 @@ counted p (c ∷ cs) (suc i) lt e =
     let more : count_by p (c ∷ cs) ≡ cond (p c) 1 0 + count_by p cs = sum_by-cons (λ x. cond (p x) 1 0) c cs in
     omega (arith, counted p cs i (omega arith) e)
 
-has-null : (range : RangeOf) (cells : List CellValue) (i : ℕ) → IsRangeOf range cells → i < length cells → is_null (get_or cells i null) ≡ true → has_null range ≡ true
+has-null : (range : RangeOf) (cells : List CellValue) (i : ℕ) → IsRangeOf range cells → i < length cells → is_null (get_or cells i null) ≡ true → counts_nulls range ≡ true
 has-null range cells i is lt e = lt-ltb 0 range.null_count (omega (arith, is.null_count, counted is_null cells i lt e))
 
-null-value : (o : Comparison) (range : RangeOf) (v : CellValue) → value_cmp null v ≡ Less → has_null range ≡ true → admits_value o range v ≡ false → passes o null v ≡ false
+null-value : (o : Comparison) (range : RangeOf) (v : CellValue) → value_cmp null v ≡ Less → counts_nulls range ≡ true → admits_value o range v ≡ false → test_passes o null v ≡ false
 null-value op.Equal range v less has none = ap is_eq less
 null-value op.NotEqual range v less has none =
     absurd (true≢false (ap (λ b. b || is_some_and is_ne (order_to range.least v) || is_some_and is_ne (order_to range.greatest v)) (sym has) ∙ none))
@@ -179,7 +179,7 @@ value-is c value e = true≢false (ap is_null (sym e) ∙ value)
 
 -- ---- a comparison with null
 
-null-null : (o : Comparison) (range : RangeOf) → value_cmp null null ≡ Equal → has_null range ≡ true → admits_null o range ≡ false → passes o null null ≡ false
+null-null : (o : Comparison) (range : RangeOf) → value_cmp null null ≡ Equal → counts_nulls range ≡ true → admits_null o range ≡ false → test_passes o null null ≡ false
 null-null op.Equal range same has none = absurd (true≢false (sym has ∙ none))
 null-null op.NotEqual range same has none = ap (λ r. not (is_eq r)) same
 null-null op.GreaterThan range same has none = refl
@@ -188,7 +188,7 @@ null-null op.LessThan range same has none = refl
 null-null op.LessOrEqual range same has none = absurd (true≢false (sym has ∙ none))
 
 value-null : (o : Comparison) (range : RangeOf) (c l : CellValue) → value_cmp c null ≡ Greater → is_null c ≡ false → range.least ≡ Some l → admits_null o range ≡ false
-    → passes o c null ≡ false
+    → test_passes o c null ≡ false
 value-null op.Equal range c l more value least none = ap is_eq more
 value-null op.NotEqual range c l more value least none = absurd (true≢false (ap is_some (sym least) ∙ none))
 value-null op.GreaterThan range c l more value least none = rw value refl
@@ -206,9 +206,9 @@ between_of : (range : RangeOf) (cells : List CellValue) (i : ℕ) → Column ran
 between_of range cells i column value = between range cells i range.least range.greatest refl refl column.is.least column.is.greatest value
 
 to_null : ValuesAreOrdered → (o : Comparison) (range : RangeOf) (cells : List CellValue) (i : ℕ) (b : Bool) → is_null (get_or cells i null) ≡ b → Column range cells i
-    → admits_null o range ≡ false → passes o (get_or cells i null) null ≡ false
+    → admits_null o range ≡ false → test_passes o (get_or cells i null) null ≡ false
 to_null laws o range cells i true is_null_cell column none =
-    subst (λ c. passes o c null ≡ false) (sym (null-is (get_or cells i null) is_null_cell))
+    subst (λ c. test_passes o c null ≡ false) (sym (null-is (get_or cells i null) is_null_cell))
     (null-null o range (tied_itself laws.total null) (has-null range cells i column.is column.lt is_null_cell) none)
 to_null laws o range cells i false value column none =
     let c = get_or cells i null in
@@ -217,9 +217,9 @@ to_null laws o range cells i false value column none =
     value-null o range c found.low more value found.low_is none
 
 to_value : ValuesAreOrdered → (o : Comparison) (range : RangeOf) (cells : List CellValue) (v : CellValue) (i : ℕ) (b : Bool) → is_null (get_or cells i null) ≡ b
-    → Column range cells i → is_null v ≡ false → admits_value o range v ≡ false → passes o (get_or cells i null) v ≡ false
+    → Column range cells i → is_null v ≡ false → admits_value o range v ≡ false → test_passes o (get_or cells i null) v ≡ false
 to_value laws o range cells v i true is_null_cell column literal none =
-    subst (λ c. passes o c v ≡ false) (sym (null-is (get_or cells i null) is_null_cell))
+    subst (λ c. test_passes o c v ≡ false) (sym (null-is (get_or cells i null) is_null_cell))
     (null-value o range v (laws.null_first v (value-is v literal)) (has-null range cells i column.is column.lt is_null_cell) none)
 to_value laws o range cells v i false value column literal none =
     let c = get_or cells i null in
@@ -231,9 +231,9 @@ to_value laws o range cells v i false value column literal none =
     (admits-value o range v found.low found.high found.low_is found.high_is none)
 
 by_literal : ValuesAreOrdered → (o : Comparison) (range : RangeOf) (cells : List CellValue) (v : CellValue) (i : ℕ) (b : Bool) → is_null v ≡ b → Column range cells i
-    → admits o range v ≡ false → passes o (get_or cells i null) v ≡ false
+    → admits o range v ≡ false → test_passes o (get_or cells i null) v ≡ false
 by_literal laws o range cells v i true literal column none =
-    subst (λ v. passes o (get_or cells i null) v ≡ false) (sym (null-is v literal))
+    subst (λ v. test_passes o (get_or cells i null) v ≡ false) (sym (null-is v literal))
     (to_null laws o range cells i (is_null (get_or cells i null)) refl column
     (ap (λ b. cond b (admits_null o range) (admits_value o range v)) (sym literal) ∙ none))
 by_literal laws o range cells v i false literal column none =
@@ -241,7 +241,7 @@ by_literal laws o range cells v i false literal column none =
     (ap (λ b. cond b (admits_null o range) (admits_value o range v)) (sym literal) ∙ none)
 
 pub skips : ValuesAreOrdered → (o : Comparison) (range : RangeOf) (cells : List CellValue) (v : CellValue) → IsRangeOf range cells
-    → admits o range v ≡ false → (i : ℕ) → i < length cells → passes o (get_or cells i null) v ≡ false
+    → admits o range v ≡ false → (i : ℕ) → i < length cells → test_passes o (get_or cells i null) v ≡ false
 skips laws o range cells v is none i lt = by_literal laws o range cells v i (is_null v) refl (record { is = is; lt = lt }) none
 
 -- ---- rows
@@ -249,5 +249,5 @@ skips laws o range cells v is none i lt = by_literal laws o range cells v i (is_
 pub skips-rows : ValuesAreOrdered → SkipsNoRow
 skips-rows laws o ranges rows col v are inside none i lt =
     let at : get_or (column_of rows col) i null ≡ get_or (get_or rows i []) col null = get_or-map (λ row. get_or row col null) rows i [] null lt in
-    ap (λ c. passes o c v) (sym at)
+    ap (λ c. test_passes o c v) (sym at)
     ∙ skips laws o (get_or ranges col no_range) (column_of rows col) v (are col inside) none i (omega (arith, length-map rows (λ row. get_or row col null)))

@@ -3,15 +3,15 @@ use Rattle.std.specs.Prelude.{◌≡◌, ◌⊎◌, MatchOption, ℕ, ℤ, pos, 
 use Rattle.block_summary.specs.declared.bounds.Bounds.{Bounds}
 
 -- a number, or null
-abbrev pub cell : Bool → ℤ → Option ℤ
-cell true value = None
-cell false value = Some value
+abbrev pub number_or_null : Bool → ℤ → Option ℤ
+number_or_null true value = None
+number_or_null false value = Some value
 
 -- the number of each row, or null; no row is null past the end of the marks
 abbrev pub cells_of : List Bool → List ℤ → List (Option ℤ)
 cells_of nulls [] = []
 cells_of [] (v ∷ vs) = Some v ∷ cells_of [] vs
-cells_of (n ∷ ns) (v ∷ vs) = cell n v ∷ cells_of ns vs
+cells_of (n ∷ ns) (v ∷ vs) = number_or_null n v ∷ cells_of ns vs
 
 -- the number that each offset leads to
 abbrev pub sums : ℤ → List ℕ → List ℤ

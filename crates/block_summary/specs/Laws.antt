@@ -5,7 +5,7 @@ use Rattle.cell_types.specs.Value.{CellValue, null, value_cmp}
 use Rattle.block_summary.specs.declared.number.PackedType.{PackedType}
 use Rattle.block_summary.specs.declared.test.Comparison.{Comparison}
 use Rattle.block_summary.specs.Ranges.{RangeOf, no_range, range_of, widened, AreRangesOf, IsRangeOf}
-use Rattle.block_summary.specs.Tests.{admits, passes}
+use Rattle.block_summary.specs.Tests.{admits, test_passes}
 use Rattle.block_summary.specs.Types.{typed_cell, IsNumberOf}
 
 -- the numbers of cells are in the order of the cells
@@ -16,13 +16,13 @@ NumbersAreOrdered = (type : PackedType) (a b : ℤ) → IsNumberOf type a → Is
 -- a column that is not admitted has no cell that passes the test
 abbrev pub SkipsNothing : Type 0
 SkipsNothing = (op : Comparison) (range : RangeOf) (cells : List CellValue) (literal : CellValue) → IsRangeOf range cells
-    → admits op range literal ≡ false → (row : ℕ) → row < length cells → passes op (slice_index_or cells row null) literal ≡ false
+    → admits op range literal ≡ false → (row : ℕ) → row < length cells → test_passes op (slice_index_or cells row null) literal ≡ false
 
 -- a block that is not admitted has no row whose cell in that column passes the test
 abbrev pub SkipsNoRow : Type 0
 SkipsNoRow = (op : Comparison) (ranges : List RangeOf) (rows : List (List CellValue)) (col : ℕ) (literal : CellValue) → AreRangesOf ranges rows
     → col < length ranges → admits op (slice_index_or ranges col no_range) literal ≡ false
-    → (i : ℕ) → i < length rows → passes op (slice_index_or (slice_index_or rows i []) col null) literal ≡ false
+    → (i : ℕ) → i < length rows → test_passes op (slice_index_or (slice_index_or rows i []) col null) literal ≡ false
 
 -- the range of no cells, and that of one cell more
 pub record RangesWiden : Type 0 where

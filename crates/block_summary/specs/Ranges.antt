@@ -14,9 +14,9 @@ is_null null = true
 is_null _ = false
 
 -- the cell is a text, so that a copy of it takes memory
-abbrev pub IsText : CellValue → Type 0
-IsText (text t) = Unit {0}
-IsText _ = ⊥
+abbrev pub IsTextCell : CellValue → Type 0
+IsTextCell (text t) = Unit {0}
+IsTextCell _ = ⊥
 
 abbrev pub AreAllNull : List CellValue → Type 0
 AreAllNull cells = (i : ℕ) → slice_index_or cells i null ≡ null

@@ -24,8 +24,8 @@ pub record BufferOf : Type 0 where
   pub cells : List CellValue
 
 -- one more cell
-abbrev pub with_cell : BufferOf → CellValue → BufferOf
-with_cell buffer cell = record buffer { cells = buffer.cells ++ cell ∷ [] }
+abbrev pub buffer_with_cell : BufferOf → CellValue → BufferOf
+buffer_with_cell buffer cell = record buffer { cells = buffer.cells ++ cell ∷ [] }
 
 -- a cell that a column of the type may have
 abbrev pub FitsType : PackedType → CellValue → Type 0

@@ -16,33 +16,33 @@ abbrev pub are_ordered : (Ordering → Bool) → CellValue → CellValue → Boo
 are_ordered p a b = not (is_null a) && not (is_null b) && p (value_cmp a b)
 
 -- a value, compared with a literal
-abbrev pub passes : Comparison → CellValue → CellValue → Bool
-passes Equal v literal = equals v literal
-passes NotEqual v literal = not (equals v literal)
-passes GreaterThan v literal = are_ordered is_gt v literal
-passes GreaterOrEqual v literal = are_ordered is_gt v literal || equals v literal
-passes LessThan v literal = are_ordered is_lt v literal
-passes LessOrEqual v literal = are_ordered is_lt v literal || equals v literal
+abbrev pub test_passes : Comparison → CellValue → CellValue → Bool
+test_passes Equal v literal = equals v literal
+test_passes NotEqual v literal = not (equals v literal)
+test_passes GreaterThan v literal = are_ordered is_gt v literal
+test_passes GreaterOrEqual v literal = are_ordered is_gt v literal || equals v literal
+test_passes LessThan v literal = are_ordered is_lt v literal
+test_passes LessOrEqual v literal = are_ordered is_lt v literal || equals v literal
 
 -- how the least or the greatest, where there is one, lies to a value
 abbrev pub order_to : Option CellValue → CellValue → Option Ordering
 order_to bound v = option_map (λ b. value_cmp b v) bound
 
-abbrev pub has_null : RangeOf → Bool
-has_null range = nat_lt 0 range.null_count
+abbrev pub counts_nulls : RangeOf → Bool
+counts_nulls range = nat_lt 0 range.null_count
 
 -- which ranges admit a comparison with null, and which one with a value that is none
 abbrev pub admits_null : Comparison → RangeOf → Bool
-admits_null Equal range = has_null range
+admits_null Equal range = counts_nulls range
 admits_null NotEqual range = is_some range.least
 admits_null GreaterThan range = false
-admits_null GreaterOrEqual range = has_null range
+admits_null GreaterOrEqual range = counts_nulls range
 admits_null LessThan range = false
-admits_null LessOrEqual range = has_null range
+admits_null LessOrEqual range = counts_nulls range
 
 abbrev pub admits_value : Comparison → RangeOf → CellValue → Bool
 admits_value Equal range v = is_some_and is_le (order_to range.least v) && is_some_and is_ge (order_to range.greatest v)
-admits_value NotEqual range v = has_null range || is_some_and is_ne (order_to range.least v) || is_some_and is_ne (order_to range.greatest v)
+admits_value NotEqual range v = counts_nulls range || is_some_and is_ne (order_to range.least v) || is_some_and is_ne (order_to range.greatest v)
 admits_value GreaterThan range v = is_some_and is_gt (order_to range.greatest v)
 admits_value GreaterOrEqual range v = is_some_and is_ge (order_to range.greatest v)
 admits_value LessThan range v = is_some_and is_lt (order_to range.least v)

@@ -56,8 +56,8 @@ abbrev pub cells_of_type : PackedType → List (Option ℤ) → List CellValue
 cells_of_type type numbers = map (cell_of type) numbers
 
 -- the cells that values and marks of nulls stand for
-abbrev pub packed_cells : PackedType → List Bool → List ℤ → List CellValue
-packed_cells type nulls values = cells_of_type type (cells_of nulls values)
+abbrev pub number_cells : PackedType → List Bool → List ℤ → List CellValue
+number_cells type nulls values = cells_of_type type (cells_of nulls values)
 
 abbrev pub AllNumbersOf : PackedType → List (Option ℤ) → Type 0
 AllNumbersOf type numbers = (i : ℕ) (number : ℤ) → slice_index_or numbers i None ≡ Some number → IsNumberOf type number

@@ -7,7 +7,7 @@ ghost use Rattle.cell_types.specs.Column.{column_view};
 ghost use Rattle.cell_types.specs.Datatype as datatype;
 ghost use Rattle.cell_types.specs.Datatype.{boolean_view, datatype_view};
 ghost use Rattle.cell_types.specs.Value.{value_view};
-ghost use Rattle.block_summary.specs.Reading.{packed_type_of as packed_type_of_datatype, with_cell, FitsType};
+ghost use Rattle.block_summary.specs.Reading.{packed_type_of as packed_type_of_datatype, buffer_with_cell, FitsType};
 ghost use Rattle.block_summary.specs.Types.{cell_of, typed_cell, IsNumberOf};
 
 use crate::number::{PackedType, day_number};
@@ -48,12 +48,12 @@ impl Model for CellBuffer {
     ghost Value = { BufferOf };
 
     ghost use Rattle.block_summary.specs.Cells.{cells_of};
-    ghost use Rattle.block_summary.specs.Types.{packed_cells, AllNumbersOf};
+    ghost use Rattle.block_summary.specs.Types.{number_cells, AllNumbersOf};
 
     ghost view = { λ b. record {
       packed_type = b.packed_type;
       room = length b.values.items;
-      cells = packed_cells b.packed_type (take b.len b.nulls.items) (take b.len b.values.items);
+      cells = number_cells b.packed_type (take b.len b.nulls.items) (take b.len b.values.items);
     } };
 
     ghost invariant = { λ b. (length b.nulls.items ≡ length b.values.items)
@@ -92,7 +92,7 @@ impl CellBuffer {
     pub fn push(&mut self, number: Option<i64>)
         requires room { length self.old.cells < self.old.room }
         requires number { ForSome number (IsNumberOf self.old.packed_type) }
-        ensures { self.new ≡ with_cell self.old (cell_of self.old.packed_type number) }
+        ensures { self.new ≡ buffer_with_cell self.old (cell_of self.old.packed_type number) }
     {
         self.values[self.len] = number.unwrap_or(0);
         self.nulls[self.len] = number.is_none();

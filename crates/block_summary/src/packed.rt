@@ -5,7 +5,7 @@ ghost use Rattle.std.specs.List.{count_by};
 ghost use Rattle.cell_types.specs.Value.{null, value_view};
 ghost use Rattle.block_summary.specs.Cells.{AreUnpacked, HaveBounds};
 ghost use Rattle.block_summary.specs.Ranges.{is_null, HasGreatest, HasLeast};
-ghost use Rattle.block_summary.specs.Types.{numbers_of, packed_cells, AreNumbersOf};
+ghost use Rattle.block_summary.specs.Types.{numbers_of, number_cells, AreNumbersOf};
 
 use crate::bounds::Bounds;
 use crate::integers::Integers;
@@ -45,7 +45,7 @@ impl PackedColumn {
     ) -> Result<PackedColumn, AllocError>
         requires long { length nulls.now ≡ length values.now }
         requires numbers { AreNumbersOf packed_type nulls.now values.now }
-        ensures { IfOk result (λ column. column ≡ packed_cells packed_type nulls.now values.now) }
+        ensures { IfOk result (λ column. column ≡ number_cells packed_type nulls.now values.now) }
     {
         let numbers = Integers::pack(alloc, values, nulls)?;
         Ok(PackedColumn {

@@ -2,7 +2,7 @@
 
 ghost use Rattle.std.specs.Prelude.{◌≡◌, ◌<◌, IfOk, IsErr, OnOk, OnErr, option_map, Some};
 ghost use Rattle.cell_types.specs.Value.{value_view};
-ghost use Rattle.block_summary.specs.Ranges.{greater, lesser, no_range, taken, widened, IsRangeOf, IsText};
+ghost use Rattle.block_summary.specs.Ranges.{greater, lesser, no_range, taken, widened, IsRangeOf, IsTextCell};
 ghost use Rattle.block_summary.specs.Tests.{admits as admits_test, order_to};
 
 use crate::packed::PackedColumn;
@@ -46,7 +46,7 @@ fn order_of(bound: &Option<Value<'static>>, literal: &Value<'_>) -> Option<Order
 /// A copy of a value that lives on its own.
 fn owned(alloc: Global, value: &Value<'_>) -> Result<Value<'static>, AllocError>
     ensures copy { IfOk result (λ copy. value_view copy ≡ value_view value.now) }
-    ensures memory { IsErr result → IsText (value_view value.now) }
+    ensures memory { IsErr result → IsTextCell (value_view value.now) }
 {
     Ok(match value {
         Value::Null => Value::Null,
@@ -67,7 +67,7 @@ fn new_least(
     ensures place { IfOk result
         (λ new. taken (option_map value_view least.now) (option_map value_view new)
         ≡ Some (lesser (option_map value_view least.now) (value_view value.now))) }
-    ensures memory { IsErr result → IsText (value_view value.now) }
+    ensures memory { IsErr result → IsTextCell (value_view value.now) }
 {
     match order_of(least, value) {
         None | Some(Ordering::Greater) => Ok(Some(owned(alloc, value)?)),
@@ -84,7 +84,7 @@ fn new_greatest(
     ensures place { IfOk result
         (λ new. taken (option_map value_view greatest.now) (option_map value_view new)
         ≡ Some (greater (option_map value_view greatest.now) (value_view value.now))) }
-    ensures memory { IsErr result → IsText (value_view value.now) }
+    ensures memory { IsErr result → IsTextCell (value_view value.now) }
 {
     match order_of(greatest, value) {
         None | Some(Ordering::Less) => Ok(Some(owned(alloc, value)?)),
@@ -131,7 +131,7 @@ impl Range {
         requires { self.old.null_count < usize.MAX }
         ensures added { OnOk result (self.new ≡ widened self.old (value_view value.now)) }
         ensures err { OnErr result (self.new ≡ self.old) }
-        ensures memory { IsErr result → IsText (value_view value.now) }
+        ensures memory { IsErr result → IsTextCell (value_view value.now) }
     {
         if matches!(value, Value::Null) {
             self.null_count += 1;

@@ -11,7 +11,7 @@ use Rattle.cell_types.specs.Boolean.{boolean_of}
 use Rattle.cell_types.specs.Cell.{content_of, content_value, is_null_text, null_reading, text_or_default, typed_value, value_of}
 use Rattle.cell_types.specs.Column.{ColumnOf, takes_all_texts}
 use Rattle.cell_types.specs.Datatype.{DatatypeOf, is_text, integer, text, boolean, date, decimal}
-use Rattle.cell_types.specs.Date.{date_of, date_text, day_place, is_date, month_place, number_at, year_place}
+use Rattle.cell_types.specs.Date.{date_of, date_text, day_place, is_date, month_place, digits_number, year_place}
 use Rattle.cell_types.specs.Decimal.{decimal_of, is_decimal, is_in_millionths, millionths}
 use Rattle.cell_types.specs.Integer.{fits_64_bits, integer_of, is_integer}
 use Rattle.cell_types.specs.Laws.{IsOfColumn, IsOfDatatype, ValuesFitColumns}
@@ -42,9 +42,9 @@ boolean_of-memory ts fs bytes =
 date_of-memory : (form : DateForm) (bytes : List ℕ) → NeedsNone (date_of form bytes)
 unfolding date_of
 date_of-memory form bytes =
-    let y = number_at (year_place form) 4 bytes in
-    let m = number_at (month_place form) 2 bytes in
-    let d = number_at (day_place form) 2 bytes in
+    let y = digits_number (year_place form) 4 bytes in
+    let m = digits_number (month_place form) 2 bytes in
+    let d = digits_number (day_place form) 2 bytes in
     cond_both (is_date y m d && bytes_eq bytes (date_text form y m d)) (Ok (value.date (pos y) m d)) (Err NotDate) NeedsNone (λ _ e. cc) (λ _ e. cc)
 
 decimal_of-memory : (bytes : List ℕ) → NeedsNone (decimal_of bytes)

@@ -12,7 +12,7 @@ use Rattle.jiff.specs.Words.{IsBetween, IsDate, IsYear, days_in_month}
 use Rattle.cell_types.specs.declared.fault.CellFault.TheVariants.{NotDate}
 use Rattle.cell_types.specs.declared.datatype.DateForm.{DateForm}
 use Rattle.cell_types.specs.declared.datatype.DateForm.TheVariants.{YearMonthDay, Compact, DayMonthYear, MonthDayYear, Dotted}
-use Rattle.cell_types.specs.Date.{HasDate, HasNoDate, HasNoNumbers, HasNumbers, HasParts, IsDateText, date_of, date_text, day_place, four_digits, is_date, laid_out, month_place, number_at, two_digits, year_place}
+use Rattle.cell_types.specs.Date.{HasDate, HasNoDate, HasNoNumbers, HasDateNumbers, HasParts, IsDateText, date_of, date_text, day_place, four_digits, is_date, laid_out, month_place, digits_number, two_digits, year_place}
 use Rattle.cell_types.specs.Value.{CellValue, date}
 use Rattle.cell_types.specs.declared.fault.CellFault.{CellFault}
 
@@ -138,7 +138,7 @@ is_date-bounds y m d h =
 
 -- reading a date's text gives it back
 abbrev ReadsNumbers : DateForm → ℕ → ℕ → ℕ → Type 0
-ReadsNumbers form y m d = (number_at (year_place form) 4 (date_text form y m d) ≡ y) × (number_at (month_place form) 2 (date_text form y m d) ≡ m) × (number_at (day_place form) 2 (date_text form y m d) ≡ d)
+ReadsNumbers form y m d = (digits_number (year_place form) 4 (date_text form y m d) ≡ y) × (digits_number (month_place form) 2 (date_text form y m d) ≡ m) × (digits_number (day_place form) 2 (date_text form y m d) ≡ d)
 
 numbers_read : (form : DateForm) (y m d : ℕ) → y < 10_000 → m < 100 → d < 100 → ReadsNumbers form y m d
 numbers_read YearMonthDay y m d a b c = (omega arith, omega arith, omega arith)
@@ -147,8 +147,8 @@ numbers_read DayMonthYear y m d a b c = (omega arith, omega arith, omega arith)
 numbers_read MonthDayYear y m d a b c = (omega arith, omega arith, omega arith)
 numbers_read Dotted y m d a b c = (omega arith, omega arith, omega arith)
 
-date_of-numbers : (form : DateForm) (bytes : List ℕ) (y m d : ℕ) → number_at (year_place form) 4 bytes ≡ y → number_at (month_place form) 2 bytes ≡ m
-    → number_at (day_place form) 2 bytes ≡ d → is_date y m d ≡ true → bytes ≡ date_text form y m d → date_of form bytes ≡ Ok (date (pos y) m d)
+date_of-numbers : (form : DateForm) (bytes : List ℕ) (y m d : ℕ) → digits_number (year_place form) 4 bytes ≡ y → digits_number (month_place form) 2 bytes ≡ m
+    → digits_number (day_place form) 2 bytes ≡ d → is_date y m d ≡ true → bytes ≡ date_text form y m d → date_of form bytes ≡ Ok (date (pos y) m d)
 unfolding date_of
 date_of-numbers form bytes y m d years months days is same =
     let equal = (bytes_eq-Decides bytes (date_text form y m d)).1 same in
@@ -158,15 +158,15 @@ pub date_of-text : (form : DateForm) (bytes : List ℕ) (y m d : ℕ) → IsDate
 date_of-text form bytes y m d (is, same) =
     let b = is_date-bounds y m d is in
     let read = numbers_read form y m d b.0 b.1 b.2 in
-    date_of-numbers form bytes y m d (ap (number_at (year_place form) 4) same ∙ read.0) (ap (number_at (month_place form) 2) same ∙ read.1)
-    (ap (number_at (day_place form) 2) same ∙ read.2) is same
+    date_of-numbers form bytes y m d (ap (digits_number (year_place form) 4) same ∙ read.0) (ap (digits_number (month_place form) 2) same ∙ read.1)
+    (ap (digits_number (day_place form) 2) same ∙ read.2) is same
 
 pub date_of-none : (form : DateForm) (bytes : List ℕ) → HasNoDate form bytes → date_of form bytes ≡ Err NotDate
 unfolding date_of
 date_of-none form bytes none =
-    let y = number_at (year_place form) 4 bytes in
-    let m = number_at (month_place form) 2 bytes in
-    let d = number_at (day_place form) 2 bytes in
+    let y = digits_number (year_place form) 4 bytes in
+    let m = digits_number (month_place form) 2 bytes in
+    let d = digits_number (day_place form) 2 bytes in
     let test = is_date y m d && bytes_eq bytes (date_text form y m d) in
     elim test as (λ v. test ≡ v → cond v (Ok (date (pos y) m d)) (Err NotDate) ≡ Err NotDate) [
       | true ↦ λ e.
@@ -177,7 +177,7 @@ date_of-none form bytes none =
 
 -- a date that jiff makes of the numbers, or none
 pub made_date : {D E : Type 0} (year : D → ℤ) (month day : D → ℕ) (form : DateForm) (bytes : List ℕ) (y m d : ℕ) (r : Result D E)
-    → HasNumbers form bytes y m d → 0 < y → IsOk r ↔ IsDate (pos y) (pos m) (pos d)
+    → HasDateNumbers form bytes y m d → 0 < y → IsOk r ↔ IsDate (pos y) (pos m) (pos d)
     → IfOk r (λ x. (year x ≡ pos y) × (pos (month x) ≡ pos m) × (pos (day x) ≡ pos d))
     → MatchOption (result_ok r) (HasNoDate form bytes) (λ x. HasDate form bytes (year x) (month x) (day x))
 made_date year month day form bytes y m d (Ok x) has some ok is =
@@ -192,9 +192,9 @@ made_date year month day form bytes y m d (Err e) has some ok is = λ z n f (one
 pub date_of-only : (form : DateForm) (bytes : List ℕ) (v : CellValue) → date_of form bytes ≡ Ok v → (y : ℕ) × (m : ℕ) × (d : ℕ) × IsDateText form bytes y m d × (v ≡ date (pos y) m d)
 unfolding date_of
 date_of-only form bytes v =
-    let y = number_at (year_place form) 4 bytes in
-    let m = number_at (month_place form) 2 bytes in
-    let d = number_at (day_place form) 2 bytes in
+    let y = digits_number (year_place form) 4 bytes in
+    let m = digits_number (month_place form) 2 bytes in
+    let d = digits_number (day_place form) 2 bytes in
     let same = bytes_eq bytes (date_text form y m d) in
     let Only : Result CellValue CellFault → Type 0 = λ r. r ≡ Ok v → (y : ℕ) × (m : ℕ) × (d : ℕ) × IsDateText form bytes y m d × (v ≡ date (pos y) m d) in
     cond_both (is_date y m d && same) (Ok (date (pos y) m d)) (Err NotDate) Only

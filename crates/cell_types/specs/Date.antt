@@ -36,11 +36,11 @@ abbrev pub date_text : DateForm → ℕ → ℕ → ℕ → List ℕ
 date_text form y m d = laid_out form (four_digits y) (two_digits m) (two_digits d)
 
 -- the text of a year, a month and a day, whether the calendar has them or not
-abbrev pub HasNumbers : DateForm → List ℕ → ℕ → ℕ → ℕ → Type 0
-HasNumbers form bytes y m d = (y < 10_000) × (m < 100) × (d < 100) × (bytes ≡ date_text form y m d)
+abbrev pub HasDateNumbers : DateForm → List ℕ → ℕ → ℕ → ℕ → Type 0
+HasDateNumbers form bytes y m d = (y < 10_000) × (m < 100) × (d < 100) × (bytes ≡ date_text form y m d)
 
 abbrev pub HasNoNumbers : DateForm → List ℕ → Type 0
-HasNoNumbers form bytes = (y m d : ℕ) → ¬ (HasNumbers form bytes y m d)
+HasNoNumbers form bytes = (y m d : ℕ) → ¬ (HasDateNumbers form bytes y m d)
 
 -- a day of the calendar
 abbrev pub is_date : ℕ → ℕ → ℕ → Bool
@@ -75,13 +75,13 @@ day_place MonthDayYear = 3
 day_place _ = 0
 
 -- the number that some digits at a place write
-abbrev pub number_at : ℕ → ℕ → List ℕ → ℕ
-number_at place count bytes = fold (λ n digit. n * 10 + (digit - 48)) 0 (take count (drop place bytes))
+abbrev pub digits_number : ℕ → ℕ → List ℕ → ℕ
+digits_number place count bytes = fold (λ n digit. n * 10 + (digit - 48)) 0 (take count (drop place bytes))
 
 -- the date of which this is the text
 unfoldable pub date_of : DateForm → List ℕ → Result CellValue CellFault
 date_of form bytes =
-    let y = number_at (year_place form) 4 bytes in
-    let m = number_at (month_place form) 2 bytes in
-    let d = number_at (day_place form) 2 bytes in
+    let y = digits_number (year_place form) 4 bytes in
+    let m = digits_number (month_place form) 2 bytes in
+    let d = digits_number (day_place form) 2 bytes in
     if is_date y m d && bytes_eq bytes (date_text form y m d) then Ok (date (pos y) m d) else Err NotDate

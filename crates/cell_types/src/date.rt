@@ -2,7 +2,7 @@
 //! years 1 to 9999.
 ghost use Rattle.std.specs.Prelude.{◌≡◌, ◌≢◌, ◌<◌, ℕ, MatchOption};
 ghost use Rattle.cell_types.specs.Cell.{reading_view};
-ghost use Rattle.cell_types.specs.Date.{HasDate, HasNoDate, HasNoNumbers, HasNoParts, HasNumbers, HasParts, date_of, four_digits, two_digits};
+ghost use Rattle.cell_types.specs.Date.{HasDate, HasNoDate, HasNoNumbers, HasNoParts, HasDateNumbers, HasParts, date_of, four_digits, two_digits};
 
 use crate::datatype::DateForm;
 use crate::fault::CellFault;
@@ -55,7 +55,7 @@ fn four_digit_number(digits: [u8; 4]) -> Option<u16>
 /// The year, the month and the day that a text writes in a form, whether the calendar has them or not.
 fn numbers(form: DateForm, text: &[u8]) -> Option<(u16, u8, u8)>
     ensures { MatchOption result (HasNoNumbers form text.now)
-        (λ p. HasNumbers form text.now p.0 p.1 p.2) }
+        (λ p. HasDateNumbers form text.now p.0 p.1 p.2) }
 {
     let (year, month, day) = parts(form, text)?;
     let year = four_digit_number(year)?;

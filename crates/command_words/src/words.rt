@@ -1,7 +1,7 @@
 //! Arguments of a command line and the words that the system hands over, for the programs over folders. What is read is `clap`'s reading.
 ghost use Rattle.std.specs.Prelude.{◌≡◌, IfOk, codes, false, map, option_map, string_bytes};
 ghost use Rattle.clap.specs.Words.{first_of, found_of, one_of, rows_of, rule_of};
-ghost use Rattle.command_words.specs.Words.{ReadsNumber, port_rule, required_rule, texts};
+ghost use Rattle.command_words.specs.Words.{ReadsNumberOfBits, port_rule, required_rule, texts};
 
 use clap::{Arg, ArgMatches, value_parser};
 use std::alloc::{AllocError, Global};
@@ -34,14 +34,14 @@ pub fn text<'a>(matches: &ArgMatches<'a>, id: &str) -> Option<&'a str>
 
 /// The number after `--port`.
 pub fn port<'a>(matches: &ArgMatches<'a>) -> Option<u16>
-    ensures { ReadsNumber 16 (one_of (codes "port") (rows_of (found_of matches.now))) result }
+    ensures { ReadsNumberOfBits 16 (one_of (codes "port") (rows_of (found_of matches.now))) result }
 {
     matches.get_one::<u16>("port")
 }
 
 /// The number of 32 bits after an option.
 pub fn number<'a>(matches: &ArgMatches<'a>, id: &str) -> Option<u32>
-    ensures { ReadsNumber 32 (one_of id.now (rows_of (found_of matches.now))) result }
+    ensures { ReadsNumberOfBits 32 (one_of id.now (rows_of (found_of matches.now))) result }
 {
     matches.get_one::<u32>(id)
 }

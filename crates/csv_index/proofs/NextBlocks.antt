@@ -12,7 +12,7 @@ use Rattle.csv_grammar.specs.Faults.{IsViable, cause_at, HasFault}
 use Rattle.csv_grammar.specs.Structure.{Role, separator, record_end, inner, AreRoles}
 use Rattle.csv_grammar.specs.Following.{TextCarry, carry_of}
 use Rattle.csv_grammar.specs.Laws.{OneStructure}
-use Rattle.lane_class.specs.Classes.{block_at, Marks, AreClasses}
+use Rattle.lane_class.specs.Classes.{block_from, Marks, AreClasses}
 use Rattle.lane_class.specs.declared.Classes.{Classes}
 use Rattle.quote_parity.specs.Words.{IsLowest}
 use Rattle.quote_parity.specs.Carry.{AreMasks}
@@ -20,12 +20,12 @@ use Rattle.quote_parity.specs.declared.carry.Masks.{Masks}
 use Rattle.csv_index.specs.Widths.{mask_role, mask_roles}
 use Rattle.csv_index.specs.declared.blocks.Block.{Block}
 use Rattle.csv_index.specs.declared.widths.Widths.{Widths}
-use Rattle.csv_index.specs.Reading.{HasRead, HasFaultFrom}
+use Rattle.csv_index.specs.Reading.{HasReadText, HasFaultFrom}
 
 -- ---- a block of the text
 
 -- the classes of 64 bytes are those of the bytes that the text has there
-pub classes_of : (classes : Classes) (text : List ℕ) (at n : ℕ) → n ≤ 64 → at + n ≤ length text → AreClasses classes (block_at text at)
+pub classes_of : (classes : Classes) (text : List ℕ) (at n : ℕ) → n ≤ 64 → at + n ≤ length text → AreClasses classes (block_from text at)
     → AreClasses classes (take n (drop at text))
 classes_of classes text at n most within are = record {
   quote = on classes.quote 34 are.quote;
@@ -34,13 +34,13 @@ classes_of classes text at n most within are = record {
   lf = on classes.lf 10 are.lf;
 }
   where
-    on : (word byte : ℕ) → Marks word (block_at text at) byte → Marks word (take n (drop at text)) byte
+    on : (word byte : ℕ) → Marks word (block_from text at) byte → Marks word (take n (drop at text)) byte
     on word byte marks i h =
         let long : length (drop at text) ≡ length text - at = length-drop at text in
         let less : i < n = omega (arith, length-take n (drop at text)) in
         let whole : length (drop at text ++ replicate 64 0) ≡ length (drop at text) + 64 = length-append (drop at text) (replicate 64 0) in
-        let inside : i < length (block_at text at) = omega (arith, length-take 64 (drop at text ++ replicate 64 0)) in
-        let same : slice_index (block_at text at) i ≡ slice_index (take n (drop at text)) i =
+        let inside : i < length (block_from text at) = omega (arith, length-take 64 (drop at text ++ replicate 64 0)) in
+        let same : slice_index (block_from text at) i ≡ slice_index (take n (drop at text)) i =
         get_or-take 64 (drop at text ++ replicate 64 0) i 0 (omega arith)
         ∙ get_or-append (drop at text) (replicate 64 0) 0 i (omega arith)
         ∙ sym (get_or-take n (drop at text) i 0 less) in
@@ -163,7 +163,7 @@ pub record StepsTo (text : List ℕ) (n len : ℕ) (masks : Masks) (behind : Tex
 
 -- what `step` ensures, at the next block
 pub steps_to : (text rest : List ℕ) (n len : ℕ) (classes : Classes) (masks : Masks) (carry behind : TextCarry) (blocks : List Block) (widths : Widths) (was : Bool)
-    → HasRead text n carry blocks widths was → rest ≡ drop (64 * n) text → 0 < len → len ≡ min (length rest) 64 → AreClasses classes (block_at rest 0)
+    → HasReadText text n carry blocks widths was → rest ≡ drop (64 * n) text → 0 < len → len ≡ min (length rest) 64 → AreClasses classes (block_from rest 0)
     → ((t b : List ℕ) → carry ≡ carry_of t → length b ≡ len → AreClasses classes b → behind ≡ carry_of (t ++ b))
     → ((t b : List ℕ) → carry ≡ carry_of t → length b ≡ len → AreClasses classes b → IsViable t → AreMasks masks t b)
     → (masks.sep < 2 ^ len) × (masks.eol < 2 ^ len) × (masks.fault < 2 ^ len) → StepsTo text n len masks behind
@@ -172,7 +172,7 @@ steps_to text rest n len classes masks carry behind blocks widths was read is so
     let size : length rest ≡ length text - 64 * n = ap length is ∙ length-drop (64 * n) text in
     let more : 64 * n < length text = omega arith in
     let cut : len ≡ min (length text - 64 * n) 64 = omega arith in
-    let b : AreClasses classes (take len (drop (64 * n) text)) = classes_of classes text (64 * n) len (omega arith) (omega arith) (subst (λ r. AreClasses classes (block_at r 0)) is are) in record {
+    let b : AreClasses classes (take len (drop (64 * n) text)) = classes_of classes text (64 * n) len (omega arith) (omega arith) (subst (λ r. AreClasses classes (block_from r 0)) is are) in record {
       more = more;
       len_is = cut;
       carried = carried (take (64 * n) text) (take len (drop (64 * n) text)) read.carried (length-next_block text n len more cut) b;

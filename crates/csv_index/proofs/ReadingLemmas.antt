@@ -17,7 +17,7 @@ use Rattle.csv_index.specs.Blocks.{set_places, block_places, rank, AreRanked}
 use Rattle.csv_index.specs.Widths.{uncounted, roles_counted, mask_role, mask_roles}
 use Rattle.csv_index.specs.declared.blocks.Block.{Block}
 use Rattle.csv_index.specs.declared.widths.Widths.{Widths}
-use Rattle.csv_index.specs.Reading.{role_places, role_open, open_after, HasRead, IsReading}
+use Rattle.csv_index.specs.Reading.{role_places, role_open, open_after, HasReadText, IsReadingToTheEnd}
 use Rattle.csv_index.proofs.Bits.{role_places-append, role_places-length, places_from_roles, places_split, places_none, roles_by_ends, roles_split, roles_one, ones_whole}
 use Rattle.csv_index.proofs.BlockLemmas.{block_places-push}
 use Rattle.csv_index.proofs.CellLemmas.{slice_get-front, slice_get-behind}
@@ -27,7 +27,7 @@ use Rattle.csv_index.proofs.NextBlocks.{block_roles, next_block, StepsTo, less_w
 
 -- ---- behind a front of the text
 
-pub has_read_none : OneStructure → WhatFollows → (text : List ℕ) → HasRead text 0 (carry_of []) [] uncounted false
+pub has_read_none : OneStructure → WhatFollows → (text : List ℕ) → HasReadText text 0 (carry_of []) [] uncounted false
 has_read_none laws follows text =
     let some = laws.some [] follows.empty in
     let none : some.0 ≡ [] = nil_from_length some.0 (laws.count [] some.0 some.1) in record {
@@ -110,7 +110,7 @@ pub record AreCounts (text : List ℕ) (blocks : List Block) (widths : Widths) :
   pub records : widths.records ≤ length text
 
 pub read_counts : (laws : OneStructure) (text : List ℕ) (n : ℕ) (carry : TextCarry) (blocks : List Block) (widths : Widths) (was : Bool)
-    → HasRead text n carry blocks widths was → AreCounts text blocks widths
+    → HasReadText text n carry blocks widths was → AreCounts text blocks widths
 read_counts laws text n carry blocks widths was read =
     let most = counted_most uncounted read.roles (omega arith) in
     let size : length read.roles ≤ length text = omega (arith, laws.count (take (64 * n) text) read.roles read.are, length-take (64 * n) text) in
@@ -143,9 +143,9 @@ next_roles laws text n len masks behind roles are s none =
 
 -- one block more
 pub has_read_more : (laws : OneStructure) (text : List ℕ) (n len last : ℕ) (masks : Masks) (carry behind : TextCarry) (blocks : List Block) (widths counted : Widths) (was unended : Bool)
-    → HasRead text n carry blocks widths was → StepsTo text n len masks behind → masks.fault ≡ 0
+    → HasReadText text n carry blocks widths was → StepsTo text n len masks behind → masks.fault ≡ 0
     → counted ≡ roles_counted widths (mask_roles (bit_or masks.sep masks.eol) masks.eol 0 64) → len ≡ last + 1 → unended ≡ bit_at masks.eol last == 0
-    → HasRead text (n + 1) behind (blocks ++ record { ends = bit_or masks.sep masks.eol; before = widths.places } ∷ []) counted unended
+    → HasReadText text (n + 1) behind (blocks ++ record { ends = bit_or masks.sep masks.eol; before = widths.places } ∷ []) counted unended
 has_read_more laws text n len last masks carry behind blocks widths counted was unended read s none c l u =
     let front = next_front text n len s.more s.len_is in
     let most : len ≤ 64 = omega (arith, s.len_is) in
@@ -180,7 +180,7 @@ has_read_more laws text n len last masks carry behind blocks widths counted was 
 
 -- so many whole blocks are read, there is room for the others, and this is left
 pub record IsUnderWay (text rest : List ℕ) (n capacity : ℕ) (carry : TextCarry) (blocks : List Block) (widths : Widths) (was : Bool) : Type 0 where
-  pub read : HasRead text n carry blocks widths was
+  pub read : HasReadText text n carry blocks widths was
   pub rest_is : rest ≡ drop (64 * n) text
   pub within : 64 * n ≤ length text
   pub room : length text ≤ 64 * capacity
@@ -194,7 +194,7 @@ left_is text rest n capacity carry blocks widths was going = ap length going.res
 
 -- with one more, of 64 bytes
 pub under_way_more : (text rest : List ℕ) (n capacity : ℕ) (carry behind : TextCarry) (blocks more : List Block) (widths counted : Widths) (was unended : Bool)
-    → IsUnderWay text rest n capacity carry blocks widths was → 64 ≤ length rest → HasRead text (n + 1) behind more counted unended
+    → IsUnderWay text rest n capacity carry blocks widths was → 64 ≤ length rest → HasReadText text (n + 1) behind more counted unended
     → IsUnderWay text (take (length rest - 64) (drop 64 rest)) (n + 1) capacity behind more counted unended
 under_way_more text rest n capacity carry behind blocks more widths counted was unended going some next =
     let size = left_is text rest n capacity carry blocks widths was going in
@@ -207,12 +207,12 @@ under_way_more text rest n capacity carry behind blocks more widths counted was 
 
 -- and at the end with those that are left, where there are some
 pub whole_read : (text rest : List ℕ) (n capacity : ℕ) (carry : TextCarry) (blocks : List Block) (widths : Widths) (was : Bool) → IsUnderWay text rest n capacity carry blocks widths was
-    → length rest ≡ 0 → IsReading text carry blocks widths was
+    → length rest ≡ 0 → IsReadingToTheEnd text carry blocks widths was
 whole_read text rest n capacity carry blocks widths was going none =
     let size = left_is text rest n capacity carry blocks widths was going in (n, omega (arith, size), omega (arith, going.within), going.read)
 
 pub rest_read : (text rest : List ℕ) (n capacity : ℕ) (carry behind : TextCarry) (blocks more : List Block) (widths counted : Widths) (was unended : Bool)
-    → IsUnderWay text rest n capacity carry blocks widths was → 0 < length rest → length rest < 64 → HasRead text (n + 1) behind more counted unended
-    → IsReading text behind more counted unended
+    → IsUnderWay text rest n capacity carry blocks widths was → 0 < length rest → length rest < 64 → HasReadText text (n + 1) behind more counted unended
+    → IsReadingToTheEnd text behind more counted unended
 rest_read text rest n capacity carry behind blocks more widths counted was unended going some short next =
     let size = left_is text rest n capacity carry blocks widths was going in (n + 1, omega (arith, size), omega (arith, size, going.within), next)

@@ -9,7 +9,7 @@ use Rattle.raw_fields.specs.Laws.{FieldsStandSo}
 use Rattle.raw_fields.specs.Raw.{RawField, raw_of, field_of}
 use Rattle.csv_index.specs.Between.{raw_between}
 use Rattle.raw_fields.specs.Raw.{RawTable}
-use Rattle.csv_index.specs.Index.{raw_table, Places, cut, raws, rows_of, row_fields, table_in, cell_at, FitsFile, IsRawTable}
+use Rattle.csv_index.specs.Index.{raw_table, Places, cut, raws, rows_cut, row_fields, table_in, cell_at, FitsFile, IsRawTable}
 
 -- there is a field for each place
 pub length-cut : (start : ℕ) (ends : List ℕ) (file : List ℕ) → length (cut start ends file) ≡ length ends
@@ -30,13 +30,13 @@ slice_get-take (suc n) [] i h = refl
 slice_get-take (suc n) (x ∷ xs) zero h = refl
 slice_get-take (suc n) (x ∷ xs) (suc i) h = slice_get-take n xs i (omega arith)
 
-length-rows_of : (n width : ℕ) (fields : List RawField) → length (rows_of n width fields) ≡ n
+length-rows_of : (n width : ℕ) (fields : List RawField) → length (rows_cut n width fields) ≡ n
 length-rows_of zero width fields = refl
 length-rows_of (suc n) width fields = ap suc (length-rows_of n width (drop width fields))
 
 -- a row is the fields at its place
 slice_get-rows_of : (n width : ℕ) (fields : List RawField) (row : ℕ) → row < n
-    → slice_get (rows_of n width fields) row ≡ Some (take width (drop (row * width) fields))
+    → slice_get (rows_cut n width fields) row ≡ Some (take width (drop (row * width) fields))
 slice_get-rows_of zero width fields row h = absurd (omega arith)
 slice_get-rows_of (suc n) width fields zero h = let e : 0 * width ≡ 0 = omega arith in rw e refl
 slice_get-rows_of (suc n) width fields (suc row) h =
@@ -49,7 +49,7 @@ no_fields : (fields : List RawField) → length fields ≡ 0 → [] ≡ fields
 no_fields [] h = refl
 no_fields (field ∷ fields) h = absurd (omega arith)
 
-row_fields-rows_of : (n width : ℕ) (fields : List RawField) → length fields ≡ n * width → row_fields (rows_of n width fields) ≡ fields
+row_fields-rows_of : (n width : ℕ) (fields : List RawField) → length fields ≡ n * width → row_fields (rows_cut n width fields) ≡ fields
 row_fields-rows_of zero width fields h = no_fields fields (omega arith)
 row_fields-rows_of (suc n) width fields h =
     let rest : length (drop width fields) ≡ n * width = omega (arith, length-drop width fields) in
@@ -57,7 +57,7 @@ row_fields-rows_of (suc n) width fields h =
 
 -- and those from a row on
 row_fields-drop : (n width : ℕ) (fields : List RawField) (row : ℕ) → row ≤ n → length fields ≡ n * width
-    → row_fields (drop row (rows_of n width fields)) ≡ drop (row * width) fields
+    → row_fields (drop row (rows_cut n width fields)) ≡ drop (row * width) fields
 row_fields-drop n width fields zero h size = let e : 0 * width ≡ 0 = omega arith in rw e (row_fields-rows_of n width fields size)
 row_fields-drop zero width fields (suc row) h size = absurd (omega arith)
 row_fields-drop (suc n) width fields (suc row) h size =
@@ -67,7 +67,7 @@ row_fields-drop (suc n) width fields (suc row) h size =
     ∙ drop-drop (row * width) width fields ∙ ap (λ k. drop k fields) e
 
 -- each row of enough fields is that wide
-widths-rows_of : (n width : ℕ) (fields : List RawField) → n * width ≤ length fields → AllByRecursion (λ row. length row ≡ width) (rows_of n width fields)
+widths-rows_of : (n width : ℕ) (fields : List RawField) → n * width ≤ length fields → AllByRecursion (λ row. length row ≡ width) (rows_cut n width fields)
 widths-rows_of zero width fields enough = tt
 widths-rows_of (suc n) width fields enough =
     let rest : n * width ≤ length (drop width fields) = omega (arith, length-drop width fields) in
@@ -113,7 +113,7 @@ fields-table_in places bytes row fits h =
 
 -- fields of whole rows, cut into rows again
 rows_of-whole : (width : ℕ) (rows : List (List Field)) → AllByRecursion (HasWidth width) rows
-    → rows_of (length rows) width (map raw_of (flat_map (λ fields. fields) rows)) ≡ map (map raw_of) rows
+    → rows_cut (length rows) width (map raw_of (flat_map (λ fields. fields) rows)) ≡ map (map raw_of) rows
 rows_of-whole width [] h = refl
 rows_of-whole width (fields ∷ rows) h =
     let behind = map raw_of (flat_map (λ fields. fields) rows) in
@@ -131,10 +131,10 @@ table_stands places bytes header rows are width count widths =
     let whole : raws places bytes ≡ map raw_of header ++ behind = are ∙ map-append raw_of header (flat_map (λ fields. fields) rows) in
     let first : take places.width (raws places bytes) ≡ map raw_of header = ap (take places.width) whole ∙ take_at (map raw_of header) behind places.width long in
     let rest : drop places.width (raws places bytes) ≡ behind = ap (drop places.width) whole ∙ drop_at (map raw_of header) behind places.width long in
-    let cut_rows : rows_of places.rows places.width (drop places.width (raws places bytes)) ≡ map (map raw_of) rows =
+    let cut_rows : rows_cut places.rows places.width (drop places.width (raws places bytes)) ≡ map (map raw_of) rows =
     rw (rest, count, width) (rows_of-whole (length header) rows widths) in
     let table : List RawField → List (List RawField) → RawTable = λ h rs. record { header = h; rows = rs } in
-    ap (λ h. table h (rows_of places.rows places.width (drop places.width (raws places bytes)))) first ∙ ap (table (map raw_of header)) cut_rows
+    ap (λ h. table h (rows_cut places.rows places.width (drop places.width (raws places bytes)))) first ∙ ap (table (map raw_of header)) cut_rows
 
 -- where what stands as a field does is that field, the same holds of fields and of rows
 fields_of-raw_of : FieldsStandSo → (fields : List Field) → map field_of (map raw_of fields) ≡ fields

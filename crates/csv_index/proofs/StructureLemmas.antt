@@ -11,13 +11,13 @@ use Rattle.csv_grammar.specs.Structure.{text_roles, AreRoles}
 use Rattle.csv_grammar.specs.Following.{TextCarry}
 use Rattle.csv_grammar.specs.Laws.{OneStructure}
 use Rattle.csv_index.specs.Widths.{CountsWidths, uncounted, roles_counted}
-use Rattle.csv_index.specs.Structure.{all_fields, Cuts, ends_of, ReadsAs, HasTextFault}
+use Rattle.csv_index.specs.Structure.{all_fields, Cuts, ends_of, ReadsAsRecords, HasTextFault}
 use Rattle.csv_index.specs.Fault.{text_cause}
 use Rattle.csv_index.specs.declared.fault.TextFault.{TextFault}
 use Rattle.csv_index.specs.declared.fault.TextFault.TheVariants.{Unfinished}
 use Rattle.csv_index.specs.declared.blocks.Block.{Block}
 use Rattle.csv_index.specs.declared.widths.Widths.{Widths}
-use Rattle.csv_index.specs.Reading.{role_places, open_after, HasRead, IsReading}
+use Rattle.csv_index.specs.Reading.{role_places, open_after, HasReadText, IsReadingToTheEnd}
 use Rattle.csv_index.proofs.Trees.{last_end, tree_pieces, tree_texts}
 use Rattle.csv_index.proofs.TreeCounts.{tree_open, counted_if, tree_counted}
 
@@ -30,9 +30,9 @@ last_end-is size None = refl
 last_end-is size (Some fields) = refl
 
 pub reads_as : (laws : OneStructure) (file : List ℕ) (mark n : ℕ) (carry : TextCarry) (blocks : List Block) (widths : Widths) (was : Bool) → IsUtf8 file → mark ≤ length file
-    → IsCharBoundary file mark → HasRead (drop mark file) n carry blocks widths was → length (drop mark file) ≤ 64 * n → mark + 64 * n + 64 < 2 ^ 64
+    → IsCharBoundary file mark → HasReadText (drop mark file) n carry blocks widths was → length (drop mark file) ≤ 64 * n → mark + 64 * n + 64 < 2 ^ 64
     → (records : List (List Field)) × AreRecords (drop mark file) records
-    → (records : List (List Field)) × ReadsAs file mark records blocks (end_if was (length file)) (counted_if was widths)
+    → (records : List (List Field)) × ReadsAsRecords file mark records blocks (end_if was (length file)) (counted_if was widths)
 reads_as laws file mark n carry blocks widths was utf8 within boundary read all room (records, are) =
     let tree : CsvText = are.tree in
     let text : List ℕ = drop mark file in
@@ -69,8 +69,8 @@ pub text_is : (file : List ℕ) (mark : ℕ) → take (length file - mark) (drop
 text_is file mark = take_all (length file - mark) (drop mark file) (omega (arith, length-drop mark file))
 
 pub reading_is : (file : List ℕ) (mark : ℕ) (carry : TextCarry) (blocks : List Block) (widths : Widths) (was : Bool)
-    → IsReading (take (length file - mark) (drop mark file)) carry blocks widths was → IsReading (drop mark file) carry blocks widths was
-reading_is file mark carry blocks widths was is = subst (λ t. IsReading t carry blocks widths was) (text_is file mark) is
+    → IsReadingToTheEnd (take (length file - mark) (drop mark file)) carry blocks widths was → IsReadingToTheEnd (drop mark file) carry blocks widths was
+reading_is file mark carry blocks widths was is = subst (λ t. IsReadingToTheEnd t carry blocks widths was) (text_is file mark) is
 
 pub tells : (file t : List ℕ) (mark place : ℕ) (e : TextFault) → t ≡ drop mark file → HasFault (drop mark file) place (cause_at (drop mark file) place)
     → text_cause e ≡ Some (malformed (cause_at t place) (mark + place)) → HasTextFault e file mark
@@ -87,8 +87,8 @@ tells_end file mark n within all fault =
 
 -- the same, by the values that the code computed
 pub reads_by : (file : List ℕ) (mark : ℕ) (records : List (List Field)) (blocks : List Block) (last : Option ℕ) (widths counted : Widths) (was is : Bool) → was ≡ is
-    → ReadsAs file mark records blocks (end_if was (length file)) (counted_if was widths) → last ≡ end_if is (length file) → counted ≡ counted_if is widths
-    → ReadsAs file mark records blocks last counted
+    → ReadsAsRecords file mark records blocks (end_if was (length file)) (counted_if was widths) → last ≡ end_if is (length file) → counted ≡ counted_if is widths
+    → ReadsAsRecords file mark records blocks last counted
 reads_by file mark records blocks last widths counted was is same r l c =
-    subst (λ w. ReadsAs file mark records blocks last w) (ap (λ t. counted_if t widths) same ∙ sym c)
-    (subst (λ o. ReadsAs file mark records blocks o (counted_if was widths)) (ap (λ t. end_if t (length file)) same ∙ sym l) r)
+    subst (λ w. ReadsAsRecords file mark records blocks last w) (ap (λ t. counted_if t widths) same ∙ sym c)
+    (subst (λ o. ReadsAsRecords file mark records blocks o (counted_if was widths)) (ap (λ t. end_if t (length file)) same ∙ sym l) r)

@@ -15,7 +15,7 @@ use Rattle.csv_index.specs.declared.blocks.Block.{Block}
 use Rattle.csv_index.specs.declared.widths.Widths.{Widths}
 use Rattle.csv_index.specs.Fault.{IsTextFault}
 use Rattle.csv_index.specs.Widths.{CountsWidths}
-use Rattle.csv_index.specs.Structure.{all_fields, ends_of, ReadsAs, HasTextFault}
+use Rattle.csv_index.specs.Structure.{all_fields, ends_of, ReadsAsRecords, HasTextFault}
 use Rattle.csv_index.specs.declared.fault.TextFault.{TextFault}
 use Rattle.csv_index.proofs.RowLemmas.{length-cut, table_stands, raw_table-is, width-table_in, rows-table_in}
 
@@ -39,7 +39,7 @@ abbrev pub places_of : ℕ → List Block → Option ℕ → Widths → Places
 places_of mark blocks last w = record { start = mark; width = w.width; rows = w.records - 1; ends = ends_of mark blocks last }
 
 index_in : FieldsStandSo → (file : List ℕ) (header : List Field) (rows : List (List Field)) (blocks : List Block) (last : Option ℕ) (w : Widths) → IsUtf8 file
-    → ReadsAs file (mark_len file) (header ∷ rows) blocks last w → w.uneven ≡ None → IsIndexOf (places_of (mark_len file) blocks last w) file
+    → ReadsAsRecords file (mark_len file) (header ∷ rows) blocks last w → w.uneven ≡ None → IsIndexOf (places_of (mark_len file) blocks last w) file
 index_in stand file header rows blocks last w utf8 read even =
     let ends : List ℕ = ends_of (mark_len file) blocks last in
     let widths : CountsWidths w.width None (header ∷ rows) = subst (λ u. CountsWidths w.width u (header ∷ rows)) even read.widths in
@@ -69,12 +69,12 @@ index_in stand file header rows blocks last w utf8 read even =
 
 -- where a record was read, and no row differs
 pub index_of : FieldsStandSo → (file : List ℕ) (mark : ℕ) (blocks : List Block) (last : Option ℕ) (w : Widths) → IsUtf8 file → mark ≡ mark_len file
-    → (records : List (List Field)) × ReadsAs file mark records blocks last w → w.uneven ≡ None → w.records ≢ 0
+    → (records : List (List Field)) × ReadsAsRecords file mark records blocks last w → w.uneven ≡ None → w.records ≢ 0
     → IsIndexOf (places_of mark blocks last w) file
 index_of stand file mark blocks last w utf8 m ([], read) even some = absurd (some read.count)
 index_of stand file mark blocks last w utf8 m (header ∷ rows, read) even some =
     subst (λ n. IsIndexOf (places_of n blocks last w) file) (sym m)
-    (index_in stand file header rows blocks last w utf8 (subst (λ n. ReadsAs file n (header ∷ rows) blocks last w) m read) even)
+    (index_in stand file header rows blocks last w utf8 (subst (λ n. ReadsAsRecords file n (header ∷ rows) blocks last w) m read) even)
 
 -- the places are no further than the greatest number
 pub rise_wide : (start size wide : ℕ) (ends : List ℕ) → size ≤ wide → Rise start ends size → Rise start ends wide

@@ -26,9 +26,9 @@ abbrev pub row_fields : List (List RawField) → List RawField
 row_fields rows = flat_map (λ fields. fields) rows
 
 -- fields cut into so many rows of one width
-abbrev pub rows_of : ℕ → ℕ → List RawField → List (List RawField)
-rows_of zero width fields = []
-rows_of (suc n) width fields = take width fields ∷ rows_of n width (drop width fields)
+abbrev pub rows_cut : ℕ → ℕ → List RawField → List (List RawField)
+rows_cut zero width fields = []
+rows_cut (suc n) width fields = take width fields ∷ rows_cut n width (drop width fields)
 
 -- ---- the index
 pub record Places : Type 0 where
@@ -54,7 +54,7 @@ raws places bytes = map raw_between (cut places.start places.ends bytes)
 abbrev pub table_in : Places → List ℕ → RawTable
 table_in places bytes = record {
   header = take places.width (raws places bytes);
-  rows = rows_of places.rows places.width (drop places.width (raws places bytes));
+  rows = rows_cut places.rows places.width (drop places.width (raws places bytes));
 }
 
 -- where the field of that number begins

@@ -29,7 +29,7 @@ open_after was (role ∷ roles) = open_after (role_open role) roles
 
 -- the first n blocks of the text are read, the last of which may be short: what is carried is the carry of their bytes, which have a continuation in
 -- the grammar; the roles of these bytes there say where the places of the blocks stand, what is counted, and whether a record is under way
-pub record HasRead (text : List ℕ) (n : ℕ) (carry : TextCarry) (blocks : List Block) (widths : Widths) (unended : Bool) : Type 0 where
+pub record HasReadText (text : List ℕ) (n : ℕ) (carry : TextCarry) (blocks : List Block) (widths : Widths) (unended : Bool) : Type 0 where
   pub carried : carry ≡ carry_of (take (64 * n) text)
   pub viable : IsViable (take (64 * n) text)
   pub roles : List Role
@@ -42,12 +42,12 @@ pub record HasRead (text : List ℕ) (n : ℕ) (carry : TextCarry) (blocks : Lis
 
 -- and so much is known in a reading
 abbrev pub HasReadBlocks : List ℕ → ℕ → Reading → Type 0
-HasReadBlocks text n r = HasRead text n r.carry r.blocks.items r.widths r.unended
+HasReadBlocks text n r = HasReadText text n r.carry r.blocks.items r.widths r.unended
 
 -- the whole text is read, of whose last block there is at least one byte
-abbrev pub IsReading : List ℕ → TextCarry → List Block → Widths → Bool → Type 0
-IsReading text carry blocks widths unended =
-    (n : ℕ) × (length text ≤ 64 * n) × (64 * n < length text + 64) × HasRead text n carry blocks widths unended
+abbrev pub IsReadingToTheEnd : List ℕ → TextCarry → List Block → Widths → Bool → Type 0
+IsReadingToTheEnd text carry blocks widths unended =
+    (n : ℕ) × (length text ≤ 64 * n) × (64 * n < length text + 64) × HasReadText text n carry blocks widths unended
 
 -- so many bytes are left from the text's first fault on
 abbrev pub HasFaultFrom : List ℕ → ℕ → Type 0

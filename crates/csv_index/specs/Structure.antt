@@ -33,7 +33,7 @@ abbrev pub ends_of : ℕ → List Block → Option ℕ → List ℕ
 ends_of start blocks last = block_places start blocks ++ option_to_list last
 
 -- the file from its mark on is these records
-pub record ReadsAs (file : List ℕ) (mark : ℕ) (records : List (List Field)) (blocks : List Block) (last : Option ℕ) (counted : Widths) : Type 0 where
+pub record ReadsAsRecords (file : List ℕ) (mark : ℕ) (records : List (List Field)) (blocks : List Block) (last : Option ℕ) (counted : Widths) : Type 0 where
   pub are : AreRecords (drop mark file) records
   pub cuts : Cuts file mark (ends_of mark blocks last) (all_fields records)
   pub count : counted.records ≡ length records

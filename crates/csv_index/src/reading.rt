@@ -1,7 +1,7 @@
 //! A text, read in blocks of 64 bytes, one after another (RFC 4180, section 2).
 ghost use Rattle.std.specs.Prelude.{◌≡◌, ℕ, ◌+◌, ◌*◌, ◌^◌, ◌<◌, ◌≤◌, min, List, [], length, drop, IfOk, IfErr};
 ghost use Rattle.std.specs.Vec.{vec_len, vec_capacity};
-ghost use Rattle.csv_index.specs.Reading.{HasReadBlocks, IsReading, HasFaultFrom};
+ghost use Rattle.csv_index.specs.Reading.{HasReadBlocks, IsReadingToTheEnd, HasFaultFrom};
 
 use crate::blocks::Block;
 use crate::widths::Widths;
@@ -25,7 +25,7 @@ impl Reading {
         requires none { (blocks.items ≡ []) × (vec_len blocks ≡ 0) }
         requires room { length text.now ≤ 64 * vec_capacity blocks }
         ensures read { IfOk result
-            (λ r. IsReading text.now r.carry r.blocks.items r.widths r.unended) }
+            (λ r. IsReadingToTheEnd text.now r.carry r.blocks.items r.widths r.unended) }
         ensures fault { IfErr result (λ left. HasFaultFrom text.now left) }
     {
         one_structure();

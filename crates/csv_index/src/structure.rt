@@ -5,7 +5,7 @@ ghost use Rattle.csv_grammar.specs.Records.{Field};
 ghost use Rattle.csv_grammar.specs.Faults.{cause_at};
 ghost use Rattle.csv_grammar.specs.Files.{malformed};
 ghost use Rattle.csv_index.specs.Fault.{text_cause};
-ghost use Rattle.csv_index.specs.Structure.{ReadsAs, HasTextFault};
+ghost use Rattle.csv_index.specs.Structure.{ReadsAsRecords, HasTextFault};
 
 use crate::blocks::Block;
 use crate::fault::TextFault;
@@ -31,7 +31,7 @@ impl Structure {
         requires within { mark ≤ length file.now }
         requires boundary { IsCharBoundary file.now mark }
         ensures records { IfOk result (λ s. (records : List (List Field))
-            × ReadsAs file.now mark records s.blocks.items s.last s.widths) }
+            × ReadsAsRecords file.now mark records s.blocks.items s.last s.widths) }
         ensures fault { IfErr result (λ e. HasTextFault e file.now mark) }
     {
         one_structure();

@@ -1,5 +1,6 @@
 //! What the words of the command line ask for, done: each command ends with an exit status.
 use crate::draft::draft_folder;
+use crate::explain::{explain_folder, show_folder};
 use crate::stop::{DONE, MEMORY, Stop, USAGE};
 use crate::words::{USAGE_LINE, Words, WordsFault, read_words};
 use command_words::{line_of, system_words};
@@ -20,6 +21,22 @@ fn status_of(end: Result<(), Stop>) -> u8 {
     }
 }
 
+/// Does what the words ask for.
+fn do_words<R>(rt: &R, words: Words<'_>, tells: bool) -> Result<(), Stop>
+where
+    R: Files + Print + Eprint + AllocGlobal + Clone + Drop,
+{
+    match words {
+        Words::Draft {
+            folder,
+            write,
+            keys,
+        } => draft_folder(rt, folder, write, keys, tells),
+        Words::Show { folder } => show_folder(rt, folder),
+        Words::Explain { folder } => explain_folder(rt, folder),
+    }
+}
+
 /// Does what the system's words ask for.
 fn words_status<R>(rt: &R, tells: bool) -> io::Result<u8>
 where
@@ -28,14 +45,7 @@ where
     let words = system_words(rt)?;
     let line = line_of(rt.alloc(), words.as_slice())?;
     match read_words(rt.alloc(), line.as_slice()) {
-        Ok(words) => {
-            let Words {
-                folder,
-                write,
-                keys,
-            } = words;
-            Ok(status_of(draft_folder(rt, folder, write, keys, tells)))
-        }
+        Ok(words) => Ok(status_of(do_words(rt, words, tells))),
         Err(WordsFault::Shows(text)) => {
             text.print(rt)?;
             Ok(DONE)

@@ -1,12 +1,14 @@
 //! The CSV files of a folder on a disk.
 use crate::stop::Stop;
+use crate::told::tell;
 use csvw_meta::MOST_FILE_BYTES;
-use message_text::escaped;
 use served_folders::look;
+use std::alloc::{AllocError, Global};
 use std::fs::{self, File, OpenFile};
 use std::io::{ErrorKind, Read};
 use std::rt::Files;
 use table_store::NamedFile;
+use value_text::cut;
 
 /// The bytes of a file from which on its reading is told.
 const LONG: u64 = 50_000_000;
@@ -60,21 +62,51 @@ where
     Ok(bytes)
 }
 
+/// The path of a name in a folder.
+pub fn path_in(alloc: Global, folder: &str, name: &str) -> Result<String, AllocError> {
+    format!(in alloc; "{folder}/{name}")
+}
+
+/// The bytes of the plain file of a name in a folder, where there is anything of that name; of a file above the limit its front alone.
+pub fn file_in<R>(rt: &R, folder: &str, name: &str) -> Result<Option<Vec<u8>>, Stop>
+where
+    R: Files + AllocGlobal,
+{
+    let path = path_in(rt.alloc(), folder, name)?;
+    match look(rt, path.as_str(), true) {
+        Ok(found) if found.is_file() => Ok(Some(read_plain(rt, path.as_str())?)),
+        Ok(_) => Err(Stop::Device),
+        Err(error) if error.kind() == ErrorKind::NotFound => Ok(None),
+        Err(error) => Err(Stop::from(error)),
+    }
+}
+
+/// What is told of a name that is that of no plain file.
+fn other_text(alloc: Global, name: &str) -> Result<String, AllocError> {
+    let shown = cut(alloc, name)?;
+    format!(in alloc; "warning: {shown}: left out: no plain file")
+}
+
+/// What is told before so many bytes are read.
+fn reading_text(alloc: Global, name: &str, bytes: u64) -> Result<String, AllocError> {
+    let shown = cut(alloc, name)?;
+    let megabytes = bytes / 1_000_000;
+    format!(in alloc; "reading {shown}, {megabytes} MB")
+}
+
 /// A file of a folder, where it is a plain one; else that is told.
 fn take_file<R>(rt: &R, folder: &str, name: String, tells: bool) -> Result<Option<NamedFile>, Stop>
 where
     R: Files + Eprint + AllocGlobal,
 {
-    let path = format!(in rt.alloc(); "{folder}/{name}")?;
+    let path = path_in(rt.alloc(), folder, name.as_str())?;
     let found = look(rt, path.as_str(), true)?;
-    let shown = escaped(rt.alloc(), name.as_str())?;
     if !found.is_file() {
-        rt.eprintln(format!(in rt.alloc(); "warning: {shown}: left out: no plain file")?)?;
+        tell(rt, other_text(rt.alloc(), name.as_str()))?;
         return Ok(None);
     }
     if tells && found.len() > LONG {
-        let megabytes = found.len() / 1_000_000;
-        rt.eprintln(format!(in rt.alloc(); "reading {shown}, {megabytes} MB")?)?;
+        tell(rt, reading_text(rt.alloc(), name.as_str(), found.len()))?;
     }
     let bytes = read_plain(rt, path.as_str())?;
     Ok(Some(NamedFile { name, bytes }))

@@ -1,11 +1,13 @@
-//! A draft of the metadata of a folder of CSV files, which the service accepts. The program ends with the status 0; a fault is told on standard error and
-//! by the exit status.
+//! A draft of the metadata of a folder of CSV files; what the service understands of a folder; and why it refuses one. The program ends with the status 0; a fault is told on
+//! standard error and by the exit status.
 #![tactic(auto)]
 
 mod command;
 mod draft;
+mod explain;
 mod folder;
 mod stop;
+mod told;
 mod warning;
 mod words;
 

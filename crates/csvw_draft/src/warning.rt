@@ -1,9 +1,9 @@
 //! What the publisher of files should look at, and what mends it.
-use csvw_guess::Warning;
+use csvw_guess::{Draft, Warning};
 use csvw_meta::{MOST_COLUMNS, Schema};
-use message_text::escaped;
 use std::alloc::{AllocError, Global};
 use table_store::NamedFile;
+use value_text::cut;
 
 const NOT_URL: &str =
     "left out: a file that is served is called by a letter, then letters, digits, `_` and `-`, then .csv: rename it";
@@ -20,7 +20,7 @@ const TOO_FINE: &str =
 /// The name of a file on one line.
 fn file_name(alloc: Global, files: &[NamedFile], file: usize) -> Result<String, AllocError> {
     match files.get(file) {
-        Some(found) => escaped(alloc, found.name.as_str()),
+        Some(found) => cut(alloc, found.name.as_str()),
         None => Ok(String::new(alloc)),
     }
 }
@@ -106,7 +106,7 @@ fn subject(
 }
 
 /// The line of a warning.
-pub fn warning_line(
+fn warning_line(
     alloc: Global,
     warning: Warning,
     schemas: &[Schema],
@@ -114,5 +114,19 @@ pub fn warning_line(
 ) -> Result<String, AllocError> {
     let subject = subject(alloc, warning, schemas, files)?;
     let hint = hint_of(alloc, warning)?;
-    format!(in alloc; "warning: {subject}: {hint}")
+    format!(in alloc; "{subject}: {hint}")
+}
+
+/// The lines of what the publisher of files should look at, as their draft has it.
+pub fn warning_lines(
+    alloc: Global,
+    draft: &Draft,
+    files: &[NamedFile],
+) -> Result<Vec<String>, AllocError> {
+    let schemas = draft.schemas.as_slice();
+    let mut lines = Vec::new(alloc);
+    for warning in &draft.warnings {
+        lines.push(warning_line(alloc, *warning, schemas, files)?)?;
+    }
+    Ok(lines)
 }

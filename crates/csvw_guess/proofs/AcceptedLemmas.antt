@@ -14,15 +14,15 @@ use Rattle.std.proofs.lemmas.List.Folds.{list_any-append}
 use borrow.Author.Tests.{le-leb, lt-ltb}
 use Rattle.csv_grammar.specs.Records.{Field, content}
 use Rattle.cell_types.specs.Column.{ColumnOf}
-use Rattle.csvw_meta.specs.Forms.{has_url_end, is_column_name, is_name_byte, is_table_url, is_url_byte, is_word, table_name, url_end}
+use Rattle.csvw_meta.specs.Forms.{has_url_end, is_column_name, is_name_byte, is_table_url, is_url_byte, is_word_of, table_name, url_end}
 use Rattle.csvw_meta.specs.Laws.{AreAccepted, IsAccepted}
 use Rattle.csvw_meta.specs.Limits.{LimitsOf}
 use Rattle.csvw_meta.specs.Schema.{SchemaOf}
 use Rattle.table_store.specs.File.{FileOf}
 use Rattle.csvw_guess.specs.Draft.{AreDrafts, HaveDrafts, IsDraft, has_file_name}
 use Rattle.csvw_guess.specs.Laws.{DraftsAreWellFormed}
-use Rattle.csvw_guess.specs.Names.{base_name, begins_with_letter, free_number, is_taken, name_after, name_char, names_after, numbered, with_letter}
-use Rattle.csvw_guess.specs.Table.{are_keys, cells_of, columns_from, draft_columns, draft_key, draft_schema}
+use Rattle.csvw_guess.specs.Names.{base_name, begins_with_letter, free_number, is_taken, name_after, name_char, names_after, with_number, with_letter}
+use Rattle.csvw_guess.specs.Table.{are_keys, texts_of_column, columns_from, draft_columns, draft_key, draft_schema}
 use Rattle.csvw_guess.proofs.Lists.{and_left, and_right, and_true, find-among, or_true}
 use Rattle.csvw_guess.proofs.NameLemmas.{are_name_bytes, base_name-named, decimal-named, numbered-named}
 use Rattle.csvw_guess.proofs.DistinctLemmas.{names_after-distinct}
@@ -67,8 +67,8 @@ base_name-short cell =
 suffix-short : (n : ℕ) → n < 1000 → length (codes "_" ++ decimal n) ≤ 4
 suffix-short n small = let digits : length (decimal n) ≤ 3 = length-decimal-le_wide 3 n (omega arith) small (omega (arith, small)) in omega (arith, digits)
 
-numbered-short : (name : List ℕ) (n : ℕ) → n < 1000 → length (numbered name n) ≤ 128
-unfolding numbered
+numbered-short : (name : List ℕ) (n : ℕ) → n < 1000 → length (with_number name n) ≤ 128
+unfolding with_number
 numbered-short name n small =
     let suffix = codes "_" ++ decimal n in
     omega (arith, suffix-short n small, length-append (take (128 - length suffix) name) suffix, length-take (128 - length suffix) name, min-below (128 - length suffix) (length name))
@@ -77,20 +77,20 @@ front-begins : (k : ℕ) (name : List ℕ) → 0 < k → begins_with_letter name
 front-begins zero name some e = absurd (omega (arith, some))
 front-begins (suc k) name some e = take-begins k name e
 
-numbered-begins : (name : List ℕ) (n : ℕ) → n < 1000 → begins_with_letter name ≡ true → begins_with_letter (numbered name n) ≡ true
-unfolding numbered
+numbered-begins : (name : List ℕ) (n : ℕ) → n < 1000 → begins_with_letter name ≡ true → begins_with_letter (with_number name n) ≡ true
+unfolding with_number
 numbered-begins name n small first =
     let suffix = codes "_" ++ decimal n in
     append-begins (take (128 - length suffix) name) suffix (front-begins (128 - length suffix) name (omega (arith, suffix-short n small)) first)
 
-numbered-form : (name : List ℕ) (n : ℕ) → n < 1000 → begins_with_letter name ≡ true → are_name_bytes name ≡ true → is_column_name (numbered name n) ≡ true
-numbered-form name n small first all = column_name (numbered name n) (numbered-short name n small) (numbered-begins name n small first) (numbered-named name n (omega (arith, small)) all)
+numbered-form : (name : List ℕ) (n : ℕ) → n < 1000 → begins_with_letter name ≡ true → are_name_bytes name ≡ true → is_column_name (with_number name n) ≡ true
+numbered-form name n small first all = column_name (with_number name n) (numbered-short name n small) (numbered-begins name n small first) (numbered-named name n (omega (arith, small)) all)
 
 numbers-form : (name : List ℕ) (from count : ℕ) → from + count ≤ 1000 → begins_with_letter name ≡ true → are_name_bytes name ≡ true
-    → list_all is_column_name (map (numbered name) (range_with_len from count)) ≡ true
+    → list_all is_column_name (map (with_number name) (range_with_len from count)) ≡ true
 numbers-form name from zero small first all = refl
 numbers-form name from (suc count) small first all =
-    and_true (is_column_name (numbered name from)) (list_all is_column_name (map (numbered name) (range_with_len (from + 1) count)))
+    and_true (is_column_name (with_number name from)) (list_all is_column_name (map (with_number name) (range_with_len (from + 1) count)))
     (numbered-form name from (omega (arith, small)) first all) (numbers-form name (from + 1) count (omega (arith, small)) first all)
 
 base_name-form : (cell : List ℕ) → is_column_name (base_name cell) ≡ true
@@ -104,7 +104,7 @@ found-form names name test (Some other) own all e = find-among test is_column_na
 free_number-form : (taken : List (List ℕ)) (cell : List ℕ) → length taken + 3 ≤ 1000 → is_column_name (free_number taken (base_name cell)) ≡ true
 unfolding free_number
 free_number-form taken cell small =
-    found-form (map (numbered (base_name cell)) (range_with_len 2 (length taken + 1))) (base_name cell) (λ other. not (is_taken taken other)) _ (base_name-form cell)
+    found-form (map (with_number (base_name cell)) (range_with_len 2 (length taken + 1))) (base_name cell) (λ other. not (is_taken taken other)) _ (base_name-form cell)
     (numbers-form (base_name cell) 2 (length taken + 1) (omega (arith, small)) (base_name-begins cell) (base_name-named cell)) refl
 
 name_after-form : (taken : List (List ℕ)) (cell : List ℕ) → length taken + 3 ≤ 1000 → is_column_name (name_after taken cell) ≡ true
@@ -137,14 +137,14 @@ unfolding IsDistinct
 key-places [] records = (λ k d h. absurd (omega (arith, h)), tt)
 key-places (column ∷ columns) records =
     let P : List ℕ → Type 0 = λ key. All (λ place. place < length (column ∷ columns)) key × IsDistinct nat_eq key in
-    cond_both (are_keys column (cells_of 0 records)) (0 ∷ []) [] P
+    cond_both (are_keys column (texts_of_column 0 records)) (0 ∷ []) [] P
     (λ _. (All-cons (λ place. place < length (column ∷ columns)) 0 [] (omega arith) (All-nil (λ place. place < length (column ∷ columns))), (tt, tt)))
     (λ _. (λ k d h. absurd (omega (arith, h)), tt))
 
 -- ---- the url
 url-name : (url : List ℕ) → is_table_url url ≡ true → url ≡ table_name url ++ url_end
 url-name url h =
-    let ends : has_url_end url ≡ true = and_right _ (has_url_end url) (and_left _ (is_word is_url_byte (table_name url)) h) in
+    let ends : has_url_end url ≡ true = and_right _ (has_url_end url) (and_left _ (is_word_of is_url_byte (table_name url)) h) in
     rw ends (url-ends url ends)
 
 -- ---- schemas

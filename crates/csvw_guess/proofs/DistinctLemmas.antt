@@ -12,7 +12,7 @@ use Rattle.std.proofs.lemmas.Fmt.{decimal_by_steps_wide, decimal_is_IsNumeral_wi
 use Rattle.std.proofs.lemmas.List.{length-map}
 use Rattle.std.proofs.lemmas.List.Folds.{list_any-append}
 use Rattle.std.proofs.lemmas.Map.Made.{length-le_from_is_member}
-use Rattle.csvw_guess.specs.Names.{base_name, free_number, is_taken, name_after, names_after, numbered}
+use Rattle.csvw_guess.specs.Names.{base_name, free_number, is_taken, name_after, names_after, with_number}
 use Rattle.csvw_guess.proofs.Lists.{find-passes, or_true}
 use Rattle.csvw_guess.proofs.MatchLemmas.{bytes_eq-same}
 
@@ -75,26 +75,26 @@ decimal_no_line = decimal_by_steps_wide (λ n ds. list_any (λ c. nat_eq c 95) d
     ∙ or_none (list_any (λ c. nat_eq c 95) ds) (list_any (λ c. nat_eq c 95) ((48 + n % 10) ∷ [])) e (or_none (nat_eq (48 + n % 10) 95) false (digit_no_line (n % 10) (omega arith)) refl))
 
 -- two numbers give a name two names
-number_of : (name : List ℕ) (n : ℕ) → n < 10 ^ 64 → after_line (numbered name n) ≡ decimal n
-unfolding numbered
+number_of : (name : List ℕ) (n : ℕ) → n < 10 ^ 64 → after_line (with_number name n) ≡ decimal n
+unfolding with_number
 number_of name n small = after_line-is (take (128 - length (codes "_" ++ decimal n)) name) (decimal n) (decimal_no_line n small)
 
-same_number : (name : List ℕ) (m n : ℕ) → m < 10 ^ 64 → n < 10 ^ 64 → numbered name m ≡ numbered name n → m ≡ n
+same_number : (name : List ℕ) (m n : ℕ) → m < 10 ^ 64 → n < 10 ^ 64 → with_number name m ≡ with_number name n → m ≡ n
 same_number name m n p q e =
     let texts : decimal m ≡ decimal n = sym (number_of name m p) ∙ ap after_line e ∙ number_of name n q in
     sym ((decimal_is_IsNumeral_wide m p).1) ∙ ap (digits_value 10) texts ∙ (decimal_is_IsNumeral_wide n q).1
 
 numbers_apart : (name : List ℕ) (m from count : ℕ) → m < from → from + count < 10 ^ 64
-    → AllByRecursion (λ other. bytes_eq (numbered name m) other ≡ false) (map (numbered name) (range_with_len from count))
+    → AllByRecursion (λ other. bytes_eq (with_number name m) other ≡ false) (map (with_number name) (range_with_len from count))
 numbers_apart name m from zero less small = tt
 numbers_apart name m from (suc count) less small = (
-  never (bytes_eq (numbered name m) (numbered name from)) (λ e.
-      let one : m ≡ from = same_number name m from (omega (arith, less, small)) (omega (arith, small)) (same (numbered name m) (numbered name from) e) in
+  never (bytes_eq (with_number name m) (with_number name from)) (λ e.
+      let one : m ≡ from = same_number name m from (omega (arith, less, small)) (omega (arith, small)) (same (with_number name m) (with_number name from) e) in
       absurd (omega (arith, one, less))),
   numbers_apart name m (from + 1) count (omega (arith, less)) (omega (arith, small)),
 )
 
-numbers_distinct : (name : List ℕ) (from count : ℕ) → from + count < 10 ^ 64 → IsDistinct bytes_eq (map (numbered name) (range_with_len from count))
+numbers_distinct : (name : List ℕ) (from count : ℕ) → from + count < 10 ^ 64 → IsDistinct bytes_eq (map (with_number name) (range_with_len from count))
 unfolding IsDistinct
 numbers_distinct name from zero small = tt
 numbers_distinct name from (suc count) small =
@@ -125,15 +125,15 @@ length-range from zero = refl
 length-range from (suc count) = ap suc (length-range (from + 1) count)
 
 free_found : (taken : List (List ℕ)) (name : List ℕ) → length taken + 4 < 10 ^ 64 → (found : Option (List ℕ))
-    → find (λ other. not (is_taken taken other)) (map (numbered name) (range_with_len 2 (length taken + 1))) ≡ found → is_taken taken (unwrap_or found name) ≡ false
+    → find (λ other. not (is_taken taken other)) (map (with_number name) (range_with_len 2 (length taken + 1))) ≡ found → is_taken taken (unwrap_or found name) ≡ false
 free_found taken name small None e =
-    let numbers = map (numbered name) (range_with_len 2 (length taken + 1)) in
+    let numbers = map (with_number name) (range_with_len 2 (length taken + 1)) in
     let few : length numbers ≤ length taken =
     length-le_from_is_member texts_equivalence numbers taken (numbers_distinct name 2 (length taken + 1) (omega (arith, small))) (all_taken taken numbers e) in
-    let many : length numbers ≡ length taken + 1 = length-map (range_with_len 2 (length taken + 1)) (numbered name) ∙ length-range 2 (length taken + 1) in
+    let many : length numbers ≡ length taken + 1 = length-map (range_with_len 2 (length taken + 1)) (with_number name) ∙ length-range 2 (length taken + 1) in
     absurd (omega (arith, few, many))
 free_found taken name small (Some other) e =
-    not_true_false (is_taken taken other) (find-passes (λ o. not (is_taken taken o)) (map (numbered name) (range_with_len 2 (length taken + 1))) other e)
+    not_true_false (is_taken taken other) (find-passes (λ o. not (is_taken taken o)) (map (with_number name) (range_with_len 2 (length taken + 1))) other e)
 
 free_number-free : (taken : List (List ℕ)) (name : List ℕ) → length taken + 4 < 10 ^ 64 → is_taken taken (free_number taken name) ≡ false
 unfolding free_number
@@ -178,28 +178,28 @@ list_any-map p f (x ∷ xs) = ap (λ rest. p (f x) || rest) (list_any-map p f xs
 
 -- ---- the numbers one after another
 from_number : List (List ℕ) → List ℕ → ℕ → Option (List ℕ)
-from_number taken name number = find (λ other. not (is_taken taken other)) (map (numbered name) (range_with_len number (length taken + 3 - number)))
+from_number taken name number = find (λ other. not (is_taken taken other)) (map (with_number name) (range_with_len number (length taken + 3 - number)))
 
-from_number-step : (taken : List (List ℕ)) (name : List ℕ) (number : ℕ) (here : Bool) → number < length taken + 3 → is_taken taken (numbered name number) ≡ here
-    → from_number taken name number ≡ cond (not here) (Some (numbered name number)) (from_number taken name (number + 1))
+from_number-step : (taken : List (List ℕ)) (name : List ℕ) (number : ℕ) (here : Bool) → number < length taken + 3 → is_taken taken (with_number name number) ≡ here
+    → from_number taken name number ≡ cond (not here) (Some (with_number name number)) (from_number taken name (number + 1))
 unfolding from_number
 from_number-step taken name number here less e =
     let count : length taken + 3 - number ≡ suc (length taken + 3 - (number + 1)) = omega (arith, less) in
-    ap (λ n. find (λ other. not (is_taken taken other)) (map (numbered name) (range_with_len number n))) count
-    ∙ ap (λ b. cond (not b) (Some (numbered name number)) (find (λ other. not (is_taken taken other)) (map (numbered name) (range_with_len (number + 1) (length taken + 3 - (number + 1)))))) e
+    ap (λ n. find (λ other. not (is_taken taken other)) (map (with_number name) (range_with_len number n))) count
+    ∙ ap (λ b. cond (not b) (Some (with_number name number)) (find (λ other. not (is_taken taken other)) (map (with_number name) (range_with_len (number + 1) (length taken + 3 - (number + 1)))))) e
 
 -- the least number that is free is the least from there on
 abbrev pub IsFrom : List (List ℕ) → List ℕ → ℕ → Type 0
 IsFrom taken name number =
-    find (λ other. not (is_taken taken other)) (map (numbered name) (range_with_len number (length taken + 3 - number)))
-    ≡ find (λ other. not (is_taken taken other)) (map (numbered name) (range_with_len 2 (length taken + 1)))
+    find (λ other. not (is_taken taken other)) (map (with_number name) (range_with_len number (length taken + 3 - number)))
+    ≡ find (λ other. not (is_taken taken other)) (map (with_number name) (range_with_len 2 (length taken + 1)))
 
-pub free-here : (taken : List (List ℕ)) (name : List ℕ) (number : ℕ) → number < length taken + 3 → IsFrom taken name number → is_taken taken (numbered name number) ≡ false
-    → numbered name number ≡ free_number taken name
+pub free-here : (taken : List (List ℕ)) (name : List ℕ) (number : ℕ) → number < length taken + 3 → IsFrom taken name number → is_taken taken (with_number name number) ≡ false
+    → with_number name number ≡ free_number taken name
 unfolding free_number from_number
 free-here taken name number less is e = ap (λ found. unwrap_or found name) (sym (from_number-step taken name number false less e) ∙ is)
 
-pub free-next : (taken : List (List ℕ)) (name : List ℕ) (number : ℕ) → number < length taken + 3 → IsFrom taken name number → is_taken taken (numbered name number) ≡ true
+pub free-next : (taken : List (List ℕ)) (name : List ℕ) (number : ℕ) → number < length taken + 3 → IsFrom taken name number → is_taken taken (with_number name number) ≡ true
     → IsFrom taken name (number + 1)
 unfolding from_number
 free-next taken name number less is e = sym (from_number-step taken name number true less e) ∙ is
@@ -209,4 +209,4 @@ unfolding free_number
 free-end taken name number past is =
     let none : length taken + 3 - number ≡ 0 = omega (arith, past) in
     ap (λ found. unwrap_or found name)
-    (sym (ap (λ n. find (λ other. not (is_taken taken other)) (map (numbered name) (range_with_len number n))) none) ∙ is)
+    (sym (ap (λ n. find (λ other. not (is_taken taken other)) (map (with_number name) (range_with_len number n))) none) ∙ is)

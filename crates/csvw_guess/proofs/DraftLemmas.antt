@@ -9,14 +9,14 @@ use Rattle.csv_index.specs.Index.{IsRawTable}
 use Rattle.csvw_meta.specs.Forms.{is_table_url}
 use Rattle.table_store.specs.declared.file.NamedFile.{NamedFile}
 use Rattle.csvw_guess.specs.Fault.{DraftCause, bad_text, file_too_large, no_tables, too_many_tables}
-use Rattle.csvw_guess.specs.Table.{schema_in}
+use Rattle.csvw_guess.specs.Table.{file_schema}
 use Rattle.std.proofs.lemmas.List.{append-nil}
 use Rattle.csvw_meta.specs.Limits.{LimitsOf}
 use Rattle.csvw_meta.specs.Schema.{SchemaOf}
 use Rattle.table_store.specs.File.{FileOf, file_view, files_view}
 use Rattle.csvw_guess.specs.declared.draft.Outcome.{Outcome}
 use Rattle.csvw_guess.specs.declared.draft.Outcome.TheVariants.{Drafted, LeftOut}
-use Rattle.csvw_guess.specs.Draft.{HasNoDraft, HaveDrafts, IsBadAt, IsBadFile, IsDraft, IsFirstBad, IsLeftOut, IsOutcome, file_at, has_file_name, schemas_in}
+use Rattle.csvw_guess.specs.Draft.{HasNoDraft, HaveDrafts, IsBadAt, IsBadFile, IsDraft, IsFirstBad, IsLeftOut, IsOutcome, file_at, has_file_name, drafted_schemas}
 
 -- one file more that is left out
 out_more : (limits : LimitsOf) (earlier files : List FileOf) (schemas : List SchemaOf) (file : FileOf) → HaveDrafts limits earlier files schemas
@@ -75,7 +75,7 @@ draft_more limits earlier (first ∷ files) (schema ∷ schemas) file last (inr 
 
 -- what came of one file more
 pub have_more : (limits : LimitsOf) (files : List FileOf) (schemas : List SchemaOf) (file : FileOf) (outcome : Outcome) → HaveDrafts limits [] files schemas
-    → IsOutcome limits files file outcome → HaveDrafts limits [] (files ++ file ∷ []) (schemas ++ schemas_in outcome)
+    → IsOutcome limits files file outcome → HaveDrafts limits [] (files ++ file ∷ []) (schemas ++ drafted_schemas outcome)
 have_more limits files schemas file (Drafted schema) have is = draft_more limits [] files schemas file _ have is.0 is.1
 have_more limits files schemas file (LeftOut warning) have is =
     subst (HaveDrafts limits [] (files ++ file ∷ [])) (sym (append-nil schemas)) (out_more limits [] files schemas file have is)
@@ -100,7 +100,7 @@ bad-at limits files number file cause at url fresh bad = record {
 }
 
 pub is-draft : (limits : LimitsOf) (file : FileOf) (table : RawTable) (schema : SchemaOf) → is_table_url file.name ≡ true → length file.bytes ≤ limits.file
-    → IsRawTable file.bytes table → length table.header ≤ limits.columns → schema ≡ schema_in file.name table → IsDraft limits file schema
+    → IsRawTable file.bytes table → length table.header ≤ limits.columns → schema ≡ file_schema file.name table → IsDraft limits file schema
 is-draft limits file table schema url size is width drafted = record {
   url = url;
   size = size;

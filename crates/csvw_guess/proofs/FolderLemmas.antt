@@ -11,6 +11,7 @@ use Rattle.csvw_meta.specs.Document.{schemas_of}
 use Rattle.table_store.specs.File.{FileOf, file_named}
 use Rattle.table_store.specs.Table.{TableOf, IsAnnotated}
 use Rattle.table_store.specs.Catalog.{HasTable, HaveTables, Means}
+use Rattle.column_types.specs.Laws.{CellsHaveValues}
 use Rattle.csvw_guess.specs.Names.{names_after}
 use Rattle.csvw_guess.specs.Table.{draft_columns, draft_schema}
 use Rattle.csvw_guess.specs.Draft.{AreDrafts, HaveDrafts, IsDraft, has_file_name}
@@ -36,9 +37,9 @@ some_header bytes header records is =
 abbrev table_of : List ℕ → List Field → List (List Field) → TableOf
 table_of url header records = let schema = draft_schema url header records in record { schema = schema; rows = map (row_values schema.columns) records }
 
-annotated : (url bytes : List ℕ) (header : List Field) (records : List (List Field)) → IsTable bytes header records
+annotated : CellsHaveValues → (url bytes : List ℕ) (header : List Field) (records : List (List Field)) → IsTable bytes header records
     → IsAnnotated (draft_schema url header records) bytes (table_of url header records)
-annotated url bytes header records is =
+annotated fit url bytes header records is =
     let columns = draft_columns header records in
     let keys = key-whole columns records (length header) (some_header bytes header records is) is.widths in
     record {
@@ -48,7 +49,7 @@ annotated url bytes header records is =
         is = is;
         header_matches = header-matches 0 0 [] header records;
         of_schema = refl;
-        values = rows-ok 0 columns records (columns-have 0 (names_after [] (map content header)) (map content header) records);
+        values = rows-ok 0 columns records (columns-have fit 0 (names_after [] (map content header)) (map content header) records);
       };
       whole = keys.whole;
       distinct = keys.distinct;
@@ -84,12 +85,12 @@ named earlier file files fresh = ap (option_map (λ (other : FileOf). other.byte
 abbrev HasSome : ℕ → List FileOf → SchemaOf → Type 0
 HasSome limit files schema = (table : TableOf) × HasTable limit (file_named schema.url files) schema table
 
-drafted : (limits : LimitsOf) (earlier : List FileOf) (file : FileOf) (files : List FileOf) (schema : SchemaOf) → has_file_name earlier file.name ≡ false
+drafted : CellsHaveValues → (limits : LimitsOf) (earlier : List FileOf) (file : FileOf) (files : List FileOf) (schema : SchemaOf) → has_file_name earlier file.name ≡ false
     → IsDraft limits file schema → HasSome limits.file (earlier ++ file ∷ files) schema
-drafted limits earlier file files schema fresh is =
+drafted fit limits earlier file files schema fresh is =
     subst (HasSome limits.file (earlier ++ file ∷ files)) (sym is.drafted) (
       table_of file.name is.header is.records,
-      record { bytes = file.bytes; has_file = (named earlier file files fresh, is.size); is = annotated file.name file.bytes is.header is.records is.is },
+      record { bytes = file.bytes; has_file = (named earlier file files fresh, is.size); is = annotated fit file.name file.bytes is.header is.records is.is },
     )
 
 -- each schema has one
@@ -101,24 +102,24 @@ have_one : (limit : ℕ) (files : List FileOf) (schema : SchemaOf) (schemas : Li
 unfolding HaveSome
 have_one limit files schema schemas here rest = (here.0 ∷ rest.0, (here.1, rest.1))
 
-have_all : (limits : LimitsOf) (earlier files : List FileOf) (schemas : List SchemaOf) → HaveDrafts limits earlier files schemas
+have_all : CellsHaveValues → (limits : LimitsOf) (earlier files : List FileOf) (schemas : List SchemaOf) → HaveDrafts limits earlier files schemas
     → HaveSome limits.file (earlier ++ files) schemas
 unfolding HaveSome
-have_all limits earlier [] schemas none = subst (HaveSome limits.file (earlier ++ [])) (sym none) ([], tt)
-have_all limits earlier (file ∷ files) [] out =
-    subst (λ (all : List FileOf). HaveSome limits.file all []) (append_assoc earlier (file ∷ []) files) (have_all limits (earlier ++ file ∷ []) files [] out.1)
-have_all limits earlier (file ∷ files) (schema ∷ schemas) (inl out) =
+have_all fit limits earlier [] schemas none = subst (HaveSome limits.file (earlier ++ [])) (sym none) ([], tt)
+have_all fit limits earlier (file ∷ files) [] out =
+    subst (λ (all : List FileOf). HaveSome limits.file all []) (append_assoc earlier (file ∷ []) files) (have_all fit limits (earlier ++ file ∷ []) files [] out.1)
+have_all fit limits earlier (file ∷ files) (schema ∷ schemas) (inl out) =
     subst (λ (all : List FileOf). HaveSome limits.file all (schema ∷ schemas)) (append_assoc earlier (file ∷ []) files)
-    (have_all limits (earlier ++ file ∷ []) files (schema ∷ schemas) out.1)
-have_all limits earlier (file ∷ files) (schema ∷ schemas) (inr one) =
-    have_one limits.file (earlier ++ file ∷ files) schema schemas (drafted limits earlier file files schema one.0 one.1)
-    (subst (λ (all : List FileOf). HaveSome limits.file all schemas) (append_assoc earlier (file ∷ []) files) (have_all limits (earlier ++ file ∷ []) files schemas one.2))
+    (have_all fit limits (earlier ++ file ∷ []) files (schema ∷ schemas) out.1)
+have_all fit limits earlier (file ∷ files) (schema ∷ schemas) (inr one) =
+    have_one limits.file (earlier ++ file ∷ files) schema schemas (drafted fit limits earlier file files schema one.0 one.1)
+    (subst (λ (all : List FileOf). HaveSome limits.file all schemas) (append_assoc earlier (file ∷ []) files) (have_all fit limits (earlier ++ file ∷ []) files schemas one.2))
 
-pub have_tables : DraftsHaveTables
+pub have_tables : CellsHaveValues → DraftsHaveTables
 unfolding HaveSome
-have_tables limits files schemas are = have_all limits [] files schemas are.each
+have_tables fit limits files schemas are = have_all fit limits [] files schemas are.each
 
-pub are_accepted : DraftsAreAccepted
-are_accepted limits files schemas meta are read =
-    let all = have_tables limits files schemas are in
+pub are_accepted : CellsHaveValues → DraftsAreAccepted
+are_accepted fit limits files schemas meta are read =
+    let all = have_tables fit limits files schemas are in
     (all.0, record { schemas = schemas; read = ap (λ r. Some r) read; tables = all.1; limits = refl })

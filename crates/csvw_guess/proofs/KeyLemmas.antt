@@ -8,8 +8,8 @@ use Rattle.csv_grammar.specs.Files.{HasWidth}
 use Rattle.cell_types.specs.Cell.{value_of}
 use Rattle.cell_types.specs.Column.{ColumnOf}
 use Rattle.row_keys.specs.Key.{null_row, repeated_row, row_keys}
-use Rattle.typed_columns.specs.Values.{value_or_null}
-use Rattle.csvw_guess.specs.Table.{are_keys, are_whole, cells_of, draft_key, keys_in, may_be_keys}
+use Rattle.raw_fields.specs.Values.{value_or_null}
+use Rattle.csvw_guess.specs.Table.{are_keys, are_whole, texts_of_column, draft_key, keys_in, may_be_keys}
 use Rattle.csvw_guess.proofs.Lists.{and_left, and_right}
 use Rattle.csvw_guess.proofs.RowLemmas.{row_values}
 
@@ -19,7 +19,7 @@ is_none-None (Some x) e = cc
 
 -- the keys of rows are those that the cells of the first column are
 keys-are : (column : ColumnOf) (columns : List ColumnOf) (records : List (List Field)) (width : ℕ) → 0 < width → AllByRecursion (HasWidth width) records
-    → row_keys (0 ∷ []) (map (row_values (column ∷ columns)) records) ≡ keys_in column (cells_of 0 records)
+    → row_keys (0 ∷ []) (map (row_values (column ∷ columns)) records) ≡ keys_in column (texts_of_column 0 records)
 keys-are column columns [] width some widths = refl
 keys-are column columns ([] ∷ records) width some widths = let none : 0 ≡ width = widths.0 in absurd (omega (arith, none))
 keys-are column columns ((field ∷ fields) ∷ records) width some widths =
@@ -34,9 +34,9 @@ no_key : (columns : List ColumnOf) (records : List (List Field)) → AreWhole []
 no_key columns records = record { whole = refl; distinct = refl }
 
 first_key : (column : ColumnOf) (columns : List ColumnOf) (records : List (List Field)) (width : ℕ) → 0 < width → AllByRecursion (HasWidth width) records
-    → are_whole column (cells_of 0 records) ≡ true → AreWhole (0 ∷ []) (column ∷ columns) records
+    → are_whole column (texts_of_column 0 records) ≡ true → AreWhole (0 ∷ []) (column ∷ columns) records
 first_key column columns records width some widths whole =
-    let keys = keys_in column (cells_of 0 records) in
+    let keys = keys_in column (texts_of_column 0 records) in
     let are = keys-are column columns records width some widths in
     record {
       whole = ap null_row are ∙ is_none-None (null_row keys) (and_left (is_none (null_row keys)) (is_none (repeated_row keys)) whole);
@@ -47,7 +47,7 @@ pub key-whole : (columns : List ColumnOf) (records : List (List Field)) (width :
     → AreWhole (draft_key columns records) columns records
 key-whole [] records width some widths = no_key [] records
 key-whole (column ∷ columns) records width some widths =
-    let cells = cells_of 0 records in
+    let cells = texts_of_column 0 records in
     cond_both (are_keys column cells) (0 ∷ []) [] (λ key. AreWhole key (column ∷ columns) records)
     (λ e. first_key column columns records width some widths (and_right (may_be_keys column.datatype cells) (are_whole column cells) e))
     (λ _. no_key (column ∷ columns) records)

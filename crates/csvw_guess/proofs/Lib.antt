@@ -1,16 +1,13 @@
 pub mod Lists
 pub mod UrlLemmas
-pub mod ReadingLemmas
-pub mod FittingLemmas
 pub mod MatchLemmas
 pub mod RowLemmas
 pub mod KeyLemmas
 pub mod FolderLemmas
 pub mod DraftLemmas
 pub mod NameLemmas
-pub mod SeenLemmas
 pub mod DistinctLemmas
 pub mod AcceptedLemmas
 pub mod PlaceLemmas
-pub mod FlagLemmas
+pub mod RowsLemmas
 mod WritableLemmas

@@ -5,8 +5,8 @@ use Rattle.std.specs.List.{list_any}
 use Rattle.std.specs.Str.{bytes_eq}
 use Rattle.csv_grammar.specs.Records.{Field, content}
 use Rattle.table_store.specs.Table.{is_called, mismatch_from}
-use Rattle.csvw_guess.specs.Names.{name_after, names_after, titles_of}
-use Rattle.csvw_guess.specs.Table.{cells_of, columns_from, draft_column}
+use Rattle.csvw_guess.specs.Names.{name_after, names_after, titles_for}
+use Rattle.csvw_guess.specs.Table.{texts_of_column, columns_from, draft_column}
 use Rattle.csvw_guess.proofs.Lists.{and_true, or_true}
 
 pub bytes_eq-same : (bytes : List ℕ) → bytes_eq bytes bytes ≡ true
@@ -26,5 +26,5 @@ header-matches place col taken [] records = refl
 header-matches place col taken (field ∷ header) records =
     let name = name_after taken (content field) in
     let columns = columns_from (col + 1) (names_after (taken ++ name ∷ []) (map content header)) (map content header) records in
-    ap (λ b. cond b (mismatch_from (place + 1) columns header) (Some place)) (is_called-draft name (content field) (cells_of col records))
+    ap (λ b. cond b (mismatch_from (place + 1) columns header) (Some place)) (is_called-draft name (content field) (texts_of_column col records))
     ∙ header-matches (place + 1) (col + 1) (taken ++ name ∷ []) header records

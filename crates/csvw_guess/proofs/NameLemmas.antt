@@ -10,7 +10,7 @@ use Rattle.std.proofs.lemmas.Fmt.{decimal_by_steps_wide}
 use Rattle.std.proofs.lemmas.List.Folds.{list_all-append}
 use borrow.Author.Tests.{eqb-true, leb-true}
 use Rattle.csvw_meta.specs.Forms.{is_name_byte}
-use Rattle.csvw_guess.specs.Names.{base_name, begins_with_letter, free_number, is_taken, name_after, name_char, names_after, numbered, with_letter}
+use Rattle.csvw_guess.specs.Names.{base_name, begins_with_letter, free_number, is_taken, name_after, name_char, names_after, with_number, with_letter}
 use Rattle.csvw_guess.proofs.Lists.{and_true, and_left, and_right, find-among, list_all-at}
 
 -- ---- ASCII
@@ -119,18 +119,18 @@ pub decimal-named : (n : ℕ) → n < 10 ^ 64 → are_name_bytes (decimal n) ≡
 decimal-named = decimal_by_steps_wide (λ n ds. are_name_bytes ds ≡ true) digits-named
     (λ n ds more e. append-named ds ((48 + n % 10) ∷ []) e (digits-named (n % 10) (omega arith)))
 
-pub numbered-named : (name : List ℕ) (n : ℕ) → n < 10 ^ 64 → are_name_bytes name ≡ true → are_name_bytes (numbered name n) ≡ true
-unfolding numbered
+pub numbered-named : (name : List ℕ) (n : ℕ) → n < 10 ^ 64 → are_name_bytes name ≡ true → are_name_bytes (with_number name n) ≡ true
+unfolding with_number
 numbered-named name n small all =
     let suffix = codes "_" ++ decimal n in
     append-named (take (128 - length suffix) name) suffix (take-named (128 - length suffix) name all) (decimal-named n small)
 
 -- ---- names after others
 numbers-named : (name : List ℕ) (from count : ℕ) → from + count < 10 ^ 64 → are_name_bytes name ≡ true
-    → list_all are_name_bytes (map (numbered name) (range_with_len from count)) ≡ true
+    → list_all are_name_bytes (map (with_number name) (range_with_len from count)) ≡ true
 numbers-named name from zero small all = refl
 numbers-named name from (suc count) small all =
-    and_true (are_name_bytes (numbered name from)) (list_all are_name_bytes (map (numbered name) (range_with_len (from + 1) count)))
+    and_true (are_name_bytes (with_number name from)) (list_all are_name_bytes (map (with_number name) (range_with_len (from + 1) count)))
     (numbered-named name from (omega (arith, small)) all) (numbers-named name (from + 1) count (omega (arith, small)) all)
 
 found-named : (name : List ℕ) (names : List (List ℕ)) (test : List ℕ → Bool) (found : Option (List ℕ)) → are_name_bytes name ≡ true
@@ -141,7 +141,7 @@ found-named name names test (Some other) all alls e = find-among test are_name_b
 pub free_number-named : (taken : List (List ℕ)) (name : List ℕ) → length taken + 4 < 10 ^ 64 → are_name_bytes name ≡ true → are_name_bytes (free_number taken name) ≡ true
 unfolding free_number
 free_number-named taken name small all =
-    found-named name (map (numbered name) (range_with_len 2 (length taken + 1))) (λ other. not (is_taken taken other)) _ all
+    found-named name (map (with_number name) (range_with_len 2 (length taken + 1))) (λ other. not (is_taken taken other)) _ all
     (numbers-named name 2 (length taken + 1) (omega (arith, small)) all) refl
 
 pub name_after-named : (taken : List (List ℕ)) (cell : List ℕ) → length taken + 4 < 10 ^ 64 → are_name_bytes (name_after taken cell) ≡ true

@@ -19,11 +19,13 @@ use Rattle.cell_types.specs.Cell.{value_of}
 use Rattle.csv_index.specs.Index.{cell_at}
 use Rattle.raw_fields.specs.Raw.{RawField, RawTable, field_of, raw_content}
 use Rattle.row_keys.specs.Key.{null_row, repeated_row, row_key, row_keys}
-use Rattle.typed_columns.specs.Values.{value_in, value_or_null, values_in}
+use Rattle.raw_fields.specs.Values.{value_in, value_or_null, values_in}
 use Rattle.csvw_guess.proofs.Lists.{and_true, list_all-at}
 use Rattle.csvw_guess.proofs.NameLemmas.{are_name_bytes, named-ascii, names_after-named}
 use Rattle.csvw_guess.specs.Names.{name_after, name_items, names_after}
-use Rattle.csvw_guess.specs.Table.{are_keys, are_short, cells_in, cells_of, columns_from, columns_in, draft_column, draft_columns, draft_key, header_cells, keys_in, schema_in}
+use Rattle.csvw_guess.specs.Table.{are_keys, are_short, file_cells, texts_of_column, columns_from, file_columns, draft_column, draft_columns, draft_key, header_cells, keys_in, file_schema}
+use Rattle.cell_types.specs.Datatype.{DatatypeOf}
+use Rattle.column_types.specs.Types.{column_with}
 use Rattle.csvw_meta.specs.Forms.{table_name}
 use Rattle.csvw_meta.specs.Schema.{SchemaOf}
 
@@ -34,16 +36,16 @@ field-there (field ∷ fields) zero raw e = let same : field ≡ raw = cc in ap 
 field-there (field ∷ fields) (suc col) raw e = field-there fields col raw e
 
 cell-there : (rows : List (List RawField)) (row col : ℕ) (raw : RawField) → cell_at rows row col ≡ Some raw
-    → get_or (cells_of col (map (map field_of) rows)) row [] ≡ raw_content raw
+    → get_or (texts_of_column col (map (map field_of) rows)) row [] ≡ raw_content raw
 cell-there [] row col raw e = cc
 cell-there (fields ∷ rows) zero col raw e = field-there fields col raw e
 cell-there (fields ∷ rows) (suc row) col raw e = cell-there rows row col raw e
 
 -- a cell of a file says what its field does
-pub cell-says : (file : RawTable) (row col : ℕ) (raw : RawField) → cell_at file.rows row col ≡ Some raw → get_or (cells_in col file) row [] ≡ raw_content raw
+pub cell-says : (file : RawTable) (row col : ℕ) (raw : RawField) → cell_at file.rows row col ≡ Some raw → get_or (file_cells col file) row [] ≡ raw_content raw
 cell-says file row col raw e = cell-there file.rows row col raw e
 
-pub length-cells : (file : RawTable) (col : ℕ) → length (cells_in col file) ≡ length file.rows
+pub length-cells : (file : RawTable) (col : ℕ) → length (file_cells col file) ≡ length file.rows
 length-cells file col =
     length-map (map (map field_of) file.rows) (λ fields. get_or (map content fields) col []) ∙ length-map file.rows (map field_of)
 
@@ -75,16 +77,16 @@ length-names_after taken (cell ∷ cells) = ap suc (length-names_after (taken ++
 
 -- ---- columns
 columns-at : (col : ℕ) (names cells : List (List ℕ)) (records : List (List Field)) (k : ℕ) (d : ColumnOf) → k < length names → k < length cells
-    → get_or (columns_from col names cells records) k d ≡ draft_column (get_or names k []) (get_or cells k []) (cells_of (col + k) records)
+    → get_or (columns_from col names cells records) k d ≡ draft_column (get_or names k []) (get_or cells k []) (texts_of_column (col + k) records)
 columns-at col [] cells records k d less more = absurd (omega (arith, less))
 columns-at col (name ∷ names) [] records k d less more = absurd (omega (arith, more))
 columns-at col (name ∷ names) (cell ∷ cells) records zero d less more =
     let here : col ≡ col + 0 = omega arith in
-    ap (λ n. draft_column name cell (cells_of n records)) here
+    ap (λ n. draft_column name cell (texts_of_column n records)) here
 columns-at col (name ∷ names) (cell ∷ cells) records (suc k) d less more =
     let next : col + 1 + k ≡ col + suc k = omega arith in
     columns-at (col + 1) names cells records k d (omega (arith, less)) (omega (arith, more))
-    ∙ ap (λ n. draft_column (get_or names k []) (get_or cells k []) (cells_of n records)) next
+    ∙ ap (λ n. draft_column (get_or names k []) (get_or cells k []) (texts_of_column n records)) next
 
 length-columns : (col : ℕ) (names cells : List (List ℕ)) (records : List (List Field)) → length names ≡ length cells → length (columns_from col names cells records) ≡ length cells
 length-columns col [] [] records e = refl
@@ -92,11 +94,11 @@ length-columns col [] (cell ∷ cells) records e = absurd (omega (arith, e))
 length-columns col (name ∷ names) [] records e = absurd (omega (arith, e))
 length-columns col (name ∷ names) (cell ∷ cells) records e = ap suc (length-columns (col + 1) names cells records (omega (arith, e)))
 
-columns-are : (file : RawTable) → columns_in file ≡ columns_from 0 (names_after [] (header_cells file)) (header_cells file) (map (map field_of) file.rows)
+columns-are : (file : RawTable) → file_columns file ≡ columns_from 0 (names_after [] (header_cells file)) (header_cells file) (map (map field_of) file.rows)
 columns-are file = ap (λ cells. columns_from 0 (names_after [] cells) cells (map (map field_of) file.rows)) (contents file.header)
 
 pub column-there : (file : RawTable) (col : ℕ) (d : ColumnOf) → col < length file.header
-    → get_or (columns_in file) col d ≡ draft_column (get_or (names_after [] (header_cells file)) col []) (get_or (header_cells file) col []) (cells_in col file)
+    → get_or (file_columns file) col d ≡ draft_column (get_or (names_after [] (header_cells file)) col []) (get_or (header_cells file) col []) (file_cells col file)
 column-there file col d less =
     let cells = header_cells file in
     let within : col < length cells = omega (arith, less, length-map file.header raw_content) in
@@ -104,9 +106,9 @@ column-there file col d less =
     let same : 0 + col ≡ col = omega arith in
     ap (λ columns. get_or columns col d) (columns-are file)
     ∙ columns-at 0 (names_after [] cells) cells (map (map field_of) file.rows) col d named within
-    ∙ ap (λ n. draft_column (get_or (names_after [] cells) col []) (get_or cells col []) (cells_of n (map (map field_of) file.rows))) same
+    ∙ ap (λ n. draft_column (get_or (names_after [] cells) col []) (get_or cells col []) (texts_of_column n (map (map field_of) file.rows))) same
 
-pub length-columns_in : (file : RawTable) → length (columns_in file) ≡ length file.header
+pub length-columns_in : (file : RawTable) → length (file_columns file) ≡ length file.header
 length-columns_in file =
     ap (λ columns. length columns) (columns-are file)
     ∙ length-columns 0 (names_after [] (header_cells file)) (header_cells file) (map (map field_of) file.rows) (length-names_after [] (header_cells file))
@@ -139,17 +141,17 @@ first-key (first ∷ columns) column (field ∷ fields) raw e f =
     ap (λ c. value_or_null (value_of c (raw_content field)) ∷ []) a ∙ ap (λ r. value_or_null (value_of column (raw_content r)) ∷ []) b
 
 -- ---- short cells
-pub not-short : (file : RawTable) (row : ℕ) (cell : List ℕ) → row < length file.rows → get_or (cells_in 0 file) row [] ≡ cell → 64 < length cell
-    → false ≡ are_short (cells_in 0 file)
+pub not-short : (file : RawTable) (row : ℕ) (cell : List ℕ) → row < length file.rows → get_or (file_cells 0 file) row [] ≡ cell → 64 < length cell
+    → false ≡ are_short (file_cells 0 file)
 not-short file row cell less e long =
-    sym (list_all_at (λ (c : List ℕ). nat_le (length c) 64) (cells_in 0 file) row [] (omega (arith, less, length-cells file 0))
+    sym (list_all_at (λ (c : List ℕ). nat_le (length c) 64) (file_cells 0 file) row [] (omega (arith, less, length-cells file 0))
     (ap (λ c. nat_le (length c) 64) e ∙ lt-leb (length cell) 64 long))
 
-pub still-short : (file : RawTable) (row : ℕ) (cell : List ℕ) → row < length file.rows → get_or (cells_in 0 file) row [] ≡ cell → length cell ≤ 64
-    → are_short (take row (cells_in 0 file)) ≡ true → are_short (take (row + 1) (cells_in 0 file)) ≡ true
+pub still-short : (file : RawTable) (row : ℕ) (cell : List ℕ) → row < length file.rows → get_or (file_cells 0 file) row [] ≡ cell → length cell ≤ 64
+    → are_short (take row (file_cells 0 file)) ≡ true → are_short (take (row + 1) (file_cells 0 file)) ≡ true
 still-short file row cell less e short so_far =
-    list_all_more (λ (c : List ℕ). nat_le (length c) 64) (cells_in 0 file) row [] (omega (arith, less, length-cells file 0))
-    ∙ and_true (are_short (take row (cells_in 0 file))) (nat_le (length (get_or (cells_in 0 file) row [])) 64) so_far
+    list_all_more (λ (c : List ℕ). nat_le (length c) 64) (file_cells 0 file) row [] (omega (arith, less, length-cells file 0))
+    ∙ and_true (are_short (take row (file_cells 0 file))) (nat_le (length (get_or (file_cells 0 file) row [])) 64) so_far
     (ap (λ c. nat_le (length c) 64) e ∙ le-leb (length cell) 64 short)
 
 -- ---- the schema
@@ -158,21 +160,35 @@ take-cond true = refl
 take-cond false = refl
 
 pub draft_key-is : (columns : List ColumnOf) (records : List (List Field)) (keyed : Bool) → 0 < length columns
-    → ((column : ColumnOf) → slice_get columns 0 ≡ Some column → keyed ≡ are_keys column (cells_of 0 records)) → take {A = ℕ} (cond keyed 1 0) (0 ∷ []) ≡ draft_key columns records
+    → ((column : ColumnOf) → slice_get columns 0 ≡ Some column → keyed ≡ are_keys column (texts_of_column 0 records)) → take {A = ℕ} (cond keyed 1 0) (0 ∷ []) ≡ draft_key columns records
 draft_key-is [] records keyed some is = absurd (omega (arith, some))
 draft_key-is (column ∷ columns) records keyed some is = take-cond keyed ∙ ap (λ b. cond b (0 ∷ []) []) (is column refl)
 
 schema_with : List ℕ → List ℕ → List ColumnOf → List ℕ → SchemaOf
 schema_with url name columns key = record { url = url; name = name; columns = columns; key = key }
 
-pub schema-parts : (schema : SchemaOf) (url : List ℕ) (file : RawTable) → schema.url ≡ url → schema.name ≡ table_name url → schema.columns ≡ columns_in file
-    → schema.key ≡ draft_key (columns_in file) (map (map field_of) file.rows) → schema ≡ schema_in url file
+pub schema-parts : (schema : SchemaOf) (url : List ℕ) (file : RawTable) → schema.url ≡ url → schema.name ≡ table_name url → schema.columns ≡ file_columns file
+    → schema.key ≡ draft_key (file_columns file) (map (map field_of) file.rows) → schema ≡ file_schema url file
 unfolding schema_with
 schema-parts schema url file a b c d =
     ap (λ u. schema_with u schema.name schema.columns schema.key) a
     ∙ ap (λ n. schema_with url n schema.columns schema.key) b
     ∙ ap (λ cs. schema_with url (table_name url) cs schema.key) c
-    ∙ ap (λ k. schema_with url (table_name url) (columns_in file) k) d
+    ∙ ap (λ k. schema_with url (table_name url) (file_columns file) k) d
+
+column_of : List ℕ → List (List ℕ) → DatatypeOf → List (List ℕ) → List ℕ → Bool → ColumnOf
+column_of name titles datatype nulls default required = record { name = name; titles = titles; datatype = datatype; nulls = nulls; default = default; required = required }
+
+pub column-parts : (column : ColumnOf) (name : List ℕ) (titles : List (List ℕ)) (datatype : DatatypeOf) (nulls : List (List ℕ)) → column.name ≡ name → column.titles ≡ titles
+    → column.datatype ≡ datatype → column.nulls ≡ nulls → column.default ≡ [] → column.required ≡ false → column ≡ column_with name titles datatype nulls
+unfolding column_of
+column-parts column name titles datatype nulls a b c d e f =
+    ap (λ n. column_of n column.titles column.datatype column.nulls column.default column.required) a
+    ∙ ap (λ t. column_of name t column.datatype column.nulls column.default column.required) b
+    ∙ ap (λ t. column_of name titles t column.nulls column.default column.required) c
+    ∙ ap (λ n. column_of name titles datatype n column.default column.required) d
+    ∙ ap (λ o. column_of name titles datatype nulls o column.required) e
+    ∙ ap (column_of name titles datatype nulls []) f
 
 -- ---- one name and one column more
 pub names-more : (cells : List (List ℕ)) (names : List (List ℕ)) (col : ℕ) (name cell : List ℕ) → col < length cells → names ≡ names_after [] (take col cells)
@@ -183,15 +199,15 @@ names-more cells names col name cell less so_far is there =
     ∙ sym (names_after-last [] (take col cells) cell)
     ∙ ap (names_after []) (ap (λ c. take col cells ++ c ∷ []) (sym there) ∙ sym (take_more cells col [] less))
 
-pub columns-more : (file : RawTable) (columns : List ColumnOf) (made : ColumnOf) (name : List ℕ) (col : ℕ) → col < length file.header → columns ≡ take col (columns_in file)
-    → made ≡ draft_column name (get_or (header_cells file) col []) (cells_in col file) → name ≡ get_or (names_after [] (header_cells file)) col []
-    → columns ++ made ∷ [] ≡ take (col + 1) (columns_in file)
+pub columns-more : (file : RawTable) (columns : List ColumnOf) (made : ColumnOf) (name : List ℕ) (col : ℕ) → col < length file.header → columns ≡ take col (file_columns file)
+    → made ≡ draft_column name (get_or (header_cells file) col []) (file_cells col file) → name ≡ get_or (names_after [] (header_cells file)) col []
+    → columns ++ made ∷ [] ≡ take (col + 1) (file_columns file)
 columns-more file columns made name col less so_far is named =
-    let within : col < length (columns_in file) = omega (arith, less, length-columns_in file) in
+    let within : col < length (file_columns file) = omega (arith, less, length-columns_in file) in
     ap (λ cs. cs ++ made ∷ []) so_far
-    ∙ ap (λ c. take col (columns_in file) ++ c ∷ [])
-    (is ∙ ap (λ n. draft_column n (get_or (header_cells file) col []) (cells_in col file)) named ∙ sym (column-there file col made less))
-    ∙ sym (take_more (columns_in file) col made within)
+    ∙ ap (λ c. take col (file_columns file) ++ c ∷ [])
+    (is ∙ ap (λ n. draft_column n (get_or (header_cells file) col []) (file_cells col file)) named ∙ sym (column-there file col made less))
+    ∙ sym (take_more (file_columns file) col made within)
 
 pub names-count : (names : List (Vec ℕ Global)) (file : RawTable) → name_items names ≡ names_after [] (header_cells file) → length names ≡ length file.header
 names-count names file e =
@@ -214,11 +230,6 @@ name-ascii names file col name few e less is =
 pub first-column : (items : List Column) (column : Column) → 0 < length items → column ≡ get_or items 0 column → slice_get (map column_view items) 0 ≡ Some (column_view column)
 first-column [] column some e = absurd (omega (arith, some))
 first-column (first ∷ items) column some e = ap (λ c. Some (column_view c)) (sym e)
-
-pub first-field : (rows : List (List RawField)) (row : ℕ) (raw : RawField) → cell_at rows row 0 ≡ Some raw → slice_get (get_or rows row []) 0 ≡ Some raw
-first-field [] row raw e = cc
-first-field (fields ∷ rows) zero raw e = e
-first-field (fields ∷ rows) (suc row) raw e = first-field rows row raw e
 
 found-none : (a : Option ℕ) (row : ℕ) → a ≡ Some row → is_none a ≡ false
 found-none None row e = cc

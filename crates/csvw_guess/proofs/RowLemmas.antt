@@ -7,13 +7,13 @@ use Rattle.cell_types.specs.declared.fault.CellFault.{CellFault}
 use Rattle.cell_types.specs.Cell.{value_of}
 use Rattle.cell_types.specs.Column.{ColumnOf}
 use Rattle.cell_types.specs.Value.{CellValue}
-use Rattle.typed_columns.specs.Values.{value_or_null}
+use Rattle.raw_fields.specs.Values.{value_or_null}
 use Rattle.table_store.specs.Table.{row_then, rows_from, value_then, values_from}
-use Rattle.csvw_guess.specs.Names.{titles_of}
-use Rattle.csvw_guess.specs.Types.{has_value}
-use Rattle.csvw_guess.specs.Table.{cells_of, columns_from, draft_column}
+use Rattle.csvw_guess.specs.Names.{titles_for}
+use Rattle.column_types.specs.Laws.{CellsHaveValues}
+use Rattle.column_types.specs.Types.{has_value}
+use Rattle.csvw_guess.specs.Table.{texts_of_column, columns_from, draft_column}
 use Rattle.csvw_guess.proofs.Lists.{and_left, and_right}
-use Rattle.csvw_guess.proofs.FittingLemmas.{draft-accepts}
 
 -- each field that has a column has a value in it
 abbrev HaveValues : List ColumnOf → List Field → Type 0
@@ -67,19 +67,19 @@ have_here column columns zero (field ∷ fields) here rest = (here, rest)
 have_here column columns (suc col) [] here rest = tt
 have_here column columns (suc col) (field ∷ fields) here rest = have_here column columns col fields here rest
 
-have_more : (column : ColumnOf) (columns : List ColumnOf) (col : ℕ) (records : List (List Field)) → list_all (has_value column) (cells_of col records) ≡ true
+have_more : (column : ColumnOf) (columns : List ColumnOf) (col : ℕ) (records : List (List Field)) → list_all (has_value column) (texts_of_column col records) ≡ true
     → AllHaveFrom (suc col) columns records → AllHaveFrom col (column ∷ columns) records
 have_more column columns col [] here rest = tt
 have_more column columns col (fields ∷ records) here rest =
     let cell = get_or (map content fields) col [] in (
-      have_here column columns col fields (and_left (has_value column cell) (list_all (has_value column) (cells_of col records)) here) rest.0,
-      have_more column columns col records (and_right (has_value column cell) (list_all (has_value column) (cells_of col records)) here) rest.1,
+      have_here column columns col fields (and_left (has_value column cell) (list_all (has_value column) (texts_of_column col records)) here) rest.0,
+      have_more column columns col records (and_right (has_value column cell) (list_all (has_value column) (texts_of_column col records)) here) rest.1,
     )
 
-pub columns-have : (col : ℕ) (names cells : List (List ℕ)) (records : List (List Field)) → AllHaveFrom col (columns_from col names cells records) records
-columns-have col [] cells records = have_none col records
-columns-have col (name ∷ names) [] records = have_none col records
-columns-have col (name ∷ names) (cell ∷ cells) records =
+pub columns-have : CellsHaveValues → (col : ℕ) (names cells : List (List ℕ)) (records : List (List Field)) → AllHaveFrom col (columns_from col names cells records) records
+columns-have fit col [] cells records = have_none col records
+columns-have fit col (name ∷ names) [] records = have_none col records
+columns-have fit col (name ∷ names) (cell ∷ cells) records =
     let columns = columns_from (col + 1) names cells records in
-    have_more (draft_column name cell (cells_of col records)) columns col records (draft-accepts name (titles_of name cell) (cells_of col records))
-    (subst (λ (n : ℕ). AllHaveFrom n columns records) (add-one col) (columns-have (col + 1) names cells records))
+    have_more (draft_column name cell (texts_of_column col records)) columns col records (fit name (titles_for name cell) (texts_of_column col records))
+    (subst (λ (n : ℕ). AllHaveFrom n columns records) (add-one col) (columns-have fit (col + 1) names cells records))

@@ -16,8 +16,8 @@ use Rattle.csvw_writer.specs.Laws.{AreFormatTexts, CanBeSaid, HasSaidDatatypes}
 use Rattle.table_store.specs.File.{FileOf}
 use Rattle.csvw_guess.specs.Draft.{HaveDrafts, IsDraft}
 use Rattle.csvw_guess.specs.Names.{names_after}
-use Rattle.csvw_guess.specs.Table.{cells_of, columns_from, draft_columns, draft_schema}
-use Rattle.csvw_guess.specs.Types.{types, fits, stay_texts, datatype_of}
+use Rattle.csvw_guess.specs.Table.{texts_of_column, columns_from, draft_columns, draft_schema}
+use Rattle.column_types.specs.Types.{types, fits_cells, stay_texts, datatype_for}
 
 -- ---- datatypes
 
@@ -69,9 +69,9 @@ found-said : (test : DatatypeOf → Bool) (ts : List DatatypeOf) → AreSaid ts 
 found-said test [] h = tt
 found-said test (t ∷ ts) h = cond_both (test t) (Some t) (find test ts) (λ found. CanBeSaid (unwrap_or found text)) (λ _. h.0) (λ _. found-said test ts h.1)
 
-datatype-said : (cells : List (List ℕ)) → CanBeSaid (datatype_of cells)
-unfolding datatype_of
-datatype-said cells = cond_both (stay_texts cells) text (unwrap_or (find (fits cells) types) text) CanBeSaid (λ _. tt) (λ _. found-said (fits cells) types types-said)
+datatype-said : (cells : List (List ℕ)) → CanBeSaid (datatype_for cells)
+unfolding datatype_for
+datatype-said cells = cond_both (stay_texts cells) text (unwrap_or (find (fits_cells cells) types) text) CanBeSaid (λ _. tt) (λ _. found-said (fits_cells cells) types types-said)
 
 -- ---- columns
 
@@ -79,7 +79,7 @@ columns-said : (col : ℕ) (names cells : List (List ℕ)) (records : List (List
 columns-said col [] cells records = All-nil (λ (column : ColumnOf). CanBeSaid column.datatype)
 columns-said col (name ∷ names) [] records = All-nil (λ (column : ColumnOf). CanBeSaid column.datatype)
 columns-said col (name ∷ names) (cell ∷ cells) records =
-    All-cons (λ (column : ColumnOf). CanBeSaid column.datatype) _ _ (datatype-said (cells_of col records)) (columns-said (col + 1) names cells records)
+    All-cons (λ (column : ColumnOf). CanBeSaid column.datatype) _ _ (datatype-said (texts_of_column col records)) (columns-said (col + 1) names cells records)
 
 columns-short : (col : ℕ) (names cells : List (List ℕ)) (records : List (List Field)) → All (λ (column : ColumnOf). length column.default ≤ 2 ^ 30) (columns_from col names cells records)
 columns-short col [] cells records = All-nil (λ (column : ColumnOf). length column.default ≤ 2 ^ 30)

@@ -64,9 +64,9 @@ abbrev pub file_at : List FileOf → ℕ → FileOf
 file_at files number = slice_index_or files number (record { name = []; bytes = [] })
 
 -- the schema that came of a file, or none where it was left out
-abbrev pub schemas_in : Outcome → List SchemaOf
-schemas_in (Drafted schema) = schema_view schema ∷ []
-schemas_in (LeftOut warning) = []
+abbrev pub drafted_schemas : Outcome → List SchemaOf
+drafted_schemas (Drafted schema) = schema_view schema ∷ []
+drafted_schemas (LeftOut warning) = []
 
 -- what came of a file after those
 abbrev pub IsOutcome : LimitsOf → List FileOf → FileOf → Outcome → Type 0

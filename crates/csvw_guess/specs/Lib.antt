@@ -1,6 +1,4 @@
-pub mod Types
-pub mod Kinds
-pub mod Seen
+pub mod Rows
 pub mod Names
 pub mod Table
 pub mod Fault

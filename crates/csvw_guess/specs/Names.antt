@@ -25,8 +25,8 @@ unfoldable pub base_name : List ℕ → List ℕ
 base_name cell = take MOST_NAME (with_letter (map name_char (chars cell)))
 
 -- the same with a number, which takes the place of as many characters as do not fit
-unfoldable pub numbered : List ℕ → ℕ → List ℕ
-numbered name number = let suffix = codes "_" ++ decimal number in take (MOST_NAME - length suffix) name ++ suffix
+unfoldable pub with_number : List ℕ → ℕ → List ℕ
+with_number name number = let suffix = codes "_" ++ decimal number in take (MOST_NAME - length suffix) name ++ suffix
 
 -- the name is one of those
 abbrev pub is_taken : List (List ℕ) → List ℕ → Bool
@@ -35,7 +35,7 @@ is_taken taken name = list_any (bytes_eq name) taken
 -- the name with the least number from 2 on that is not taken; one of the first numbers is not
 unfoldable pub free_number : List (List ℕ) → List ℕ → List ℕ
 free_number taken name =
-    unwrap_or (find (λ other. not (is_taken taken other)) (map (numbered name) (range_with_len 2 (length taken + 1)))) name
+    unwrap_or (find (λ other. not (is_taken taken other)) (map (with_number name) (range_with_len 2 (length taken + 1)))) name
 
 -- the name of a column after those that are taken
 abbrev pub name_after : List (List ℕ) → List ℕ → List ℕ
@@ -47,8 +47,8 @@ names_after taken [] = []
 names_after taken (cell ∷ cells) = let name = name_after taken cell in name ∷ names_after (taken ++ name ∷ []) cells
 
 -- a header cell that is not the column's name is its title
-abbrev pub titles_of : List ℕ → List ℕ → List (List ℕ)
-titles_of name cell = if bytes_eq name cell then [] else cell ∷ []
+abbrev pub titles_for : List ℕ → List ℕ → List (List ℕ)
+titles_for name cell = if bytes_eq name cell then [] else cell ∷ []
 
 -- names as the code has them
 abbrev pub name_items : List (Vec ℕ Global) → List (List ℕ)

@@ -10,31 +10,31 @@ use Rattle.cell_types.specs.Value.{CellValue}
 use Rattle.csvw_meta.specs.Forms.{table_name}
 use Rattle.csvw_meta.specs.Schema.{SchemaOf}
 use Rattle.row_keys.specs.Key.{null_row, repeated_row}
-use Rattle.typed_columns.specs.Values.{value_or_null}
-use Rattle.csvw_guess.specs.Types.{column_with, datatype_of, nulls_of}
-use Rattle.csvw_guess.specs.Names.{names_after, titles_of}
+use Rattle.raw_fields.specs.Values.{value_or_null}
+use Rattle.column_types.specs.Types.{column_with, datatype_for, nulls_under}
+use Rattle.csvw_guess.specs.Names.{names_after, titles_for}
 
 -- what the cells of a column say, counted from 0
-abbrev pub cells_of : ℕ → List (List Field) → List (List ℕ)
-cells_of col records = map (λ fields. get_or (map content fields) col []) records
+abbrev pub texts_of_column : ℕ → List (List Field) → List (List ℕ)
+texts_of_column col records = map (λ fields. get_or (map content fields) col []) records
 
 -- the same of a file as it is read, and those of its header
-abbrev pub cells_in : ℕ → RawTable → List (List ℕ)
-cells_in col file = cells_of col (map (map field_of) file.rows)
+abbrev pub file_cells : ℕ → RawTable → List (List ℕ)
+file_cells col file = texts_of_column col (map (map field_of) file.rows)
 
 abbrev pub header_cells : RawTable → List (List ℕ)
 header_cells file = map raw_content file.header
 
 -- the column of a name and a header cell, with those cells
 abbrev pub draft_column : List ℕ → List ℕ → List (List ℕ) → ColumnOf
-draft_column name cell cells = let datatype = datatype_of cells in column_with name (titles_of name cell) datatype (nulls_of datatype cells)
+draft_column name cell cells = let datatype = datatype_for cells in column_with name (titles_for name cell) datatype (nulls_under datatype cells)
 
 -- the columns with those names and header cells, counted on from col
 abbrev pub columns_from : ℕ → List (List ℕ) → List (List ℕ) → List (List Field) → List ColumnOf
 columns_from col [] cells records = []
 columns_from col (name ∷ names) [] records = []
 columns_from col (name ∷ names) (cell ∷ cells) records =
-    draft_column name cell (cells_of col records) ∷ columns_from (col + 1) names cells records
+    draft_column name cell (texts_of_column col records) ∷ columns_from (col + 1) names cells records
 
 -- the columns of a table
 abbrev pub draft_columns : List Field → List (List Field) → List ColumnOf
@@ -69,7 +69,7 @@ are_keys column cells = may_be_keys column.datatype cells && are_whole column ce
 -- the key is the first column where it may be, and there is none where not
 abbrev pub draft_key : List ColumnOf → List (List Field) → List ℕ
 draft_key [] records = []
-draft_key (column ∷ columns) records = if are_keys column (cells_of 0 records) then 0 ∷ [] else []
+draft_key (column ∷ columns) records = if are_keys column (texts_of_column 0 records) then 0 ∷ [] else []
 
 -- the schema of the table of a file of that name
 abbrev pub draft_schema : List ℕ → List Field → List (List Field) → SchemaOf
@@ -81,8 +81,8 @@ draft_schema url header records = let columns = draft_columns header records in 
 }
 
 -- the same of a file as it is read
-abbrev pub columns_in : RawTable → List ColumnOf
-columns_in file = draft_columns (map field_of file.header) (map (map field_of) file.rows)
+abbrev pub file_columns : RawTable → List ColumnOf
+file_columns file = draft_columns (map field_of file.header) (map (map field_of) file.rows)
 
-abbrev pub schema_in : List ℕ → RawTable → SchemaOf
-schema_in url file = draft_schema url (map field_of file.header) (map (map field_of) file.rows)
+abbrev pub file_schema : List ℕ → RawTable → SchemaOf
+file_schema url file = draft_schema url (map field_of file.header) (map (map field_of) file.rows)

@@ -1,18 +1,18 @@
 //! The columns of a table.
-ghost use Rattle.std.specs.Prelude.{◌≡◌, ◌<◌, ◌≤◌, [], ◌∷◌, IfOk, MatchOption, length, map, slice_index_or, string_bytes};
+ghost use Rattle.std.specs.Prelude.{◌≡◌, ◌<◌, ◌≤◌, ℕ, List, [], ◌∷◌, IfOk, length, map, slice_index_or, string_bytes};
 ghost use Rattle.std.specs.Str.{IsAscii};
 ghost use Rattle.cell_types.specs.Column.{column_view};
-ghost use Rattle.cell_types.specs.Datatype.{datatype_view, text};
-ghost use Rattle.csvw_guess.specs.Kinds.{AreCandidates};
+ghost use Rattle.cell_types.specs.Datatype.{datatype_view};
+ghost use Rattle.column_types.specs.Kinds.{AreCandidates};
 ghost use Rattle.csvw_guess.specs.Names.{name_items, names_after};
-ghost use Rattle.csvw_guess.specs.Seen.{HasSeen};
-ghost use Rattle.csvw_guess.specs.Table.{cells_in, columns_in, draft_column, header_cells};
-ghost use Rattle.csvw_guess.specs.Types.{datatype_of, nulls_of};
+ghost use Rattle.column_types.specs.Seen.{EndsAs, IsKnownOfCells};
+ghost use Rattle.csvw_guess.specs.Table.{file_cells, file_columns, draft_column, header_cells};
+ghost use Rattle.column_types.specs.Types.{datatype_for, nulls_under};
 
 use crate::names::{next_name, titles};
-use crate::seen::Seen;
-use crate::types::Candidates;
+use crate::rows::read_columns;
 use cell_types::{Column, Datatype};
+use column_types::{Candidates, Seen};
 use csv_index::IndexedText;
 use std::alloc::{AllocError, Global};
 
@@ -30,29 +30,6 @@ fn make_names(alloc: Global, file: &IndexedText) -> Result<Vec<Vec<u8>>, AllocEr
     Ok(names)
 }
 
-/// Reads the cells of a column, up to the one after which it can only be one of texts.
-fn read_cells(
-    alloc: Global,
-    candidates: &Candidates,
-    file: &IndexedText,
-    col: usize,
-) -> Result<Option<Seen>, AllocError>
-    requires candidates { AreCandidates candidates.now }
-    requires col { col < length file.now.header }
-    ensures { IfOk result (λ seen. MatchOption seen (datatype_of (cells_in col file.now) ≡ text)
-        (λ seen. HasSeen seen (cells_in col file.now))) }
-{
-    let mut seen = Seen::new(alloc)?;
-    for row in 0..file.rows() {
-        let cell = file.cell(row, col).text(alloc)?;
-        seen.read(alloc, candidates, cell.as_str())?;
-        if seen.is_text() {
-            return Ok(None);
-        }
-    }
-    Ok(Some(seen))
-}
-
 /// The texts that stand for null in a column of texts: the empty one.
 fn empty_text(alloc: Global) -> Result<Vec<String>, AllocError>
     ensures { IfOk result (λ texts. map string_bytes texts.items ≡ [] ∷ []) }
@@ -62,21 +39,18 @@ fn empty_text(alloc: Global) -> Result<Vec<String>, AllocError>
     Ok(texts)
 }
 
-/// The datatype of a column, and the texts that stand for null in it.
+/// The datatype of a column whose cells are all read, and the texts that stand for null in it.
 fn datatype_and_nulls(
     alloc: Global,
-    candidates: &Candidates,
-    file: &IndexedText,
-    col: usize,
+    known: &Option<Seen>,
 ) -> Result<(Datatype, Vec<String>), AllocError>
-    requires candidates { AreCandidates candidates.now }
-    requires col { col < length file.now.header }
-    ensures datatype { IfOk result
-        (λ made. datatype_view made.0 ≡ datatype_of (cells_in col file.now)) }
-    ensures nulls { IfOk result (λ made. map string_bytes made.1.items
-        ≡ nulls_of (datatype_of (cells_in col file.now)) (cells_in col file.now)) }
+    requires { IsKnownOfCells known.now }
+    ensures datatype { IfOk result (λ made. (cells : List (List ℕ)) → EndsAs known.now cells
+        → datatype_view made.0 ≡ datatype_for cells) }
+    ensures nulls { IfOk result (λ made. (cells : List (List ℕ)) → EndsAs known.now cells
+        → map string_bytes made.1.items ≡ nulls_under (datatype_for cells) cells) }
 {
-    let Some(seen) = read_cells(alloc, candidates, file, col)? else {
+    let Some(seen) = known else {
         return Ok((Datatype::Text, empty_text(alloc)?));
     };
     match seen.datatype(alloc)? {
@@ -99,22 +73,22 @@ fn name_text(name: &[u8]) -> &str
 /// The column of a name.
 fn make_column(
     alloc: Global,
-    candidates: &Candidates,
+    known: &Option<Seen>,
     file: &IndexedText,
     col: usize,
     name: &[u8],
 ) -> Result<Column, AllocError>
-    requires candidates { AreCandidates candidates.now }
     requires col { col < length file.now.header }
+    requires known { EndsAs known.now (file_cells col file.now) }
     requires name { IsAscii name.now }
     ensures { IfOk result (λ made. column_view made
         ≡ draft_column name.now (slice_index_or (header_cells file.now) col [])
-        (cells_in col file.now)) }
+        (file_cells col file.now)) }
 {
     let name = String::from_str(alloc, name_text(name))?;
     let cell = file.header(col).text(alloc)?;
     let titles = titles(alloc, name.as_str(), cell.as_str())?;
-    let (datatype, nulls) = datatype_and_nulls(alloc, candidates, file, col)?;
+    let (datatype, nulls) = datatype_and_nulls(alloc, known)?;
     Ok(Column {
         name,
         titles,
@@ -133,12 +107,13 @@ pub fn make_columns(
 ) -> Result<Vec<Column>, AllocError>
     requires candidates { AreCandidates candidates.now }
     requires few { length file.now.header ≤ 256 }
-    ensures { IfOk result (λ made. map column_view made.items ≡ columns_in file.now) }
+    ensures { IfOk result (λ made. map column_view made.items ≡ file_columns file.now) }
 {
     let names = make_names(alloc, file)?;
+    let known = read_columns(alloc, candidates, file)?;
     let mut columns = Vec::with_capacity(alloc, names.len())?;
     for (col, name) in names.iter().enumerate() {
-        columns.push(make_column(alloc, candidates, file, col, name.as_slice())?)?;
+        columns.push(make_column(alloc, &known[col], file, col, name.as_slice())?)?;
     }
     Ok(columns)
 }

@@ -5,15 +5,15 @@ ghost use Rattle.std.specs.Str.{bytes_eq};
 ghost use Rattle.csv_index.specs.Index.{IsRawTable};
 ghost use Rattle.csvw_meta.specs.Limits.{limits_view};
 ghost use Rattle.table_store.specs.File.{file_view, files_view};
-ghost use Rattle.table_store.specs.Loading.{schemas_view};
-ghost use Rattle.csvw_guess.specs.Kinds.{AreCandidates};
-ghost use Rattle.csvw_guess.specs.Draft.{file_at, schemas_in, AreDrafts, HasNoDraft, HaveDrafts, IsBadAt, IsBadFile, IsOutcome};
+ghost use Rattle.table_store.specs.Loading.{schema_views};
+ghost use Rattle.column_types.specs.Kinds.{AreCandidates};
+ghost use Rattle.csvw_guess.specs.Draft.{file_at, drafted_schemas, AreDrafts, HasNoDraft, HaveDrafts, IsBadAt, IsBadFile, IsOutcome};
 ghost use Rattle.csvw_guess.specs.Fault.{draft_cause};
 
 use crate::fault::{DraftFault, Warning};
 use crate::table::draft_table;
-use crate::types::Candidates;
 use crate::url::is_table_url;
+use column_types::Candidates;
 use csv_index::{IndexedText, TextFault};
 use csvw_meta::{Limits, Schema};
 use std::alloc::{AllocError, Global};
@@ -114,8 +114,8 @@ fn draft_file(
 
 /// Adds what came of one more file.
 fn add(draft: &mut Draft, outcome: Outcome) -> Result<(), AllocError>
-    ensures { OnOk result (schemas_view draft.new.schemas.items
-        ≡ schemas_view draft.old.schemas.items ++ schemas_in outcome) }
+    ensures { OnOk result (schema_views draft.new.schemas.items
+        ≡ schema_views draft.old.schemas.items ++ drafted_schemas outcome) }
 {
     match outcome {
         Outcome::Drafted(schema) => draft.schemas.push(schema)?,
@@ -127,7 +127,7 @@ fn add(draft: &mut Draft, outcome: Outcome) -> Result<(), AllocError>
 /// The schemas of files.
 fn draft_files(alloc: Global, limits: &Limits, files: &[NamedFile]) -> Result<Draft, DraftFault>
     ensures drafts { IfOk result (λ draft. HaveDrafts (limits_view limits.now) []
-        (files_view files.now) (schemas_view draft.schemas.items)) }
+        (files_view files.now) (schema_views draft.schemas.items)) }
     ensures fault { IfErr result (λ e.
         IfSome (draft_cause e) (HasNoDraft (limits_view limits.now) (files_view files.now))) }
     ensures memory { IfErr result (λ e. draft_cause e ≡ None → e ≡ DraftFault.NoMemory) }
@@ -160,7 +160,7 @@ fn draft_files(alloc: Global, limits: &Limits, files: &[NamedFile]) -> Result<Dr
 pub fn draft_of(alloc: Global, limits: &Limits, files: &[NamedFile]) -> Result<Draft, DraftFault>
     ensures drafts { IfOk result (λ draft.
         AreDrafts (limits_view limits.now) (files_view files.now)
-        (schemas_view draft.schemas.items)) }
+        (schema_views draft.schemas.items)) }
     ensures fault { IfErr result (λ e.
         IfSome (draft_cause e) (HasNoDraft (limits_view limits.now) (files_view files.now))) }
 

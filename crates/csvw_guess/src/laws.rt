@@ -6,12 +6,16 @@ use csvw_writer::schemas_read_back;
 /// Each schema of a draft has a table, that of its file.
 pub fn drafts_have_tables()
     ensures { DraftsHaveTables }
-{}
+{
+    column_types::cells_have_values();
+}
 
 /// A folder of files, with metadata that says the schemas of their draft, is served: its tables have the rows of the files.
 pub fn drafts_are_accepted()
     ensures { DraftsAreAccepted }
-{}
+{
+    column_types::cells_have_values();
+}
 
 /// The schemas of a draft are as those of metadata that is accepted.
 pub fn drafts_are_well_formed()

@@ -3,16 +3,14 @@
 //! schemas, and a folder of the files with metadata that says these schemas is served.
 #![tactic(auto)]
 
-mod cells;
 mod column;
 mod draft;
 mod fault;
 mod key;
 mod laws;
 mod names;
-mod seen;
+mod rows;
 mod table;
-mod types;
 mod url;
 mod warnings;
 

@@ -2,7 +2,7 @@
 ghost use Rattle.std.specs.Prelude.{◌≡◌, [], IfOk, codes, if◌then◌else◌, map, string_bytes};
 ghost use Rattle.std.specs.List.{list_any};
 ghost use Rattle.std.specs.Str.{bytes_eq, chars};
-ghost use Rattle.csvw_guess.specs.Names.{base_name as base_name_of, begins_with_letter as begins_with_letter_of, free_number, is_taken as is_taken_of, name_after as name_after_of, name_char as name_char_of, numbered as numbered_of, titles_of, name_items};
+ghost use Rattle.csvw_guess.specs.Names.{base_name as base_name_of, begins_with_letter as begins_with_letter_of, free_number, is_taken as is_taken_of, name_after as name_after_of, name_char as name_char_of, with_number as numbered_of, titles_for, name_items};
 
 use std::alloc::{AllocError, Global};
 
@@ -60,7 +60,7 @@ fn base_name(alloc: Global, cell: &str) -> Result<Vec<u8>, AllocError>
 }
 
 /// A name with a number.
-#[tactic(auto, unfolding(crate::specs::Names::numbered))]
+#[tactic(auto, unfolding(crate::specs::Names::with_number))]
 fn numbered(alloc: Global, name: &[u8], number: usize) -> Result<Vec<u8>, AllocError>
     ensures { IfOk result (λ made. made.items ≡ numbered_of name.now number) }
 {
@@ -112,7 +112,7 @@ pub fn next_name(alloc: Global, taken: &[Vec<u8>], cell: &str) -> Result<Vec<u8>
 
 /// The title of a column: its header cell, where that is not its name.
 pub fn titles(alloc: Global, name: &str, cell: &str) -> Result<Vec<String>, AllocError>
-    ensures { IfOk result (λ titles. map string_bytes titles.items ≡ titles_of name.now cell.now) }
+    ensures { IfOk result (λ titles. map string_bytes titles.items ≡ titles_for name.now cell.now) }
 {
     let mut titles = Vec::new(alloc);
     if name != cell {

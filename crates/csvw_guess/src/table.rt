@@ -1,15 +1,15 @@
 //! The schema of a table.
 ghost use Rattle.std.specs.Prelude.{◌≡◌, ◌<◌, ◌≤◌, IfOk, if◌then◌else◌, length};
-ghost use Rattle.csvw_guess.specs.Kinds.{AreCandidates};
-ghost use Rattle.csvw_guess.specs.Table.{schema_in};
+ghost use Rattle.column_types.specs.Kinds.{AreCandidates};
+ghost use Rattle.csvw_guess.specs.Table.{file_schema};
 ghost use Rattle.csvw_meta.specs.Schema.{schema_view};
 
 use crate::column::make_columns;
 use crate::fault::Warning;
 use crate::key::has_keys;
-use crate::types::Candidates;
 use crate::url::table_name;
 use crate::warnings::{column_warnings, separator_warning};
+use column_types::Candidates;
 use csv_index::IndexedText;
 use csvw_meta::Schema;
 use std::alloc::{AllocError, Global};
@@ -31,7 +31,7 @@ fn make_schema(
     requires candidates { AreCandidates candidates.now }
     requires width { 0 < length file.now.header }
     requires few { length file.now.header ≤ 256 }
-    ensures { IfOk result (λ made. schema_view made ≡ schema_in url.now file.now) }
+    ensures { IfOk result (λ made. schema_view made ≡ file_schema url.now file.now) }
 {
     let columns = make_columns(alloc, candidates, file)?;
     let mut key = Vec::with_capacity(alloc, 1)?;
@@ -59,7 +59,7 @@ pub fn draft_table(
     requires candidates { AreCandidates candidates.now }
     requires width { 0 < length file.now.header }
     requires few { length file.now.header ≤ 256 }
-    ensures { IfOk result (λ made. schema_view made ≡ schema_in url.now file.now) }
+    ensures { IfOk result (λ made. schema_view made ≡ file_schema url.now file.now) }
 {
     let schema = make_schema(alloc, candidates, url, file)?;
     column_warnings(alloc, candidates, number, file, &schema, warnings)?;

@@ -1,10 +1,9 @@
 //! What the publisher of a table should look at.
 ghost use Rattle.std.specs.Prelude.{◌<◌, length};
 
-use crate::cells::{has_value, is_null_in};
 use crate::fault::Warning;
-use crate::types::{Candidates, DAY_FIRST, DECIMAL, MONTH_FIRST};
 use cell_types::{CellFault, Column, Datatype, read_cell};
+use column_types::{Candidates, DAY_FIRST, DECIMAL, MONTH_FIRST, has_value, is_null_in};
 use csv_index::IndexedText;
 use csvw_meta::Schema;
 use std::alloc::{AllocError, Global};

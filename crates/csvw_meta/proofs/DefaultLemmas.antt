@@ -14,7 +14,7 @@ use Rattle.csvw_meta.specs.Members.{count_conditions, fits, member, nearest}
 use Rattle.csvw_meta.specs.Texts.{is_texts}
 use Rattle.csvw_meta.specs.Datatype.{datatype_member_conditions}
 use Rattle.csvw_meta.specs.Inherited.{default_of, inherited_conditions, is_short_text, is_truth}
-use Rattle.csvw_meta.specs.Column.{column_of}
+use Rattle.csvw_meta.specs.Column.{said_column}
 use Rattle.csvw_meta.specs.Schema.{SchemaOf}
 use Rattle.csvw_meta.specs.Table.{level_conditions, schema_or_null, table_columns, table_conditions, table_schema}
 use Rattle.csvw_meta.specs.Group.{group_conditions, group_schemas, tables_in}
@@ -57,10 +57,10 @@ default-short None h = omega arith
 default-short (Some d) h = text-short (as_str d) h
 
 -- so are the defaults of columns
-columns-short : (around columns : List Data) → All IsOfForm around → All IsOfForm columns → All (λ d. length (column_of around d).default ≤ 2 ^ 30) columns
-columns-short around [] h k = All-nil (λ d. length (column_of around d).default ≤ 2 ^ 30)
+columns-short : (around columns : List Data) → All IsOfForm around → All IsOfForm columns → All (λ d. length (said_column around d).default ≤ 2 ^ 30) columns
+columns-short around [] h k = All-nil (λ d. length (said_column around d).default ≤ 2 ^ 30)
 columns-short around (d ∷ ds) h k =
-    let P : Data → Type 0 = λ d. length (column_of around d).default ≤ 2 ^ 30 in
+    let P : Data → Type 0 = λ d. length (said_column around d).default ≤ 2 ^ 30 in
     let here = nearest-short (d ∷ around) (All-cons IsOfForm d around (All-head IsOfForm d ds k) h) in
     All-cons P d ds (default-short (nearest (codes "default") (d ∷ around)) here) (columns-short around ds h (All-tail IsOfForm d ds k))
 
@@ -73,7 +73,7 @@ table-short limits group form earlier d h =
     let inner = All-tail IsOfForm d (schema ∷ columns) levels in
     let outer = All-cons IsOfForm d (group ∷ []) (All-head IsOfForm d (schema ∷ columns) levels) (All-cons IsOfForm group [] form (All-nil IsOfForm)) in
     let around = All-cons IsOfForm schema (d ∷ group ∷ []) (All-head IsOfForm schema columns inner) outer in
-    All-map (λ (column : ColumnOf). length column.default ≤ 2 ^ 30) (column_of (schema ∷ d ∷ group ∷ [])) columns
+    All-map (λ (column : ColumnOf). length column.default ≤ 2 ^ 30) (said_column (schema ∷ d ∷ group ∷ [])) columns
     (columns-short (schema ∷ d ∷ group ∷ []) columns around (All-tail IsOfForm schema columns inner))
 
 group-short : (limits : LimitsOf) (group : Data) → AllMet (group_conditions limits group) → All HasShortDefaults (group_schemas group)

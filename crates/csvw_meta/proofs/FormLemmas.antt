@@ -6,7 +6,7 @@ use Rattle.std.proofs.lemmas.List.Prefix.{end_rest}
 use Rattle.std.proofs.Math.Seq.{take-append_seam}
 use Rattle.std.specs.Cmp.Lexicographic.{same_text}
 use Rattle.csvw_meta.specs.declared.forms.TheConstants.{MOST_URL_BYTES}
-use Rattle.csvw_meta.specs.Forms.{url_end, has_url_end, is_table_url, is_url_byte, is_word, table_name}
+use Rattle.csvw_meta.specs.Forms.{url_end, has_url_end, is_table_url, is_url_byte, is_word_of, table_name}
 
 -- one that ends with `.csv` is a front and `.csv`
 url-ends : (url : List ℕ) → has_url_end url ≡ true → url ≡ take (length url - length url_end) url ++ url_end
@@ -35,5 +35,5 @@ table_name-front url front e =
 pub url-name : (url : List ℕ) → is_table_url url ≡ true → url ≡ table_name url ++ url_end
 url-name url h =
     let short = nat_le (length url) MOST_URL_BYTES in
-    let ends = (and_parts short (has_url_end url) (and_parts (short && has_url_end url) (is_word is_url_byte (table_name url)) h).0).1 in
+    let ends = (and_parts short (has_url_end url) (and_parts (short && has_url_end url) (is_word_of is_url_byte (table_name url)) h).0).1 in
     rw ends (url-ends url ends)

@@ -14,17 +14,17 @@ use Rattle.serde_json.specs.declared.value.Value.{Value}
 use Rattle.csvw_meta.specs.Members.{fits}
 use Rattle.csvw_meta.specs.Texts.{is_texts}
 use Rattle.csvw_meta.specs.Column.{name_of}
-use Rattle.csvw_meta.specs.Key.{text_of, key_names, are_different, are_key_names, is_key, place_of, key_of}
+use Rattle.csvw_meta.specs.Key.{text_or_empty, key_names, are_different, are_key_names, is_key, column_place, key_of}
 use Rattle.csvw_meta.proofs.ListLemmas.{list_any-map}
 
 -- the texts from the i-th on are different where the i-th is none of those behind it, and those are different
-pub are_different-from : (vs : List Value) (i : ℕ) (v : Value) (text : List ℕ) (twice : Bool) → i < length vs → get_or vs i v ≡ v → text ≡ text_of (view v)
-    → twice ≡ list_any (λ value. bytes_eq text (text_of (view value))) (take (length vs - (i + 1)) (drop (i + 1) vs))
-    → are_different (map text_of (map view (drop i vs))) ≡ (not twice && are_different (map text_of (map view (drop (i + 1) vs))))
+pub are_different-from : (vs : List Value) (i : ℕ) (v : Value) (text : List ℕ) (twice : Bool) → i < length vs → get_or vs i v ≡ v → text ≡ text_or_empty (view v)
+    → twice ≡ list_any (λ value. bytes_eq text (text_or_empty (view value))) (take (length vs - (i + 1)) (drop (i + 1) vs))
+    → are_different (map text_or_empty (map view (drop i vs))) ≡ (not twice && are_different (map text_or_empty (map view (drop (i + 1) vs))))
 are_different-from vs i v text twice h e t is =
     let all : length vs - (i + 1) ≡ length (drop (i + 1) vs) = sym (length-drop (i + 1) vs) in
     rw (drop_more vs i v h, e, is, all, take-length (drop (i + 1) vs), t)
-    (rw (list_any-map (bytes_eq (text_of (view v))) text_of (map view (drop (i + 1) vs)), list_any-map (λ value. bytes_eq (text_of (view v)) (text_of value)) view (drop (i + 1) vs)) refl)
+    (rw (list_any-map (bytes_eq (text_or_empty (view v))) text_or_empty (map view (drop (i + 1) vs)), list_any-map (λ value. bytes_eq (text_or_empty (view v)) (text_or_empty value)) view (drop (i + 1) vs)) refl)
 
 within_at : (here rest : Bool) (n l : ℕ) → (here || rest) ≡ true → (rest ≡ true → n < l) → cond (not here) (1 + n) 0 < suc l
 within_at true rest n l h f = omega arith
@@ -92,7 +92,7 @@ pub record IsAcceptedKey (columns : List Data) (key : List ℕ) : Type 0 where
   pub within : All (λ place. place < length columns) key
   pub distinct : IsDistinct nat_eq key
 
-names-accepted : (columns : List Data) (names : List (List ℕ)) → are_key_names columns names ≡ true → IsAcceptedKey columns (map (place_of columns) names)
+names-accepted : (columns : List Data) (names : List (List ℕ)) → are_key_names columns names ≡ true → IsAcceptedKey columns (map (column_place columns) names)
 unfolding are_key_names
 names-accepted columns names h =
     let texts = map name_of columns in

@@ -15,7 +15,7 @@ use Rattle.csvw_meta.specs.Refusal.{Condition, ensure, first_cause, each_conditi
 use Rattle.csvw_meta.specs.Members.{member, fits, absent, count_conditions}
 use Rattle.csvw_meta.specs.Forms.{is_column_name, is_table_url}
 use Rattle.csvw_meta.specs.Inherited.{inherited_conditions}
-use Rattle.csvw_meta.specs.Column.{name_of, has_name, column_conditions, object_column_conditions, column_of}
+use Rattle.csvw_meta.specs.Column.{name_of, names_a_column, column_conditions, object_column_conditions, said_column}
 use Rattle.csvw_meta.specs.Schema.{SchemaOf, columns_in, object_schema_conditions, schema_conditions}
 use Rattle.csvw_meta.specs.Table.{url_of, has_url, schema_in, level_conditions, object_table_conditions, table_conditions, schema_or_null, table_columns, table_schema}
 use Rattle.csvw_meta.specs.Group.{tables_in, group_conditions, group_schemas}
@@ -115,11 +115,11 @@ column-form earlier d h =
     ensured (is_column_name (name_of d)) (codes "BadName") (head_met named)
 
 -- which none of the earlier ones has
-pub column-new : (earlier : List Data) (d : Data) → AllMet (column_conditions earlier d) → has_name earlier (name_of d) ≡ false
+pub column-new : (earlier : List Data) (d : Data) → AllMet (column_conditions earlier d) → names_a_column earlier (name_of d) ≡ false
 unfolding object_column_conditions
 column-new earlier d h =
     let new = tail_met (tail_met (tail_met (tail_met (object_column earlier d h)))) in
-    not-true (has_name earlier (name_of d)) (ensured (not (has_name earlier (name_of d))) (codes "DuplicateName") (head_met new))
+    not-true (names_a_column earlier (name_of d)) (ensured (not (names_a_column earlier (name_of d))) (codes "DuplicateName") (head_met new))
 
 -- the columns of a schema that is accepted
 pub record AreAcceptedColumns (limits : LimitsOf) (columns : List Data) : Type 0 where
@@ -200,7 +200,7 @@ accepted_key limits group earlier d h =
 table-accepted : (limits : LimitsOf) (group : Data) (earlier : List Data) (d : Data) → AllMet (table_conditions limits group earlier d) → IsAccepted limits (table_schema group d)
 table-accepted limits group earlier d h =
     let columns = table_columns group d in
-    let column = column_of (schema_or_null group d ∷ d ∷ group ∷ []) in
+    let column = said_column (schema_or_null group d ∷ d ∷ group ∷ []) in
     let accepted = accepted_columns limits group earlier d h in
     let key = accepted_key limits group earlier d h in
     record {

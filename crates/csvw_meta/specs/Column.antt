@@ -24,8 +24,8 @@ abbrev pub name_of : Data → List ℕ
 name_of d = text_member (codes "name") d
 
 -- one of the columns has the name
-abbrev pub has_name : List Data → List ℕ → Bool
-has_name columns name = list_any (bytes_eq name) (map name_of columns)
+abbrev pub names_a_column : List Data → List ℕ → Bool
+names_a_column columns name = list_any (bytes_eq name) (map name_of columns)
 
 unfoldable pub object_column_conditions : List Data → Data → List Condition
 object_column_conditions earlier d =
@@ -33,7 +33,7 @@ object_column_conditions earlier d =
     ∷ absent (codes "separator") d
     ∷ ensure (has (codes "name") d) (unsupported (codes "name"))
     ∷ ensure (is_column_name (name_of d)) (codes "BadName")
-    ∷ ensure (not (has_name earlier (name_of d))) (codes "DuplicateName")
+    ∷ ensure (not (names_a_column earlier (name_of d))) (codes "DuplicateName")
     ∷ ensure (fits is_titles (member (codes "titles") d)) (codes "BadTitles")
     ∷ inherited_conditions d
 
@@ -42,8 +42,8 @@ unfoldable pub column_conditions : List Data → Data → List Condition
 column_conditions earlier d = if is_some (as_object d) then object_column_conditions earlier d else Some (codes "NotObject") ∷ []
 
 -- what a column says, where those levels are around it
-abbrev pub column_of : List Data → Data → ColumnOf
-column_of around d = let levels = d ∷ around in record {
+abbrev pub said_column : List Data → Data → ColumnOf
+said_column around d = let levels = d ∷ around in record {
   name = name_of d;
   titles = titles_of (member (codes "titles") d);
   datatype = datatype_of (nearest (codes "datatype") levels);

@@ -113,7 +113,7 @@ abbrev pub DefaultsAreShort : Type 0
 DefaultsAreShort = (limits : LimitsOf) (bytes : List ℕ) (schemas : List SchemaOf) → schemas_of limits bytes ≡ Ok schemas → All HasShortDefaults schemas
 
 -- the numbers of the profile
-pub record Sizes : Type 0 where
+pub record ProfileSizes : Type 0 where
   pub file : MOST_FILE_BYTES ≡ 2 ^ 30
   pub metadata : MOST_METADATA_BYTES ≡ 2 ^ 30
   pub tables : MOST_TABLES ≡ 256

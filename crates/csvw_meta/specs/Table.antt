@@ -9,7 +9,7 @@ use Rattle.csvw_meta.specs.Refusal.{Condition, ensure}
 use Rattle.csvw_meta.specs.Members.{member, absent, text_member, nearest}
 use Rattle.csvw_meta.specs.Forms.{is_table_url, table_name}
 use Rattle.csvw_meta.specs.Inherited.{inherited_conditions}
-use Rattle.csvw_meta.specs.Column.{column_of}
+use Rattle.csvw_meta.specs.Column.{said_column}
 use Rattle.csvw_meta.specs.Key.{key_of}
 use Rattle.csvw_meta.specs.Schema.{SchemaOf, columns_in, schema_conditions}
 
@@ -57,6 +57,6 @@ abbrev pub table_schema : Data → Data → SchemaOf
 table_schema group d = let schema = schema_or_null group d in record {
   url = url_of d;
   name = table_name (url_of d);
-  columns = map (column_of (schema ∷ d ∷ group ∷ [])) (table_columns group d);
+  columns = map (said_column (schema ∷ d ∷ group ∷ [])) (table_columns group d);
   key = key_of (table_columns group d) (member (codes "primaryKey") schema);
 }

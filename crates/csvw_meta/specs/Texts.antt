@@ -5,20 +5,20 @@ use Rattle.serde_json.specs.Data.{Data, Members, no_members, member}
 use Rattle.serde_json.specs.Find.{as_str, as_array, as_object}
 use Rattle.csvw_meta.specs.Members.{present, values}
 
-abbrev pub is_text : Data → Bool
-is_text d = is_some (as_str d)
+abbrev pub is_data_string : Data → Bool
+is_data_string d = is_some (as_str d)
 
 -- the values of an array, or the one value
-abbrev pub parts : Data → List Data
-parts d = unwrap_or (option_map values (as_array d)) (d ∷ [])
+abbrev pub values_or_one : Data → List Data
+values_or_one d = unwrap_or (option_map values (as_array d)) (d ∷ [])
 
 -- a text, or an array of texts
 abbrev pub is_texts : Data → Bool
-is_texts d = list_all is_text (parts d)
+is_texts d = list_all is_data_string (values_or_one d)
 
 -- the texts of such a value
 abbrev pub texts_in : Data → List (List ℕ)
-texts_in d = filter_map as_str (parts d)
+texts_in d = filter_map as_str (values_or_one d)
 
 -- the values of an object
 abbrev pub member_values : Members → List Data

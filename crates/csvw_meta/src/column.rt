@@ -4,7 +4,7 @@ ghost use Rattle.serde_json.specs.View.{view};
 ghost use Rattle.cell_types.specs.Column.{column_view};
 ghost use Rattle.csvw_meta.specs.Refusal.{condition_of, first_cause};
 ghost use Rattle.csvw_meta.specs.Members.{member as member_of};
-ghost use Rattle.csvw_meta.specs.Column.{is_real as is_real_of, name_of as name_in, has_name as has_name_among, object_column_conditions, column_conditions, column_of};
+ghost use Rattle.csvw_meta.specs.Column.{is_real as is_real_of, name_of as name_in, names_a_column as has_name_among, object_column_conditions, column_conditions, said_column};
 
 use crate::datatype::make_datatype;
 use crate::fault::MetaFault;
@@ -84,7 +84,7 @@ pub(crate) fn make_column(
     column: &Value,
 ) -> Result<Column, AllocError>
     ensures { IfOk result (λ made.
-        column_view made ≡ column_of (view schema.now ∷ view table.now ∷ view group.now ∷ [])
+        column_view made ≡ said_column (view schema.now ∷ view table.now ∷ view group.now ∷ [])
         (view column.now)) }
 {
     let levels = [column, schema, table, group];

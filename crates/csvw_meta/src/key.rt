@@ -3,8 +3,8 @@ ghost use Rattle.std.specs.Prelude.{◌≡◌, map, option_map, IfOk};
 ghost use Rattle.std.specs.List.{list_all, list_any};
 ghost use Rattle.std.specs.Str.{bytes_eq};
 ghost use Rattle.serde_json.specs.View.{view};
-ghost use Rattle.csvw_meta.specs.Key.{text_of as text_in, are_key_names as are_key_names_of, is_key as is_key_of, are_different as are_different_of, place_of as place_in, key_in, key_of};
-ghost use Rattle.csvw_meta.specs.Column.{has_name as has_name_among};
+ghost use Rattle.csvw_meta.specs.Key.{text_or_empty as text_in, are_key_names as are_key_names_of, is_key as is_key_of, are_different as are_different_of, column_place as place_in, key_in, key_of};
+ghost use Rattle.csvw_meta.specs.Column.{names_a_column as has_name_among};
 
 use crate::column::{has_name, name_of};
 use crate::texts::{is_texts, parts};

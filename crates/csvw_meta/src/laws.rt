@@ -1,5 +1,5 @@
 //! The laws of the definitions that [`crate::Schemas::read`] cites: each is a theorem, and does nothing.
-ghost use Rattle.csvw_meta.specs.Laws.{AcceptedSchemas, DefaultsAreShort, LevelsAreOfForm, MarkIsDropped, NearestLevel, SchemasOrCause, Sizes, TextsTellFaultsApart};
+ghost use Rattle.csvw_meta.specs.Laws.{AcceptedSchemas, DefaultsAreShort, LevelsAreOfForm, MarkIsDropped, NearestLevel, SchemasOrCause, ProfileSizes, TextsTellFaultsApart};
 
 use message_text::{escaped_texts_are_one_line, plain_texts_are_one_line, texts_stay_apart};
 
@@ -48,5 +48,5 @@ pub fn defaults_are_short()
 /// The numbers of the profile: a file and a metadata text have at most 2 to the 30 bytes; how many tables, columns and transformations there may
 /// be; and how long a name and a url.
 pub fn sizes()
-    ensures { Sizes }
+    ensures { ProfileSizes }
 {}

@@ -6,7 +6,7 @@ ghost use Rattle.csvw_meta.specs.Limits.{limits_view};
 ghost use Rattle.csvw_meta.specs.Refusal.{condition_of, first_cause, each_conditions};
 ghost use Rattle.csvw_meta.specs.Members.{member as member_of, fits};
 ghost use Rattle.csvw_meta.specs.Key.{is_key as is_key_of, key_of};
-ghost use Rattle.csvw_meta.specs.Column.{column_conditions, column_of};
+ghost use Rattle.csvw_meta.specs.Column.{column_conditions, said_column};
 ghost use Rattle.csvw_meta.specs.Schema.{columns_in as columns_of, object_schema_conditions, schema_conditions};
 
 use crate::column::{check_column, make_column};
@@ -115,7 +115,7 @@ pub(crate) fn make_columns(
 ) -> Result<Vec<Column>, AllocError>
     ensures { IfOk result (λ made.
         map column_view made.items
-        ≡ map (column_of (view schema.now ∷ view table.now ∷ view group.now ∷ []))
+        ≡ map (said_column (view schema.now ∷ view table.now ∷ view group.now ∷ []))
         (columns_of (view schema.now))) }
 {
     let columns = columns_in(schema);

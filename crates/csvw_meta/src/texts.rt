@@ -3,7 +3,7 @@ ghost use Rattle.std.specs.Prelude.{◌≡◌, ◌++◌, map, option_map, IfOk, 
 ghost use Rattle.std.specs.List.{list_all, flat_map};
 ghost use Rattle.std.specs.BTreeMap.{values};
 ghost use Rattle.serde_json.specs.View.{view, members_view};
-ghost use Rattle.csvw_meta.specs.Texts.{parts as parts_of, is_texts as is_texts_of, texts_in, is_language_value as is_language_value_of, is_titles as is_titles_of, member_values, titles_of};
+ghost use Rattle.csvw_meta.specs.Texts.{values_or_one as parts_of, is_texts as is_texts_of, texts_in, is_language_value as is_language_value_of, is_titles as is_titles_of, member_values, titles_of};
 
 use serde_json::{Map, Value};
 use std::alloc::{AllocError, Global};

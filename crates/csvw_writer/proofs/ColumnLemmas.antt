@@ -12,8 +12,8 @@ use Rattle.cell_types.specs.Column.{ColumnOf}
 use Rattle.csvw_meta.specs.Refusal.{first_cause, each_conditions}
 use Rattle.csvw_meta.specs.Members.{fits, values}
 use Rattle.csvw_meta.specs.Forms.{is_column_name}
-use Rattle.csvw_meta.specs.Column.{column_conditions, column_of, name_of, has_name}
-use Rattle.csvw_meta.specs.Key.{text_of, are_key_names, are_different, is_key, place_of, key_of}
+use Rattle.csvw_meta.specs.Column.{column_conditions, said_column, name_of, names_a_column}
+use Rattle.csvw_meta.specs.Key.{text_or_empty, are_key_names, are_different, is_key, column_place, key_of}
 use Rattle.csvw_writer.specs.Members.{texts_json}
 use Rattle.csvw_writer.specs.Column.{column_fields, column_json, datatype_json, is_empty_text_alone}
 use Rattle.csvw_writer.specs.Laws.{CanBeSaid}
@@ -88,11 +88,11 @@ columns_met columns h = each_met column_conditions column_data [] columns (λ fr
     let short = all_at (λ (c : ColumnOf). length c.default ≤ 2 ^ 30) front column back (subst (All (λ (c : ColumnOf). length c.default ≤ 2 ^ 30)) e h.defaults) in
     let said = all_at (λ (c : ColumnOf). CanBeSaid c.datatype) front column back (subst (All (λ (c : ColumnOf). CanBeSaid c.datatype)) e h.datatypes) in
     let apart = subst (IsDistinct bytes_eq) (ap (map name_in) e ∙ map-append name_in front (column ∷ back)) h.distinct in
-    let new : has_name (map column_data front) column.name ≡ false = rw (names-data front) (new_at (map name_in front) column.name (map name_in back) apart) in
+    let new : names_a_column (map column_data front) column.name ≡ false = rw (names-data front) (new_at (map name_in front) column.name (map name_in back) apart) in
     column_met (map column_data front) column (column_data column) (column-data column said) name new short)
 
 pub columns_back : (columns : List ColumnOf) (a b c : Data) → All (λ (column : ColumnOf). CanBeSaid column.datatype) columns → SaysNothing a → SaysNothing b → SaysNothing c
-    → map (column_of (a ∷ b ∷ c ∷ [])) (map column_data columns) ≡ columns
+    → map (said_column (a ∷ b ∷ c ∷ [])) (map column_data columns) ≡ columns
 columns_back [] a b c said na nb nc = refl
 columns_back (column ∷ columns) a b c said na nb nc =
     let here = All-head (λ (x : ColumnOf). CanBeSaid x.datatype) column columns said in
@@ -101,7 +101,7 @@ columns_back (column ∷ columns) a b c said na nb nc =
 
 -- ---- the key of a schema
 
-key-texts : (texts : List (List ℕ)) → map text_of (values (data_items (items_of (map string texts)))) ≡ texts
+key-texts : (texts : List (List ℕ)) → map text_or_empty (values (data_items (items_of (map string texts)))) ≡ texts
 key-texts [] = refl
 key-texts (text ∷ texts) = ap (λ rest. text ∷ rest) (key-texts texts)
 
@@ -115,14 +115,14 @@ pub record IsKey (columns : List ColumnOf) (key : List ℕ) : Type 0 where
   pub distinct : IsDistinct bytes_eq (map name_in columns)
 
 -- where a schema has a key
-key_names_met : (columns : List Data) (names : List (List ℕ)) → 0 < length names → list_all (has_name columns) names ≡ true → are_different names ≡ true → are_key_names columns names ≡ true
+key_names_met : (columns : List Data) (names : List (List ℕ)) → 0 < length names → list_all (names_a_column columns) names ≡ true → are_different names ≡ true → are_key_names columns names ≡ true
 unfolding are_key_names
 key_names_met columns names some there apart = rw (lt-ltb 0 (length names) some, there, apart) refl
 
 is_key_met : (columns : List Data) (names : List (List ℕ)) → are_key_names columns names ≡ true → fits (is_key columns) (texts_unless false names) ≡ true
 is_key_met columns names h = rw (are-texts names, key-texts names) h
 
-key_there : (columns : List ColumnOf) (key : List ℕ) → IsKey columns key → list_all (has_name (map column_data columns)) (map (name_at columns) key) ≡ true
+key_there : (columns : List ColumnOf) (key : List ℕ) → IsKey columns key → list_all (names_a_column (map column_data columns)) (map (name_at columns) key) ≡ true
 key_there columns key h =
     let texts = map name_in columns in
     ap (λ (t : List (List ℕ)). list_all (λ name. list_any (bytes_eq name) t) (map (name_at columns) key)) (names-data columns)
@@ -142,10 +142,10 @@ key_met columns [] h = refl
 key_met columns (place ∷ places) h =
     ap (λ b. fits (is_key (map column_data columns)) (texts_unless b (map (name_at columns) (place ∷ places)))) (not_zero (length places) _ refl) ∙ some_key_met columns place places h
 
-key_places : (columns : List Data) (names : List (List ℕ)) → key_of columns (texts_unless false names) ≡ map (place_of columns) names
-key_places columns names = ap (map (place_of columns)) (key-texts names)
+key_places : (columns : List Data) (names : List (List ℕ)) → key_of columns (texts_unless false names) ≡ map (column_place columns) names
+key_places columns names = ap (map (column_place columns)) (key-texts names)
 
-places_again : (columns : List ColumnOf) (key : List ℕ) → IsKey columns key → map (place_of (map column_data columns)) (map (name_at columns) key) ≡ key
+places_again : (columns : List ColumnOf) (key : List ℕ) → IsKey columns key → map (column_place (map column_data columns)) (map (name_at columns) key) ≡ key
 places_again columns key h =
     let texts = map name_in columns in
     ap (λ (t : List (List ℕ)). map (λ name. position_or_len (bytes_eq name) t) (map (name_at columns) key)) (names-data columns)

@@ -10,20 +10,20 @@ use Rattle.serde_json.specs.Data.{Data, Members, no_members, put}
 use Rattle.serde_json.specs.Find.{get_member}
 use Rattle.serde_json.proofs.Views.{get_member-put, get_member-put_other}
 use Rattle.csvw_meta.specs.Members.{member, present, values}
-use Rattle.csvw_writer.specs.Members.{Field, members_with, object_with, unless}
+use Rattle.csvw_writer.specs.Members.{JsonMember, members_with, object_with, unless}
 use Rattle.csvw_writer.proofs.DataLemmas.{IsPlain, ItemsArePlain, MembersArePlain, data_of, data_items, data_members}
 
 -- ---- they are plain
 
-abbrev pub IsPlainField : ℕ → Field → Type 0
+abbrev pub IsPlainField : ℕ → JsonMember → Type 0
 IsPlainField n (name, None) = ⊤
 IsPlainField n (name, Some value) = IsPlain n value
 
-abbrev pub ArePlainFields : ℕ → List Field → Type 0
+abbrev pub ArePlainFields : ℕ → List JsonMember → Type 0
 ArePlainFields n [] = ⊤
 ArePlainFields n (field ∷ fields) = IsPlainField n field × ArePlainFields n fields
 
-pub plain-fields : (n : ℕ) (fields : List Field) → ArePlainFields n fields → MembersArePlain n (members_with fields)
+pub plain-fields : (n : ℕ) (fields : List JsonMember) → ArePlainFields n fields → MembersArePlain n (members_with fields)
 plain-fields n [] h = tt
 plain-fields n ((name, None) ∷ fields) h = plain-fields n fields h.1
 plain-fields n ((name, Some value) ∷ fields) h = (h.0, plain-fields n fields h.1)
@@ -44,7 +44,7 @@ or_found None found = found
 or_found (Some value) found = Some (data_of value)
 
 -- the value of the last member of that name
-abbrev pub look : List ℕ → List Field → Option Data → Option Data
+abbrev pub look : List ℕ → List JsonMember → Option Data → Option Data
 look name [] found = found
 look name (field ∷ fields) found = look name fields (cond (bytes_eq name field.0) (or_found field.1 found) found)
 
@@ -56,14 +56,14 @@ cond-same : (b : Bool) (o : Option Data) → cond b o o ≡ o
 cond-same true o = refl
 cond-same false o = refl
 
-fields-found : (name : List ℕ) (fields : List Field) (found : Members) → get_member name (data_members (members_with fields) found) ≡ look name fields (get_member name found)
+fields-found : (name : List ℕ) (fields : List JsonMember) (found : Members) → get_member name (data_members (members_with fields) found) ≡ look name fields (get_member name found)
 fields-found name [] found = refl
 fields-found name ((k, None) ∷ fields) found = fields-found name fields found ∙ ap (look name fields) (sym (cond-same (bytes_eq name k) (get_member name found)))
 fields-found name ((k, Some value) ∷ fields) found =
     fields-found name fields (put k (data_of value) found) ∙ ap (look name fields) (found_at (bytes_eq name k) name k (data_of value) found refl)
 
 -- a member of an object that is written
-pub member-found : (name : List ℕ) (fields : List Field) → member name (data_of (object_with fields)) ≡ option_and_then present (look name fields None)
+pub member-found : (name : List ℕ) (fields : List JsonMember) → member name (data_of (object_with fields)) ≡ option_and_then present (look name fields None)
 member-found name fields = ap (option_and_then present) (fields-found name fields no_members)
 
 -- a member that may go without saying

@@ -11,7 +11,7 @@ use Rattle.csvw_meta.specs.Refusal.{first_cause, each_conditions}
 use Rattle.csvw_meta.specs.Members.{member, count_conditions}
 use Rattle.csvw_meta.specs.Forms.{table_name, url_end, has_url_end}
 use Rattle.csvw_meta.specs.Inherited.{inherited_conditions}
-use Rattle.csvw_meta.specs.Column.{column_conditions, column_of}
+use Rattle.csvw_meta.specs.Column.{column_conditions, said_column}
 use Rattle.csvw_meta.specs.Key.{key_of}
 use Rattle.csvw_meta.specs.Schema.{SchemaOf, columns_in, schema_conditions, object_schema_conditions}
 use Rattle.csvw_meta.specs.Table.{url_of, has_url, schema_or_null, table_columns, level_conditions, object_table_conditions, table_conditions, table_schema}
@@ -19,7 +19,7 @@ use Rattle.csvw_meta.specs.Laws.{IsAccepted, HasShortDefaults}
 use Rattle.csvw_writer.specs.Members.{members_with, texts_json}
 use Rattle.csvw_writer.specs.Column.{column_json}
 use Rattle.csvw_writer.specs.Laws.{HasSaidDatatypes}
-use Rattle.csvw_writer.specs.Table.{key_names, schema_fields, table_fields, table_json}
+use Rattle.csvw_writer.specs.Table.{names_of_key, schema_fields, table_fields, table_json}
 use Rattle.csvw_writer.proofs.DataLemmas.{data_of, data_members}
 use Rattle.csvw_writer.proofs.FieldLemmas.{member-found, found-unless, values-array}
 use Rattle.csvw_writer.proofs.WalkLemmas.{SaysNothing, texts_unless, both_met, nothing_met}
@@ -49,7 +49,7 @@ pub record IsSchemaData (schema : SchemaOf) (d : Data) : Type 0 where
   pub separator : member (codes "separator") d ≡ None
   pub nothing : SaysNothing d
   pub columns : columns_in d ≡ map column_data schema.columns
-  pub key : member (codes "primaryKey") d ≡ texts_unless (length schema.key == 0) (key_names schema.columns schema.key)
+  pub key : member (codes "primaryKey") d ≡ texts_unless (length schema.key == 0) (names_of_key schema.columns schema.key)
 
 pub schema-data : (schema : SchemaOf) → IsSchemaData schema (object (schema_members schema))
 schema-data schema =
@@ -63,7 +63,7 @@ schema-data schema =
         required = member-found (codes "required") fields;
       };
       columns = rw (member-found (codes "columns") fields) (values-array column_json schema.columns);
-      key = member-found (codes "primaryKey") fields ∙ found-unless (length schema.key == 0) (texts_json (key_names schema.columns schema.key)) refl;
+      key = member-found (codes "primaryKey") fields ∙ found-unless (length schema.key == 0) (texts_json (names_of_key schema.columns schema.key)) refl;
     }
 
 pub counts_met : {A : Type 0} (limit : ℕ) (none many : List ℕ) (says : A → Data) (xs : List A) → 1 ≤ length xs → length xs ≤ limit → first_cause (count_conditions limit none many (map says xs)) ≡ None
@@ -143,7 +143,7 @@ table_back limits group schema ms d w s h ng =
     let there : schema_or_null group d ≡ members = rw h.own_schema refl in
     let url : url_of d ≡ schema.url = rw h.url refl in
     let name : table_name (url_of d) ≡ schema.name = rw url (name-back limits schema w.accepted) in
-    let columns : map (column_of (schema_or_null group d ∷ d ∷ group ∷ [])) (table_columns group d) ≡ schema.columns =
+    let columns : map (said_column (schema_or_null group d ∷ d ∷ group ∷ [])) (table_columns group d) ≡ schema.columns =
     rw (there, s.columns) (columns_back schema.columns members d group w.datatypes s.nothing h.nothing ng) in
     let key : key_of (table_columns group d) (member (codes "primaryKey") (schema_or_null group d)) ≡ schema.key =
     rw (there, s.columns, s.key) (key_back schema.columns schema.key (key-written limits schema w)) in

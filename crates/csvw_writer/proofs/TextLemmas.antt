@@ -16,7 +16,7 @@ use Rattle.csvw_meta.specs.Schema.{SchemaOf}
 use Rattle.csvw_meta.specs.Document.{document}
 use Rattle.csvw_writer.specs.Members.{members_with, object_with, texts_json}
 use Rattle.csvw_writer.specs.Column.{boolean_json, datatype_json, column_fields, column_json, is_empty_text_alone}
-use Rattle.csvw_writer.specs.Table.{key_names, schema_fields, table_fields, table_json, group_fields, group_json}
+use Rattle.csvw_writer.specs.Table.{names_of_key, schema_fields, table_fields, table_json, group_fields, group_json}
 use Rattle.csvw_writer.specs.Text.{schemas_text}
 use Rattle.csvw_writer.proofs.DataLemmas.{IsPlain, data_of, read-pretty}
 use Rattle.csvw_writer.proofs.FieldLemmas.{plain-fields, plain-unless, plain-array}
@@ -51,7 +51,7 @@ plain-column column =
 
 plain-schema : (schema : SchemaOf) → IsPlain 4 (object_with (schema_fields schema))
 plain-schema schema =
-    let names = key_names schema.columns schema.key in
+    let names = names_of_key schema.columns schema.key in
     let key = plain-unless 3 (codes "primaryKey") (length schema.key == 0) (texts_json names) (plain-array 2 string names (λ text. tt)) in
     plain-fields 3 (schema_fields schema) (plain-array 2 column_json schema.columns plain-column, (key, tt))
 

@@ -6,7 +6,7 @@ use Rattle.json.specs.Token.{Token, key, begin_array, end_array, begin_object, e
 use Rattle.json.specs.Json.{Json}
 use Rattle.json.specs.Tree.{json_tokens, items_tokens, members_tokens}
 use Rattle.json.specs.Value.{items_of}
-use Rattle.csvw_writer.specs.Members.{Field, members_with, object_with, unless, array_of, field_tokens, fields_tokens}
+use Rattle.csvw_writer.specs.Members.{JsonMember, members_with, object_with, unless, array_of, field_tokens, fields_tokens}
 
 -- what is left of an array from the i-th of some values on, with the closing bracket
 abbrev pub left : {A B : Type 0} → (B → Json) → (A → B) → List A → ℕ → List Token
@@ -27,18 +27,18 @@ pub array_ended : {A B : Type 0} (json : B → Json) (view : A → B) (xs : List
 array_ended json view xs i h = rw (drop_all i xs h) refl
 
 -- the tokens of an object are those of its members that have a value
-pub members_tokens_of : (fields : List Field) → members_tokens (members_with fields) ≡ fields_tokens fields ++ end_object ∷ []
+pub members_tokens_of : (fields : List JsonMember) → members_tokens (members_with fields) ≡ fields_tokens fields ++ end_object ∷ []
 members_tokens_of [] = refl
 members_tokens_of ((name, None) ∷ fields) = members_tokens_of fields
 members_tokens_of ((name, Some value) ∷ fields) =
     ap (λ rest. key name ∷ (json_tokens value ++ rest)) (members_tokens_of fields)
     ∙ ap (λ rest. key name ∷ rest) (sym (append_assoc (json_tokens value) (fields_tokens fields) (end_object ∷ [])))
 
-pub object_tokens : (fields : List Field) → json_tokens (object_with fields) ≡ begin_object ∷ (fields_tokens fields ++ end_object ∷ [])
+pub object_tokens : (fields : List JsonMember) → json_tokens (object_with fields) ≡ begin_object ∷ (fields_tokens fields ++ end_object ∷ [])
 object_tokens fields = ap (λ rest. begin_object ∷ rest) (members_tokens_of fields)
 
 -- an object from its bracket on, with its members behind one another
-pub object_ended : (out first all : List Token) (fields : List Field) → first ≡ out ++ begin_object ∷ [] → all ≡ first ++ fields_tokens fields
+pub object_ended : (out first all : List Token) (fields : List JsonMember) → first ≡ out ++ begin_object ∷ [] → all ≡ first ++ fields_tokens fields
     → all ++ end_object ∷ [] ≡ out ++ json_tokens (object_with fields)
 object_ended out first all fields begun rest =
     rw (rest, begun, object_tokens fields, append_assoc (out ++ begin_object ∷ []) (fields_tokens fields) (end_object ∷ []))
@@ -72,25 +72,25 @@ pub same_field : (a : List Token) (name : List ℕ) {b c : Bool} {j k : Json} �
 same_field a name e f = λ i. a ++ field_tokens (name, unless (e i) (f i))
 
 -- the last member
-pub last_one : (a b : List Token) (f : Field) → b ≡ a ++ field_tokens f → b ≡ a ++ fields_tokens (f ∷ [])
+pub last_one : (a b : List Token) (f : JsonMember) → b ≡ a ++ field_tokens f → b ≡ a ++ fields_tokens (f ∷ [])
 last_one a b f last = rw (last, append-nil (field_tokens f)) refl
 
 -- a member, and those behind it
-pub one_more : (a b c : List Token) (f : Field) (fields : List Field) → b ≡ a ++ field_tokens f → c ≡ b ++ fields_tokens fields → c ≡ a ++ fields_tokens (f ∷ fields)
+pub one_more : (a b c : List Token) (f : JsonMember) (fields : List JsonMember) → b ≡ a ++ field_tokens f → c ≡ b ++ fields_tokens fields → c ≡ a ++ fields_tokens (f ∷ fields)
 one_more a b c f fields first rest = rw (rest, first) (append_assoc a (field_tokens f) (fields_tokens fields))
 
-four_members : (out a b c : List Token) (f g h i : Field) → a ≡ out ++ field_tokens f → b ≡ a ++ field_tokens g → c ≡ b ++ field_tokens h
+four_members : (out a b c : List Token) (f g h i : JsonMember) → a ≡ out ++ field_tokens f → b ≡ a ++ field_tokens g → c ≡ b ++ field_tokens h
     → c ++ field_tokens i ≡ out ++ fields_tokens (f ∷ g ∷ h ∷ i ∷ [])
 four_members out a b c f g h i first second third = rw (third, second, first) (simp (append_assoc, append-nil))
 
 -- four members
-pub four_written : {T E : Type 0} (r : Result T E) (out a b c new : List Token) (f g h i : Field) → a ≡ out ++ field_tokens f → b ≡ a ++ field_tokens g → c ≡ b ++ field_tokens h
+pub four_written : {T E : Type 0} (r : Result T E) (out a b c new : List Token) (f g h i : JsonMember) → a ≡ out ++ field_tokens f → b ≡ a ++ field_tokens g → c ≡ b ++ field_tokens h
     → OnOk r (new ≡ c ++ field_tokens i) → OnOk r (new ≡ out ++ fields_tokens (f ∷ g ∷ h ∷ i ∷ []))
 four_written r out a b c new f g h i first second third last =
     written_last r new c (field_tokens i) (out ++ fields_tokens (f ∷ g ∷ h ∷ i ∷ [])) last (four_members out a b c f g h i first second third)
 
 -- an object of a member and others
-pub object_written : {T E : Type 0} (r : Result T E) (out opened a b new : List Token) (f : Field) (fields : List Field) → opened ≡ out ++ begin_object ∷ [] → a ≡ opened ++ field_tokens f
+pub object_written : {T E : Type 0} (r : Result T E) (out opened a b new : List Token) (f : JsonMember) (fields : List JsonMember) → opened ≡ out ++ begin_object ∷ [] → a ≡ opened ++ field_tokens f
     → b ≡ a ++ fields_tokens fields → OnOk r (new ≡ b ++ end_object ∷ []) → OnOk r (new ≡ out ++ json_tokens (object_with (f ∷ fields)))
 object_written r out opened a b new f fields begun first rest last =
     written_last r new b (end_object ∷ []) (out ++ json_tokens (object_with (f ∷ fields))) last

@@ -13,10 +13,10 @@ use Rattle.cell_types.specs.Column.{ColumnOf}
 use Rattle.csvw_meta.specs.Refusal.{Condition, first_cause, each_conditions}
 use Rattle.csvw_meta.specs.Members.{member, fits, values, nearest}
 use Rattle.csvw_meta.specs.Forms.{is_column_name}
-use Rattle.csvw_meta.specs.Texts.{is_text, is_titles, is_texts, titles_of}
+use Rattle.csvw_meta.specs.Texts.{is_data_string, is_titles, is_texts, titles_of}
 use Rattle.csvw_meta.specs.Datatype.{datatype_conditions, datatype_member_conditions, datatype_of}
 use Rattle.csvw_meta.specs.Inherited.{inherited_conditions, is_short_text, is_truth, nulls_of, default_of, required_of}
-use Rattle.csvw_meta.specs.Column.{column_conditions, object_column_conditions, column_of, name_of, has_name}
+use Rattle.csvw_meta.specs.Column.{column_conditions, object_column_conditions, said_column, name_of, names_a_column}
 use Rattle.csvw_writer.specs.Column.{is_empty_text_alone}
 use Rattle.csvw_writer.proofs.DataLemmas.{data_items}
 use Rattle.csvw_writer.proofs.DatatypeLemmas.{IsReadAs}
@@ -64,7 +64,7 @@ pub record SaysCells (column : ColumnOf) (d : Data) : Type 0 where
   pub default : member (codes "default") d ≡ cond (length column.default == 0) None (Some (string column.default))
   pub required : member (codes "required") d ≡ cond (not column.required) None (Some (boolean true))
 
-pub are-texts : (texts : List (List ℕ)) → list_all is_text (values (data_items (items_of (map json.string texts)))) ≡ true
+pub are-texts : (texts : List (List ℕ)) → list_all is_data_string (values (data_items (items_of (map json.string texts)))) ≡ true
 are-texts [] = refl
 are-texts (text ∷ texts) = are-texts texts
 
@@ -106,7 +106,7 @@ pub record IsColumnData (column : ColumnOf) (d : Data) : Type 0 where
   pub titles : member (codes "titles") d ≡ texts_unless (length column.titles == 0) column.titles
   pub cells : SaysCells column d
 
-pub column_met : (earlier : List Data) (column : ColumnOf) (d : Data) → IsColumnData column d → is_column_name column.name ≡ true → has_name earlier column.name ≡ false
+pub column_met : (earlier : List Data) (column : ColumnOf) (d : Data) → IsColumnData column d → is_column_name column.name ≡ true → names_a_column earlier column.name ≡ false
     → length column.default ≤ 2 ^ 30 → first_cause (column_conditions earlier d) ≡ None
 unfolding column_conditions object_column_conditions
 column_met earlier column d h name new short =
@@ -137,7 +137,7 @@ required-back true around e = refl
 required-back false around e = rw e refl
 
 -- what a column says is read, where the levels around it say nothing
-pub column_back : (column : ColumnOf) (d a b c : Data) → IsColumnData column d → SaysNothing a → SaysNothing b → SaysNothing c → column_of (a ∷ b ∷ c ∷ []) d ≡ column
+pub column_back : (column : ColumnOf) (d a b c : Data) → IsColumnData column d → SaysNothing a → SaysNothing b → SaysNothing c → said_column (a ∷ b ∷ c ∷ []) d ≡ column
 column_back column d a b c h na nb nc =
     let nulls : nearest (codes "null") (a ∷ b ∷ c ∷ []) ≡ None = rw (na.nulls, nb.nulls, nc.nulls) refl in
     let default : nearest (codes "default") (a ∷ b ∷ c ∷ []) ≡ None = rw (na.default, nb.default, nc.default) refl in

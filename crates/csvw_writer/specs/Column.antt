@@ -6,7 +6,7 @@ use Rattle.cell_types.specs.declared.datatype.DateForm.TheVariants.{YearMonthDay
 use Rattle.cell_types.specs.Column.{ColumnOf}
 use Rattle.cell_types.specs.Datatype as cell
 use Rattle.cell_types.specs.Datatype.{DatatypeOf, pattern_of}
-use Rattle.csvw_writer.specs.Members.{Field, object_with, unless, texts_json}
+use Rattle.csvw_writer.specs.Members.{JsonMember, object_with, unless, texts_json}
 
 -- a datatype whose texts have a format
 abbrev pub with_format : List ℕ → List ℕ → Json
@@ -37,7 +37,7 @@ is_empty_text_alone texts = false
 
 -- what a column says of its cells: its datatype, and its null texts, its default and `required` where they are not those of a column that does not
 -- say them
-abbrev pub inherited_fields : ColumnOf → List Field
+abbrev pub inherited_fields : ColumnOf → List JsonMember
 inherited_fields column =
     (codes "datatype", Some (datatype_json column.datatype))
     ∷ (codes "null", unless (is_empty_text_alone column.nulls) (texts_json column.nulls))
@@ -46,7 +46,7 @@ inherited_fields column =
     ∷ []
 
 -- the members of a column, without `titles` where there are none
-abbrev pub column_fields : ColumnOf → List Field
+abbrev pub column_fields : ColumnOf → List JsonMember
 column_fields column =
     (codes "name", Some (string column.name))
     ∷ (codes "titles", unless (length column.titles == 0) (texts_json column.titles))

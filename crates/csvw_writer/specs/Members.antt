@@ -6,16 +6,16 @@ use Rattle.json.specs.Tree.{json_tokens}
 use Rattle.json.specs.Value.{items_of}
 
 -- a member's name, and its value where it has one
-abbrev pub Field : Type 0
-Field = List ℕ × Option Json
+abbrev pub JsonMember : Type 0
+JsonMember = List ℕ × Option Json
 
 -- the members that have a value, in order
-abbrev pub members_with : List Field → Members
+abbrev pub members_with : List JsonMember → Members
 members_with [] = no_members
 members_with ((name, None) ∷ fields) = members_with fields
 members_with ((name, Some value) ∷ fields) = member name value (members_with fields)
 
-abbrev pub object_with : List Field → Json
+abbrev pub object_with : List JsonMember → Json
 object_with fields = object (members_with fields)
 
 -- the value, unless it goes without saying
@@ -31,9 +31,9 @@ texts_json texts = array_of (map string texts)
 
 -- ---- for private clauses: the tokens of a member
 
-abbrev pub field_tokens : Field → List Token
+abbrev pub field_tokens : JsonMember → List Token
 field_tokens (name, None) = []
 field_tokens (name, Some value) = key name ∷ json_tokens value
 
-abbrev pub fields_tokens : List Field → List Token
+abbrev pub fields_tokens : List JsonMember → List Token
 fields_tokens fields = flat_map field_tokens fields

@@ -5,7 +5,7 @@ ghost use Rattle.cell_types.specs.Column.{column_view};
 ghost use Rattle.csvw_meta.specs.Schema.{schema_view};
 ghost use Rattle.csvw_writer.specs.Column.{column_json};
 ghost use Rattle.csvw_writer.specs.Members.{array_of, field_tokens, object_with, texts_json};
-ghost use Rattle.csvw_writer.specs.Table.{key_field, key_names, name_at as name_in, schema_fields, table_json};
+ghost use Rattle.csvw_writer.specs.Table.{key_field, names_of_key, name_at as name_in, schema_fields, table_json};
 
 use crate::column::write_column;
 use crate::members::write_text;
@@ -39,7 +39,7 @@ fn name_at(columns: &[Column], place: usize) -> &str
 /// The names of the columns at those places.
 fn write_names(out: &mut Pretty, columns: &[Column], places: &[usize]) -> Result<(), AllocError>
     ensures { OnOk result (out.new ≡ out.old
-        ++ json_tokens (texts_json (key_names (map column_view columns.now) places.now))) }
+        ++ json_tokens (texts_json (names_of_key (map column_view columns.now) places.now))) }
 {
     out.token(Token::BeginArray)?;
     for place in places {

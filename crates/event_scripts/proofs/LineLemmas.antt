@@ -5,7 +5,7 @@ use Rattle.std.specs.Str.Lines.{lines_of_parts, strip_carriage_return}
 use Rattle.std.proofs.lemmas.Bool.{ltb-true, ltb-false}
 use Rattle.std.proofs.lemmas.List.{drop-drop, take_all}
 use Rattle.std.proofs.lemmas.List.Splits.{length-slice_split, slice_split_first}
-use Rattle.event_scripts.specs.Lines.{is_line_feed, script_lines, without_return}
+use Rattle.event_scripts.specs.Lines.{is_line_feed, script_lines, less_return}
 
 pub found_at : (xs : List ℕ) (p : ℕ → Bool) (at : ℕ) → position p xs ≡ Some at → (at ≡ position_or_len p xs) × (position_or_len p xs < length xs)
 found_at xs p at = go (ltb (position_or_len p xs) (length xs)) refl
@@ -28,7 +28,7 @@ one_more line [] n e = absurd (omega (arith, e))
 one_more line (part ∷ parts) n e = refl
 
 pub line_before : (script : List ℕ) (at : ℕ) → position is_line_feed script ≡ Some at
-    → script_lines script ≡ without_return (take at script) ∷ script_lines (drop (at + 1) script)
+    → script_lines script ≡ less_return (take at script) ∷ script_lines (drop (at + 1) script)
 line_before script at found =
     let is = found_at script is_line_feed at found in
     let split = slice_split_first is_line_feed script 0 is.1 in

@@ -6,8 +6,8 @@ use Rattle.event_scripts.specs.declared.command.Word.TheVariants.{Open, Piece, E
 use Rattle.event_scripts.specs.declared.fault.CommandFault.{CommandFault}
 use Rattle.event_scripts.specs.declared.fault.CommandFault.TheVariants.{Bad, NoMemory}
 use Rattle.std.specs.declared.alloc.Global.{Global}
-use Rattle.event_scripts.specs.Command.{BeginsWithNumber, CommandOf, IsAsked, IsCommand, IsNumber, Reads, letters}
-use Rattle.event_scripts.specs.Escapes.{IsText, ReadsText}
+use Rattle.event_scripts.specs.Command.{BeginsWithNumber, CommandOf, IsAsked, IsCommand, IsNumber, ReadsCommand, letters}
+use Rattle.event_scripts.specs.Escapes.{StandsForBytes, ReadsEscapedText}
 use Rattle.event_scripts.proofs.NumberLemmas.{one_number}
 use Rattle.event_scripts.proofs.TextLemmas.{same_text}
 
@@ -52,7 +52,7 @@ one_asked Open text c d h k = h.1 ∙ sym k.1
 one_asked Piece text c d (place, bytes, rest, is, begins, h) (place', bytes', rest', is', begins', k) =
     let one = one_number begins begins' in
     let places : place ≡ place' = one.0 in
-    let texts : bytes ≡ bytes' = same_text rest bytes bytes' h (subst (λ (r : List ℕ). IsText r bytes') (sym one.1) k) in
+    let texts : bytes ≡ bytes' = same_text rest bytes bytes' h (subst (λ (r : List ℕ). StandsForBytes r bytes') (sym one.1) k) in
     cc
 one_asked End text c d (place, is, h) (place', is', k) = let same = same_number h k in cc
 one_asked Turn text c d (place, is, h) (place', is', k) = let same = same_number h k in cc
@@ -95,6 +95,6 @@ no_word line a b c d e f g Reload = g
 
 -- where what stands behind the place is no text, there is no piece
 pub piece_bad : (text : List ℕ) (place : ℕ) (rest : List ℕ) → BeginsWithNumber text place rest → (fault : CommandFault)
-    → ReadsText {A = Global} rest (Err fault) → Reads (IsAsked Piece text) (Err fault)
-piece_bad text place rest begins Bad none = λ _ h. none h.1 (subst (λ (t : List ℕ). IsText t h.1) (sym (one_number begins h.4).1) h.5)
+    → ReadsEscapedText {A = Global} rest (Err fault) → ReadsCommand (IsAsked Piece text) (Err fault)
+piece_bad text place rest begins Bad none = λ _ h. none h.1 (subst (λ (t : List ℕ). StandsForBytes t h.1) (sym (one_number begins h.4).1) h.5)
 piece_bad text place rest begins NoMemory none = tt

@@ -2,7 +2,7 @@
 use Rattle.std.specs.Prelude.{ℕ, List, [], ◌∷◌, ◌++◌, codes, length}
 use Rattle.std.specs.Fmt.{decimal}
 use Rattle.std.specs.List.{flat_map}
-use Rattle.event_scripts.specs.Escapes.{escaped, line_feed}
+use Rattle.event_scripts.specs.Escapes.{written_byte, line_feed}
 
 -- a text as a line
 abbrev pub line_of : List ℕ → List ℕ
@@ -14,8 +14,8 @@ place_text place = codes "conn " ++ decimal place
 
 -- the number of the bytes that were taken, and these
 abbrev pub bytes_text : List ℕ → List ℕ
-bytes_text bytes = codes "bytes " ++ decimal (length bytes) ++ codes " " ++ flat_map escaped bytes
+bytes_text bytes = codes "bytes " ++ decimal (length bytes) ++ codes " " ++ flat_map written_byte bytes
 
 -- why a call was refused
-abbrev pub refusal_text : List ℕ → List ℕ
-refusal_text name = codes "refused " ++ name
+abbrev pub text_of_refusal : List ℕ → List ℕ
+text_of_refusal name = codes "refused " ++ name

@@ -9,7 +9,7 @@ use Rattle.event_scripts.specs.declared.command.Command.{Command}
 use Rattle.event_scripts.specs.declared.command.Command.TheVariants as command
 use Rattle.event_scripts.specs.declared.fault.CommandFault.{CommandFault}
 use Rattle.event_scripts.specs.declared.fault.CommandFault.TheVariants.{Bad, NoMemory}
-use Rattle.event_scripts.specs.Escapes.{IsText}
+use Rattle.event_scripts.specs.Escapes.{StandsForBytes}
 
 -- one or more digits, which write a number of at most 65,536
 pub record IsNumber (text : List ℕ) (n : ℕ) : Type 0 where
@@ -57,7 +57,7 @@ BeginsWithNumber text n rest = (number : List ℕ) × (text ≡ number ++ 32 ∷
 -- the text behind the word makes it this command
 abbrev pub IsAsked : Word → List ℕ → CommandOf → Type 0
 IsAsked word.Open text c = (text ≡ []) × (c ≡ Open)
-IsAsked word.Piece text c = (place : ℕ) × (bytes rest : List ℕ) × (c ≡ Piece place bytes) × BeginsWithNumber text place rest × IsText rest bytes
+IsAsked word.Piece text c = (place : ℕ) × (bytes rest : List ℕ) × (c ≡ Piece place bytes) × BeginsWithNumber text place rest × StandsForBytes rest bytes
 IsAsked word.End text c = (place : ℕ) × (c ≡ End place) × IsNumber text place
 IsAsked word.Turn text c = (place : ℕ) × (c ≡ Turn place) × IsNumber text place
 IsAsked word.Take text c = (place room : ℕ) × (rest : List ℕ) × (c ≡ Take place room) × BeginsWithNumber text place rest × IsNumber rest room
@@ -69,7 +69,7 @@ abbrev pub IsCommand : List ℕ → CommandOf → Type 0
 IsCommand line c = (w : Word) × (text : List ℕ) × (line ≡ letters w ++ text) × IsAsked w text c
 
 -- a command was read that is so; or there is none that is; or memory ran out
-abbrev pub Reads : (CommandOf → Type 0) → Result Command CommandFault → Type 0
-Reads Is (Ok c) = Is (command_view c)
-Reads Is (Err Bad) = (c : CommandOf) → ¬ (Is c)
-Reads Is (Err NoMemory) = Unit {0}
+abbrev pub ReadsCommand : (CommandOf → Type 0) → Result Command CommandFault → Type 0
+ReadsCommand Is (Ok c) = Is (command_view c)
+ReadsCommand Is (Err Bad) = (c : CommandOf) → ¬ (Is c)
+ReadsCommand Is (Err NoMemory) = Unit {0}

@@ -22,26 +22,26 @@ byte_behind character =
     else None))
 
 -- the text begins with what stands for the byte, and rest follows that: a backslash with a character behind it, or the byte itself
-abbrev pub BeginsWith : List ℕ → ℕ → List ℕ → Type 0
-BeginsWith text byte rest =
+abbrev pub BeginsWithByte : List ℕ → ℕ → List ℕ → Type 0
+BeginsWithByte text byte rest =
     ((character : ℕ) × (text ≡ backslash ∷ character ∷ rest) × (byte_behind character ≡ Some byte))
     ⊎ ((text ≡ byte ∷ rest) × (byte ≢ backslash))
 
 -- the text stands for these bytes
-abbrev pub IsText : List ℕ → List ℕ → Type 0
-IsText text [] = text ≡ []
-IsText text (byte ∷ bytes) = (rest : List ℕ) × BeginsWith text byte rest × IsText rest bytes
+abbrev pub StandsForBytes : List ℕ → List ℕ → Type 0
+StandsForBytes text [] = text ≡ []
+StandsForBytes text (byte ∷ bytes) = (rest : List ℕ) × BeginsWithByte text byte rest × StandsForBytes rest bytes
 
 -- what is written for a byte
-abbrev pub escaped : ℕ → List ℕ
-escaped byte =
+abbrev pub written_byte : ℕ → List ℕ
+written_byte byte =
     if byte == carriage_return then backslash ∷ 114 ∷ []
     else (if byte == line_feed then backslash ∷ 110 ∷ []
     else (if byte == backslash then backslash ∷ backslash ∷ []
     else byte ∷ []))
 
 -- the bytes were read that the text stands for; or it stands for none; or memory ran out
-abbrev pub ReadsText : {A : Type 0} → List ℕ → Result (Vec ℕ A) CommandFault → Type 0
-ReadsText text (Ok bytes) = IsText text bytes.items
-ReadsText text (Err Bad) = (bytes : List ℕ) → ¬ (IsText text bytes)
-ReadsText text (Err NoMemory) = Unit {0}
+abbrev pub ReadsEscapedText : {A : Type 0} → List ℕ → Result (Vec ℕ A) CommandFault → Type 0
+ReadsEscapedText text (Ok bytes) = StandsForBytes text bytes.items
+ReadsEscapedText text (Err Bad) = (bytes : List ℕ) → ¬ (StandsForBytes text bytes)
+ReadsEscapedText text (Err NoMemory) = Unit {0}

@@ -1,6 +1,6 @@
 //! The lines that are printed of what commands are answered.
 ghost use Rattle.std.specs.Prelude.{◌≡◌, IfOk};
-ghost use Rattle.event_scripts.specs.Answers.{bytes_text, line_of, place_text, refusal_text};
+ghost use Rattle.event_scripts.specs.Answers.{bytes_text, line_of, place_text, text_of_refusal};
 
 use crate::escapes::push_escaped;
 use std::alloc::{AllocError, Global};
@@ -36,7 +36,7 @@ pub fn bytes_line(alloc: Global, bytes: &[u8]) -> Result<Vec<u8>, AllocError>
 
 /// The line of a refusal of that name.
 pub fn refusal_line(alloc: Global, name: &str) -> Result<Vec<u8>, AllocError>
-    ensures { IfOk result (λ line. line.items ≡ line_of (refusal_text name.now)) }
+    ensures { IfOk result (λ line. line.items ≡ line_of (text_of_refusal name.now)) }
 {
     let line = format!(in alloc; "refused {name}\n")?;
     Ok(line.into_bytes())

@@ -1,6 +1,6 @@
 //! Commands, and a line read as one.
 ghost use Rattle.std.specs.Prelude.{◌≡◌, ◌≢◌, ◌++◌, ℕ, List, IfErr, MatchOption, position};
-ghost use Rattle.event_scripts.specs.Command.{BeginsWithNumber, IsAsked, IsCommand, Reads, is_space, letters};
+ghost use Rattle.event_scripts.specs.Command.{BeginsWithNumber, IsAsked, IsCommand, ReadsCommand, is_space, letters};
 
 use crate::escapes::read_text;
 use crate::fault::CommandFault;
@@ -103,7 +103,7 @@ fn first_number(text: &[u8]) -> Option<(u32, &[u8])>
 
 /// The command that a text behind `piece` makes.
 fn read_piece<'a>(alloc: Global, text: &[u8]) -> Result<Command<'a>, CommandFault>
-    ensures { Reads (IsAsked Word.Piece text.now) result }
+    ensures { ReadsCommand (IsAsked Word.Piece text.now) result }
 {
     let Some((place, rest)) = first_number(text) else {
         return Err(CommandFault::Bad);
@@ -116,7 +116,7 @@ fn read_piece<'a>(alloc: Global, text: &[u8]) -> Result<Command<'a>, CommandFaul
 
 /// The command that a text behind `take` makes.
 fn read_take<'a>(text: &[u8]) -> Result<Command<'a>, CommandFault>
-    ensures command { Reads (IsAsked Word.Take text.now) result }
+    ensures command { ReadsCommand (IsAsked Word.Take text.now) result }
     ensures memory { IfErr result (λ e. e ≢ CommandFault.NoMemory) }
 {
     let Some((place, rest)) = first_number(text) else {
@@ -130,7 +130,7 @@ fn read_take<'a>(text: &[u8]) -> Result<Command<'a>, CommandFault>
 
 /// The command that a text behind `reload` makes.
 fn read_reload<'a>(text: &'a [u8]) -> Result<Command<'a>, CommandFault>
-    ensures command { Reads (IsAsked Word.Reload text.entry.now) result }
+    ensures command { ReadsCommand (IsAsked Word.Reload text.entry.now) result }
     ensures memory { IfErr result (λ e. e ≢ CommandFault.NoMemory) }
 {
     match str::from_utf8(text) {
@@ -141,7 +141,7 @@ fn read_reload<'a>(text: &'a [u8]) -> Result<Command<'a>, CommandFault>
 
 /// The command that a text behind a word makes.
 fn read_asked<'a>(alloc: Global, word: Word, text: &'a [u8]) -> Result<Command<'a>, CommandFault>
-    ensures command { Reads (IsAsked word text.entry.now) result }
+    ensures command { ReadsCommand (IsAsked word text.entry.now) result }
     ensures memory { IfErr result (λ e. e ≡ CommandFault.NoMemory → word ≡ Word.Piece) }
 {
     match word {
@@ -167,7 +167,7 @@ fn read_asked<'a>(alloc: Global, word: Word, text: &'a [u8]) -> Result<Command<'
 
 /// The command that a line is. It is `Bad` exactly where the line is none. Only a `piece` takes memory.
 pub fn read_command<'a>(alloc: Global, line: &'a [u8]) -> Result<Command<'a>, CommandFault>
-    ensures command { Reads (IsCommand line.entry.now) result }
+    ensures command { ReadsCommand (IsCommand line.entry.now) result }
     ensures memory { IfErr result (λ e. e ≡ CommandFault.NoMemory
         → (text : List ℕ) × (line.entry.now ≡ letters Word.Piece ++ text)) }
 {

@@ -1,6 +1,6 @@
 //! What a line says.
 ghost use Rattle.std.specs.Prelude.{◌≡◌};
-ghost use Rattle.event_scripts.specs.Laws.{OneCommand, ReadsBack};
+ghost use Rattle.event_scripts.specs.Laws.{OneCommand, EscapesReadBack};
 
 use crate::number::MOST_NUMBER;
 
@@ -16,5 +16,5 @@ pub fn one_command()
 
 /// What is written for bytes stands for these bytes.
 pub fn reads_back()
-    ensures { ReadsBack }
+    ensures { EscapesReadBack }
 {}

@@ -1,6 +1,6 @@
 //! The lines of a script.
 ghost use Rattle.std.specs.Prelude.{◌≡◌, ◌<◌, ◌∷◌, [], IfSome, MatchOption, length, position};
-ghost use Rattle.event_scripts.specs.Lines.{is_line_feed, script_lines, without_return};
+ghost use Rattle.event_scripts.specs.Lines.{is_line_feed, script_lines, less_return};
 
 /// Where the first line feed is.
 fn line_feed(script: &[u8]) -> Option<usize>
@@ -11,7 +11,7 @@ fn line_feed(script: &[u8]) -> Option<usize>
 
 /// A line without the one carriage return at its end, if it has one.
 fn without_return(line: &[u8]) -> &[u8]
-    ensures { result.now ≡ without_return line.now }
+    ensures { result.now ≡ less_return line.now }
 {
     match line.strip_suffix(b"\r") {
         Some(front) => front,

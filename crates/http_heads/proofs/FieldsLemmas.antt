@@ -1,7 +1,7 @@
 -- Tests of fields, on what the code keeps and on what contracts see of it; and the blanks behind a value.
 use Rattle.std.proofs.Common.{◌≡◌, ℕ, ◌+◌, Bool, true, false, ◌||◌, ◌&&◌, cond, ◌≢◌, tests, List, [], ◌∷◌, ◌++◌, length, map, refl, ap, arith, ◌==◌}
 use Rattle.std.specs.List.{list_any, count_by, fold}
-use Rattle.http_heads.specs.Fields.{is_blank, without_back}
+use Rattle.http_heads.specs.Fields.{is_optional_space, without_back}
 
 pub list_any-map : {X Y : Type 0} (p : Y → Bool) (h : X → Y) (xs : List X) → list_any p (map h xs) ≡ list_any (λ x. p (h x)) xs
 list_any-map p h [] = refl
@@ -33,7 +33,7 @@ pub last_new : (minor : ℕ) (listed test : Bool) → minor ≢ 0 → test ≡ l
 last_new minor listed test new same = grind (arith, tests)
 
 -- a blank behind the others goes
-pub back-blank : (bytes : List ℕ) (b : ℕ) → is_blank b ≡ true → without_back (bytes ++ b ∷ []) ≡ without_back bytes
+pub back-blank : (bytes : List ℕ) (b : ℕ) → is_optional_space b ≡ true → without_back (bytes ++ b ∷ []) ≡ without_back bytes
 back-blank [] b blank = rw blank refl
 back-blank (x ∷ bytes) b blank = rw (back-blank bytes b blank) refl
 
@@ -46,7 +46,7 @@ not_empty : (xs : List ℕ) (b : ℕ) → (length (xs ++ b ∷ []) == 0) ≡ fal
 not_empty [] b = refl
 not_empty (x ∷ xs) b = grind arith
 
-pub back-other : (bytes : List ℕ) (b : ℕ) → is_blank b ≡ false → without_back (bytes ++ b ∷ []) ≡ bytes ++ b ∷ []
+pub back-other : (bytes : List ℕ) (b : ℕ) → is_optional_space b ≡ false → without_back (bytes ++ b ∷ []) ≡ bytes ++ b ∷ []
 back-other [] b other = rw other refl
 back-other (x ∷ bytes) b other =
-    rw (back-other bytes b other) (some_back x (bytes ++ b ∷ []) (is_blank x) (not_empty bytes b))
+    rw (back-other bytes b other) (some_back x (bytes ++ b ∷ []) (is_optional_space x) (not_empty bytes b))

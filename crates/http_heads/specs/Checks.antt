@@ -9,16 +9,16 @@ use Rattle.http_heads.specs.Method.{method_of}
 use Rattle.http_heads.specs.Fields.{host_fits, has_coding, has_no_length, asks_to_close}
 
 -- a test, or its fault
-abbrev pub unless : Bool → HeadFault → Option HeadFault
-unless test fault = if test then None else Some fault
+abbrev pub fault_unless : Bool → HeadFault → Option HeadFault
+fault_unless test fault = if test then None else Some fault
 
 -- the faults of a head whatever its target is, in their order
 abbrev pub head_faults : HeadOf → List (Option HeadFault)
 head_faults head =
-    unless (host_fits head) BadHost
-    ∷ unless (not (has_coding head)) NotServed
-    ∷ unless (has_no_length head) BadLength
-    ∷ unless (is_some (method_of head.method)) MethodNotAllowed
+    fault_unless (host_fits head) BadHost
+    ∷ fault_unless (not (has_coding head)) NotServed
+    ∷ fault_unless (has_no_length head) BadLength
+    ∷ fault_unless (is_some (method_of head.method)) MethodNotAllowed
     ∷ []
 
 -- the first fault

@@ -10,18 +10,18 @@ abbrev pub same_word : List ℕ → List ℕ → Bool
 same_word a b = bytes_eq (map to_ascii_lowercase a) (map to_ascii_lowercase b)
 
 -- a space or a tab
-abbrev pub is_blank : ℕ → Bool
-is_blank b = b == 32 || b == 9
+abbrev pub is_optional_space : ℕ → Bool
+is_optional_space b = b == 32 || b == 9
 
 -- the bytes without the blanks before them
 abbrev pub without_front : List ℕ → List ℕ
 without_front [] = []
-without_front (b ∷ bytes) = if is_blank b then without_front bytes else b ∷ bytes
+without_front (b ∷ bytes) = if is_optional_space b then without_front bytes else b ∷ bytes
 
 -- the bytes without the blanks behind them
 abbrev pub without_back : List ℕ → List ℕ
 without_back [] = []
-without_back (b ∷ bytes) = if is_blank b && (length (without_back bytes) == 0) then [] else b ∷ without_back bytes
+without_back (b ∷ bytes) = if is_optional_space b && (length (without_back bytes) == 0) then [] else b ∷ without_back bytes
 
 -- the bytes without the blanks round them
 abbrev pub stripped : List ℕ → List ℕ

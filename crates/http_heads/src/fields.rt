@@ -3,7 +3,7 @@ ghost use Rattle.std.specs.Prelude.{◌≡◌, ◌&&◌, ◌||◌, not, codes};
 ghost use Rattle.std.specs.List.{count_by, list_all, list_any};
 ghost use Rattle.std.specs.Str.{bytes_eq};
 ghost use Rattle.http_heads.specs.Head.{head_view};
-ghost use Rattle.http_heads.specs.Fields.{asks_to_close, has_coding, has_no_length, host_fits, is_blank, lists_close, same_word, stripped, without_back, without_front};
+ghost use Rattle.http_heads.specs.Fields.{asks_to_close, has_coding, has_no_length, host_fits, is_optional_space, lists_close, same_word, stripped, without_back, without_front};
 
 use crate::head::{Field, Head};
 
@@ -16,7 +16,7 @@ fn is_same_word(word: &[u8], other: &[u8]) -> bool
 
 /// Whether a byte is a space or a tab.
 fn is_blank(byte: u8) -> bool
-    ensures { result ≡ is_blank byte }
+    ensures { result ≡ is_optional_space byte }
 {
     byte == b' ' || byte == b'\t'
 }

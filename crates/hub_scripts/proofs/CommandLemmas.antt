@@ -8,14 +8,14 @@ use Rattle.table_store.specs.Catalog.{CatalogOf}
 use Rattle.odata_hub.specs.declared.hub.Hub.{Hub}
 use Rattle.odata_hub.specs.Connections.{Done}
 use Rattle.odata_hub.specs.Schedules.{Event, HubOf, HubStep, Reload, reload}
-use Rattle.odata_hub.specs.Stands.{IsHubStep, StandsFor}
+use Rattle.odata_hub.specs.Stands.{IsHubStep, Models}
 use Rattle.served_folders.specs.declared.folders.FolderFault.{FolderFault}
 use Rattle.served_folders.specs.declared.folders.FolderFault.TheVariants as folder
 use Rattle.program_ends.specs.declared.fault.ProgramFault.{ProgramFault}
 use Rattle.program_ends.specs.declared.fault.ProgramFault.TheVariants.{Folder, Run, Script, Device, NoMemory}
-use Rattle.served_folders.specs.Folders.{CountsFault, FoldersOf, folder_cause}
+use Rattle.served_folders.specs.Folders.{CountsFolderFault, FoldersOf, folder_cause}
 use Rattle.served_folders.specs.Loads.{IsFolderFault, IsLoaded, loading}
-use Rattle.hub_scripts.specs.Replay.{Stage, stage, Outcome, Happened, Kept, Comes, Happens, IsAnswered, IsKept, ComesTo}
+use Rattle.hub_scripts.specs.Replay.{Stage, stage, Outcome, Happened, Kept, Comes, Happens, IsAnsweredInLine, IsKeptFolder, ComesTo}
 
 -- what an outcome makes of the hub
 abbrev pub StepOf : Stage → Outcome → Stage → Type 0
@@ -33,7 +33,7 @@ comes_step (command.Reload name) old outcome new (inl h) = subst (λ (o : Outcom
 comes_step (command.Reload name) old outcome new (inr h) = subst (λ (o : Outcome). StepOf old o new) (sym h.outcome_is) h.hub
 
 -- a refused folder is no failure of a device
-kept_device : (fault : FolderFault) (old new : FoldersOf) → folder_cause fault ≢ None → CountsFault {X = ⊤} old new (Err fault) → new.device ≡ old.device
+kept_device : (fault : FolderFault) (old new : FoldersOf) → folder_cause fault ≢ None → CountsFolderFault {X = ⊤} old new (Err fault) → new.device ≡ old.device
 kept_device folder.NoMetadata old new caused h = h.1
 kept_device (folder.Load fault) old new caused h = h.1
 kept_device folder.Device old new caused h = absurd (caused refl)
@@ -52,7 +52,7 @@ comes_device (command.Reload name) old outcome new (inr h) = kept_device h.fault
 -- an event of the hub is what a command came to
 pub comes_by : (c : CommandOf) (event : Event) (old new : Hub) (folders : FoldersOf) (h : HubOf)
     → ((outcome : Outcome) (s t : Stage) → Happens event s outcome t → s ≡ stage h folders → Comes c s outcome t) → (text : List ℕ)
-    → HubAnswers event old new text → StandsFor old h → ComesTo c (stage h folders) new folders text
+    → HubAnswers event old new text → Models old h → ComesTo c (stage h folders) new folders text
 comes_by c event old new folders h comes text answers stands =
     let next = answers.step h stands in record {
       outcome = Happened (record { event = event; answer = answers.answer });
@@ -65,7 +65,7 @@ comes_by c event old new folders h comes text answers stands =
 -- a folder was loaded again
 pub reload_answers : (name : List ℕ) (old new : Hub) (before after : FoldersOf) (catalog : CatalogOf) → IsLoaded (loading name before after) catalog
     → IsHubStep old (Reload catalog) Done new → (text : List ℕ) → text ≡ answer_line Done
-    → (h : HubOf) → StandsFor old h → ComesTo (command.Reload name) (stage h before) new after text
+    → (h : HubOf) → Models old h → ComesTo (command.Reload name) (stage h before) new after text
 reload_answers name old new before after catalog loaded step text is h stands =
     let next = step h stands in record {
       outcome = Happened (reload catalog);
@@ -77,8 +77,8 @@ reload_answers name old new before after catalog loaded step text is h stands =
 
 -- a folder is refused, or gave no catalog otherwise
 pub kept_answers : {A : Type 0} (name : List ℕ) (hub : Hub) (before after : FoldersOf) (fault : FolderFault)
-    → IsFolderFault (loading name before after) fault → (r : Result (Vec ℕ A) ProgramFault) → IsKept fault r
-    → IsAnswered (command.Reload name) hub before hub after r
+    → IsFolderFault (loading name before after) fault → (r : Result (Vec ℕ A) ProgramFault) → IsKeptFolder fault r
+    → IsAnsweredInLine (command.Reload name) hub before hub after r
 kept_answers name hub before after fault refused (Ok line) kept = λ h stands. record {
   outcome = Kept fault;
   new = h;

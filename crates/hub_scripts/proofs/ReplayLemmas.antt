@@ -9,7 +9,7 @@ use Rattle.table_store.specs.Catalog.{CatalogOf}
 use Rattle.odata_http.specs.Device.{SinkOf}
 use Rattle.odata_http.specs.Answer.{HasWritten}
 use Rattle.odata_hub.specs.Schedules.{HubOf, HubRun}
-use Rattle.odata_hub.specs.Stands.{StandsFor}
+use Rattle.odata_hub.specs.Stands.{Models}
 use Rattle.program_ends.specs.declared.fault.ProgramFault.{ProgramFault}
 use Rattle.program_ends.specs.declared.fault.ProgramFault.TheVariants.{Folder, Run, Script, Device, NoMemory}
 use Rattle.served_folders.specs.Folders.{FoldersOf}
@@ -65,10 +65,10 @@ pub record IsPlayedTo (script : List ℕ) (start : Stage) (rest : List ℕ) (num
   pub hub : HubOf
   pub outcomes : List Outcome
   pub plays : Plays before start outcomes (stage hub now.folders)
-  pub stands : StandsFor now.hub hub
+  pub stands : Models now.hub hub
   pub written : HasWritten sink now.sink (outcome_lines outcomes)
 
-pub played_none : (script : List ℕ) (hub : HubOf) (now : Place) → StandsFor now.hub hub → IsPlayedTo script (stage hub now.folders) script 1 now.sink now
+pub played_none : (script : List ℕ) (hub : HubOf) (now : Place) → Models now.hub hub → IsPlayedTo script (stage hub now.folders) script 1 now.sink now
 played_none script hub now stands = record {
   before = [];
   lines = refl;

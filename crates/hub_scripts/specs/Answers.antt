@@ -1,6 +1,6 @@
 -- What is printed of an answer of the hub: one line.
 use Rattle.std.specs.Prelude.{◌≡◌, ℕ, List, codes}
-use Rattle.event_scripts.specs.Answers.{bytes_text, line_of, place_text, refusal_text}
+use Rattle.event_scripts.specs.Answers.{bytes_text, line_of, place_text, text_of_refusal}
 use Rattle.odata_hub.specs.declared.answers.HubFault.{HubFault}
 use Rattle.odata_hub.specs.declared.answers.HubFault.TheVariants as hub
 use Rattle.odata_hub.specs.declared.answers.Turned.TheVariants.{Idle, Worked}
@@ -24,7 +24,7 @@ answer_text (Opened place) = place_text place
 answer_text (Went Worked) = codes "worked"
 answer_text (Went Idle) = codes "idle"
 answer_text (Gave bytes) = bytes_text bytes
-answer_text (Refused fault) = refusal_text (hub_fault_name fault)
+answer_text (Refused fault) = text_of_refusal (hub_fault_name fault)
 
 abbrev pub answer_line : Answer → List ℕ
 answer_line answer = line_of (answer_text answer)

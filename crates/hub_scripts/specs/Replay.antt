@@ -12,7 +12,7 @@ use Rattle.odata_http.specs.Answer.{HasWritten, HasFailed}
 use Rattle.odata_hub.specs.declared.hub.Hub.{Hub}
 use Rattle.odata_hub.specs.Connections.{Answer, Done, Piece, End, Turn, Take}
 use Rattle.odata_hub.specs.Schedules.{Event, Open, On, Drop, Reload, Happening, HubOf, HubRun, HubStep, reload}
-use Rattle.odata_hub.specs.Stands.{StandsFor}
+use Rattle.odata_hub.specs.Stands.{Models}
 use Rattle.served_folders.specs.declared.folders.FolderFault.{FolderFault}
 use Rattle.program_ends.specs.declared.fault.ProgramFault.{ProgramFault}
 use Rattle.program_ends.specs.declared.fault.ProgramFault.TheVariants.{Folder, Script, Device, NoMemory}
@@ -255,15 +255,15 @@ pub record Place : Type 0 where
   pub folders : FoldersOf
   pub sink : SinkOf
 
-abbrev pub place_of : Hub → FoldersOf → SinkOf → Place
-place_of hub folders sink = record { hub = hub; folders = folders; sink = sink }
+abbrev pub replay_place : Hub → FoldersOf → SinkOf → Place
+replay_place hub folders sink = record { hub = hub; folders = folders; sink = sink }
 
 -- a command came to this from each hub that the old one stands for, and this text is printed of it
 pub record ComesTo (c : CommandOf) (old : Stage) (hub : Hub) (folders : FoldersOf) (text : List ℕ) : Type 0 where
   pub outcome : Outcome
   pub new : HubOf
   pub comes : Comes c old outcome (stage new folders)
-  pub stands : StandsFor hub new
+  pub stands : Models hub new
   pub text_is : text ≡ outcome_line outcome
 
 -- a command leaves the folders as they were, or asks for a folder, which was loaded once
@@ -271,26 +271,26 @@ abbrev pub MayAsk : CommandOf → FoldersOf → FoldersOf → Type 0
 MayAsk c old new = (new ≡ old) ⊎ ((folder : List ℕ) × (c ≡ command.Reload folder) × LoadsOnce folder old new)
 
 -- how a command was answered: by a line; or memory ran out; or it asked for a folder that gave no catalog and is not refused
-abbrev pub IsAnswered : {A : Type 0} → CommandOf → Hub → FoldersOf → Hub → FoldersOf → Result (Vec ℕ A) ProgramFault → Type 0
-IsAnswered c old before new after (Ok line) = (h : HubOf) → StandsFor old h → ComesTo c (stage h before) new after line.items
-IsAnswered c old before new after (Err NoMemory) = MayAsk c before after
-IsAnswered c old before new after (Err (Folder fault)) = (folder : List ℕ) × (c ≡ command.Reload folder) × Lacks folder before after fault
-IsAnswered c old before new after (Err fault) = ⊥
+abbrev pub IsAnsweredInLine : {A : Type 0} → CommandOf → Hub → FoldersOf → Hub → FoldersOf → Result (Vec ℕ A) ProgramFault → Type 0
+IsAnsweredInLine c old before new after (Ok line) = (h : HubOf) → Models old h → ComesTo c (stage h before) new after line.items
+IsAnsweredInLine c old before new after (Err NoMemory) = MayAsk c before after
+IsAnsweredInLine c old before new after (Err (Folder fault)) = (folder : List ℕ) × (c ≡ command.Reload folder) × Lacks folder before after fault
+IsAnsweredInLine c old before new after (Err fault) = ⊥
 
 -- how a fault of a folder that is to be loaded again was answered: by its line, where the folder is refused
-abbrev pub IsKept : {A : Type 0} → FolderFault → Result (Vec ℕ A) ProgramFault → Type 0
-IsKept fault (Ok line) = (folder_cause fault ≢ None) × (line.items ≡ outcome_line (Kept fault))
-IsKept fault (Err NoMemory) = ⊤
-IsKept fault (Err (Folder same)) = (same ≡ fault) × (folder_cause fault ≡ None)
-IsKept fault (Err other) = ⊥
+abbrev pub IsKeptFolder : {A : Type 0} → FolderFault → Result (Vec ℕ A) ProgramFault → Type 0
+IsKeptFolder fault (Ok line) = (folder_cause fault ≢ None) × (line.items ≡ outcome_line (Kept fault))
+IsKeptFolder fault (Err NoMemory) = ⊤
+IsKeptFolder fault (Err (Folder same)) = (same ≡ fault) × (folder_cause fault ≡ None)
+IsKeptFolder fault (Err other) = ⊥
 
 -- how a line was played
 abbrev pub IsLinePlayed : List ℕ → ℕ → Place → Place → Result ⊤ ProgramFault → Type 0
-IsLinePlayed line number old new (Ok u) = (h : HubOf) → StandsFor old.hub h
+IsLinePlayed line number old new (Ok u) = (h : HubOf) → Models old.hub h
     → (c : CommandOf) × IsCommand line c × (bytes : List ℕ) × ComesTo c (stage h old.folders) new.hub new.folders bytes × HasWritten old.sink new.sink bytes
 IsLinePlayed line number old new (Err (Script n)) =
     (n ≡ number) × ((c : CommandOf) → ¬ (IsCommand line c)) × (new.folders ≡ old.folders) × (new.sink ≡ old.sink)
-IsLinePlayed line number old new (Err Device) = (h : HubOf) → StandsFor old.hub h
+IsLinePlayed line number old new (Err Device) = (h : HubOf) → Models old.hub h
     → (c : CommandOf) × IsCommand line c × (bytes : List ℕ) × ComesTo c (stage h old.folders) new.hub new.folders bytes
     × (n : ℕ) × HasFailed old.sink new.sink (take n bytes)
 IsLinePlayed line number old new (Err NoMemory) = (new.sink ≡ old.sink) × MayLoad line old.folders new.folders

@@ -1,6 +1,6 @@
 //! What is printed of the answers of a hub: one line for each call.
 ghost use Rattle.std.specs.Prelude.{◌≡◌, IfOk};
-ghost use Rattle.odata_hub.specs.Connections.{Done, Opened, Refused, Take, Went, answer_of};
+ghost use Rattle.odata_hub.specs.Connections.{Done, Opened, Refused, Take, Went, call_answer};
 ghost use Rattle.odata_hub.specs.Schedules.{On};
 ghost use Rattle.hub_scripts.specs.Answers.{HubAnswers, answer_line, hub_fault_name};
 
@@ -30,7 +30,7 @@ fn refused_line(alloc: Global, fault: HubFault) -> Result<Vec<u8>, AllocError>
 
 /// The line of a call that has nothing to tell.
 pub(crate) fn done_line(alloc: Global, answer: Result<(), HubFault>) -> Result<Vec<u8>, AllocError>
-    ensures { IfOk result (λ line. line.items ≡ answer_line (answer_of (λ _. Done) answer)) }
+    ensures { IfOk result (λ line. line.items ≡ answer_line (call_answer (λ _. Done) answer)) }
 {
     match answer {
         Ok(()) => text_line(alloc, "ok"),
@@ -44,7 +44,7 @@ pub(crate) fn opened_line(
     answer: Result<Conn, HubFault>,
 ) -> Result<Vec<u8>, AllocError>
     ensures { IfOk result (λ line.
-        line.items ≡ answer_line (answer_of (λ conn. Opened conn.0) answer)) }
+        line.items ≡ answer_line (call_answer (λ conn. Opened conn.0) answer)) }
 {
     match answer {
         Ok(Conn(place)) => place_line(alloc, place),
@@ -57,7 +57,7 @@ pub(crate) fn turned_line(
     alloc: Global,
     answer: Result<Turned, HubFault>,
 ) -> Result<Vec<u8>, AllocError>
-    ensures { IfOk result (λ line. line.items ≡ answer_line (answer_of Went answer)) }
+    ensures { IfOk result (λ line. line.items ≡ answer_line (call_answer Went answer)) }
 {
     match answer {
         Ok(Turned::Worked) => text_line(alloc, "worked"),

@@ -2,10 +2,10 @@
 ghost use Rattle.std.specs.Prelude.{◌≡◌};
 ghost use Rattle.event_scripts.specs.Command as command;
 ghost use Rattle.event_scripts.specs.Command.{command_view};
-ghost use Rattle.odata_hub.specs.Stands.{StandsFor};
+ghost use Rattle.odata_hub.specs.Stands.{Models};
 ghost use Rattle.odata_hub.specs.Schedules.{HubOf};
 ghost use Rattle.hub_scripts.specs.Laws.{ReloadsAreOneLine};
-ghost use Rattle.hub_scripts.specs.Replay.{IsAnswered, IsKept, IsLinePlayed, IsPlayed, IsReplay, PlaysSchedule, place_of, playing_of, replay_of, stage};
+ghost use Rattle.hub_scripts.specs.Replay.{IsAnsweredInLine, IsKeptFolder, IsLinePlayed, IsPlayed, IsReplay, PlaysSchedule, replay_place, playing_of, replay_of, stage};
 
 use crate::answers::{done_line, opened_line, take_line, turned_line};
 use event_scripts::{Command, CommandFault, first_line, read_command, text_line};
@@ -38,7 +38,7 @@ pub fn reloads_are_one_line()
 
 /// The line of a folder that is refused. Where it is not refused, the fault is given back.
 fn kept_line(alloc: Global, fault: FolderFault) -> Result<Vec<u8>, ProgramFault>
-    ensures { IsKept fault result }
+    ensures { IsKeptFolder fault result }
 {
     let whole = ProgramFault::Folder(fault);
     match fault_line(alloc, &whole) {
@@ -55,7 +55,7 @@ fn reload_line<F: Folders>(
     hub: &mut Hub,
     folder: &str,
 ) -> Result<Vec<u8>, ProgramFault>
-    ensures { IsAnswered (command.Reload folder.now) hub.old (F.folders folders.old)
+    ensures { IsAnsweredInLine (command.Reload folder.now) hub.old (F.folders folders.old)
         hub.new (F.folders folders.new) result }
 {
     match folders.load(alloc, folder) {
@@ -77,7 +77,7 @@ fn command_line<F: Folders>(
     hub: &mut Hub,
     command: &Command<'_>,
 ) -> Result<Vec<u8>, ProgramFault>
-    ensures { IsAnswered (command_view command.now) hub.old (F.folders folders.old)
+    ensures { IsAnsweredInLine (command_view command.now) hub.old (F.folders folders.old)
         hub.new (F.folders folders.new) result }
 {
     match command {
@@ -103,8 +103,8 @@ fn play_line<F: Folders, W: Sink>(
     out: &mut W,
 ) -> Result<(), ProgramFault>
     ensures { IsLinePlayed line.now number
-        (place_of hub.old (F.folders folders.old) (W.sink out.old))
-        (place_of hub.new (F.folders folders.new) (W.sink out.new)) result }
+        (replay_place hub.old (F.folders folders.old) (W.sink out.old))
+        (replay_place hub.new (F.folders folders.new) (W.sink out.new)) result }
 {
     let command = match read_command(alloc, line) {
         Ok(command) => command,
@@ -126,7 +126,7 @@ fn play_lines<F: Folders, W: Sink>(
     script: &[u8],
     out: &mut W,
 ) -> Result<(), ProgramFault>
-    ensures { (start : HubOf) → StandsFor hub.old start → IsPlayed
+    ensures { (start : HubOf) → Models hub.old start → IsPlayed
         (playing_of script.now (stage start (F.folders folders.old)) (F.folders folders.new)
         (W.sink out.old) (W.sink out.new))
         result }

@@ -4,7 +4,7 @@ use Rattle.csv_grammar.specs.Records.{Field}
 use Rattle.csv_grammar.specs.Files.{FileCause, IsTable, IsFileFault}
 
 -- so many rows, a file with a fault, or want of memory, which may come at any time
-pub data Answers (bytes : List ℕ) : ℤ → Type 0 where
-  table : (header : List Field) (rows : List (List Field)) → IsTable bytes header rows → Answers bytes (pos (length rows))
-  refused : (cause : FileCause) → IsFileFault bytes cause → Answers bytes (negsuc 0)
-  no_memory : Answers bytes (negsuc 1)
+pub data AnswersStatus (bytes : List ℕ) : ℤ → Type 0 where
+  table : (header : List Field) (rows : List (List Field)) → IsTable bytes header rows → AnswersStatus bytes (pos (length rows))
+  refused : (cause : FileCause) → IsFileFault bytes cause → AnswersStatus bytes (negsuc 0)
+  no_memory : AnswersStatus bytes (negsuc 1)

@@ -5,7 +5,7 @@
 ghost use Rattle.std.specs.Prelude.{ℕ, ◌^◌, ◌<◌, List, IfOk, IfErr, IsUtf8};
 ghost use Rattle.csv_index.specs.Index.{IsIndexOf};
 ghost use Rattle.csv_index.specs.Fault.{IsTextFault};
-ghost use Rattle.index_bench.specs.Rows.{Answers};
+ghost use Rattle.index_bench.specs.Rows.{AnswersStatus};
 
 use csv_index::{Index, TextFault};
 use std::alloc::Global;
@@ -19,7 +19,7 @@ const NO_MEMORY: i64 = -2;
 /// How many rows stand behind the header of a file; -1 where it is no table, and -2 where memory runs out. The index is let go.
 #[unsafe(no_mangle)]
 pub extern "C" fn index_rows(alloc: Global, bytes: &[u8]) -> i64
-    ensures { Answers bytes.now result }
+    ensures { AnswersStatus bytes.now result }
 {
     rows_of(Index::build(alloc, bytes))
 }
@@ -28,7 +28,7 @@ pub extern "C" fn index_rows(alloc: Global, bytes: &[u8]) -> i64
 #[unsafe(no_mangle)]
 pub extern "C" fn utf8_rows(alloc: Global, bytes: &[u8]) -> i64
     requires { IsUtf8 bytes.now }
-    ensures { Answers bytes.now result }
+    ensures { AnswersStatus bytes.now result }
 {
     rows_of(Index::of_utf8(alloc, bytes))
 }
@@ -37,7 +37,7 @@ pub extern "C" fn utf8_rows(alloc: Global, bytes: &[u8]) -> i64
 fn rows_of(index: Result<Index, TextFault>) -> i64
     requires { IfOk index (λ index. index.rows < 2 ^ 63) }
     ensures { (bytes : List ℕ) → IfOk index (λ index. IsIndexOf index bytes)
-        → IfErr index (IsTextFault bytes) → Answers bytes result }
+        → IfErr index (IsTextFault bytes) → AnswersStatus bytes result }
 {
     match index {
         Ok(index) => index.rows() as i64,

@@ -3,7 +3,7 @@
 #![tactic(auto)]
 
 ghost use Rattle.std.specs.Prelude.{◌≡◌, ◌<◌, length};
-ghost use Rattle.lane_class.specs.Classes.{block_at, Marks, AreClasses};
+ghost use Rattle.lane_class.specs.Classes.{block_from, Marks, AreClasses};
 
 use std::simd::prelude::*;
 
@@ -22,7 +22,7 @@ pub struct Classes {
 /// The 64 bytes from `at` on, with zeros past the end.
 #[inline(always)]
 pub fn load(bytes: &[u8], at: usize) -> u8x64
-    ensures { result ≡ block_at bytes.now at }
+    ensures { result ≡ block_from bytes.now at }
 {
     if at >= bytes.len() {
         return u8x64::splat(0);
@@ -38,7 +38,7 @@ pub fn load(bytes: &[u8], at: usize) -> u8x64
 #[inline(never)]
 fn load_short(rest: &[u8]) -> u8x64
     requires { length rest.now < 64 }
-    ensures { result ≡ block_at rest.now 0 }
+    ensures { result ≡ block_from rest.now 0 }
 {
     let mut lanes = [0u8; BLOCK];
     lanes[..rest.len()].copy_from_slice(rest);

@@ -5,7 +5,7 @@ use Rattle.odata_hub.specs.declared.hub.Hub.{Hub}
 use Rattle.odata_hub.specs.Hopeless.{IsHopeless, MayBegin, TellsHopeless}
 use Rattle.odata_hub.specs.Connections.{ConnOf}
 use Rattle.odata_hub.specs.Schedules.{HubOf, conn_at}
-use Rattle.odata_hub.specs.Stands.{StandsFor}
+use Rattle.odata_hub.specs.Stands.{Models}
 use Rattle.odata_rounds.specs.declared.answers.Stepped.{Stepped}
 use Rattle.odata_rounds.specs.declared.answers.Stepped.TheVariants.{Free}
 use Rattle.odata_rounds.specs.declared.seat.Seat.{Seat}
@@ -18,7 +18,7 @@ use Rattle.listen_sockets.specs.Sockets.{free_slot, is_ended_at, times_at}
 
 -- so many places over some tables: the hub's are free, nothing waits at any, and none has a socket
 pub record AreFree (catalog : CatalogOf) (places : ℕ) (hub : Hub) (seats : List Seat) (slots : List Slot) : Type 0 where
-  pub stands : StandsFor hub (record { catalog = catalog; places = replicate places None })
+  pub stands : Models hub (record { catalog = catalog; places = replicate places None })
   pub seats_are : seats ≡ replicate places free_seat
   pub slots_are : slots ≡ replicate places free_slot
 
@@ -52,5 +52,5 @@ IsEndedIfHopeless (Some c) old new = (IsHopeless c.rest × (new ≡ true)) ⊎ (
 
 -- so it is with the stream at a place of a hub, and all others stand as they stood
 pub record EndsHopeless (place : ℕ) (hub : Hub) (old new : List Slot) : Type 0 where
-  pub here : (h : HubOf) → StandsFor hub h → IsEndedIfHopeless (conn_at h place) (is_ended_at old place) (is_ended_at new place)
+  pub here : (h : HubOf) → Models hub h → IsEndedIfHopeless (conn_at h place) (is_ended_at old place) (is_ended_at new place)
   pub others : (other : ℕ) → other ≢ place → is_ended_at new other ≡ is_ended_at old other

@@ -51,9 +51,9 @@ impl Desk {
     ghost use Rattle.std.specs.List.{list_any};
     ghost use Rattle.odata_rounds.specs.Laws.{waits_at};
     ghost use Rattle.odata_rounds.specs.Rounds.{Rounds, is_working, sight};
-    ghost use Rattle.odata_hub.specs.Connections.{Done, Opened, answer_of};
+    ghost use Rattle.odata_hub.specs.Connections.{Done, Opened, call_answer};
     ghost use Rattle.odata_hub.specs.Schedules.{Drop, HubOf, Open, conn_at};
-    ghost use Rattle.odata_hub.specs.Stands.{IsHubStep, StandsFor};
+    ghost use Rattle.odata_hub.specs.Stands.{IsHubStep, Models};
     ghost use Rattle.listen_sockets.specs.Desk.{AreFree, EndsHopeless, TellsHopelessOf, due_at, has_waiting, stepped_at};
     ghost use Rattle.listen_sockets.specs.Sockets.{EndsStream, IsPut, wire_at};
 
@@ -97,7 +97,7 @@ impl Desk {
 
     /// Seats a connection at the least free place, and answers which; none where there is no free place. Nothing waits there for its socket.
     pub fn open(&mut self, peer: Peer) -> Result<Conn, HubFault>
-        ensures step { IsHubStep self.old.hub Open (answer_of (λ conn. Opened conn.0) result)
+        ensures step { IsHubStep self.old.hub Open (call_answer (λ conn. Opened conn.0) result)
             self.new.hub }
         ensures waits { IfOk result (λ conn. waits_at self.new.seats.items conn.0 ≡ []) }
         ensures seats { IfOk result (λ conn.
@@ -114,7 +114,7 @@ impl Desk {
 
     /// Frees a place, and closes its socket.
     pub fn free(&mut self, place: u32) -> Result<(), HubFault>
-        ensures step { IsHubStep self.old.hub (Drop place) (answer_of (λ _. Done) result)
+        ensures step { IsHubStep self.old.hub (Drop place) (call_answer (λ _. Done) result)
             self.new.hub }
         ensures seats { self.new.seats.items ≡ slice_set self.old.seats.items place free_seat }
         ensures streams { EndsStream place
@@ -140,7 +140,7 @@ impl Desk {
 
     /// Frees a place whose connection is over, and closes its socket once its peer has closed too, or after a while.
     pub fn part(&mut self, place: u32, poll: &Poll) -> Result<(), HubFault>
-        ensures step { IsHubStep self.old.hub (Drop place) (answer_of (λ _. Done) result)
+        ensures step { IsHubStep self.old.hub (Drop place) (call_answer (λ _. Done) result)
             self.new.hub }
         ensures seats { self.new.seats.items ≡ slice_set self.old.seats.items place free_seat }
         ensures streams { EndsStream place
@@ -189,7 +189,7 @@ impl Desk {
 
     /// Whether the rest of the connection at a place can begin no head any more.
     fn is_hopeless(&self, place: u32) -> bool
-        ensures { (h : HubOf) → StandsFor self.now.hub h
+        ensures { (h : HubOf) → Models self.now.hub h
             → TellsHopelessOf (conn_at h place) result }
     {
         match self.hub.is_hopeless(Conn(place)) {

@@ -6,7 +6,7 @@ use Rattle.std.specs.Str.{IsUtf8, NoCharPasses, NonePass, chars, encode_utf8_all
 use Rattle.std.proofs.lemmas.Bool.{eqb-false, false≢true}
 use Rattle.std.proofs.lemmas.List.Elements.{All-from_get_or}
 use Rattle.std.proofs.lemmas.Str.{NoCharPasses-append, NoCharPasses-byte, chars-encodes, chars_past_char, digit_value-digit_char, encodes-append, encodes-chars, encodes_same}
-use Rattle.message_text.specs.Escapes.{backslash, is_control, four_digits, written, escaped}
+use Rattle.message_text.specs.Escapes.{backslash, is_control, four_hex_digits, written, escaped}
 use Rattle.message_text.specs.Laws.{IsOneLine, HasNoBackslash}
 
 -- ---- a character after the other
@@ -31,7 +31,7 @@ digit_plain d h = grind (arith, plain)
 written_plain : (c : ℕ) → NonePass is_control (written c)
 written_plain c = go (is_control c) refl
   where
-    go : (b : Bool) → is_control c ≡ b → NonePass is_control (if b then backslash ∷ 117 ∷ four_digits c else c ∷ [])
+    go : (b : Bool) → is_control c ≡ b → NonePass is_control (if b then backslash ∷ 117 ∷ four_hex_digits c else c ∷ [])
     go true h =
         (refl, (refl, (digit_plain (c / 4096 % 16) (omega arith), (digit_plain (c / 256 % 16) (omega arith), (digit_plain (c / 16 % 16) (omega arith), (digit_plain (c % 16) (omega arith), tt))))))
     go false h = (h, tt)
@@ -88,7 +88,7 @@ control_same c d h k high low = omega arith
 
 -- the texts that are written for two characters which are no backslash, with others behind them
 pub both_same : (c d : ℕ) (b e : Bool) (xs ys : List ℕ) → is_control c ≡ b → is_control d ≡ e → (c == backslash) ≡ false → (d == backslash) ≡ false
-    → (if b then backslash ∷ 117 ∷ four_digits c else c ∷ []) ++ xs ≡ (if e then backslash ∷ 117 ∷ four_digits d else d ∷ []) ++ ys → (c ≡ d) × (xs ≡ ys)
+    → (if b then backslash ∷ 117 ∷ four_hex_digits c else c ∷ []) ++ xs ≡ (if e then backslash ∷ 117 ∷ four_hex_digits d else d ∷ []) ++ ys → (c ≡ d) × (xs ≡ ys)
 both_same c d true true xs ys h k lacks none same =
     let high : digit_char (c / 16 % 16) ≡ digit_char (d / 16 % 16) = cc in
     let low : digit_char (c % 16) ≡ digit_char (d % 16) = cc in
@@ -97,7 +97,7 @@ both_same c d true false xs ys h k lacks none same = absurd (eqb-false d backsla
 both_same c d false true xs ys h k lacks none same = absurd (eqb-false c backslash lacks (cc))
 both_same c d false false xs ys h k lacks none same = (cc, cc)
 
-begun : (d : ℕ) (b : Bool) (ys : List ℕ) → [] ≡ (if b then backslash ∷ 117 ∷ four_digits d else d ∷ []) ++ ys → ⊥
+begun : (d : ℕ) (b : Bool) (ys : List ℕ) → [] ≡ (if b then backslash ∷ 117 ∷ four_hex_digits d else d ∷ []) ++ ys → ⊥
 begun d true ys e = cc
 begun d false ys e = cc
 

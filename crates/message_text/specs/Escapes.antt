@@ -13,12 +13,12 @@ abbrev pub is_control : ℕ → Bool
 is_control c = is_in_range 0 0x1F c || is_in_range 0x7F 0x9F c
 
 -- the code of a character in four hexadecimal digits
-abbrev pub four_digits : ℕ → List ℕ
-four_digits c = digit_char (c / 4096 % 16) ∷ digit_char (c / 256 % 16) ∷ digit_char (c / 16 % 16) ∷ digit_char (c % 16) ∷ []
+abbrev pub four_hex_digits : ℕ → List ℕ
+four_hex_digits c = digit_char (c / 4096 % 16) ∷ digit_char (c / 256 % 16) ∷ digit_char (c / 16 % 16) ∷ digit_char (c % 16) ∷ []
 
 -- what is written for a character: `\u` and its code, or itself
 abbrev pub written : ℕ → List ℕ
-written c = if is_control c then backslash ∷ 117 ∷ four_digits c else c ∷ []
+written c = if is_control c then backslash ∷ 117 ∷ four_hex_digits c else c ∷ []
 
 -- a text as it stands in a message
 unfoldable pub escaped : List ℕ → List ℕ

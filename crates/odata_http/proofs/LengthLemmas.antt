@@ -6,7 +6,7 @@ use Rattle.cell_types.specs.Value.{CellValue}
 use Rattle.table_store.specs.Block.{block_count}
 use Rattle.table_store.specs.Catalog.{CatalogOf}
 use Rattle.table_store.specs.Table.{TableOf}
-use Rattle.odata_types.specs.TypedTree.{TruthExprOf}
+use Rattle.typed_trees.specs.TypedTree.{TruthExprOf}
 use Rattle.odata_query.specs.Query.{TypedOf}
 use Rattle.query_plan.specs.Laws.{PlansNeedBlocks}
 use Rattle.query_plan.specs.Needed.{needed_blocks, pushed_tests, query_stop, row_conditions}
@@ -16,7 +16,7 @@ use Rattle.http_heads.specs.Checks.{head_fault}
 use Rattle.odata_request.specs.Laws.{OneRequest}
 use Rattle.odata_request.specs.Request.{RequestOf, RowsRequestOf, refused, rows, service}
 use Rattle.odata_http.specs.Exchange.{QueryTakes, RequestTakes, query_length}
-use Rattle.odata_http.specs.Laws.{IsWithin, OneLength}
+use Rattle.odata_http.specs.Laws.{TakesCalls, OneLength}
 
 one_value : {T : Type 0} (x y : T) (o : Option T) → o ≡ Some x → o ≡ Some y → x ≡ y
 one_value x y o a b = cc (a, b)
@@ -51,7 +51,7 @@ query_within law catalog asked None n table is x =
     omega (arith, calls, few)
 query_within law catalog asked (Some key) n table is x = omega (arith, x, le-max_left 1 (block_count (length table.rows)))
 
-request_within : PlansNeedBlocks → (catalog : CatalogOf) (request : RequestOf) (n : ℕ) → RequestTakes catalog request n → IsWithin catalog request n
+request_within : PlansNeedBlocks → (catalog : CatalogOf) (request : RequestOf) (n : ℕ) → RequestTakes catalog request n → TakesCalls catalog request n
 request_within law catalog (refused code) n x = x
 request_within law catalog service n x = x
 request_within law catalog (rows asked) n x = λ table is. query_within law catalog asked asked.query.key n table is x
@@ -89,6 +89,6 @@ one_length one law = record {
   some = λ catalog head n x. request_some catalog x.request n x.takes;
   within = λ catalog head n request x asks.
       let same = one catalog (head_fault head) head.target x.request request x.asks asks in
-      let P : RequestOf → Type 0 = λ r. IsWithin catalog r n in
+      let P : RequestOf → Type 0 = λ r. TakesCalls catalog r n in
       subst P same (request_within law catalog x.request n x.takes);
 }

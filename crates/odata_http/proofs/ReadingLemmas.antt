@@ -14,7 +14,7 @@ use Rattle.odata_parse.specs.declared.format.Format.{Format}
 use Rattle.odata_query.specs.Query.{TypedOf}
 use Rattle.query_plan.specs.Laws.{NeededBlocksAreRead, PlansNeedBlocks}
 use Rattle.query_plan.specs.Needed.{needed_blocks}
-use Rattle.query_plan.specs.Plan.{Means, PlanOf, answer_of, naive_plan, needed}
+use Rattle.query_plan.specs.Plan.{MeansQuery, PlanOf, answer_of, naive_plan, needed}
 use Rattle.query_plan.specs.Push.{rewritten}
 use Rattle.query_plan.specs.Rewrite.{MeansTheSame}
 use Rattle.query_exec.specs.declared.fault.ExecFault.{ExecFault}
@@ -24,7 +24,7 @@ use Rattle.query_exec.specs.declared.run.Step.{Step}
 use Rattle.query_exec.specs.declared.run.Step.TheVariants.{More, Done}
 use Rattle.query_exec.specs.Answer.{plan_answer}
 use Rattle.query_rows.specs.Rows.{RowsOf}
-use Rattle.query_exec.specs.Run.{AdvancesTo, Gives, MayBeHanded, StandsFor, awaited, handed_block, next_block, run_length}
+use Rattle.query_exec.specs.Run.{AdvancesTo, RunGives, MayBeHanded, StandsFor, awaited, handed_block, next_block, run_length}
 use Rattle.odata_request.specs.Request.{RowsRequestOf}
 use Rattle.odata_http.specs.declared.reading.Reading.{Reading}
 use Rattle.odata_http.specs.Exchange.{IsReading, query_length}
@@ -73,7 +73,7 @@ blocks_are law plan first query table is naive fit =
 
 pub starts : (catalog : CatalogOf) (seen : List TableOf) (asked : RowsRequestOf) (number : ℕ) (found table : TableOf) (schema : SchemaOf) (reading : Reading) (plan : PlanOf)
     (summaries : List (List RangeOf)) → slice_get catalog.tables number ≡ Some table → number ≡ asked.table → seen ≡ catalog.tables → found ≡ get_or seen number found
-    → schema ≡ found.schema → HasTableRows found → AreSummariesOf found summaries → asked.query.key ≡ None → (first : PlanOf) → Means first asked.query → MeansTheSame table.schema first plan
+    → schema ≡ found.schema → HasTableRows found → AreSummariesOf found summaries → asked.query.key ≡ None → (first : PlanOf) → MeansQuery first asked.query → MeansTheSame table.schema first plan
     → reading.table ≡ number → reading.format ≡ asked.format → reading.counting ≡ asked.query.counting → reading.most ≡ max (length summaries) 1
     → ((t : TableOf) → t.schema ≡ schema → HasTableRows t → AreSummariesOf t summaries → StandsFor reading.run plan t 0)
     → PlansNeedBlocks → needed plan table.rows ≡ needed_blocks asked.query table.rows → StartsReading catalog asked reading
@@ -114,7 +114,7 @@ pub advanced_more : (plan : PlanOf) (table : TableOf) (handed : ℕ) (run : Run)
 advanced_more plan table handed run step e h = subst (λ (s : Step). AdvancesTo plan table handed run (Ok s)) e h
 
 pub advanced_done : (plan : PlanOf) (table : TableOf) (handed : ℕ) (run : Run) (step : Step) → step ≡ Done → AdvancesTo plan table handed run (Ok step)
-    → (rows : RowsOf) × (handed + 1 ≡ run_length plan table) × (plan_answer plan table ≡ Some rows) × Gives run rows
+    → (rows : RowsOf) × (handed + 1 ≡ run_length plan table) × (plan_answer plan table ≡ Some rows) × RunGives run rows
 advanced_done plan table handed run step e h = subst (λ (s : Step). AdvancesTo plan table handed run (Ok s)) e h
 
 pub advanced_fault : (plan : PlanOf) (table : TableOf) (handed : ℕ) (run : Run) (fault : ExecFault) → fault ≡ DivisionByZero → AdvancesTo plan table handed run (Err fault)

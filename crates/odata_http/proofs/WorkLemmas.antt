@@ -20,7 +20,7 @@ use Rattle.odata_http.specs.declared.work.Work.{Work}
 use Rattle.odata_http.specs.declared.work.Work.TheVariants.{Refuse, ListTables, Find, Read, Replied, Failed}
 use Rattle.odata_http.specs.Exchange.{Answers, Begins, GivesReply, GoesOn, IsFinding, IsReading, IsWork, QueryTakes, most_calls}
 use Rattle.odata_http.specs.Reply.{IsReply, RespondsWithRows, ResponseOf, error_response, reply_of, service_response}
-use Rattle.odata_http.specs.Work.{IsAsked, ReadsOn, StartsReading, StartsWork, WorksOn, response_view, step_of}
+use Rattle.odata_http.specs.Work.{IsAskedFor, ReadsOn, StartsReading, StartsWork, WorksOn, response_view, step_of}
 
 pub starts_refusal : (catalog : CatalogOf) (code : Code) → StartsWork catalog (refused code) (Refuse code)
 starts_refusal catalog code = (1, refl, (refl, refl))
@@ -28,7 +28,7 @@ starts_refusal catalog code = (1, refl, (refl, refl))
 pub starts_listing : (catalog : CatalogOf) → StartsWork catalog service ListTables
 starts_listing catalog = (1, refl, refl)
 
-pub starts_finding : (catalog : CatalogOf) (asked : RowsRequestOf) (finding : Finding) → KeysStandAlone → IsAsked catalog (rows asked) → IsRowsInside catalog asked
+pub starts_finding : (catalog : CatalogOf) (asked : RowsRequestOf) (finding : Finding) → KeysStandAlone → IsAskedFor catalog (rows asked) → IsRowsInside catalog asked
     → finding.table ≡ asked.table → finding.format ≡ asked.format → asked.query.key ≡ Some (values_view finding.key) → optional_numbers finding.select ≡ asked.query.select
     → StartsWork catalog (rows asked) (Find finding)
 starts_finding catalog asked finding alone head inside table format key select = (

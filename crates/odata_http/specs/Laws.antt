@@ -43,10 +43,10 @@ abbrev pub UnderTables : ((HeadOf → List ℕ → Type 0) → Type 0) → Type 
 UnderTables law = (catalog : CatalogOf) → law (IsReply catalog)
 
 -- one call for each block of the table at most, and one where it has none, or where no table is asked for
-abbrev pub IsWithin : CatalogOf → RequestOf → ℕ → Type 0
-IsWithin catalog (refused code) calls = calls ≡ 1
-IsWithin catalog service calls = calls ≡ 1
-IsWithin catalog (rows asked) calls =
+abbrev pub TakesCalls : CatalogOf → RequestOf → ℕ → Type 0
+TakesCalls catalog (refused code) calls = calls ≡ 1
+TakesCalls catalog service calls = calls ≡ 1
+TakesCalls catalog (rows asked) calls =
     (table : TableOf) → slice_get catalog.tables asked.table ≡ Some table → calls ≤ max 1 (block_count (length table.rows))
 
 -- A head takes one number of calls: one at least, and no more than its table has blocks.
@@ -54,4 +54,4 @@ pub record OneLength : Type 0 where
   pub one : (catalog : CatalogOf) (head : HeadOf) (calls others : ℕ) → HeadTakes catalog head calls → HeadTakes catalog head others → calls ≡ others
   pub some : (catalog : CatalogOf) (head : HeadOf) (calls : ℕ) → HeadTakes catalog head calls → 0 < calls
   pub within : (catalog : CatalogOf) (head : HeadOf) (calls : ℕ) (request : RequestOf) → HeadTakes catalog head calls
-      → AsksFor catalog (head_fault head) head.target request → IsWithin catalog request calls
+      → AsksFor catalog (head_fault head) head.target request → TakesCalls catalog request calls

@@ -4,7 +4,7 @@ use Rattle.odata_http.specs.declared.answer.AnswerFault.{AnswerFault}
 use Rattle.odata_http.specs.declared.answer.AnswerFault.TheVariants.{NoMemory, Write}
 
 -- a reply was added, or nothing of it where memory ran out
-abbrev pub IsPushed : List ℕ → List ℕ → Result ⊤ AnswerFault → List ℕ → Type 0
-IsPushed old reply (Ok u) new = new ≡ old ++ reply
-IsPushed old reply (Err NoMemory) new = new ≡ old
-IsPushed old reply (Err Write) new = ⊥
+abbrev pub IsAddedReply : List ℕ → List ℕ → Result ⊤ AnswerFault → List ℕ → Type 0
+IsAddedReply old reply (Ok u) new = new ≡ old ++ reply
+IsAddedReply old reply (Err NoMemory) new = new ≡ old
+IsAddedReply old reply (Err Write) new = ⊥

@@ -47,11 +47,11 @@ pub record FailsIn (R : HeadOf → List ℕ → Type 0) (stream : List ℕ) (old
   pub failed : HasFailed old new (old.output ++ some)
 
 -- what feeding a piece makes of a session: nothing, once a reply closed
-abbrev pub IsFed : (HeadOf → List ℕ → Type 0) → List ℕ → SessionOf → SessionOf → Result ⊤ SessionFault → Type 0
-IsFed R piece old new (Ok u) = IsLive old × MatchBool old.closed (new ≡ old) (TakesIn R piece old new)
-IsFed R piece old new (Err Failed) = (old.failed ≡ true) × (new ≡ old)
-IsFed R piece old new (Err Ended) = (old.failed ≡ false) × (old.ended ≡ true) × (new ≡ old)
-IsFed R piece old new (Err NoMemory) = IsLive old × (old.closed ≡ false) × FailsIn R (old.rest ++ piece) old new
+abbrev pub IsFedSession : (HeadOf → List ℕ → Type 0) → List ℕ → SessionOf → SessionOf → Result ⊤ SessionFault → Type 0
+IsFedSession R piece old new (Ok u) = IsLive old × MatchBool old.closed (new ≡ old) (TakesIn R piece old new)
+IsFedSession R piece old new (Err Failed) = (old.failed ≡ true) × (new ≡ old)
+IsFedSession R piece old new (Err Ended) = (old.failed ≡ false) × (old.ended ≡ true) × (new ≡ old)
+IsFedSession R piece old new (Err NoMemory) = IsLive old × (old.closed ≡ false) × FailsIn R (old.rest ++ piece) old new
 
 -- there is a rest, to which the end of the stream brings a reply
 abbrev pub has_rest : SessionOf → Bool

@@ -25,8 +25,8 @@ abbrev pub response_view : Response → ResponseOf
 response_view response = record { status = response.status; media = response.media; body = response.body.items }
 
 -- some head asks for it
-abbrev pub IsAsked : CatalogOf → RequestOf → Type 0
-IsAsked catalog request = (fault : Option HeadFault) × (target : List ℕ) × AsksFor catalog fault target request
+abbrev pub IsAskedFor : CatalogOf → RequestOf → Type 0
+IsAskedFor catalog request = (fault : Option HeadFault) × (target : List ℕ) × AsksFor catalog fault target request
 
 -- the run stands for some plan on the table
 abbrev pub NeedsBlocksOf : Run → TableOf → Type 0
@@ -46,9 +46,9 @@ ReadsOn catalog asked left (On reading) = (1 < left) × IsReading catalog asked 
 ReadsOn catalog asked left (Over response) = (left ≡ 1) × RespondsWithRows catalog asked (response_view response)
 
 -- the status is one of HTTP
-abbrev pub IsKnown : Reached → Type 0
-IsKnown (On reading) = ⊤
-IsKnown (Over response) = IsStatusCode response.status
+abbrev pub IsHttpStatus : Reached → Type 0
+IsHttpStatus (On reading) = ⊤
+IsHttpStatus (Over response) = IsStatusCode response.status
 
 -- all calls are left
 abbrev pub StartsReading : CatalogOf → RowsRequestOf → Reading → Type 0

@@ -1,6 +1,6 @@
 //! The output of a session or a connection: bytes that wait to be taken.
 ghost use Rattle.std.specs.Prelude.{◌≡◌, ◌≢◌, ◌++◌, ◌==◌, [], drop, if◌then◌else◌, is_ok, length, min, take, IsErr};
-ghost use Rattle.odata_http.specs.Output.{IsPushed};
+ghost use Rattle.odata_http.specs.Output.{IsAddedReply};
 
 use crate::answer::{AnswerFault, Outlet};
 use std::alloc::{AllocError, Global};
@@ -25,7 +25,7 @@ impl Model for Output {
 }
 
 impl Outlet for Output {
-    ghost takes = { λ old reply result new. IsPushed old reply result new };
+    ghost takes = { λ old reply result new. IsAddedReply old reply result new };
 
     fn put(&mut self, reply: Vec<u8>) -> Result<(), AnswerFault> {
         self.give(reply)?;

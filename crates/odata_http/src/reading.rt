@@ -2,9 +2,9 @@
 ghost use Rattle.std.specs.Prelude.{◌≡◌, ℕ, None, IfOk};
 ghost use Rattle.query_plan.specs.Plan.{PlanOf};
 ghost use Rattle.query_exec.specs.Run.{StandsFor, handed_block};
-ghost use Rattle.odata_request.specs.Request.{IsRowsInside, RowsRequestOf, rows_view};
+ghost use Rattle.odata_request.specs.Request.{IsRowsInside, RowsRequestOf, rows_request_view};
 ghost use Rattle.odata_http.specs.Exchange.{IsReading};
-ghost use Rattle.odata_http.specs.Work.{IsKnown, MayRead, NeedsBlocksOf, ReadsOn, StartsReading};
+ghost use Rattle.odata_http.specs.Work.{IsHttpStatus, MayRead, NeedsBlocksOf, ReadsOn, StartsReading};
 
 use crate::response::{Response, answer_response, error_response};
 use odata_parse::Format;
@@ -58,9 +58,9 @@ impl Reading {
         catalog: &Catalog,
         asked: RowsRequest,
     ) -> Result<Reading, AllocError>
-        requires inside { IsRowsInside catalog.now (rows_view asked) }
-        requires unkeyed { (rows_view asked).query.key ≡ None }
-        ensures { IfOk result (StartsReading catalog.now (rows_view asked)) }
+        requires inside { IsRowsInside catalog.now (rows_request_view asked) }
+        requires unkeyed { (rows_request_view asked).query.key ≡ None }
+        ensures { IfOk result (StartsReading catalog.now (rows_request_view asked)) }
     {
         needed_blocks_are_read();
         plans_need_blocks();
@@ -88,7 +88,7 @@ impl Reading {
         ensures reads { (asked : RowsRequestOf) (left : ℕ)
             → IsReading catalog.now asked left self
             → IfOk result (ReadsOn catalog.now asked left) }
-        ensures known { IfOk result IsKnown }
+        ensures known { IfOk result IsHttpStatus }
     {
         let table = &catalog.tables()[self.table];
         let mut run = self.run;

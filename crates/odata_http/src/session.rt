@@ -1,7 +1,7 @@
 //! A connection's part of a service, without devices: bytes go in by pieces, and the replies wait to be taken.
 ghost use Rattle.std.specs.Prelude.{◌≡◌};
 ghost use Rattle.odata_http.specs.Reply.{IsReply};
-ghost use Rattle.odata_http.specs.Session.{IsEnded, IsFed, IsLiveOr, Takes, new_session};
+ghost use Rattle.odata_http.specs.Session.{IsEnded, IsFedSession, IsLiveOr, Takes, new_session};
 
 use crate::answer::{answer_rest, take_in};
 use crate::output::Output;
@@ -79,7 +79,7 @@ impl Session {
         catalog: &Catalog,
         piece: &[u8],
     ) -> Result<(), SessionFault>
-        ensures { IsFed (IsReply catalog.now) piece.now self.old self.new result }
+        ensures { IsFedSession (IsReply catalog.now) piece.now self.old self.new result }
     {
         self.check_live()?;
         if self.closed {

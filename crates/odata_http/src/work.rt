@@ -1,9 +1,9 @@
 //! The work for a request, call by call.
 ghost use Rattle.std.specs.Prelude.{◌≡◌, ℕ, List, IfOk, IsErr, IsOkAnd};
-ghost use Rattle.odata_request.specs.Request.{IsInside, IsRowsInside, RequestOf, request_view, rows, rows_view};
+ghost use Rattle.odata_request.specs.Request.{IsInside, IsRowsInside, RequestOf, request_view, rows, rows_request_view};
 ghost use Rattle.odata_http.specs.Exchange.{IsReplied, IsWork, most_calls};
 ghost use Rattle.odata_http.specs.declared.work.Work.TheVariants.{Failed};
-ghost use Rattle.odata_http.specs.Work.{IsAsked, MayWork, StartsWork, WorksOn, step_of};
+ghost use Rattle.odata_http.specs.Work.{IsAskedFor, MayWork, StartsWork, WorksOn, step_of};
 
 use crate::finding::Finding;
 use crate::reading::{Reached, Reading};
@@ -35,9 +35,9 @@ pub(crate) enum Work {
 impl Work {
     /// The work for a query: the row of a key is found in one call, and any other query is a run.
     fn for_query(alloc: Global, catalog: &Catalog, asked: RowsRequest) -> Result<Work, AllocError>
-        requires asked { IsAsked catalog.now (rows (rows_view asked)) }
-        requires inside { IsRowsInside catalog.now (rows_view asked) }
-        ensures { IfOk result (StartsWork catalog.now (rows (rows_view asked))) }
+        requires asked { IsAskedFor catalog.now (rows (rows_request_view asked)) }
+        requires inside { IsRowsInside catalog.now (rows_request_view asked) }
+        ensures { IfOk result (StartsWork catalog.now (rows (rows_request_view asked))) }
     {
         keys_stand_alone();
         let RowsRequest {
@@ -69,7 +69,7 @@ impl Work {
         catalog: &Catalog,
         request: Request,
     ) -> Result<Work, AllocError>
-        requires asked { IsAsked catalog.now (request_view request) }
+        requires asked { IsAskedFor catalog.now (request_view request) }
         requires inside { IsInside catalog.now (request_view request) }
         ensures { IfOk result (StartsWork catalog.now (request_view request)) }
     {

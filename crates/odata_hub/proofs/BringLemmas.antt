@@ -6,12 +6,12 @@ use Rattle.table_store.specs.Block.{block_count}
 use Rattle.table_store.specs.Catalog.{CatalogOf}
 use Rattle.http_heads.specs.Checks.{head_fault}
 use Rattle.odata_http.specs.Exchange.{HeadTakes}
-use Rattle.odata_http.specs.Laws.{IsWithin, OneLength}
+use Rattle.odata_http.specs.Laws.{TakesCalls, OneLength}
 use Rattle.odata_http.specs.Request.{AsksFor, RequestOf, refused, rows, service}
 use Rattle.odata_hub.specs.Streams.{Asked}
 use Rattle.odata_hub.specs.Replies.{IsReplyTo}
 use Rattle.odata_hub.specs.Connections.{ConnOf, FlightOf, AddsReply, BeginsNext, IsTurned, IsTurnedBy, Own, Run, given_by, taken_of, HasMemory, turns_by, turns_in}
-use Rattle.odata_hub.specs.Laws.{AreEnough, IsAmong, IsBrought, IsNext}
+use Rattle.odata_hub.specs.Laws.{AreEnoughTurns, IsAmong, IsBrought, IsNext}
 use Rattle.odata_hub.proofs.CallLemmas.{Adds, adds_both, adds_run, answered, quiet_or_turn, quiet_run}
 use Rattle.odata_hub.proofs.MomentLemmas.{Moment, behind, moment_of, waits_more}
 
@@ -240,14 +240,14 @@ next_brought lengths c d os a others calls going next takes len m r =
 
 -- ---- enough turns
 
-some_turn : (catalog : CatalogOf) (request : RequestOf) (turns : ℕ) → AreEnough catalog request turns → 0 < turns
+some_turn : (catalog : CatalogOf) (request : RequestOf) (turns : ℕ) → AreEnoughTurns catalog request turns → 0 < turns
 some_turn catalog (refused code) turns e = omega (arith, e)
 some_turn catalog service turns e = omega (arith, e)
 some_turn catalog (rows asked) turns e = above (max 1 (block_count (length e.0.rows))) e.2 where
   above : (most : ℕ) → most + 1 ≤ turns → 0 < turns
   above most le = omega (arith, le)
 
-calls_fit : (catalog : CatalogOf) (request : RequestOf) (calls turns : ℕ) → IsWithin catalog request calls → AreEnough catalog request turns
+calls_fit : (catalog : CatalogOf) (request : RequestOf) (calls turns : ℕ) → TakesCalls catalog request calls → AreEnoughTurns catalog request turns
     → calls + 1 ≤ turns
 calls_fit catalog (refused code) calls turns w e = omega (arith, w, e)
 calls_fit catalog service calls turns w e = omega (arith, w, e)
@@ -256,7 +256,7 @@ calls_fit catalog (rows asked) calls turns w e = above (max 1 (block_count (leng
   above most le many = omega (arith, le, many)
 
 pub next_among : OneLength → (c d : ConnOf) (os : List Own) (a : Asked) (others : List Asked) (request : RequestOf) → c.failed ≡ false
-    → IsNext c a others → AsksFor a.catalog (head_fault a.head) a.head.target request → AreEnough a.catalog request (turns_in os)
+    → IsNext c a others → AsksFor a.catalog (head_fault a.head) a.head.target request → AreEnoughTurns a.catalog request (turns_in os)
     → HasMemory os → Run c os d → IsAmong c a os d
 next_among lengths c d os a others request going next asks many m r =
     let fits : (n : ℕ) → HeadTakes a.catalog a.head n → n + 1 ≤ turns_in os = λ n h.

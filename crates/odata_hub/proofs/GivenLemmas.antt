@@ -9,8 +9,8 @@ use Rattle.odata_http.specs.Laws.{OneReply, UnderTables}
 use Rattle.odata_hub.specs.declared.answers.HubFault.TheVariants.{Failed}
 use Rattle.odata_hub.specs.declared.answers.Turned.TheVariants.{Idle, Worked}
 use Rattle.odata_hub.specs.Streams.{Came, Asked, IsCutUnder}
-use Rattle.odata_hub.specs.Replies.{IsReplyTo, IsBehind, AreReplies}
-use Rattle.odata_hub.specs.Connections.{ConnOf, FlightOf, fresh, Turn, Went, Refused, works_by, Step, Own, Run, stream_of, taken_of, has_ended}
+use Rattle.odata_hub.specs.Replies.{IsReplyTo, IsBehind, AreHubReplies}
+use Rattle.odata_hub.specs.Connections.{ConnOf, FlightOf, fresh, Turn, Went, Refused, works_by, Step, Own, Run, stream_of, taken_of, input_ended}
 use Rattle.odata_hub.specs.Laws.{IsAllAnswered, IsFrontOf, IsGiven}
 use Rattle.odata_hub.proofs.StreamLemmas.{one_under}
 use Rattle.odata_hub.proofs.ConnLemmas.{IsLeft, Keeps, heads_in}
@@ -58,7 +58,7 @@ tail_is true rest left behind e same b = b ∙ ap last_reply (sym same)
 tail_is false rest left behind e same b = absurd (cc e)
 
 front_whole : OneCut → UnderTables OneReply → (c : ConnOf) (s : List Came) (ended : Bool) (taken : List ℕ) → Keeps c s ended taken
-    → (all : List ℕ) → AreReplies s ended all → IsFrontOf taken all
+    → (all : List ℕ) → AreHubReplies s ended all → IsFrontOf taken all
 front_whole cuts one c s ended taken k all r =
     let same = one_under cuts s r.heads (k.answered ++ k.others) r.rest k.left r.closed k.shut r.cut k.cut in
     let A : List Asked → Type 0 = λ hs. AllZip IsReplyTo hs r.each in
@@ -82,7 +82,7 @@ front_whole cuts one c s ended taken k all r =
 -- what is taken is a front of the replies
 pub front_taken : OneCut → CutsJoin → UnderTables OneReply → (d : ConnOf) (os : List Own) → Run fresh os d → IsGiven os
 front_taken cuts joins one d os h =
-    let k : Keeps d (stream_of os) (has_ended os) (taken_of os) = Keeps-own cuts joins d os h in
+    let k : Keeps d (stream_of os) (input_ended os) (taken_of os) = Keeps-own cuts joins d os h in
     record {
       some = concat k.each ++ k.behind;
       first = record {
@@ -98,7 +98,7 @@ front_taken cuts joins one d os h =
         some_are = refl;
       };
       front = (d.output, k.all);
-      whole = front_whole cuts one d (stream_of os) (has_ended os) (taken_of os) k;
+      whole = front_whole cuts one d (stream_of os) (input_ended os) (taken_of os) k;
     }
 
 idle_by : (failed works : Bool) → Went Idle ≡ (if failed then Refused Failed else Went (if works then Worked else Idle))
@@ -134,14 +134,14 @@ behind_due true others rest left behind b empty is = elim (is refl) [
 pub idle_answered : OneCut → CutsJoin → (c d : ConnOf) (os : List Own) → Run fresh os c → Step c Turn (Went Idle) d → IsAllAnswered os c
 idle_answered cuts joins c d os h (inr w) = absurd (cc (w.0))
 idle_answered cuts joins c d os h (inl a) =
-    let k : Keeps c (stream_of os) (has_ended os) (taken_of os) = Keeps-own cuts joins c os h in
+    let k : Keeps c (stream_of os) (input_ended os) (taken_of os) = Keeps-own cuts joins c os h in
     let idle : (c.failed ≡ false) × (works_by c.flight c.waiting c.ended c.rest ≡ false) = idle_by c.failed _ a.0 in
     let empty : IsEmpty c.flight c.waiting c.ended c.rest = idle_empty c.flight c.waiting c.ended c.rest idle.1 in
-    let rest : has_ended os ≡ true → c.rest ≡ [] = λ e. empty.rest_is (k.ended_is idle.0 ∙ e) in
+    let rest : input_ended os ≡ true → c.rest ≡ [] = λ e. empty.rest_is (k.ended_is idle.0 ∙ e) in
     let none : k.others ≡ [] =
     sym (k.owes idle.0) ∙ ap₂ (λ (f : Option FlightOf) (w : List Asked). heads_in f ++ w) empty.flight_is empty.waiting_is in
     let A : List Asked → Type 0 = λ hs. IsCutUnder (stream_of os) hs k.left k.shut in
-    let due = behind_due (has_ended os) k.others c.rest k.left k.behind k.behind_is rest (k.rests idle.0) in
+    let due = behind_due (input_ended os) k.others c.rest k.left k.behind k.behind_is rest (k.rests idle.0) in
     record {
       waiting = empty.waiting_is;
       flight = empty.flight_is;

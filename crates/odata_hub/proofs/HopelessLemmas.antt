@@ -10,8 +10,8 @@ use Rattle.odata_http.specs.Reply.{rest_reply}
 use Rattle.odata_http.specs.Replies.{last_reply}
 use Rattle.odata_hub.specs.declared.connection.Connection.{Connection}
 use Rattle.odata_hub.specs.Streams.{Came, Asked, IsCutUnder, bytes_of, heads_of}
-use Rattle.odata_hub.specs.Replies.{IsReplyTo, AreReplies}
-use Rattle.odata_hub.specs.Connections.{ConnOf, fresh, Call, Piece, End, Turn, Take, Answer, IsAfter, Step, Own, Run, stream_of, taken_of, has_ended}
+use Rattle.odata_hub.specs.Replies.{IsReplyTo, AreHubReplies}
+use Rattle.odata_hub.specs.Connections.{ConnOf, fresh, Call, Piece, End, Turn, Take, Answer, IsAfter, Step, Own, Run, stream_of, taken_of, input_ended}
 use Rattle.odata_hub.specs.Stands.{ConnStandsFor}
 use Rattle.odata_hub.specs.Laws.{EndsAlike}
 use Rattle.odata_hub.proofs.StreamLemmas.{joins_under, one_under}
@@ -53,7 +53,7 @@ last_some (b ∷ r) some = refl
 
 -- streams with the same heads, and both with a rest, have the same replies at their ends
 ended_over : OneCut → (s t : List Came) (heads : List Asked) (rest left : List ℕ) → IsCutUnder s heads rest false → IsCutUnder t heads left false
-    → 0 < length rest → 0 < length left → (all : List ℕ) → AreReplies s true all → AreReplies t true all
+    → 0 < length rest → 0 < length left → (all : List ℕ) → AreHubReplies s true all → AreHubReplies t true all
 ended_over cuts s t heads rest left cut other some more all r =
     let same = one_under cuts s r.heads heads r.rest rest r.closed false r.cut cut in
     let A : List Asked → Type 0 = λ hs. AllZip IsReplyTo hs r.each in
@@ -69,7 +69,7 @@ ended_over cuts s t heads rest left cut other some more all r =
     }
 
 certain_over : OneCut → (s t : List Came) (heads : List Asked) (rest left : List ℕ) → IsCutUnder s heads rest false → IsCutUnder t heads left false
-    → 0 < length left → (certain : List ℕ) → AreReplies s false certain → AreReplies t true (certain ++ rest_reply)
+    → 0 < length left → (certain : List ℕ) → AreHubReplies s false certain → AreHubReplies t true (certain ++ rest_reply)
 certain_over cuts s t heads rest left cut other more certain r =
     let same = one_under cuts s r.heads heads r.rest rest r.closed false r.cut cut in
     let A : List Asked → Type 0 = λ hs. AllZip IsReplyTo hs r.each in
@@ -138,12 +138,12 @@ open_by rests s heads rest true cut never = absurd (not_empty rests rest never (
 
 open_at : OneCut → CutsJoin → HopelessRests → (c : ConnOf) (os : List Own) → Run fresh os c → IsHopeless c.rest → IsOpenAt (stream_of os) c.rest
 open_at cuts joins rests c os r never =
-    let k : Keeps c (stream_of os) (has_ended os) (taken_of os) = Keeps-own cuts joins c os r in
+    let k : Keeps c (stream_of os) (input_ended os) (taken_of os) = Keeps-own cuts joins c os r in
     let going : c.failed ≡ false = elim (cases_Bool c.failed) [
       | inl failed ↦ absurd (not_empty rests c.rest never (bare_run fresh c os r (λ bad. refl) failed))
       | inr going ↦ going
     ] in
-    let same : c.rest ≡ k.left = left_is rests c (has_ended os) k.left k.behind never (k.rest going) (k.rests going) in
+    let same : c.rest ≡ k.left = left_is rests c (input_ended os) k.left k.behind never (k.rest going) (k.rests going) in
     let P : List ℕ → Type 0 = λ x. IsCutUnder (stream_of os) (k.answered ++ k.others) x k.shut in
     open_by rests (stream_of os) (k.answered ++ k.others) c.rest k.shut (subst P (sym same) k.cut) never
 

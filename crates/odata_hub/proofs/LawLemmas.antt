@@ -6,7 +6,7 @@ use Rattle.odata_http.specs.Laws.{OneLength, OneReply, UnderTables}
 use Rattle.odata_hub.specs.declared.answers.Turned.TheVariants.{Idle}
 use Rattle.odata_hub.specs.Connections.{ConnOf, FlightOf, Run, Turn, Went, fresh}
 use Rattle.odata_hub.specs.Schedules.{Happening, StepsAt, own_of}
-use Rattle.odata_hub.specs.Laws.{RunsAlone, GivesReplies, HopelessEnds, IdlesWhenAnswered, OverWhenTaken, BringsReply, BringsNext, BringsWithin, AnswersAlike, KeepsCatalogs}
+use Rattle.odata_hub.specs.Laws.{RunsAlone, GivesReplies, HopelessConnectionsEnd, IdlesWhenAnswered, OverWhenTaken, BringsReply, BringsNext, BringsWithin, AnswersAlike, KeepsCatalogs}
 use Rattle.odata_hub.proofs.GivenLemmas.{front_taken, idle_answered}
 use Rattle.odata_hub.proofs.OverLemmas.{over_taken}
 use Rattle.odata_hub.proofs.HopelessLemmas.{ends_alike}
@@ -39,7 +39,7 @@ over_when_taken cuts joins start end place events c r stay here over =
     let P : ConnOf → Type 0 = λ x. Run fresh (own_of place events) x in
     over_taken cuts joins c (own_of place events) (subst P is f.run) over
 
-pub hopeless_ends : OneCut → CutsJoin → HopelessRests → HopelessEnds
+pub hopeless_ends : OneCut → CutsJoin → HopelessRests → HopelessConnectionsEnd
 hopeless_ends cuts joins rests start end place events c r stay here never more =
     let f = from_open start end place events r in
     let same : Some f.last ≡ Some c = sym (f.here stay) ∙ here in

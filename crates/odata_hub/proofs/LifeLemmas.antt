@@ -6,7 +6,7 @@ use Rattle.odata_http.specs.Laws.{OneLength}
 use Rattle.odata_hub.specs.Streams.{Asked}
 use Rattle.odata_hub.specs.Connections.{ConnOf, FlightOf, AddsReply, IsTurnedBy, Own, Run, fresh, HasMemory}
 use Rattle.odata_hub.specs.Schedules.{Drop, Event, Happening, On, Open, Reload, own_of, stays, stays_by}
-use Rattle.odata_hub.specs.Laws.{Lives}
+use Rattle.odata_hub.specs.Laws.{LivesOn}
 use Rattle.odata_hub.proofs.CallLemmas.{adds_call, answered, quiet_or_turn}
 use Rattle.odata_hub.proofs.CatalogLemmas.{own_of-append, stays_rest}
 use Rattle.odata_hub.proofs.HubLemmas.{from_open, isolated}
@@ -38,7 +38,7 @@ pub record Life (place : ℕ) (before after : List Happening) (old new : ConnOf)
   pub early : HasMemory (own_of place before)
   pub late : HasMemory (own_of place after)
 
-pub life_of : (place : ℕ) (before after : List Happening) (old new : ConnOf) → Lives place before after old new → Life place before after old new
+pub life_of : (place : ℕ) (before after : List Happening) (old new : ConnOf) → LivesOn place before after old new → Life place before after old new
 life_of place before after old new l =
     let here = stays_both place before after l.stays in
     let M : List Own → Type 0 = HasMemory in

@@ -9,7 +9,7 @@ use Rattle.http_heads.specs.Laws.{OneCut, CutsJoin}
 use Rattle.odata_http.specs.Replies.{last_reply}
 use Rattle.odata_hub.specs.Streams.{Asked, IsCutUnder, bytes_of, heads_of}
 use Rattle.odata_hub.specs.Replies.{IsBehind}
-use Rattle.odata_hub.specs.Connections.{ConnOf, FlightOf, Own, Run, fresh, has_ended, is_over, stream_of, taken_of}
+use Rattle.odata_hub.specs.Connections.{ConnOf, FlightOf, Own, Run, fresh, input_ended, is_over, stream_of, taken_of}
 use Rattle.odata_hub.specs.Laws.{IsAllTaken}
 use Rattle.odata_hub.proofs.ConnLemmas.{Keeps, conn, heads_in}
 use Rattle.odata_hub.proofs.RunLemmas.{Keeps-own}
@@ -46,7 +46,7 @@ none_behind ended others rest behind e (inr x) = x.2 ∙ ap last_reply e
 
 pub over_taken : OneCut → CutsJoin → (c : ConnOf) (os : List Own) → Run fresh os c → is_over c ≡ true → IsAllTaken os
 over_taken cuts joins c os r over =
-    let k : Keeps c (stream_of os) (has_ended os) (taken_of os) = Keeps-own cuts joins c os r in
+    let k : Keeps c (stream_of os) (input_ended os) (taken_of os) = Keeps-own cuts joins c os r in
     let is = over_parts c.rest c.waiting c.flight c.output c.closed c.ended c.failed over in
     let shut : k.shut ≡ true = sym (k.closed is.going) ∙ is.closed_is in
     let none : k.others ≡ [] =
@@ -57,7 +57,7 @@ over_taken cuts joins c os r over =
     let cut : IsCutUnder (stream_of os) k.answered k.left true =
     subst S shut (subst A (ap (λ (hs : List Asked). k.answered ++ hs) none ∙ append-nil k.answered) k.cut) in
     let left : k.left ≡ [] = none_left (bytes_of (stream_of os)) (heads_of k.answered) k.left cut.cut in
-    let behind : k.behind ≡ [] = none_behind (has_ended os) k.others k.left k.behind left k.behind_is in
+    let behind : k.behind ≡ [] = none_behind (input_ended os) k.others k.left k.behind left k.behind_is in
     record {
       heads = k.answered;
       cut = subst L left cut;

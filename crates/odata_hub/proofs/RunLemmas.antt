@@ -5,7 +5,7 @@ use Rattle.table_store.specs.Catalog.{CatalogOf}
 use Rattle.http_heads.specs.Laws.{OneCut, CutsJoin}
 use Rattle.odata_hub.specs.declared.answers.HubFault.TheVariants.{NoMemory}
 use Rattle.odata_hub.specs.Streams.{Came, Asked}
-use Rattle.odata_hub.specs.Connections.{ConnOf, FlightOf, fresh, Call, Piece, End, Turn, Take, Answer, Refused, IsAfter, answer_to, IsFailed, Step, Own, Run, came_with, stream_of, given_by, taken_of, ends_with, has_ended}
+use Rattle.odata_hub.specs.Connections.{ConnOf, FlightOf, fresh, Call, Piece, End, Turn, Take, Answer, Refused, IsAfter, answer_to, IsFailed, Step, Own, Run, came_with, stream_of, given_by, taken_of, ends_with, input_ended}
 use Rattle.odata_hub.proofs.ConnLemmas.{Keeps, Keeps-end, Keeps-failed, Keeps-fresh, Keeps-piece_closed, Keeps-piece_open, Keeps-same, conn}
 use Rattle.odata_hub.proofs.TurnLemmas.{Keeps-take, Keeps-turn}
 
@@ -85,12 +85,12 @@ or-assoc false b c = refl
 
 -- and so does each run
 Keeps-run : CutsJoin → (c d : ConnOf) (os : List Own) (s : List Came) (e : Bool) (t : List ℕ) → Run c os d → Keeps c s e t
-    → Keeps d (s ++ stream_of os) (e || has_ended os) (t ++ taken_of os)
+    → Keeps d (s ++ stream_of os) (e || input_ended os) (t ++ taken_of os)
 Keeps-run joins c d [] s e t h k = rw h (Keeps-same c s e t k)
 Keeps-run joins c d (o ∷ os) s e t h k =
-    rw (← append_assoc s (came_with o.call o.answer) (stream_of os), ← or-assoc e (ends_with o.call o.answer) (has_ended os), ← append_assoc t (given_by o.answer) (taken_of os))
+    rw (← append_assoc s (came_with o.call o.answer) (stream_of os), ← or-assoc e (ends_with o.call o.answer) (input_ended os), ← append_assoc t (given_by o.answer) (taken_of os))
     (Keeps-run joins h.0 d os _ _ _ h.2 (Keeps-step joins c h.0 o.call o.answer s e t h.1 k))
 
 -- from the opening on
-pub Keeps-own : OneCut → CutsJoin → (d : ConnOf) (os : List Own) → Run fresh os d → Keeps d (stream_of os) (has_ended os) (taken_of os)
+pub Keeps-own : OneCut → CutsJoin → (d : ConnOf) (os : List Own) → Run fresh os d → Keeps d (stream_of os) (input_ended os) (taken_of os)
 Keeps-own cuts joins d os h = Keeps-run joins fresh d os [] false [] h (Keeps-fresh cuts)

@@ -8,7 +8,7 @@ use Rattle.http_heads.specs.Laws.{OneCut, CutsJoin}
 use Rattle.odata_http.specs.Replies.{IsCertain, last_reply}
 use Rattle.odata_http.specs.Reply.{IsReply}
 use Rattle.odata_hub.specs.Streams.{Came, Asked, asked, heads_of, bytes_of, AreAskedBehind, IsCutUnder}
-use Rattle.odata_hub.specs.Replies.{AreReplies, IsReplyTo}
+use Rattle.odata_hub.specs.Replies.{AreHubReplies, IsReplyTo}
 use Rattle.odata_hub.specs.Laws.{AreRepliesUnder, CameUnder, HaveCatalog, SameReplies}
 use Rattle.odata_hub.proofs.StreamLemmas.{have_behind, heads_of-behind}
 
@@ -83,7 +83,7 @@ zip_each catalog (a ∷ heads) [] h z = absurd z
 zip_each catalog (a ∷ heads) (x ∷ each) h z =
     let P : CatalogOf → Type 0 = λ k. IsReply k a.head x in (subst P (sym h.0) z.0, zip_each catalog heads each h.1 z.1)
 
-certain_under : (catalog : CatalogOf) (s : List Came) (ended : Bool) (all : List ℕ) → CameUnder catalog s → (r : AreReplies s ended all)
+certain_under : (catalog : CatalogOf) (s : List Came) (ended : Bool) (all : List ℕ) → CameUnder catalog s → (r : AreHubReplies s ended all)
     → IsCertain (IsReply catalog) (bytes_of s) (concat r.each) r.rest r.closed
 certain_under catalog s ended all u r = record {
   heads = heads_of r.heads;
@@ -93,7 +93,7 @@ certain_under catalog s ended all u r = record {
   certain_is = refl;
 }
 
-replies_under : (catalog : CatalogOf) (s : List Came) (ended : Bool) (all : List ℕ) → CameUnder catalog s → AreReplies s ended all
+replies_under : (catalog : CatalogOf) (s : List Came) (ended : Bool) (all : List ℕ) → CameUnder catalog s → AreHubReplies s ended all
     → AreRepliesUnder catalog (bytes_of s) ended all
 replies_under catalog s true all u r = (
   r.closed,
@@ -130,7 +130,7 @@ each_of cuts joins catalog s certain rest closed u x =
     }
 
 replies_each : OneCut → CutsJoin → (catalog : CatalogOf) (s : List Came) (ended : Bool) (all : List ℕ) → CameUnder catalog s
-    → AreRepliesUnder catalog (bytes_of s) ended all → AreReplies s ended all
+    → AreRepliesUnder catalog (bytes_of s) ended all → AreHubReplies s ended all
 replies_each cuts joins catalog s true all u x =
     let e = each_of cuts joins catalog s x.1.certain x.1.rest x.0 u x.1.is in
     record {

@@ -7,7 +7,7 @@ use Rattle.http_heads.specs.Head.{HeadOf}
 use Rattle.http_heads.specs.Cut.{IsCut}
 use Rattle.http_heads.specs.Laws.{OneCut, CutsJoin}
 use Rattle.odata_hub.specs.Streams.{Came, bytes_of, Asked, asked, heads_of, AreAskedBehind, IsCutUnder}
-use Rattle.odata_hub.specs.Laws.{CameUnder, HaveCatalog, Joins, OneReading}
+use Rattle.odata_hub.specs.Laws.{CameUnder, HaveCatalog, JoinsStreams, OneListOfHeads}
 
 heads_of-asked : (c : CatalogOf) (hs : List HeadOf) → heads_of (asked c hs) ≡ hs
 heads_of-asked c [] = refl
@@ -80,7 +80,7 @@ cut_closed joins s heads rest p x =
       asked = subst A (append-nil heads) (behind_more [] [] s heads p [] rest true x.asked (subst H (sym (append-nil (heads_of heads))) all));
     }
 
-pub joins_under : CutsJoin → Joins
+pub joins_under : CutsJoin → JoinsStreams
 joins_under joins = record { follows = cut_follows joins; closed = cut_closed joins }
 
 -- nothing came yet
@@ -103,7 +103,7 @@ behind_one cuts before cut (p ∷ s) all others x y =
     let later : x.1 ≡ y.1 = behind_one cuts (before ++ p.bytes) (cut ++ y.0) s x.1 y.1 (subst P heads x.4) y.4 in
     x.2 ∙ ap₂ (λ (hs : List HeadOf) (l : List Asked). asked p.catalog hs ++ l) heads later ∙ sym y.2
 
-pub one_under : OneCut → OneReading
+pub one_under : OneCut → OneListOfHeads
 one_under cuts s heads others rest left closed shut x y =
     let same = cuts.one (bytes_of s) (heads_of heads) (heads_of others) rest left closed shut x.cut y.cut in
     (behind_one cuts [] [] s heads others x.asked y.asked, same.1, same.2)

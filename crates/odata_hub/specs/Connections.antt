@@ -47,9 +47,9 @@ pub data Answer : Type 0 where
   Refused : (fault : HubFault) → Answer
 
 -- the answer that a result is
-abbrev pub answer_of : {T : Type 0} → (T → Answer) → Result T HubFault → Answer
-answer_of answer (Ok x) = answer x
-answer_of answer (Err fault) = Refused fault
+abbrev pub call_answer : {T : Type 0} → (T → Answer) → Result T HubFault → Answer
+call_answer answer (Ok x) = answer x
+call_answer answer (Err fault) = Refused fault
 
 -- a piece adds the heads that are cut off the rest and the piece, each with the current tables, and what is left of these bytes is kept
 pub record IsFed (old : ConnOf) (catalog : CatalogOf) (piece : List ℕ) (new : ConnOf) : Type 0 where
@@ -192,9 +192,9 @@ ends_with Turn answer = false
 ends_with (Take room) answer = false
 
 -- whether the stream ended
-abbrev pub has_ended : List Own → Bool
-has_ended [] = false
-has_ended (o ∷ os) = ends_with o.call o.answer || has_ended os
+abbrev pub input_ended : List Own → Bool
+input_ended [] = false
+input_ended (o ∷ os) = ends_with o.call o.answer || input_ended os
 
 -- the calls alone
 abbrev pub calls_of : List Own → List Call

@@ -15,8 +15,8 @@ use Rattle.odata_http.specs.Replies.{AreReplies as AreAllReplies, IsCertain}
 use Rattle.odata_http.specs.Reply.{IsReply, rest_reply}
 use Rattle.odata_hub.specs.declared.answers.Turned.TheVariants.{Idle}
 use Rattle.odata_hub.specs.Streams.{Came, Asked, asked, bytes_of, IsCutUnder}
-use Rattle.odata_hub.specs.Replies.{IsReplyTo, AreReplies, AreFirstReplies}
-use Rattle.odata_hub.specs.Connections.{ConnOf, FlightOf, Turn, Went, Own, Run, fresh, is_over, stream_of, taken_of, calls_of, turns_in, HasMemory, has_ended}
+use Rattle.odata_hub.specs.Replies.{IsReplyTo, AreHubReplies, AreFirstHubReplies}
+use Rattle.odata_hub.specs.Connections.{ConnOf, FlightOf, Turn, Went, Own, Run, fresh, is_over, stream_of, taken_of, calls_of, turns_in, HasMemory, input_ended}
 use Rattle.odata_hub.specs.Schedules.{HubOf, Happening, On, conn_at, HubStep, HubRun, own_of, stays, opened, reload, has_reload}
 
 -- ---- what is a connection's own
@@ -30,13 +30,13 @@ RunsAlone = (start end : HubOf) (place : ℕ) (events : List Happening) → HubR
 -- ---- streams whose heads have tables of their own
 
 -- a stream has one list of heads, each with its tables
-abbrev pub OneReading : Type 0
-OneReading = (stream : List Came) (heads others : List Asked) (rest left : List ℕ) (closed shut : Bool)
+abbrev pub OneListOfHeads : Type 0
+OneListOfHeads = (stream : List Came) (heads others : List Asked) (rest left : List ℕ) (closed shut : Bool)
     → IsCutUnder stream heads rest closed → IsCutUnder stream others left shut → (heads ≡ others) × (rest ≡ left) × (closed ≡ shut)
 
 -- What a piece adds: unless the connection closed, the heads that are cut off the rest and the piece, each with the piece's tables; and nothing
 -- where it did.
-pub record Joins : Type 0 where
+pub record JoinsStreams : Type 0 where
   pub follows : (stream : List Came) (heads : List Asked) (rest : List ℕ) (piece : Came) (more : List HeadOf) (left : List ℕ) (closed : Bool)
       → IsCutUnder stream heads rest false → IsCut (rest ++ piece.bytes) more left closed
       → IsCutUnder (stream ++ piece ∷ []) (heads ++ asked piece.catalog more) left closed
@@ -56,9 +56,9 @@ AreRepliesUnder catalog bytes false all = (rest : List ℕ) × (closed : Bool) �
 -- Where all pieces of a stream came under the same tables, its replies are those of its bytes under them.
 pub record SameReplies : Type 0 where
   pub under : (catalog : CatalogOf) (stream : List Came) (ended : Bool) (all : List ℕ) → CameUnder catalog stream
-      → AreReplies stream ended all → AreRepliesUnder catalog (bytes_of stream) ended all
+      → AreHubReplies stream ended all → AreRepliesUnder catalog (bytes_of stream) ended all
   pub each : (catalog : CatalogOf) (stream : List Came) (ended : Bool) (all : List ℕ) → CameUnder catalog stream
-      → AreRepliesUnder catalog (bytes_of stream) ended all → AreReplies stream ended all
+      → AreRepliesUnder catalog (bytes_of stream) ended all → AreHubReplies stream ended all
 
 -- ---- what a connection is given
 
@@ -68,9 +68,9 @@ IsFrontOf given all = (rest : List ℕ) × (given ++ rest ≡ all)
 -- What the takes gave is a front of the replies: of some first ones, each whole, and of all, where there are all.
 pub record IsGiven (os : List Own) : Type 0 where
   pub some : List ℕ
-  pub first : AreFirstReplies (stream_of os) (has_ended os) some
+  pub first : AreFirstHubReplies (stream_of os) (input_ended os) some
   pub front : IsFrontOf (taken_of os) some
-  pub whole : (all : List ℕ) → AreReplies (stream_of os) (has_ended os) all → IsFrontOf (taken_of os) all
+  pub whole : (all : List ℕ) → AreHubReplies (stream_of os) (input_ended os) all → IsFrontOf (taken_of os) all
 
 -- What the takes of a connection gave is a front of the replies of its stream, each head with its own tables; before its end, of those that are
 -- certain.
@@ -82,8 +82,8 @@ GivesReplies = (start end : HubOf) (place : ℕ) (events : List Happening) → H
 pub record IsAllAnswered (os : List Own) (c : ConnOf) : Type 0 where
   pub waiting : c.waiting ≡ []
   pub flight : c.flight ≡ None
-  pub rest : has_ended os ≡ true → c.rest ≡ []
-  pub given : AreReplies (stream_of os) (has_ended os) (taken_of os ++ c.output)
+  pub rest : input_ended os ≡ true → c.rest ≡ []
+  pub given : AreHubReplies (stream_of os) (input_ended os) (taken_of os ++ c.output)
 
 -- a turn is idle only where all is answered
 abbrev pub IdlesWhenAnswered : Type 0
@@ -110,12 +110,12 @@ OverWhenTaken = (start end : HubOf) (place : ℕ) (events : List Happening) (c :
 
 -- A stream that ends here and one that goes on have the same replies at their ends: those that are certain here, and one to the rest.
 pub record EndsAlike (stream more : List Came) : Type 0 where
-  pub certain : (replies : List ℕ) → AreReplies stream false replies → AreReplies (stream ++ more) true (replies ++ rest_reply)
-  pub alike : (all : List ℕ) → AreReplies stream true all ↔ AreReplies (stream ++ more) true all
+  pub certain : (replies : List ℕ) → AreHubReplies stream false replies → AreHubReplies (stream ++ more) true (replies ++ rest_reply)
+  pub alike : (all : List ℕ) → AreHubReplies stream true all ↔ AreHubReplies (stream ++ more) true all
 
 -- where the rest of a connection is hopeless, whatever more would come and under whatever tables, its end brings the same replies now
-abbrev pub HopelessEnds : Type 0
-HopelessEnds = (start end : HubOf) (place : ℕ) (events : List Happening) (c : ConnOf) → HubRun start (opened place ∷ events) end
+abbrev pub HopelessConnectionsEnd : Type 0
+HopelessConnectionsEnd = (start end : HubOf) (place : ℕ) (events : List Happening) (c : ConnOf) → HubRun start (opened place ∷ events) end
     → stays place events ≡ true → conn_at end place ≡ Some c → IsHopeless c.rest
     → (more : List Came) → EndsAlike (stream_of (own_of place events)) more
 
@@ -123,7 +123,7 @@ HopelessEnds = (start end : HubOf) (place : ℕ) (events : List Happening) (c : 
 
 -- The life of a connection in a schedule, seen at two moments: it was opened at the place; behind the events `before` it was the old one, and
 -- behind `after`, which follow them, it is the new one. It was not dropped, and memory lasted for it.
-pub record Lives (place : ℕ) (before after : List Happening) (old new : ConnOf) : Type 0 where
+pub record LivesOn (place : ℕ) (before after : List Happening) (old new : ConnOf) : Type 0 where
   pub start : HubOf
   pub mid : HubOf
   pub end : HubOf
@@ -147,7 +147,7 @@ pub record IsBrought (old : ConnOf) (a : Asked) (others : List Asked) (os : List
 -- The exchange in flight has its whole reply in the output after as many turns of its connection as it has calls left, whatever other calls stand
 -- between these.
 abbrev pub BringsReply : Type 0
-BringsReply = (place : ℕ) (before after : List Happening) (old new : ConnOf) (f : FlightOf) → Lives place before after old new
+BringsReply = (place : ℕ) (before after : List Happening) (old new : ConnOf) (f : FlightOf) → LivesOn place before after old new
     → old.flight ≡ Some f → turns_in (own_of place after) ≡ f.left
     → IsBrought old f.asked old.waiting (own_of place after) new
 
@@ -158,7 +158,7 @@ IsNext c a others = (c.flight ≡ None) × (c.waiting ≡ a ∷ others)
 -- and the next head, after as many turns behind the one that begins it as its reply takes calls
 abbrev pub BringsNext : Type 0
 BringsNext = (place : ℕ) (before after : List Happening) (old new : ConnOf) (a : Asked) (others : List Asked) (calls : ℕ)
-    → Lives place before after old new → IsNext old a others → HeadTakes a.catalog a.head calls
+    → LivesOn place before after old new → IsNext old a others → HeadTakes a.catalog a.head calls
     → turns_in (own_of place after) ≡ calls + 1
     → IsBrought old a others (own_of place after) new
 
@@ -169,17 +169,17 @@ pub record IsAmong (old : ConnOf) (a : Asked) (os : List Own) (new : ConnOf) : T
   pub output : IsFrontOf (old.output ++ reply) (taken_of os ++ new.output)
 
 -- So many turns are enough for a request: on a table one more than it has blocks, of which one is counted where it has none; on no table 2.
-abbrev pub AreEnough : CatalogOf → RequestOf → ℕ → Type 0
-AreEnough catalog (refused code) turns = 2 ≤ turns
-AreEnough catalog service turns = 2 ≤ turns
-AreEnough catalog (rows asked) turns =
+abbrev pub AreEnoughTurns : CatalogOf → RequestOf → ℕ → Type 0
+AreEnoughTurns catalog (refused code) turns = 2 ≤ turns
+AreEnoughTurns catalog service turns = 2 ≤ turns
+AreEnoughTurns catalog (rows asked) turns =
     (table : TableOf) × (slice_get catalog.tables asked.table ≡ Some table) × (max 1 (block_count (length table.rows)) + 1 ≤ turns)
 
 -- the next head has its reply in the output within that many turns in all
 abbrev pub BringsWithin : Type 0
 BringsWithin = (place : ℕ) (before after : List Happening) (old new : ConnOf) (a : Asked) (others : List Asked) (request : RequestOf)
-    → Lives place before after old new → IsNext old a others
-    → AsksFor a.catalog (head_fault a.head) a.head.target request → AreEnough a.catalog request (turns_in (own_of place after))
+    → LivesOn place before after old new → IsNext old a others
+    → AsksFor a.catalog (head_fault a.head) a.head.target request → AreEnoughTurns a.catalog request (turns_in (own_of place after))
     → IsAmong old a (own_of place after) new
 
 -- ---- what other connections and other tables change: nothing

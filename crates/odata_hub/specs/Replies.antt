@@ -10,7 +10,7 @@ abbrev pub IsReplyTo : Asked → List ℕ → Type 0
 IsReplyTo a reply = IsReply a.catalog a.head reply
 
 -- the replies that are certain behind a stream, whatever follows; after its end all, with that to a rest
-pub record AreReplies (stream : List Came) (ended : Bool) (replies : List ℕ) : Type 0 where
+pub record AreHubReplies (stream : List Came) (ended : Bool) (replies : List ℕ) : Type 0 where
   pub heads : List Asked
   pub rest : List ℕ
   pub closed : Bool
@@ -24,7 +24,7 @@ abbrev pub IsBehind : Bool → List Asked → List ℕ → List ℕ → Type 0
 IsBehind ended others rest bytes = (bytes ≡ []) ⊎ ((ended ≡ true) × (others ≡ []) × (bytes ≡ last_reply rest))
 
 -- some of the first of these replies, each of them whole
-pub record AreFirstReplies (stream : List Came) (ended : Bool) (some : List ℕ) : Type 0 where
+pub record AreFirstHubReplies (stream : List Came) (ended : Bool) (some : List ℕ) : Type 0 where
   pub answered : List Asked
   pub others : List Asked
   pub rest : List ℕ

@@ -50,8 +50,8 @@ abbrev pub current_tables : Hub → CatalogOf
 current_tables hub = hub.catalog.value
 
 -- and the hub for this one
-abbrev pub StandsFor : Hub → HubOf → Type 0
-StandsFor hub h = AreHub (current_tables hub) hub.places.items h
+abbrev pub Models : Hub → HubOf → Type 0
+Models hub h = AreHub (current_tables hub) hub.places.items h
 
 -- a call on the places under these tables is one step of the hub that they stand for: this event, answered so
 abbrev pub IsPlacesStep : CatalogOf → List (Option Connection) → Event → Answer → List (Option Connection) → Type 0
@@ -59,7 +59,7 @@ IsPlacesStep catalog old event answer new = (h : HubOf) → AreHub catalog old h
 
 -- and a call on a hub
 abbrev pub IsHubStep : Hub → Event → Answer → Hub → Type 0
-IsHubStep old event answer new = (h : HubOf) → StandsFor old h → (n : HubOf) × HubStep h event answer n × StandsFor new n
+IsHubStep old event answer new = (h : HubOf) → Models old h → (n : HubOf) × HubStep h event answer n × Models new n
 
 -- whether the connection at a place is over, or that there is none
 abbrev pub TellsOver : Option ConnOf → Result Bool HubFault → Type 0

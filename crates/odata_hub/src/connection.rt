@@ -23,7 +23,7 @@ pub(crate) struct Connection {
 impl Connection {
     ghost use Rattle.std.specs.Prelude.{◌≡◌, ◌≤◌, [], IfOk, None, Some, Option, OnErr, drop, length, take};
     ghost use Rattle.http_heads.specs.Hopeless.{TellsHopeless};
-    ghost use Rattle.odata_hub.specs.Connections.{ConnOf, Done, End, FlightOf, Gave, IsFailed, Piece, Take, Turn, Went, answer_of, fresh, is_over};
+    ghost use Rattle.odata_hub.specs.Connections.{ConnOf, Done, End, FlightOf, Gave, IsFailed, Piece, Take, Turn, Went, call_answer, fresh, is_over};
     ghost use Rattle.odata_hub.specs.Held.{IsFlight, IsInFlight};
     ghost use Rattle.odata_hub.specs.Stands.{ConnStandsFor, IsConnStep, conn_of};
     ghost use Rattle.odata_hub.specs.Work.{FoundWork, IsWorked, KeepsOutput};
@@ -62,7 +62,7 @@ impl Connection {
         piece: &[u8],
     ) -> Result<(), HubFault>
         ensures { IsConnStep self.old (Piece catalog.now.value piece.now)
-            (answer_of (λ _. Done) result) self.new }
+            (call_answer (λ _. Done) result) self.new }
     {
         if self.failed {
             return Err(HubFault::Failed);
@@ -87,7 +87,7 @@ impl Connection {
 
     /// The end of the stream.
     pub(crate) fn end(&mut self) -> Result<(), HubFault>
-        ensures { IsConnStep self.old End (answer_of (λ _. Done) result) self.new }
+        ensures { IsConnStep self.old End (call_answer (λ _. Done) result) self.new }
     {
         if self.failed {
             return Err(HubFault::Failed);
@@ -167,7 +167,7 @@ impl Connection {
 
     /// One turn.
     pub(crate) fn turn(&mut self, alloc: Global) -> Result<Turned, HubFault>
-        ensures { IsConnStep self.old Turn (answer_of Went result) self.new }
+        ensures { IsConnStep self.old Turn (call_answer Went result) self.new }
     {
         if self.failed {
             return Err(HubFault::Failed);

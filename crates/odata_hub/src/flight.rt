@@ -43,10 +43,10 @@ pub(crate) struct Flight {
 impl Model for Flight {
     ghost use Rattle.std.specs.Coded.{codes};
     ghost use Rattle.indexmap.specs.Layout.{hash_set_code};
-    ghost use Rattle.odata_types.specs.contracts.tree.DecimalExpr as decimals;
-    ghost use Rattle.odata_types.specs.contracts.tree.IntegerExpr as integers;
-    ghost use Rattle.odata_types.specs.contracts.tree.TextExpr as texts;
-    ghost use Rattle.odata_types.specs.contracts.tree.TruthExpr as truths;
+    ghost use Rattle.typed_trees.specs.contracts.tree.DecimalExpr as decimals;
+    ghost use Rattle.typed_trees.specs.contracts.tree.IntegerExpr as integers;
+    ghost use Rattle.typed_trees.specs.contracts.tree.TextExpr as texts;
+    ghost use Rattle.typed_trees.specs.contracts.tree.TruthExpr as truths;
     ghost use Rattle.odata_http.specs.Exchange.{MayGoOn};
     ghost use Rattle.odata_hub.specs.Held.{FlightHeld};
 

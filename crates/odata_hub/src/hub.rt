@@ -25,13 +25,13 @@ pub struct Hub {
 
 impl Hub {
     ghost use Rattle.std.specs.Prelude.{◌≡◌, ◌≤◌, IfOk, None, OnErr, drop, length, replicate, take};
-    ghost use Rattle.odata_hub.specs.Connections.{Done, End, Gave, Opened, Piece, Take, Turn, Went, answer_of};
+    ghost use Rattle.odata_hub.specs.Connections.{Done, End, Gave, Opened, Piece, Take, Turn, Went, call_answer};
     ghost use Rattle.odata_hub.specs.Schedules.{Drop, HubOf, On, Open, Reload, conn_at};
-    ghost use Rattle.odata_hub.specs.Stands.{IsHubStep, StandsFor, TellsHopelessAt, TellsOver, current_tables};
+    ghost use Rattle.odata_hub.specs.Stands.{IsHubStep, Models, TellsHopelessAt, TellsOver, current_tables};
 
     /// A hub of so many places, all of them free, with these tables.
     pub fn new(alloc: Global, catalog: Rc<Catalog>, places: u32) -> Result<Hub, AllocError>
-        ensures { IfOk result (λ hub. StandsFor hub
+        ensures { IfOk result (λ hub. Models hub
             (record { catalog = catalog.value; places = replicate places None })) }
     {
         let mut free = Vec::with_capacity(alloc, places as usize)?;
@@ -47,7 +47,7 @@ impl Hub {
 
     /// A connection at the least free place.
     pub fn open(&mut self) -> Result<Conn, HubFault>
-        ensures { IsHubStep self.old Open (answer_of (λ conn. Opened conn.0) result) self.new }
+        ensures { IsHubStep self.old Open (call_answer (λ conn. Opened conn.0) result) self.new }
     {
         match first_free(self.places.as_slice()) {
             Some(place) => {
@@ -61,21 +61,21 @@ impl Hub {
     /// The next piece of a connection's stream.
     pub fn piece(&mut self, conn: Conn, piece: &[u8]) -> Result<(), HubFault>
         ensures { IsHubStep self.old (On conn.0 (Piece (current_tables self.old) piece.now))
-            (answer_of (λ _. Done) result) self.new }
+            (call_answer (λ _. Done) result) self.new }
     {
         piece_at(self.alloc, &mut self.places, conn.0, &self.catalog, piece)
     }
 
     /// The end of a connection's stream.
     pub fn end(&mut self, conn: Conn) -> Result<(), HubFault>
-        ensures { IsHubStep self.old (On conn.0 End) (answer_of (λ _. Done) result) self.new }
+        ensures { IsHubStep self.old (On conn.0 End) (call_answer (λ _. Done) result) self.new }
     {
         end_at(&mut self.places, conn.0)
     }
 
     /// One turn of a connection: a run is handed one block at most.
     pub fn turn(&mut self, conn: Conn) -> Result<Turned, HubFault>
-        ensures { IsHubStep self.old (On conn.0 Turn) (answer_of Went result) self.new }
+        ensures { IsHubStep self.old (On conn.0 Turn) (call_answer Went result) self.new }
     {
         turn_at(self.alloc, &mut self.places, conn.0)
     }
@@ -83,7 +83,7 @@ impl Hub {
     /// Moves the first bytes of a connection's output into the front of a buffer, as many as wait or fit.
     pub fn take(&mut self, conn: Conn, out: &mut [u8]) -> Result<usize, HubFault>
         ensures step { IsHubStep self.old (On conn.0 (Take (length out.old)))
-            (answer_of (λ n. Gave (take n out.new)) result) self.new }
+            (call_answer (λ n. Gave (take n out.new)) result) self.new }
         ensures within { IfOk result (λ n. n ≤ length out.old) }
         ensures others { IfOk result (λ n. drop n out.new ≡ drop n out.old) }
         ensures err { OnErr result (out.new ≡ out.old) }
@@ -93,7 +93,7 @@ impl Hub {
 
     /// Gives a connection's place back.
     pub fn drop_conn(&mut self, conn: Conn) -> Result<(), HubFault>
-        ensures { IsHubStep self.old (Drop conn.0) (answer_of (λ _. Done) result) self.new }
+        ensures { IsHubStep self.old (Drop conn.0) (call_answer (λ _. Done) result) self.new }
     {
         free_at(&mut self.places, conn.0)
     }
@@ -107,7 +107,7 @@ impl Hub {
 
     /// Whether a closing head was cut off a connection's stream, and all its replies were taken. It is false where memory ran out for the connection.
     pub fn closed(&self, conn: Conn) -> Result<bool, HubFault>
-        ensures { (h : HubOf) → StandsFor self.now h → TellsOver (conn_at h conn.0) result }
+        ensures { (h : HubOf) → Models self.now h → TellsOver (conn_at h conn.0) result }
     {
         closed_at(&self.places, conn.0)
     }
@@ -115,7 +115,7 @@ impl Hub {
     /// Whether what is left of a connection's stream can begin no head any more, whatever follows. To call `end` at once then gives the replies that every
     /// longer stream has.
     pub fn is_hopeless(&self, conn: Conn) -> Result<bool, HubFault>
-        ensures { (h : HubOf) → StandsFor self.now h → TellsHopelessAt (conn_at h conn.0) result }
+        ensures { (h : HubOf) → Models self.now h → TellsHopelessAt (conn_at h conn.0) result }
     {
         hopeless_at(&self.places, conn.0)
     }

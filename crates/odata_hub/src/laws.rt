@@ -1,16 +1,16 @@
 //! What holds of a connection in every schedule. The functions here are theorems, and do nothing.
-ghost use Rattle.odata_hub.specs.Laws.{AnswersAlike, BringsNext, BringsReply, BringsWithin, GivesReplies, HopelessEnds, IdlesWhenAnswered, Joins, KeepsCatalogs, OneReading, OverWhenTaken, RunsAlone, SameReplies};
+ghost use Rattle.odata_hub.specs.Laws.{AnswersAlike, BringsNext, BringsReply, BringsWithin, GivesReplies, HopelessConnectionsEnd, IdlesWhenAnswered, JoinsStreams, KeepsCatalogs, OneListOfHeads, OverWhenTaken, RunsAlone, SameReplies};
 
 /// A stream has one list of heads, each with the tables of the piece that brought its last byte.
 pub fn one_reading()
-    ensures { OneReading }
+    ensures { OneListOfHeads }
 {
     http_heads::one_cut();
 }
 
 /// A piece adds the heads that are cut off the rest and the piece, each with the piece's tables; behind a closing head it adds nothing.
 pub fn joins()
-    ensures { Joins }
+    ensures { JoinsStreams }
 {
     http_heads::cuts_join();
 }
@@ -56,7 +56,7 @@ pub fn over_when_taken()
 /// Where nothing that follows can put a head at the front of a connection's rest, its end brings the replies now that it would bring later: those that are
 /// certain, and one to the rest.
 pub fn hopeless_ends()
-    ensures { HopelessEnds }
+    ensures { HopelessConnectionsEnd }
 {
     http_heads::one_cut();
     http_heads::cuts_join();

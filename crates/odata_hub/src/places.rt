@@ -2,7 +2,7 @@
 ghost use Rattle.std.specs.Prelude.{◌≡◌, ◌≤◌, IfOk, OnErr, drop, is_none, length, take};
 ghost use Rattle.std.specs.List.{position};
 ghost use Rattle.table_store.specs.Catalog.{CatalogOf};
-ghost use Rattle.odata_hub.specs.Connections.{Done, End, Gave, Piece, Take, Turn, Went, answer_of};
+ghost use Rattle.odata_hub.specs.Connections.{Done, End, Gave, Piece, Take, Turn, Went, call_answer};
 ghost use Rattle.odata_hub.specs.Schedules.{Drop, HubOf, On, conn_at};
 ghost use Rattle.odata_hub.specs.Stands.{AreHub, IsPlacesStep, TellsHopelessAt, TellsOver};
 
@@ -28,7 +28,7 @@ pub(crate) fn piece_at(
     piece: &[u8],
 ) -> Result<(), HubFault>
     ensures step { IsPlacesStep catalog.now.value places.old
-        (On place (Piece catalog.now.value piece.now)) (answer_of (λ _. Done) result) places.new }
+        (On place (Piece catalog.now.value piece.now)) (call_answer (λ _. Done) result) places.new }
     ensures len { length places.new ≡ length places.old }
 {
     let place = place as usize;
@@ -44,7 +44,7 @@ pub(crate) fn piece_at(
 /// The end of the stream of the connection at a place.
 pub(crate) fn end_at(places: &mut [Option<Connection>], place: u32) -> Result<(), HubFault>
     ensures step { (catalog : CatalogOf) → IsPlacesStep catalog places.old (On place End)
-        (answer_of (λ _. Done) result) places.new }
+        (call_answer (λ _. Done) result) places.new }
     ensures len { length places.new ≡ length places.old }
 {
     let place = place as usize;
@@ -64,7 +64,7 @@ pub(crate) fn turn_at(
     place: u32,
 ) -> Result<Turned, HubFault>
     ensures step { (catalog : CatalogOf) → IsPlacesStep catalog places.old (On place Turn)
-        (answer_of Went result) places.new }
+        (call_answer Went result) places.new }
     ensures len { length places.new ≡ length places.old }
 {
     let place = place as usize;
@@ -84,7 +84,7 @@ pub(crate) fn take_at(
     out: &mut [u8],
 ) -> Result<usize, HubFault>
     ensures step { (catalog : CatalogOf) → IsPlacesStep catalog places.old
-        (On place (Take (length out.old))) (answer_of (λ n. Gave (take n out.new)) result) places.new }
+        (On place (Take (length out.old))) (call_answer (λ n. Gave (take n out.new)) result) places.new }
     ensures len { length places.new ≡ length places.old }
     ensures within { IfOk result (λ n. n ≤ length out.old) }
     ensures others { IfOk result (λ n. drop n out.new ≡ drop n out.old) }
@@ -103,7 +103,7 @@ pub(crate) fn take_at(
 /// Frees a place that is taken.
 pub(crate) fn free_at(places: &mut [Option<Connection>], place: u32) -> Result<(), HubFault>
     ensures step { (catalog : CatalogOf) → IsPlacesStep catalog places.old (Drop place)
-        (answer_of (λ _. Done) result) places.new }
+        (call_answer (λ _. Done) result) places.new }
     ensures len { length places.new ≡ length places.old }
 {
     let place = place as usize;

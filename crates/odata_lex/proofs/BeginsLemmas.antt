@@ -7,9 +7,9 @@ use Rattle.std.specs.Bool.{Decides}
 use Rattle.std.specs.Char.{digit_value, is_ascii_digit}
 use Rattle.std.specs.List.{list_all}
 use Rattle.std.specs.Option.{option_map}
-use Rattle.odata_lex.specs.Token.{quote, minus, point, dollar, doubled, begins_word, AreDigits, IsText, IsDecimal, IsNumber, IsWord, word, IsDollar, IsDateForm, IsDateText, IsOfKind, may_follow, EndsBefore}
+use Rattle.odata_lex.specs.Token.{apostrophe, minus, point, dollar, apostrophes_doubled, begins_word, AreDigits, IsTextToken, IsDecimal, IsNumberToken, IsWord, word, IsDollar, IsDateForm, IsDateToken, IsOfTokenKind, may_follow_token, EndsBefore}
 use Rattle.odata_lex.specs.First.{text_len, word_len, ends_word, is_day, begins_date, date_token, begins_decimal, decimal_token, number_token, digit_token, dollar_token, sign_token, first_token}
-use Rattle.odata_lex.specs.Lexer.{Begins, BeginsDate, BeginsDecimal}
+use Rattle.odata_lex.specs.Lexer.{BeginsToken, BeginsDate, BeginsDecimal}
 use Rattle.odata_lex.specs.declared.token.TheConstants.{MAX_DIGITS}
 use Rattle.odata_lex.specs.declared.token.TokenKind.{TokenKind}
 use Rattle.odata_lex.specs.declared.token.TokenKind.TheVariants.{Text, Date, Decimal, Number, Word, Dollar, OpenParenthesis, CloseParenthesis, Comma, Slash, Minus, Star, EqualsSign}
@@ -24,14 +24,14 @@ use Rattle.odata_lex.proofs.FirstLemmas.{first-quote, first-digit, first-word, f
 
 -- ---- what is given begins the text
 
-text_found : (b : ℕ) (text : List ℕ) (o : Option ℕ) → b ≡ quote → ClosesAt false text o → FindsIn (b ∷ text) (option_map (λ n. (Text, suc n)) o)
+text_found : (b : ℕ) (text : List ℕ) (o : Option ℕ) → b ≡ apostrophe → ClosesAt false text o → FindsIn (b ∷ text) (option_map (λ n. (Text, suc n)) o)
 text_found b text None is h = tt
 text_found b text (Some n) is h = record {
   front = b ∷ h.body;
   after = h.after;
   begins = record {
     split = ap (λ l. b ∷ l) h.split;
-    form = record { content = h.content; printed = rw is (ap (λ l. quote ∷ l) h.printed) };
+    form = record { content = h.content; printed = rw is (ap (λ l. apostrophe ∷ l) h.printed) };
     ends = h.ends;
     no_date = λ e. absurd (cc);
     no_decimal = λ e. absurd (cc);
@@ -118,11 +118,11 @@ dollar_found : (d : ℕ) (text : List ℕ) → d ≡ dollar → FindsIn (d ∷ t
 dollar_found d [] is = tt
 dollar_found d (b ∷ text) is = dollar_found_at d b text _ is refl
 
-any_after : (kind : TokenKind) (after : List ℕ) → ((b : ℕ) → may_follow kind b ≡ true) → EndsBefore kind after
+any_after : (kind : TokenKind) (after : List ℕ) → ((b : ℕ) → may_follow_token kind b ≡ true) → EndsBefore kind after
 any_after kind [] all = tt
 any_after kind (b ∷ after) all = all b
 
-one_byte : (kind : TokenKind) (b : ℕ) (text : List ℕ) → IsOfKind kind (b ∷ []) → ((c : ℕ) → may_follow kind c ≡ true) → (kind ≡ Number → ⊥) → Finds (b ∷ text) kind 1
+one_byte : (kind : TokenKind) (b : ℕ) (text : List ℕ) → IsOfTokenKind kind (b ∷ []) → ((c : ℕ) → may_follow_token kind c ≡ true) → (kind ≡ Number → ⊥) → Finds (b ∷ text) kind 1
 one_byte kind b text form all other = record {
   front = b ∷ [];
   after = text;
@@ -156,9 +156,9 @@ digit_found text true r some date decimal = date_found text _ date refl
 digit_found text false true some date decimal = decimal_found text _ some decimal refl
 digit_found text false false some date decimal = number_found text _ some date decimal refl
 
-found_at : (b : ℕ) (text : List ℕ) (q d w s : Bool) → (b == quote) ≡ q → is_ascii_digit b ≡ d → begins_word b ≡ w → (b == dollar) ≡ s → FindsIn (b ∷ text) (if q then option_map (λ n. (Text, suc n)) (text_len false text) else (if d then digit_token (b ∷ text) else (if w then Some (Word, word_len (b ∷ text)) else (if s then dollar_token text else sign_token b))))
+found_at : (b : ℕ) (text : List ℕ) (q d w s : Bool) → (b == apostrophe) ≡ q → is_ascii_digit b ≡ d → begins_word b ≡ w → (b == dollar) ≡ s → FindsIn (b ∷ text) (if q then option_map (λ n. (Text, suc n)) (text_len false text) else (if d then digit_token (b ∷ text) else (if w then Some (Word, word_len (b ∷ text)) else (if s then dollar_token text else sign_token b))))
 unfolding sign_of
-found_at b text true _ _ _ is _ _ _ = text_found b text _ ((Decides-eqb b quote).0 is) (closes text false)
+found_at b text true _ _ _ is _ _ _ = text_found b text _ ((Decides-eqb b apostrophe).0 is) (closes text false)
 found_at b text false true _ _ _ is _ _ = digit_found (b ∷ text) _ _ (digit_begins (b ∷ text) b text refl ((Decides-digit b).0 is)) refl refl
 found_at b text false false true _ _ _ is _ = word_found b text is
 found_at b text false false false true _ _ _ is = dollar_found b text ((Decides-eqb b dollar).0 is)
@@ -171,11 +171,11 @@ first_token_found (b ∷ text) = found_at b text _ _ _ _ refl refl refl refl
 
 -- ---- what begins the text is given
 
-given_text : (front after : List ℕ) → IsText front → EndsBefore Text after → first_token (front ++ after) ≡ Some (Text, length front)
+given_text : (front after : List ℕ) → IsTextToken front → EndsBefore Text after → first_token (front ++ after) ≡ Some (Text, length front)
 given_text front after form ends =
-    let seam : (doubled form.content ++ quote ∷ []) ++ after ≡ doubled form.content ++ quote ∷ after = append_assoc (doubled form.content) (quote ∷ []) after in
+    let seam : (apostrophes_doubled form.content ++ apostrophe ∷ []) ++ after ≡ apostrophes_doubled form.content ++ apostrophe ∷ after = append_assoc (apostrophes_doubled form.content) (apostrophe ∷ []) after in
     let found = text_len-found form.content after ends in
-    let len : length (doubled form.content ++ quote ∷ []) ≡ suc (length (doubled form.content)) = length_push (doubled form.content) quote ∙ add-one _ in
+    let len : length (apostrophes_doubled form.content ++ apostrophe ∷ []) ≡ suc (length (apostrophes_doubled form.content)) = length_push (apostrophes_doubled form.content) apostrophe ∙ add-one _ in
     rw (form.printed, first-quote, seam, found, len) refl
 
 number_token-digits : (text front : List ℕ) (n : ℕ) → word_len text ≡ n → take n text ≡ front → list_all is_ascii_digit front ≡ true → nat_le n MAX_DIGITS ≡ true → number_token text ≡ Some (Number, n)
@@ -203,7 +203,7 @@ given_decimal front after form ends =
     given_whole [] fraction rest digits some begins token = absurd (omega arith)
     given_whole (b ∷ whole) fraction rest digits some begins token = given_decimal_at b whole fraction rest digits.0 begins token
 
-given_number : (front after : List ℕ) → IsNumber front → EndsBefore Number after → ¬ (BeginsDate (front ++ after)) → ¬ (BeginsDecimal (front ++ after)) → first_token (front ++ after) ≡ Some (Number, length front)
+given_number : (front after : List ℕ) → IsNumberToken front → EndsBefore Number after → ¬ (BeginsDate (front ++ after)) → ¬ (BeginsDecimal (front ++ after)) → first_token (front ++ after) ≡ Some (Number, length front)
 given_number [] after form ends no_date no_decimal = absurd (omega (arith, form.nonempty))
 given_number (b ∷ front) after form ends no_date no_decimal =
     let digit : is_ascii_digit b ≡ true = (Decides-digit b).1 form.digits.0 in
@@ -218,7 +218,7 @@ given_number (b ∷ front) after form ends no_date no_decimal =
 date_token-day : (text front : List ℕ) → take 10 text ≡ front → is_day front ≡ true → date_token text ≡ Some (Date, 10)
 date_token-day text front taken day = ap (λ (t : List ℕ). if is_day t then Some (Date, 10) else None) taken ∙ ap (λ (q : Bool). if q then Some (Date, 10) else None) day
 
-given_date : (front after : List ℕ) → IsDateText front → EndsBefore Date after → first_token (front ++ after) ≡ Some (Date, length front)
+given_date : (front after : List ℕ) → IsDateToken front → EndsBefore Date after → first_token (front ++ after) ≡ Some (Date, length front)
 given_date [] after date ends = let e = date.form.ten in cc
 given_date (b ∷ front) after date ends =
     let digit : is_ascii_digit b ≡ true = (Decides-digit b).1 date.form.year.0 in
@@ -252,7 +252,7 @@ given_dollar front after form ends =
 given_sign : (kind : TokenKind) (b : ℕ) (front after : List ℕ) → front ≡ b ∷ [] → first_token (b ∷ after) ≡ Some (kind, 1) → first_token (front ++ after) ≡ Some (kind, length front)
 given_sign kind b front after is given = rw (is, given) refl
 
-given : (kind : TokenKind) (front after : List ℕ) → IsOfKind kind front → EndsBefore kind after → (kind ≡ Number → ¬ (BeginsDate (front ++ after))) → (kind ≡ Number → ¬ (BeginsDecimal (front ++ after))) → first_token (front ++ after) ≡ Some (kind, length front)
+given : (kind : TokenKind) (front after : List ℕ) → IsOfTokenKind kind front → EndsBefore kind after → (kind ≡ Number → ¬ (BeginsDate (front ++ after))) → (kind ≡ Number → ¬ (BeginsDecimal (front ++ after))) → first_token (front ++ after) ≡ Some (kind, length front)
 unfolding first_token
 given Text front after form ends no_date no_decimal = given_text front after form ends
 given Date front after form ends no_date no_decimal = given_date front after form ends
@@ -268,6 +268,6 @@ given Minus front after form ends no_date no_decimal = given_sign _ _ front afte
 given Star front after form ends no_date no_decimal = given_sign _ _ front after form refl
 given EqualsSign front after form ends no_date no_decimal = given_sign _ _ front after form refl
 
-pub first_token_given : (text : List ℕ) (kind : TokenKind) (front after : List ℕ) → Begins text kind front after → first_token text ≡ Some (kind, length front)
+pub first_token_given : (text : List ℕ) (kind : TokenKind) (front after : List ℕ) → BeginsToken text kind front after → first_token text ≡ Some (kind, length front)
 first_token_given text kind front after begins =
     ap first_token begins.split ∙ given kind front after begins.form begins.ends (λ number date. begins.no_date number (rw begins.split date)) (λ number decimal. begins.no_decimal number (rw begins.split decimal))

@@ -7,7 +7,7 @@ use Rattle.std.specs.Result.{result_ok}
 use Rattle.std.specs.Int.{IsInRange, is_in_range}
 use Rattle.jiff.specs.Words.{IsDate, IsYmd, days_in_month, Error}
 use Rattle.jiff.specs.declared.civil.dates.Date.{Date}
-use Rattle.odata_lex.specs.Token.{IsDateForm, IsDayFromOne, IsDateText, year_of, month_of, day_of}
+use Rattle.odata_lex.specs.Token.{IsDateForm, IsDayFromOne, IsDateToken, year_of, month_of, day_digits}
 use Rattle.odata_lex.specs.First.{is_date_form, is_day}
 use Rattle.odata_lex.proofs.Digits.{Decides-digits, value_whole, take_short}
 
@@ -25,7 +25,7 @@ year_small text form = value_whole _ 4 form.year (take_short 4 text 4 (omega ari
 pub month_small : (text : List ℕ) → IsDateForm text → month_of text < 100
 month_small text form = value_whole _ 2 form.month (take_short 2 _ 2 (omega arith))
 
-pub day_small : (text : List ℕ) → IsDateForm text → day_of text < 100
+pub day_small : (text : List ℕ) → IsDateForm text → day_digits text < 100
 day_small text form = value_whole _ 2 form.day (take_short 2 _ 2 (omega arith))
 
 in_range_decides : (low high n : ℕ) → Decides (is_in_range low high n) (IsInRange low high n)
@@ -42,7 +42,7 @@ pub date_parts : (y m d : ℕ) → IsDate (pos y) (pos m) (pos d) → IsInRange 
 date_parts y m d date =
     ((omega (arith, ints, date.1.0), omega (arith, ints, date.1.1)), (omega (arith, ints, date.2.0), omega (arith, ints, date.2.1)))
 
-pub Decides-day : (text : List ℕ) → IsDateForm text → Decides (is_day text) (IsDateText text)
+pub Decides-day : (text : List ℕ) → IsDateForm text → Decides (is_day text) (IsDateToken text)
 Decides-day text form =
     Decides-like _
     (λ h. record { form = form; day = (h.0.0, date_is _ _ _ (year_small text form) h.0.1 h.1) })
@@ -57,7 +57,7 @@ day_or_none y m d year month day (Err e) ey em ed positive there made =
     λ one. let ok : IsOk {T = Date} {E = Error} (Err e) = there.1 (rw (ey, em, ed) one.1) in cc
 
 -- the same, of a text of that form
-pub date_or_none : (text : List ℕ) (y m d : ℕ) (r : Option Date) → IsDateForm text → y ≡ year_of text → m ≡ month_of text → d ≡ day_of text → MatchOption r (¬ (IsDayFromOne y m d)) (λ date. IsDayFromOne y m d × IsYmd (pos y) (pos m) (pos d) date) → MatchOption r (¬ (IsDateText text)) (λ date. IsDateText text × IsYmd (pos (year_of text)) (pos (month_of text)) (pos (day_of text)) date)
+pub date_or_none : (text : List ℕ) (y m d : ℕ) (r : Option Date) → IsDateForm text → y ≡ year_of text → m ≡ month_of text → d ≡ day_digits text → MatchOption r (¬ (IsDayFromOne y m d)) (λ date. IsDayFromOne y m d × IsYmd (pos y) (pos m) (pos d) date) → MatchOption r (¬ (IsDateToken text)) (λ date. IsDateToken text × IsYmd (pos (year_of text)) (pos (month_of text)) (pos (day_digits text)) date)
 date_or_none text y m d None form ey em ed none = λ date. none (rw (ey, em, ed) date.day)
 date_or_none text y m d (Some date) form ey em ed some =
     (record { form = form; day = rw (ey, em, ed) at some.0 }, rw (ey, em, ed) at some.1)

@@ -5,25 +5,25 @@ use Rattle.std.proofs.lemmas.Bool.Decides.{nat_tests, Decides-and}
 use Rattle.std.proofs.lemmas.List.{take_rest}
 use Rattle.std.specs.Char.{is_ascii_digit}
 use Rattle.std.specs.Option.{option_map}
-use Rattle.odata_lex.specs.Token.{quote, dollar, begins_word, IsDateForm, IsDateText}
+use Rattle.odata_lex.specs.Token.{apostrophe, dollar, begins_word, IsDateForm, IsDateToken}
 use Rattle.odata_lex.specs.First.{text_len, word_len, is_day, begins_date, date_token, digit_token, dollar_token, sign_token, first_token}
 use Rattle.odata_lex.specs.Lexer.{is_blank}
 use Rattle.odata_lex.specs.declared.token.TokenKind.TheVariants.{Text, Word}
 use Rattle.odata_lex.proofs.Dates.{Decides-date_form, Decides-day}
 use Rattle.odata_lex.proofs.Runs.{not_equal}
 
-pub first-quote : (text : List ℕ) → first_token (quote ∷ text) ≡ option_map (λ n. (Text, suc n)) (text_len false text)
+pub first-quote : (text : List ℕ) → first_token (apostrophe ∷ text) ≡ option_map (λ n. (Text, suc n)) (text_len false text)
 unfolding first_token
 first-quote text = refl
 
 pub first-digit : (b : ℕ) (text : List ℕ) → is_ascii_digit b ≡ true → first_token (b ∷ text) ≡ digit_token (b ∷ text)
 unfolding first_token
-first-digit b text digit = let other : (b == quote) ≡ false = grind (arith, nat_tests) in rw (other, digit) refl
+first-digit b text digit = let other : (b == apostrophe) ≡ false = grind (arith, nat_tests) in rw (other, digit) refl
 
 pub first-word : (b : ℕ) (text : List ℕ) → begins_word b ≡ true → first_token (b ∷ text) ≡ Some (Word, word_len (b ∷ text))
 unfolding first_token
 first-word b text begins =
-    let other : (b == quote) ≡ false = grind (arith, nat_tests) in
+    let other : (b == apostrophe) ≡ false = grind (arith, nat_tests) in
     let digit : is_ascii_digit b ≡ false = grind (arith, nat_tests) in
     rw (other, digit, begins) refl
 
@@ -53,7 +53,7 @@ pub at_dollar : (text : List ℕ) → 0 < length text → get_or text 0 0 ≡ 36
 at_dollar [] long is = absurd (omega arith)
 at_dollar (b ∷ text) long is = rw is (first-dollar text)
 
-first-sign : (b : ℕ) (text : List ℕ) → (b == quote) ≡ false → is_ascii_digit b ≡ false → begins_word b ≡ false → (b == dollar) ≡ false → first_token (b ∷ text) ≡ sign_token b
+first-sign : (b : ℕ) (text : List ℕ) → (b == apostrophe) ≡ false → is_ascii_digit b ≡ false → begins_word b ≡ false → (b == dollar) ≡ false → first_token (b ∷ text) ≡ sign_token b
 unfolding first_token
 first-sign b text quoted digit letter named = rw (quoted, digit, letter, named) refl
 
@@ -62,7 +62,7 @@ at_sign [] long quoted digit letter named = absurd (omega arith)
 at_sign (b ∷ text) long quoted digit letter named = first-sign b text (not_equal b 39 quoted) digit letter (not_equal b 36 named)
 
 -- what the calendar refuses is no token
-pub no_day : {D : Type 0} (P : D → Type 0) (text : List ℕ) (day : Option D) → begins_date text ≡ true → is_some day ≡ false → MatchOption day (¬ (IsDateText (take 10 text))) P → None ≡ date_token text
+pub no_day : {D : Type 0} (P : D → Type 0) (text : List ℕ) (day : Option D) → begins_date text ≡ true → is_some day ≡ false → MatchOption day (¬ (IsDateToken (take 10 text))) P → None ≡ date_token text
 no_day P text (Some d) begins none refused = cc
 no_day P text None begins none refused =
     let form : IsDateForm (take 10 text) = ((Decides-and _ _ (Decides-date_form (take 10 text)) ((λ e. e), (λ e. e))).0 begins).0 in

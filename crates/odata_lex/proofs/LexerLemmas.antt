@@ -2,9 +2,9 @@
 use Rattle.std.proofs.Common.{◌≡◌, ℕ, zero, suc, ◌+◌, ◌≤◌, ◌<◌, Bool, true, false, List, [], ◌∷◌, length, take, drop, Option, None, Some, ◌⊎◌, inl, inr, refl, ap, ◌∙◌, sym, arith, subst, get_or, nat_le, length-append, Result, Ok, Err, IfOk, IfErr, IsErrAnd}
 use Rattle.std.proofs.lemmas.Bool.Decides.{nat_tests}
 use Rattle.std.proofs.lemmas.List.{take_at, drop_at}
-use Rattle.odata_lex.specs.Token.{point, IsOfKind, word}
+use Rattle.odata_lex.specs.Token.{point, IsOfTokenKind, word}
 use Rattle.odata_lex.specs.First.{first_token}
-use Rattle.odata_lex.specs.Lexer.{Begins, is_blank, Reads, reads_end, reads_blank, reads_token, IsBadPlace, ReadsAll, AreTokens, IsBad, IsTooMany, IsFault, HasTokens}
+use Rattle.odata_lex.specs.Lexer.{BeginsToken, is_blank, ReadsTokensFrom, reads_end, reads_blank, reads_token, IsBadPlace, ReadsAll, AreTokens, IsBad, IsTooMany, IsFault, HasTokens}
 use Rattle.odata_lex.specs.declared.fault.LexFault.{LexFault}
 use Rattle.odata_lex.specs.declared.fault.LexFault.TheVariants.{Bad, TooMany, NoMemory}
 use Rattle.odata_lex.specs.declared.token.TheConstants.{MAX_TOKENS}
@@ -16,7 +16,7 @@ use Rattle.odata_lex.proofs.BeginsLemmas.{first_token_given, first_token_found}
 use Rattle.odata_lex.proofs.Finds.{FindsIn}
 
 -- a text of some kind is not empty
-pub kind_nonempty : (kind : TokenKind) (front : List ℕ) → IsOfKind kind front → 0 < length front
+pub kind_nonempty : (kind : TokenKind) (front : List ℕ) → IsOfTokenKind kind front → 0 < length front
 kind_nonempty Text front form = rw form.printed (omega arith)
 kind_nonempty Date front form = omega (arith, form.form.ten)
 kind_nonempty Decimal front form = rw form.printed (omega (arith, length-append form.whole (point ∷ form.fraction)))
@@ -42,7 +42,7 @@ pair_of k l m n o e f =
     let y : TokenKind × ℕ = (l, n) in
     let p : x ≡ y = cc in (ap (λ q. q.0) p, ap (λ q. q.1) p)
 
-pub one_first_token : (text : List ℕ) (kind other : TokenKind) (front after more rest : List ℕ) → Begins text kind front after → Begins text other more rest → SameToken kind other front more after rest
+pub one_first_token : (text : List ℕ) (kind other : TokenKind) (front after more rest : List ℕ) → BeginsToken text kind front after → BeginsToken text other more rest → SameToken kind other front more after rest
 one_first_token text kind other front after more rest a b =
     let same = pair_of kind other (length front) (length more) (first_token text) (first_token_given text kind front after a) (first_token_given text other more rest b) in
     let front_is : take (length front) text ≡ front = rw a.split (take_at front after (length front) refl) in
@@ -52,7 +52,7 @@ one_first_token text kind other front after more rest a b =
     record { same_kind = same.0; same_front = sym front_is ∙ more_is; same_after = sym after_is ∙ rest_is }
 
 -- no token begins with a space or a tab
-begins_some : (b : ℕ) (text : List ℕ) (kind : TokenKind) (front after : List ℕ) → is_blank b ≡ true → ¬ (Begins (b ∷ text) kind front after)
+begins_some : (b : ℕ) (text : List ℕ) (kind : TokenKind) (front after : List ℕ) → is_blank b ≡ true → ¬ (BeginsToken (b ∷ text) kind front after)
 begins_some b text kind front after blank begins =
     let token = first_token_given (b ∷ text) kind front after begins in
     let none : first_token (b ∷ text) ≡ None = first_token-blank b text blank in
@@ -65,7 +65,7 @@ blank_goes_on : (b : ℕ) (text : List ℕ) → is_blank b ≡ true → ¬ (Stop
 blank_goes_on b text blank (inl e) = cc
 blank_goes_on b text blank (inr bad) = bad.no_blank b text refl blank
 
-token_goes_on : (text : List ℕ) (kind : TokenKind) (front after : List ℕ) → Begins text kind front after → ¬ (Stops text)
+token_goes_on : (text : List ℕ) (kind : TokenKind) (front after : List ℕ) → BeginsToken text kind front after → ¬ (Stops text)
 token_goes_on text kind front after begins (inl e) =
     let some = kind_nonempty kind front begins.form in
     let len = ap length begins.split in
@@ -82,7 +82,7 @@ pub record SameReading (tokens others : List Token) (rest left : List ℕ) : Typ
   pub same_tokens : tokens ≡ others
   pub same_rest : rest ≡ left
 
-pub one_reading : (place : ℕ) (text : List ℕ) (tokens others : List Token) (rest left : List ℕ) → Reads place text tokens rest → Stops rest → Reads place text others left → Stops left → SameReading tokens others rest left
+pub one_reading : (place : ℕ) (text : List ℕ) (tokens others : List Token) (rest left : List ℕ) → ReadsTokensFrom place text tokens rest → Stops rest → ReadsTokensFrom place text others left → Stops left → SameReading tokens others rest left
 one_reading place text [] [] rest left reads_end stops reads_end halts = record { same_tokens = refl; same_rest = refl }
 one_reading place text _ _ rest left (reads_blank blank more) stops reads_end halts = absurd (blank_goes_on _ _ blank halts)
 one_reading place text _ _ rest left reads_end stops (reads_blank blank more) halts = absurd (blank_goes_on _ _ blank stops)
@@ -95,7 +95,7 @@ one_reading place text _ _ rest left (reads_token {front = front} {after = after
     let same = one_first_token text t.kind u.kind front after front' after' begins again in
     let token : t ≡ u = token_same place t u front front' same.same_kind same.same_front start end begun stop in
     let e : u.end ≡ t.end = ap (λ (x : Token). x.end) (sym token) in
-    let moved : Reads t.end after others left = subst (λ a. Reads t.end a others left) (sym same.same_after) (subst (λ n. Reads n after' others left) e left_more) in
+    let moved : ReadsTokensFrom t.end after others left = subst (λ a. ReadsTokensFrom t.end a others left) (sym same.same_after) (subst (λ n. ReadsTokensFrom n after' others left) e left_more) in
     let next = one_reading t.end after tokens others rest left more stops moved halts in
     record { same_tokens = λ i. token i ∷ next.same_tokens i; same_rest = next.same_rest }
 
@@ -103,7 +103,7 @@ one_reading place text _ _ rest left (reads_token {front = front} {after = after
 pub record Reading (place : ℕ) (text : List ℕ) : Type 0 where
   pub tokens : List Token
   pub rest : List ℕ
-  pub reads : Reads place text tokens rest
+  pub reads : ReadsTokensFrom place text tokens rest
   pub stops : Stops rest
 
 pub no_place : (b : ℕ) (text : List ℕ) → is_blank b ≡ false → first_token (b ∷ text) ≡ None → IsBadPlace (b ∷ text)
@@ -142,7 +142,7 @@ pub one_reading_of : (source : List ℕ) (tokens others : List Token) (rest left
 one_reading_of source tokens others rest left r s =
     let same = one_reading 0 source tokens others rest left r.reads r.stops s.reads s.stops in (same.same_tokens, same.same_rest)
 
-answer_at : (source rest : List ℕ) (tokens : List Token) (many : Bool) → nat_le (length tokens) MAX_TOKENS ≡ many → Reads 0 source tokens rest → Stops rest → HasTokens source ⊎ IsBad source ⊎ IsTooMany source
+answer_at : (source rest : List ℕ) (tokens : List Token) (many : Bool) → nat_le (length tokens) MAX_TOKENS ≡ many → ReadsTokensFrom 0 source tokens rest → Stops rest → HasTokens source ⊎ IsBad source ⊎ IsTooMany source
 answer_at source rest tokens false many reads stops = inr (inr (record { tokens = tokens; rest = rest; reads = record { reads = reads; stops = stops }; many = grind (arith, nat_tests) }))
 answer_at source rest tokens true few reads (inl end) =
     inl (tokens, record { reads = rw end at reads; stops = inl refl }, grind (arith, nat_tests))

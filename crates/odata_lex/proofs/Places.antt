@@ -8,8 +8,8 @@ use Rattle.std.proofs.lemmas.Str.Parse.{digit_at}
 use Rattle.std.proofs.Math.Seq.{get_or-append_seam}
 use Rattle.std.specs.List.{All}
 use Rattle.std.specs.Str.Parse.{AllDigits}
-use Rattle.odata_lex.specs.Lexer.{Begins, Reads, reads_end, reads_blank, reads_token, IsTokenAt, AreInOrder}
-use Rattle.odata_lex.specs.Token.{quote, point, dollar, doubled, IsOfKind, IsWord, word, is_word_byte, token_text}
+use Rattle.odata_lex.specs.Lexer.{BeginsToken, ReadsTokensFrom, reads_end, reads_blank, reads_token, IsTokenAt, AreTokensInOrder}
+use Rattle.odata_lex.specs.Token.{apostrophe, point, dollar, apostrophes_doubled, IsOfTokenKind, IsWord, word, is_word_byte, token_text}
 use Rattle.odata_lex.specs.declared.token.Token.{Token}
 use Rattle.odata_lex.specs.declared.token.TokenKind.{TokenKind}
 use Rattle.odata_lex.specs.declared.token.TokenKind.TheVariants.{Text, Date, Decimal, Number, Word, Dollar, OpenParenthesis, CloseParenthesis, Comma, Slash, Minus, Star, EqualsSign}
@@ -59,9 +59,9 @@ decimal_ends whole fraction before behind some_before some_behind =
     let last = digit_ascii fraction (length fraction - 1) behind (omega (arith, some_behind)) in
     record { first = omega (arith, first, first_is); last = rw (k, last_is) last }
 
-ascii_ends : (kind : TokenKind) (front : List ℕ) → IsOfKind kind front → AsciiEnds front
+ascii_ends : (kind : TokenKind) (front : List ℕ) → IsOfTokenKind kind front → AsciiEnds front
 ascii_ends Text front form =
-    let last_is : get_or front (length front - 1) 0 ≡ quote = ap (λ (f : List ℕ). get_or f (length f - 1) 0) form.printed ∙ last_of (quote ∷ doubled form.content) quote in
+    let last_is : get_or front (length front - 1) 0 ≡ apostrophe = ap (λ (f : List ℕ). get_or f (length f - 1) 0) form.printed ∙ last_of (apostrophe ∷ apostrophes_doubled form.content) apostrophe in
     record { first = rw form.printed (omega arith); last = omega (arith, last_is) }
 ascii_ends Date front form =
     let long : length front ≡ 10 = form.form.ten in
@@ -87,7 +87,7 @@ ascii_ends Star front form = rw form (record { first = omega arith; last = omega
 ascii_ends EqualsSign front form = rw form (record { first = omega arith; last = omega arith })
 
 -- a token that begins at a place of the source
-pub token_at : (source : List ℕ) (place : ℕ) (front after : List ℕ) (t : Token) → IsUtf8 source → place ≤ length source → Begins (drop place source) t.kind front after → t.start ≡ place → t.end ≡ place + length front → IsTokenAt source t × (after ≡ drop t.end source)
+pub token_at : (source : List ℕ) (place : ℕ) (front after : List ℕ) (t : Token) → IsUtf8 source → place ≤ length source → BeginsToken (drop place source) t.kind front after → t.start ≡ place → t.end ≡ place + length front → IsTokenAt source t × (after ≡ drop t.end source)
 token_at source place front after t utf8 inside begins start end =
     let some : 0 < length front = kind_nonempty t.kind front begins.form in
     let whole : length source - place ≡ length front + length after = sym (length-drop place source) ∙ ap length begins.split ∙ length-append front after in
@@ -111,16 +111,16 @@ token_at source place front after t utf8 inside begins start end =
       sym rest ∙ drop-drop (length front) place source ∙ ap (λ n. drop n source) (sym end),
     )
 
-earlier : (place : ℕ) (tokens : List Token) → AreInOrder (place + 1) tokens → AreInOrder place tokens
+earlier : (place : ℕ) (tokens : List Token) → AreTokensInOrder (place + 1) tokens → AreTokensInOrder place tokens
 earlier place [] order = tt
 earlier place (t ∷ tokens) order = (omega (arith, order.0), order.1)
 
 -- the tokens of a text that stands at a place of the source
 pub record ArePlaced (source : List ℕ) (place : ℕ) (tokens : List Token) : Type 0 where
   pub each : All (IsTokenAt source) tokens
-  pub in_order : AreInOrder place tokens
+  pub in_order : AreTokensInOrder place tokens
 
-pub placed : (source : List ℕ) (place : ℕ) (text : List ℕ) (tokens : List Token) (rest : List ℕ) → IsUtf8 source → place ≤ length source → text ≡ drop place source → Reads place text tokens rest → ArePlaced source place tokens
+pub placed : (source : List ℕ) (place : ℕ) (text : List ℕ) (tokens : List Token) (rest : List ℕ) → IsUtf8 source → place ≤ length source → text ≡ drop place source → ReadsTokensFrom place text tokens rest → ArePlaced source place tokens
 placed source place text _ rest utf8 inside here reads_end = record { each = All-nil (IsTokenAt source); in_order = tt }
 placed source place _ _ rest utf8 inside here (reads_blank {b = b} {text = text} {tokens = tokens} blank more) =
     let one : suc (length text) ≡ length source - place = ap length here ∙ length-drop place source in
@@ -128,7 +128,7 @@ placed source place _ _ rest utf8 inside here (reads_blank {b = b} {text = text}
     let later = placed source (place + 1) text tokens rest utf8 (omega arith) next more in
     record { each = later.each; in_order = earlier place tokens later.in_order }
 placed source place text _ rest utf8 inside here (reads_token {front = front} {after = after} {t = t} {tokens = tokens} begins start end more) =
-    let there : Begins (drop place source) t.kind front after = subst (λ l. Begins l t.kind front after) here begins in
+    let there : BeginsToken (drop place source) t.kind front after = subst (λ l. BeginsToken l t.kind front after) here begins in
     let token = token_at source place front after t utf8 inside there start end in
     let later = placed source t.end after tokens rest utf8 token.0.within token.1 more in
     record { each = All-cons (IsTokenAt source) t tokens token.0 later.each; in_order = (omega (arith, start), later.in_order) }

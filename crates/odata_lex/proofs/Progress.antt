@@ -2,7 +2,7 @@
 use Rattle.std.proofs.Common.{◌≡◌, ℕ, ◌+◌, ◌-◌, ◌≤◌, ◌<◌, List, [], ◌∷◌, ◌++◌, length, take, drop, get_or, true, false, Option, None, Some, inl, inr, ◌≢◌, refl, ap, ◌∙◌, sym, subst, arith, append-nil, append_assoc, length-append, length-drop, IsUtf8}
 use Rattle.std.proofs.lemmas.List.{drop-drop, drop_at, take_rest, at_drop_more, at_drop_all}
 use Rattle.odata_lex.specs.First.{first_token}
-use Rattle.odata_lex.specs.Lexer.{is_blank, Reads, reads_end, reads_blank, reads_token, IsBadPlace, AreTokens, IsBad, IsTooMany}
+use Rattle.odata_lex.specs.Lexer.{is_blank, ReadsTokensFrom, reads_end, reads_blank, reads_token, IsBadPlace, AreTokens, IsBad, IsTooMany}
 use Rattle.odata_lex.specs.declared.token.TheConstants.{MAX_TOKENS}
 use Rattle.odata_lex.specs.declared.token.Token.{Token}
 use Rattle.odata_lex.specs.declared.token.TokenKind.{TokenKind}
@@ -13,7 +13,7 @@ use Rattle.odata_lex.proofs.Places.{placed}
 
 -- the tokens so far, and then those of what stands at the place, are tokens of the source
 pub record Progress (source : List ℕ) (tokens : List Token) (place : ℕ) : Type 0 where
-  pub whole : (more : List Token) (rest : List ℕ) → Reads place (drop place source) more rest → Reads 0 source (tokens ++ more) rest
+  pub whole : (more : List Token) (rest : List ℕ) → ReadsTokensFrom place (drop place source) more rest → ReadsTokensFrom 0 source (tokens ++ more) rest
   pub inside : place ≤ length source
   pub few : length tokens ≤ MAX_TOKENS
 
@@ -44,7 +44,7 @@ found_within source place kind len found inside =
 pub token_within : (source : List ℕ) (place : ℕ) (kind : TokenKind) (len : ℕ) → first_token (drop place source) ≡ Some (kind, len) → place ≤ length source → (0 < len) × (place + len ≤ length source)
 token_within source place kind len first inside = found_within source place kind len (found_at source place kind len first) inside
 
-one_more : (source : List ℕ) (place : ℕ) (kind : TokenKind) (len : ℕ) (more : List Token) (rest : List ℕ) → Finds (drop place source) kind len → Reads (place + len) (drop (place + len) source) more rest → Reads place (drop place source) (record { kind = kind; start = place; end = place + len } ∷ more) rest
+one_more : (source : List ℕ) (place : ℕ) (kind : TokenKind) (len : ℕ) (more : List Token) (rest : List ℕ) → Finds (drop place source) kind len → ReadsTokensFrom (place + len) (drop (place + len) source) more rest → ReadsTokensFrom place (drop place source) (record { kind = kind; start = place; end = place + len } ∷ more) rest
 one_more source place kind len more rest found reads =
     let t : Token = record { kind = kind; start = place; end = place + len } in
     let end : place + len ≡ place + length found.front = ap (λ n. place + n) found.len in
@@ -66,7 +66,7 @@ Progress-token source tokens grown place kind len p first few push =
 pub Progress-end : (source : List ℕ) (tokens : List Token) (place : ℕ) → IsUtf8 source → Progress source tokens place → length source ≤ place → AreTokens source tokens
 Progress-end source tokens place utf8 p all =
     let end : drop place source ≡ [] = at_drop_all (λ l. l) source place all in
-    let reads : Reads 0 source tokens [] = rw append-nil at (p.whole [] [] (rw end reads_end)) in
+    let reads : ReadsTokensFrom 0 source tokens [] = rw append-nil at (p.whole [] [] (rw end reads_end)) in
     let spans = placed source 0 source tokens [] utf8 (omega arith) refl reads in
     record { reads = record { reads = reads; stops = inl refl }; few = p.few; in_order = spans.in_order; each = spans.each }
 
@@ -74,7 +74,7 @@ pub Progress-bad : (source : List ℕ) (tokens : List Token) (place : ℕ) → P
 Progress-bad source tokens place p within blank none =
     let cons = goes_on source place within in
     let bad : IsBadPlace (drop place source) = rw cons (no_place (get_or source place 0) (drop (place + 1) source) blank (rw cons at none)) in
-    let reads : Reads 0 source tokens (drop place source) = rw append-nil at (p.whole [] (drop place source) reads_end) in
+    let reads : ReadsTokensFrom 0 source tokens (drop place source) = rw append-nil at (p.whole [] (drop place source) reads_end) in
     record { tokens = tokens; rest = drop place source; reads = record { reads = reads; stops = inr bad }; few = p.few; bad = bad }
 
 pub Progress-many : (source : List ℕ) (tokens : List Token) (place : ℕ) (kind : TokenKind) (len : ℕ) → Progress source tokens place → first_token (drop place source) ≡ Some (kind, len) → length tokens ≡ MAX_TOKENS → IsTooMany source
@@ -82,7 +82,7 @@ Progress-many source tokens place kind len p first full =
     let found = found_at source place kind len first in
     let t : Token = record { kind = kind; start = place; end = place + length found.front } in
     let rest = reading (place + length found.front) found.after in
-    let reads : Reads place (drop place source) (t ∷ rest.tokens) rest.rest = reads_token {t = t} found.begins refl refl rest.reads in
+    let reads : ReadsTokensFrom place (drop place source) (t ∷ rest.tokens) rest.rest = reads_token {t = t} found.begins refl refl rest.reads in
     record {
       tokens = tokens ++ t ∷ rest.tokens;
       rest = rest.rest;

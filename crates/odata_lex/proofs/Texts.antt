@@ -4,14 +4,14 @@ use Rattle.std.proofs.lemmas.Bool.{not-true}
 use Rattle.std.proofs.lemmas.Bool.Decides.{Decides-eqb}
 use Rattle.std.proofs.lemmas.List.{at_drop_more, at_drop_all}
 use Rattle.std.specs.Option.{option_map}
-use Rattle.odata_lex.specs.Token.{quote, doubled, EndsBefore}
+use Rattle.odata_lex.specs.Token.{apostrophe, apostrophes_doubled, EndsBefore}
 use Rattle.odata_lex.specs.First.{text_len}
 use Rattle.odata_lex.proofs.Runs.{not_equal}
 use Rattle.odata_lex.specs.declared.token.TokenKind.TheVariants.{Text}
 
 -- the `'` that may be the last one
 abbrev pub lead : Bool → List ℕ
-lead true = quote ∷ []
+lead true = apostrophe ∷ []
 lead false = []
 
 -- the Text goes on for n bytes and ends there
@@ -20,7 +20,7 @@ pub record Closes (closed : Bool) (text : List ℕ) (n : ℕ) : Type 0 where
   pub after : List ℕ
   pub content : List ℕ
   pub split : text ≡ body ++ after
-  pub printed : lead closed ++ body ≡ doubled content ++ quote ∷ []
+  pub printed : lead closed ++ body ≡ apostrophes_doubled content ++ apostrophe ∷ []
   pub ends : EndsBefore Text after
   pub len : n ≡ length body
 
@@ -28,10 +28,10 @@ abbrev pub ClosesAt : Bool → List ℕ → Option ℕ → Type 0
 ClosesAt closed text None = Unit {0}
 ClosesAt closed text (Some n) = Closes closed text n
 
-doubled-other : (b : ℕ) (content : List ℕ) → (b == quote) ≡ false → doubled (b ∷ content) ≡ b ∷ doubled content
+doubled-other : (b : ℕ) (content : List ℕ) → (b == apostrophe) ≡ false → apostrophes_doubled (b ∷ content) ≡ b ∷ apostrophes_doubled content
 doubled-other b content other = rw other refl
 
-quote_more : (closed : Bool) (b : ℕ) (text : List ℕ) (o : Option ℕ) → b ≡ quote → ClosesAt (not closed) text o → ClosesAt closed (b ∷ text) (option_map suc o)
+quote_more : (closed : Bool) (b : ℕ) (text : List ℕ) (o : Option ℕ) → b ≡ apostrophe → ClosesAt (not closed) text o → ClosesAt closed (b ∷ text) (option_map suc o)
 quote_more closed b text None is h = tt
 quote_more false b text (Some n) is h = record {
   body = b ∷ h.body;
@@ -45,14 +45,14 @@ quote_more false b text (Some n) is h = record {
 quote_more true b text (Some n) is h = record {
   body = b ∷ h.body;
   after = h.after;
-  content = quote ∷ h.content;
+  content = apostrophe ∷ h.content;
   split = ap (λ l. b ∷ l) h.split;
-  printed = rw is (ap (λ l. quote ∷ quote ∷ l) h.printed);
+  printed = rw is (ap (λ l. apostrophe ∷ apostrophe ∷ l) h.printed);
   ends = h.ends;
   len = ap suc h.len;
 }
 
-other_more : (b : ℕ) (text : List ℕ) (o : Option ℕ) → (b == quote) ≡ false → ClosesAt false text o → ClosesAt false (b ∷ text) (option_map suc o)
+other_more : (b : ℕ) (text : List ℕ) (o : Option ℕ) → (b == apostrophe) ≡ false → ClosesAt false text o → ClosesAt false (b ∷ text) (option_map suc o)
 other_more b text None other h = tt
 other_more b text (Some n) other h = record {
   body = b ∷ h.body;
@@ -64,8 +64,8 @@ other_more b text (Some n) other h = record {
   len = ap suc h.len;
 }
 
-closes_at : (closed : Bool) (b : ℕ) (text : List ℕ) (q : Bool) → (b == quote) ≡ q → ((c : Bool) → ClosesAt c text (text_len c text)) → ClosesAt closed (b ∷ text) (if q then option_map suc (text_len (not closed) text) else (if closed then Some 0 else option_map suc (text_len closed text)))
-closes_at closed b text true is more = quote_more closed b text _ ((Decides-eqb b quote).0 is) (more (not closed))
+closes_at : (closed : Bool) (b : ℕ) (text : List ℕ) (q : Bool) → (b == apostrophe) ≡ q → ((c : Bool) → ClosesAt c text (text_len c text)) → ClosesAt closed (b ∷ text) (if q then option_map suc (text_len (not closed) text) else (if closed then Some 0 else option_map suc (text_len closed text)))
+closes_at closed b text true is more = quote_more closed b text _ ((Decides-eqb b apostrophe).0 is) (more (not closed))
 closes_at true b text false is more = record { body = []; after = b ∷ text; content = []; split = refl; printed = refl; ends = ap not is; len = refl }
 closes_at false b text false is more = other_more b text _ is (more false)
 
@@ -76,24 +76,24 @@ closes [] false = tt
 closes (b ∷ text) closed = closes_at closed b text _ refl (closes text)
 
 -- and where one ends, it is found
-pub text_len-quote : (closed : Bool) (text : List ℕ) → text_len closed (quote ∷ text) ≡ option_map suc (text_len (not closed) text)
+pub text_len-quote : (closed : Bool) (text : List ℕ) → text_len closed (apostrophe ∷ text) ≡ option_map suc (text_len (not closed) text)
 unfolding text_len
 text_len-quote closed text = refl
 
-pub text_len-other : (b : ℕ) (text : List ℕ) → (b == quote) ≡ false → text_len false (b ∷ text) ≡ option_map suc (text_len false text)
+pub text_len-other : (b : ℕ) (text : List ℕ) → (b == apostrophe) ≡ false → text_len false (b ∷ text) ≡ option_map suc (text_len false text)
 unfolding text_len
 text_len-other b text other = rw other refl
 
 text_len-closed : (after : List ℕ) → EndsBefore Text after → text_len true after ≡ Some 0
 unfolding text_len
 text_len-closed [] ends = refl
-text_len-closed (b ∷ after) ends = let other : (b == quote) ≡ false = not-true _ ends in rw other refl
+text_len-closed (b ∷ after) ends = let other : (b == apostrophe) ≡ false = not-true _ ends in rw other refl
 
-found_at : (b : ℕ) (content after : List ℕ) (q : Bool) → (b == quote) ≡ q → text_len false (doubled content ++ quote ∷ after) ≡ Some (suc (length (doubled content))) → text_len false ((if q then quote ∷ quote ∷ doubled content else b ∷ doubled content) ++ quote ∷ after) ≡ Some (suc (length (if q then quote ∷ quote ∷ doubled content else b ∷ doubled content)))
+found_at : (b : ℕ) (content after : List ℕ) (q : Bool) → (b == apostrophe) ≡ q → text_len false (apostrophes_doubled content ++ apostrophe ∷ after) ≡ Some (suc (length (apostrophes_doubled content))) → text_len false ((if q then apostrophe ∷ apostrophe ∷ apostrophes_doubled content else b ∷ apostrophes_doubled content) ++ apostrophe ∷ after) ≡ Some (suc (length (if q then apostrophe ∷ apostrophe ∷ apostrophes_doubled content else b ∷ apostrophes_doubled content)))
 found_at b content after true is more = rw (text_len-quote, text_len-quote, more) refl
-found_at b content after false is more = rw (text_len-other b (doubled content ++ quote ∷ after) is, more) refl
+found_at b content after false is more = rw (text_len-other b (apostrophes_doubled content ++ apostrophe ∷ after) is, more) refl
 
-pub text_len-found : (content after : List ℕ) → EndsBefore Text after → text_len false (doubled content ++ quote ∷ after) ≡ Some (suc (length (doubled content)))
+pub text_len-found : (content after : List ℕ) → EndsBefore Text after → text_len false (apostrophes_doubled content ++ apostrophe ∷ after) ≡ Some (suc (length (apostrophes_doubled content)))
 text_len-found [] after ends = rw (text_len-quote, text_len-closed after ends) refl
 text_len-found (b ∷ content) after ends = found_at b content after _ refl (text_len-found content after ends)
 
@@ -115,7 +115,7 @@ other_at found text i within is so_far =
     at_drop_more (text_len false) text i 0 within ∙ text_len-other _ (drop (i + 1) text) (not_equal _ 39 is) in
     so_far ∙ ap (option_map (λ n. i + n)) rest ∙ shift i _
 
-text_len-past : (b : ℕ) (text : List ℕ) → (b == quote) ≡ false → text_len true (b ∷ text) ≡ Some 0
+text_len-past : (b : ℕ) (text : List ℕ) → (b == apostrophe) ≡ false → text_len true (b ∷ text) ≡ Some 0
 unfolding text_len
 text_len-past b text other = rw other refl
 

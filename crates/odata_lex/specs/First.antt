@@ -6,7 +6,7 @@ use Rattle.std.specs.Option.{option_map}
 use Rattle.std.specs.Int.{is_in_range}
 use Rattle.std.specs.Char.{is_ascii_digit}
 use Rattle.jiff.specs.Words.{days_in_month}
-use Rattle.odata_lex.specs.Token.{quote, minus, point, dollar, begins_word, is_word_byte, year_of, month_of, day_of}
+use Rattle.odata_lex.specs.Token.{apostrophe, minus, point, dollar, begins_word, is_word_byte, year_of, month_of, day_digits}
 use Rattle.odata_lex.specs.declared.token.TheConstants.{MAX_DIGITS, MAX_WHOLE_DIGITS, MAX_FRACTION_DIGITS}
 use Rattle.odata_lex.specs.declared.token.TokenKind.{TokenKind}
 use Rattle.odata_lex.specs.declared.token.TokenKind.TheVariants.{Text, Date, Decimal, Number, Word, Dollar, OpenParenthesis, CloseParenthesis, Comma, Slash, Minus, Star, EqualsSign}
@@ -24,7 +24,7 @@ ends_word (b ∷ _) = not (is_word_byte b)
 unfoldable pub text_len : Bool → List ℕ → Option ℕ
 text_len closed [] = if closed then Some 0 else None
 text_len closed (b ∷ text) =
-    if b == quote then option_map suc (text_len (not closed) text)
+    if b == apostrophe then option_map suc (text_len (not closed) text)
     else (if closed then Some 0 else option_map suc (text_len closed text))
 
 -- four digits, `-`, two digits, `-`, two digits
@@ -42,7 +42,7 @@ begins_date text = is_date_form (take 10 text) && ends_word (drop 10 text)
 abbrev pub is_day : List ℕ → Bool
 is_day text =
     nat_le 1 (year_of text) && is_in_range 1 12 (month_of text)
-    && is_in_range 1 (days_in_month (pos (year_of text)) (month_of text)) (day_of text)
+    && is_in_range 1 (days_in_month (pos (year_of text)) (month_of text)) (day_digits text)
 
 abbrev pub date_token : List ℕ → Option (TokenKind × ℕ)
 date_token text = if is_day (take 10 text) then Some (Date, 10) else None
@@ -98,7 +98,7 @@ sign_token b = option_map (λ kind. (kind, 1)) (sign b)
 unfoldable pub first_token : List ℕ → Option (TokenKind × ℕ)
 first_token [] = None
 first_token (b ∷ text) =
-    if b == quote then option_map (λ n. (Text, suc n)) (text_len false text)
+    if b == apostrophe then option_map (λ n. (Text, suc n)) (text_len false text)
     else (if is_ascii_digit b then digit_token (b ∷ text)
     else (if begins_word b then Some (Word, word_len (b ∷ text))
     else (if b == dollar then dollar_token text

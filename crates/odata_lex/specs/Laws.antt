@@ -1,13 +1,13 @@
 -- What holds of every text.
 use Rattle.std.specs.Prelude.{◌≡◌, ℕ, List, ◌⊎◌}
-use Rattle.odata_lex.specs.Lexer.{Begins, ReadsAll, HasTokens, IsBad, IsTooMany}
+use Rattle.odata_lex.specs.Lexer.{BeginsToken, ReadsAll, HasTokens, IsBad, IsTooMany}
 use Rattle.odata_lex.specs.declared.token.Token.{Token}
 use Rattle.odata_lex.specs.declared.token.TokenKind.{TokenKind}
 
 -- a text begins with at most one token
 abbrev pub OneFirstToken : Type 0
 OneFirstToken =
-    (text : List ℕ) (kind other : TokenKind) (front after more rest : List ℕ) → Begins text kind front after → Begins text other more rest → (kind ≡ other) × (front ≡ more) × (after ≡ rest)
+    (text : List ℕ) (kind other : TokenKind) (front after more rest : List ℕ) → BeginsToken text kind front after → BeginsToken text other more rest → (kind ≡ other) × (front ≡ more) × (after ≡ rest)
 
 -- a text has one list of tokens, up to its end or up to its one first bad place
 pub record OneListOfTokens : Type 0 where

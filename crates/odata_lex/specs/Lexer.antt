@@ -3,7 +3,7 @@
 use Rattle.std.specs.Prelude.{◌≡◌, ℕ, ◌+◌, ◌≤◌, ◌<◌, Bool, ◌==◌, ◌||◌, IsTrue, List, [], ◌∷◌, ◌++◌, length, ◌⊎◌}
 use Rattle.std.specs.List.{All}
 use Rattle.std.specs.Str.{IsCharBoundary}
-use Rattle.odata_lex.specs.Token.{point, AreDigits, IsDateForm, IsOfKind, EndsBefore, token_text}
+use Rattle.odata_lex.specs.Token.{point, AreDigits, IsDateForm, IsOfTokenKind, EndsBefore, token_text}
 use Rattle.odata_lex.specs.declared.fault.LexFault.{LexFault}
 use Rattle.odata_lex.specs.declared.fault.LexFault.TheVariants.{Bad, TooMany, NoMemory}
 use Rattle.odata_lex.specs.declared.token.TheConstants.{MAX_TOKENS}
@@ -35,28 +35,28 @@ pub record BeginsDecimal (text : List ℕ) : Type 0 where
 
 -- The text is a token of this kind with this text, and then what is after it. No other two kinds begin alike: a digit begins a Number
 -- only where neither a text of the form of a date nor one of the form of a decimal begins.
-pub record Begins (text : List ℕ) (kind : TokenKind) (front after : List ℕ) : Type 0 where
+pub record BeginsToken (text : List ℕ) (kind : TokenKind) (front after : List ℕ) : Type 0 where
   pub split : text ≡ front ++ after
-  pub form : IsOfKind kind front
+  pub form : IsOfTokenKind kind front
   pub ends : EndsBefore kind after
   pub no_date : kind ≡ Number → ¬ (BeginsDate text)
   pub no_decimal : kind ≡ Number → ¬ (BeginsDecimal text)
 
 -- The text that stands at a place is these tokens, with spaces and tabs before and between them, and then the rest.
-pub data Reads : ℕ → List ℕ → List Token → List ℕ → Type 0 where
-  reads_end : {place : ℕ} {text : List ℕ} → Reads place text [] text
-  reads_blank : {place b : ℕ} {text rest : List ℕ} {tokens : List Token} → IsTrue (is_blank b) → Reads (place + 1) text tokens rest → Reads place (b ∷ text) tokens rest
-  reads_token : {place : ℕ} {text front after rest : List ℕ} {t : Token} {tokens : List Token} → Begins text t.kind front after → t.start ≡ place → t.end ≡ place + length front → Reads t.end after tokens rest → Reads place text (t ∷ tokens) rest
+pub data ReadsTokensFrom : ℕ → List ℕ → List Token → List ℕ → Type 0 where
+  reads_end : {place : ℕ} {text : List ℕ} → ReadsTokensFrom place text [] text
+  reads_blank : {place b : ℕ} {text rest : List ℕ} {tokens : List Token} → IsTrue (is_blank b) → ReadsTokensFrom (place + 1) text tokens rest → ReadsTokensFrom place (b ∷ text) tokens rest
+  reads_token : {place : ℕ} {text front after rest : List ℕ} {t : Token} {tokens : List Token} → BeginsToken text t.kind front after → t.start ≡ place → t.end ≡ place + length front → ReadsTokensFrom t.end after tokens rest → ReadsTokensFrom place text (t ∷ tokens) rest
 
 -- the text goes on, and neither a space, a tab nor a token begins it
 pub record IsBadPlace (text : List ℕ) : Type 0 where
   pub goes_on : 0 < length text
   pub no_blank : (b : ℕ) (after : List ℕ) → text ≡ b ∷ after → ¬ (IsTrue (is_blank b))
-  pub no_token : (kind : TokenKind) (front after : List ℕ) → ¬ (Begins text kind front after)
+  pub no_token : (kind : TokenKind) (front after : List ℕ) → ¬ (BeginsToken text kind front after)
 
 -- these are the tokens up to the end of the text, or up to its first bad place, and what is left there
 pub record ReadsAll (source : List ℕ) (tokens : List Token) (rest : List ℕ) : Type 0 where
-  pub reads : Reads 0 source tokens rest
+  pub reads : ReadsTokensFrom 0 source tokens rest
   pub stops : (rest ≡ []) ⊎ IsBadPlace rest
 
 -- more tokens than allowed, before the end or the first bad place
@@ -90,18 +90,18 @@ pub record IsTokenAt (source : List ℕ) (token : Token) : Type 0 where
   pub within : token.end ≤ length source
   pub start : IsCharBoundary source token.start
   pub end : IsCharBoundary source token.end
-  pub form : IsOfKind token.kind (token_text source token)
+  pub form : IsOfTokenKind token.kind (token_text source token)
 
 -- each token begins where the one before it ends, or later
-abbrev pub AreInOrder : ℕ → List Token → Type 0
-AreInOrder place [] = Unit {0}
-AreInOrder place (token ∷ tokens) = (place ≤ token.start) × AreInOrder token.end tokens
+abbrev pub AreTokensInOrder : ℕ → List Token → Type 0
+AreTokensInOrder place [] = Unit {0}
+AreTokensInOrder place (token ∷ tokens) = (place ≤ token.start) × AreTokensInOrder token.end tokens
 
 -- the tokens of the source, up to its end
 pub record AreTokens (source : List ℕ) (tokens : List Token) : Type 0 where
   pub reads : ReadsAll source tokens []
   pub few : length tokens ≤ MAX_TOKENS
-  pub in_order : AreInOrder 0 tokens
+  pub in_order : AreTokensInOrder 0 tokens
   pub each : All (IsTokenAt source) tokens
 
 -- the source has tokens, up to its end, and no more than allowed

@@ -12,8 +12,8 @@ use Rattle.odata_lex.specs.declared.token.TokenKind.{TokenKind}
 use Rattle.odata_lex.specs.declared.token.TokenKind.TheVariants.{Text, Date, Decimal, Number, Word, Dollar, OpenParenthesis, CloseParenthesis, Comma, Slash, Minus, Star, EqualsSign}
 
 -- `'`
-abbrev pub quote : ℕ
-quote = 39
+abbrev pub apostrophe : ℕ
+apostrophe = 39
 
 -- `-`
 abbrev pub minus : ℕ
@@ -40,14 +40,14 @@ abbrev pub is_word_byte : ℕ → Bool
 is_word_byte b = is_ascii_alphanumeric b || b == underscore
 
 -- a content with each `'` doubled
-abbrev pub doubled : List ℕ → List ℕ
-doubled [] = []
-doubled (b ∷ content) = if b == quote then quote ∷ quote ∷ doubled content else b ∷ doubled content
+abbrev pub apostrophes_doubled : List ℕ → List ℕ
+apostrophes_doubled [] = []
+apostrophes_doubled (b ∷ content) = if b == apostrophe then apostrophe ∷ apostrophe ∷ apostrophes_doubled content else b ∷ apostrophes_doubled content
 
 -- a Text: `'`, a content with each `'` doubled, `'`
-pub record IsText (text : List ℕ) : Type 0 where
+pub record IsTextToken (text : List ℕ) : Type 0 where
   pub content : List ℕ
-  pub printed : text ≡ quote ∷ doubled content ++ quote ∷ []
+  pub printed : text ≡ apostrophe ∷ apostrophes_doubled content ++ apostrophe ∷ []
 
 abbrev pub AreDigits : List ℕ → Type 0
 AreDigits bytes = AllDigits 10 bytes
@@ -68,17 +68,17 @@ year_of text = digits_value 10 (take 4 text)
 abbrev pub month_of : List ℕ → ℕ
 month_of text = digits_value 10 (slice_range text 5 7)
 
-abbrev pub day_of : List ℕ → ℕ
-day_of text = digits_value 10 (slice_range text 8 10)
+abbrev pub day_digits : List ℕ → ℕ
+day_digits text = digits_value 10 (slice_range text 8 10)
 
 -- a day of the calendar, in the years from 1
 abbrev pub IsDayFromOne : ℕ → ℕ → ℕ → Type 0
 IsDayFromOne year month day = (1 ≤ year) × IsDate (pos year) (pos month) (pos day)
 
 -- a Date: that form, and a day of the calendar in the years from 1 (to 9999, for there are four digits)
-pub record IsDateText (text : List ℕ) : Type 0 where
+pub record IsDateToken (text : List ℕ) : Type 0 where
   pub form : IsDateForm text
-  pub day : IsDayFromOne (year_of text) (month_of text) (day_of text)
+  pub day : IsDayFromOne (year_of text) (month_of text) (day_digits text)
 
 -- the day that three numbers name, in the years from 1; none where the calendar has no such day
 abbrev pub IsDayOrNone : ℕ → ℕ → ℕ → Option Day → Type 0
@@ -88,7 +88,7 @@ IsDayOrNone year month day found =
 -- the day that a text writes; none where it is no Date
 abbrev pub IsDayOfText : List ℕ → Option Day → Type 0
 IsDayOfText text found =
-    MatchOption found (¬ (IsDateText text)) (λ date. IsDateText text × IsYmd (pos (year_of text)) (pos (month_of text)) (pos (day_of text)) date)
+    MatchOption found (¬ (IsDateToken text)) (λ date. IsDateToken text × IsYmd (pos (year_of text)) (pos (month_of text)) (pos (day_digits text)) date)
 
 -- a Decimal: digits, `.`, digits
 pub record IsDecimal (text : List ℕ) : Type 0 where
@@ -103,7 +103,7 @@ pub record IsDecimal (text : List ℕ) : Type 0 where
   pub few_behind : length fraction ≤ MAX_FRACTION_DIGITS
 
 -- a Number: digits
-pub record IsNumber (text : List ℕ) : Type 0 where
+pub record IsNumberToken (text : List ℕ) : Type 0 where
   pub digits : AreDigits text
   pub nonempty : 0 < length text
   pub short : length text ≤ MAX_DIGITS
@@ -119,36 +119,36 @@ pub record IsDollar (text : List ℕ) : Type 0 where
   pub printed : text ≡ dollar ∷ name
 
 -- the text has the form of the kind
-abbrev pub IsOfKind : TokenKind → List ℕ → Type 0
-IsOfKind Text text = IsText text
-IsOfKind Date text = IsDateText text
-IsOfKind Decimal text = IsDecimal text
-IsOfKind Number text = IsNumber text
-IsOfKind Word text = IsWord text
-IsOfKind Dollar text = IsDollar text
-IsOfKind OpenParenthesis text = text ≡ 40 ∷ []
-IsOfKind CloseParenthesis text = text ≡ 41 ∷ []
-IsOfKind Comma text = text ≡ 44 ∷ []
-IsOfKind Slash text = text ≡ 47 ∷ []
-IsOfKind Minus text = text ≡ minus ∷ []
-IsOfKind Star text = text ≡ 42 ∷ []
-IsOfKind EqualsSign text = text ≡ 61 ∷ []
+abbrev pub IsOfTokenKind : TokenKind → List ℕ → Type 0
+IsOfTokenKind Text text = IsTextToken text
+IsOfTokenKind Date text = IsDateToken text
+IsOfTokenKind Decimal text = IsDecimal text
+IsOfTokenKind Number text = IsNumberToken text
+IsOfTokenKind Word text = IsWord text
+IsOfTokenKind Dollar text = IsDollar text
+IsOfTokenKind OpenParenthesis text = text ≡ 40 ∷ []
+IsOfTokenKind CloseParenthesis text = text ≡ 41 ∷ []
+IsOfTokenKind Comma text = text ≡ 44 ∷ []
+IsOfTokenKind Slash text = text ≡ 47 ∷ []
+IsOfTokenKind Minus text = text ≡ minus ∷ []
+IsOfTokenKind Star text = text ≡ 42 ∷ []
+IsOfTokenKind EqualsSign text = text ≡ 61 ∷ []
 
 -- whether a byte may follow a token of the kind: no `'` follows a Text; no letter, digit or `_` a Date, Decimal, Number, Word
 -- or Dollar
-abbrev pub may_follow : TokenKind → ℕ → Bool
-may_follow Text b = not (b == quote)
-may_follow Date b = not (is_word_byte b)
-may_follow Decimal b = not (is_word_byte b)
-may_follow Number b = not (is_word_byte b)
-may_follow Word b = not (is_word_byte b)
-may_follow Dollar b = not (is_word_byte b)
-may_follow _ b = true
+abbrev pub may_follow_token : TokenKind → ℕ → Bool
+may_follow_token Text b = not (b == apostrophe)
+may_follow_token Date b = not (is_word_byte b)
+may_follow_token Decimal b = not (is_word_byte b)
+may_follow_token Number b = not (is_word_byte b)
+may_follow_token Word b = not (is_word_byte b)
+may_follow_token Dollar b = not (is_word_byte b)
+may_follow_token _ b = true
 
 -- a token of the kind may end before this text
 abbrev pub EndsBefore : TokenKind → List ℕ → Type 0
 EndsBefore kind [] = Unit {0}
-EndsBefore kind (b ∷ _) = IsTrue (may_follow kind b)
+EndsBefore kind (b ∷ _) = IsTrue (may_follow_token kind b)
 
 -- a token and its text
 pub record TokenOf : Type 0 where

@@ -5,7 +5,7 @@ use Rattle.table_store.specs.Catalog.{CatalogOf}
 use Rattle.odata_hub.specs.declared.answers.HubFault.{HubFault}
 use Rattle.odata_hub.specs.declared.hub.Conn.{Conn}
 use Rattle.odata_hub.specs.declared.hub.Hub.{Hub}
-use Rattle.odata_hub.specs.Connections.{Answer, Opened, answer_of}
+use Rattle.odata_hub.specs.Connections.{Answer, Opened, call_answer}
 use Rattle.odata_hub.specs.Schedules.{Drop, Open}
 use Rattle.odata_hub.specs.Stands.{IsHubStep}
 use Rattle.served_folders.specs.declared.folders.FolderFault.{FolderFault}
@@ -211,7 +211,7 @@ on_reload a b (inr s) seats = let P : List Seat → Type 0 = λ x. AreSettled x 
 }
 
 -- a connection was opened, or refused
-pub on_open : (a b : Desk) (r : Result Conn HubFault) → IsHubStep a.hub Open (answer_of (λ conn. Opened conn.0) r) b.hub
+pub on_open : (a b : Desk) (r : Result Conn HubFault) → IsHubStep a.hub Open (call_answer (λ conn. Opened conn.0) r) b.hub
     → IfOk r (λ conn. b.seats.items ≡ set a.seats.items conn.0 free_seat) → OnErr r (b.seats.items ≡ a.seats.items) → RunsOn a b
 on_open a b (Ok conn) step opens keeps = let P : List Seat → Type 0 = λ x. AreSettled x in record {
   runs = λ s. runs_one a b (Opens conn.0)

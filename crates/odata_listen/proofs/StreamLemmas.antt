@@ -6,7 +6,7 @@ use Rattle.std.proofs.lemmas.Option.{slice_get_past}
 use Rattle.odata_hub.specs.declared.hub.Hub.{Hub}
 use Rattle.odata_hub.specs.Connections.{Answer, ConnOf}
 use Rattle.odata_hub.specs.Schedules.{FreesAt, HubOf, conn_at}
-use Rattle.odata_hub.specs.Stands.{StandsFor}
+use Rattle.odata_hub.specs.Stands.{Models}
 use Rattle.odata_rounds.specs.declared.answers.Stepped.{Stepped}
 use Rattle.odata_rounds.specs.declared.answers.Stepped.TheVariants.{Free, Rests, Worked, Answered, Lost, Failed}
 use Rattle.odata_rounds.specs.declared.seat.Seat.{Seat}
@@ -32,13 +32,13 @@ ended desk place = is_ended_at desk.sockets.slots.items place
 -- what settling one place does: to its own stream so, and no other connection or stream is touched
 record SettlesOne (stepped : Stepped) (place : ℕ) (h : HubOf) (a b : Desk) : Type 0 where
   next : HubOf
-  stands : StandsFor b.hub next
+  stands : Models b.hub next
   conns : (other : ℕ) → other ≢ place → conn_at next other ≡ conn_at h other
   here : StreamAfter stepped (conn_at h place) (ended a place) (ended b place)
   others : (other : ℕ) → other ≢ place → ended b other ≡ ended a other
 
-kept_stands : (a b : Desk) → IsKept a b → (h : HubOf) → StandsFor a.hub h → StandsFor b.hub h
-kept_stands a b k h s = let P : Hub → Type 0 = λ x. StandsFor x h in subst P (sym k.0) s
+kept_stands : (a b : Desk) → IsKept a b → (h : HubOf) → Models a.hub h → Models b.hub h
+kept_stands a b k h s = let P : Hub → Type 0 = λ x. Models x h in subst P (sym k.0) s
 
 frees_other : (o : Option ConnOf) (h n : HubOf) (place other : ℕ) (answer : Answer) → FreesAt h place o answer n → other ≢ place
     → conn_at n other ≡ conn_at h other
@@ -46,7 +46,7 @@ frees_other None h n place other answer f away = ap (λ (x : HubOf). conn_at x o
 frees_other (Some c) h n place other answer f away =
     ap (λ (x : HubOf). conn_at x other) f.1 ∙ get_or-set_other h.places place other None None away
 
-one_free : (stepped : Stepped) (place : ℕ) (h : HubOf) (a b : Desk) → Frees place a b → StandsFor a.hub h
+one_free : (stepped : Stepped) (place : ℕ) (h : HubOf) (a b : Desk) → Frees place a b → Models a.hub h
     → (ended b place ≡ true → StreamAfter stepped (conn_at h place) (ended a place) (ended b place)) → SettlesOne stepped place h a b
 one_free stepped place h a b f s after =
     let n = f.step h s in
@@ -58,7 +58,7 @@ one_free stepped place h a b f s after =
       others = f.streams.others;
     }
 
-one_kept : (stepped : Stepped) (place : ℕ) (h : HubOf) (a b : Desk) → Stays a b → StandsFor a.hub h
+one_kept : (stepped : Stepped) (place : ℕ) (h : HubOf) (a b : Desk) → Stays a b → Models a.hub h
     → (ended b place ≡ ended a place → StreamAfter stepped (conn_at h place) (ended a place) (ended b place)) → SettlesOne stepped place h a b
 one_kept stepped place h a b k s after = record {
   next = h;
@@ -68,7 +68,7 @@ one_kept stepped place h a b k s after = record {
   others = λ other away. k.streams other;
 }
 
-one_settled : (stepped : Stepped) (place : ℕ) (h : HubOf) (a b : Desk) → Settles stepped place a b → StandsFor a.hub h → SettlesOne stepped place h a b
+one_settled : (stepped : Stepped) (place : ℕ) (h : HubOf) (a b : Desk) → Settles stepped place a b → Models a.hub h → SettlesOne stepped place h a b
 one_settled Free place h a b k s = one_kept Free place h a b k s (λ e. e)
 one_settled Rests place h a b k s = one_kept Rests place h a b k s (λ e. e)
 one_settled Worked place h a b k s = record {
@@ -87,13 +87,13 @@ one_settled Failed place h a b f s = one_free Failed place h a b f s (λ e. e)
 -- the streams at the first so many places are settled; the other places are as they were
 pub record SettlesFirst (count : ℕ) (h : HubOf) (a b : Desk) : Type 0 where
   next : HubOf
-  stands : StandsFor b.hub next
+  stands : Models b.hub next
   conns : (place : ℕ) → count ≤ place → conn_at next place ≡ conn_at h place
   later : (place : ℕ) → count ≤ place → ended b place ≡ ended a place
   first : (place : ℕ) → place < count → StreamAfter (stepped_at a.seats.items place) (conn_at h place) (ended a place) (ended b place)
 
 abbrev pub SettledTo : ℕ → Desk → Desk → Type 0
-SettledTo count a b = (h : HubOf) → StandsFor a.hub h → SettlesFirst count h a b
+SettledTo count a b = (h : HubOf) → Models a.hub h → SettlesFirst count h a b
 
 pub first_none : (a : Desk) → SettledTo zero a a
 first_none a h s = record {

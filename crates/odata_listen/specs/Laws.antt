@@ -8,7 +8,7 @@ use Rattle.odata_listen.specs.declared.journal.Why.{Why}
 use Rattle.odata_listen.specs.declared.words.TheConstants.{ADDRESS, HEAD_SECONDS, IDLE_SECONDS, MOST_PLACES, PLACES}
 use Rattle.odata_listen.specs.Journal.{ended_text, opened_text, refused_text, why_text}
 
-pub record Sizes : Type 0 where
+pub record ListenSizes : Type 0 where
   pub address : ADDRESS.now ≡ codes "127.0.0.1"
   pub places : PLACES ≡ 64
   pub most_places : MOST_PLACES ≡ 1_024

@@ -4,7 +4,7 @@ use Rattle.table_store.specs.Catalog.{CatalogOf}
 use Rattle.odata_hub.specs.declared.hub.Hub.{Hub}
 use Rattle.odata_hub.specs.Connections.{Answer, ConnOf, Done}
 use Rattle.odata_hub.specs.Schedules.{Drop, HubOf, Reload, conn_at}
-use Rattle.odata_hub.specs.Stands.{IsHubStep, StandsFor}
+use Rattle.odata_hub.specs.Stands.{IsHubStep, Models}
 use Rattle.odata_rounds.specs.declared.answers.Stepped.{Stepped}
 use Rattle.odata_rounds.specs.declared.answers.Stepped.TheVariants.{Free, Rests, Worked, Answered, Lost, Failed}
 use Rattle.odata_rounds.specs.declared.seat.Seat.{Seat}
@@ -73,7 +73,7 @@ StreamAfter Failed conn old new = new ≡ true
 
 -- so it is at each place
 abbrev pub SettlesStreams : Desk → Desk → Type 0
-SettlesStreams old new = (h : HubOf) → StandsFor old.hub h → (place : ℕ)
+SettlesStreams old new = (h : HubOf) → Models old.hub h → (place : ℕ)
     → StreamAfter (stepped_at old.seats.items place) (conn_at h place) (is_ended_at old.sockets.slots.items place)
     (is_ended_at new.sockets.slots.items place)
 

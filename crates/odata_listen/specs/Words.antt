@@ -5,7 +5,7 @@ use Rattle.clap.specs.declared.builder.ValueParser.TheVariants as parser
 use Rattle.clap.specs.declared.builder.action.ArgAction.TheVariants.{SetTrue}
 use Rattle.clap.specs.declared.error.ErrorKind.{ErrorKind}
 use Rattle.clap.specs.declared.error.ErrorKind.TheVariants.{DisplayHelp, DisplayVersion}
-use Rattle.command_words.specs.Words.{IsNumberOf, ReadsNumber, port_rule, required_rule}
+use Rattle.command_words.specs.Words.{IsNumberOfBits, ReadsNumberOfBits, port_rule, required_rule}
 use Rattle.odata_listen.specs.declared.words.Words.{Words}
 use Rattle.odata_listen.specs.declared.words.WordsFault.{WordsFault}
 use Rattle.odata_listen.specs.declared.words.WordsFault.TheVariants.{Shows, Usage, NoMemory}
@@ -51,7 +51,7 @@ listen_app = with_numbers (with_flags folder_and_port)
 
 -- the number of so many bits that the text is, or this one where it is no such number
 abbrev pub ReadsNumberOr : ℕ → ℕ → Option Text → ℕ → Type 0
-ReadsNumberOr other bits text n = (o : Option ℕ) × ReadsNumber bits text o × (n ≡ unwrap_or o other)
+ReadsNumberOr other bits text n = (o : Option ℕ) × ReadsNumberOfBits bits text o × (n ≡ unwrap_or o other)
 
 -- whether an option without a value is there: `clap` reads `true` for it
 abbrev pub HasFlag : Option Text → Bool → Type 0
@@ -59,9 +59,9 @@ HasFlag None flag = flag ≡ false
 HasFlag (Some text) flag = (text ≡ codes "true" → flag ≡ true) × (text ≡ codes "false" → flag ≡ false)
 
 -- what a reading asks for, by its arguments
-pub record Says (words : Words) (rows : List Row) : Type 0 where
+pub record AsksBy (words : Words) (rows : List Row) : Type 0 where
   pub folder : first_of (codes "folder") rows ≡ Some words.folder.now
-  pub port : IsNumberOf 16 (one_of (codes "port") rows) words.port
+  pub port : IsNumberOfBits 16 (one_of (codes "port") rows) words.port
   pub address : words.address.now ≡ unwrap_or (first_of (codes "address") rows) ADDRESS.now
   pub places : ReadsNumberOr PLACES 32 (one_of (codes "connections") rows) words.places
   pub head_seconds : ReadsNumberOr HEAD_SECONDS 32 (one_of (codes "head-seconds") rows) words.head_seconds
@@ -70,8 +70,8 @@ pub record Says (words : Words) (rows : List Row) : Type 0 where
   pub log : HasFlag (one_of (codes "log") rows) words.log
 
 -- `clap` takes the texts, and what it reads asks for these words
-abbrev pub AreWords : List Text → Words → Type 0
-AreWords line words = (fault_of listen_app line ≡ []) × Says words (matches_of listen_app line)
+abbrev pub AreListenWords : List Text → Words → Type 0
+AreListenWords line words = (fault_of listen_app line ≡ []) × AsksBy words (matches_of listen_app line)
 
 -- a question for help or for the version
 abbrev pub IsShown : ErrorKind → Type 0
@@ -85,10 +85,10 @@ pub record IsMistaken (line : List Text) : Type 0 where
 
 -- the texts ask for nothing
 abbrev pub AsksNothing : List Text → Type 0
-AsksNothing line = (asked : Words) → AreWords line asked → ⊥
+AsksNothing line = (asked : Words) → AreListenWords line asked → ⊥
 
 -- why there is nothing to serve: `clap` finds a question for help or for the version, or a mistake, or nothing is asked for
-abbrev pub IsFault : List Text → WordsFault → Type 0
-IsFault line (Shows error) = IsShown (kind_of error) × IsAmong (kind_of error) (fault_of listen_app line)
-IsFault line Usage = IsMistaken line ⊎ ((fault_of listen_app line ≡ []) × AsksNothing line)
-IsFault line NoMemory = ⊤
+abbrev pub IsFaultOfWords : List Text → WordsFault → Type 0
+IsFaultOfWords line (Shows error) = IsShown (kind_of error) × IsAmong (kind_of error) (fault_of listen_app line)
+IsFaultOfWords line Usage = IsMistaken line ⊎ ((fault_of listen_app line ≡ []) × AsksNothing line)
+IsFaultOfWords line NoMemory = ⊤

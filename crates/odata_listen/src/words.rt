@@ -3,8 +3,8 @@
 ghost use Rattle.std.specs.Prelude.{◌≡◌, IfErr, IfNone, IfOk, IfSome, false};
 ghost use Rattle.clap.specs.Words.{app_of, found_of, one_of, rows_of, rule_of};
 ghost use Rattle.command_words.specs.Words.{texts};
-ghost use Rattle.odata_listen.specs.Laws.{Sizes};
-ghost use Rattle.odata_listen.specs.Words.{AreWords, HasFlag, IsFault, Says, flag_rule, folder_and_port, listen_app, number_rule, text_rule, with_flags};
+ghost use Rattle.odata_listen.specs.Laws.{ListenSizes};
+ghost use Rattle.odata_listen.specs.Words.{AreListenWords, HasFlag, IsFaultOfWords, AsksBy, flag_rule, folder_and_port, listen_app, number_rule, text_rule, with_flags};
 
 use clap::error::ErrorKind;
 use clap::{Arg, ArgAction, ArgMatches, Command, Error, value_parser};
@@ -39,7 +39,7 @@ const ABOUT: &str =
 
 /// The numbers of the command line.
 pub fn sizes()
-    ensures { Sizes }
+    ensures { ListenSizes }
 {}
 
 /// What the program is asked to do: to serve a folder at a port of an address over so many places; whether links stand for no files; and whether to log.
@@ -159,8 +159,8 @@ fn flag<'a>(matches: &ArgMatches<'a>, id: &str) -> bool
 
 /// What the matches ask for.
 fn matches_words<'a>(matches: &ArgMatches<'a>) -> Option<Words<'a>>
-    ensures some { IfSome result (λ words. Says words (rows_of (found_of matches.now))) }
-    ensures none { IfNone result ((words : Words) → Says words (rows_of (found_of matches.now)) → ⊥) }
+    ensures some { IfSome result (λ words. AsksBy words (rows_of (found_of matches.now))) }
+    ensures none { IfNone result ((words : Words) → AsksBy words (rows_of (found_of matches.now)) → ⊥) }
 {
     let folder = text(matches, "folder")?;
     let port = port(matches)?;
@@ -179,8 +179,8 @@ fn matches_words<'a>(matches: &ArgMatches<'a>) -> Option<Words<'a>>
 /// What the words of the command line ask for, of which the first is the program's own name. They are `Usage` only where `clap` finds a mistake in them, or they
 /// ask for nothing.
 pub fn read_words<'a>(alloc: Global, words: &'a [&'a str]) -> Result<Words<'a>, WordsFault>
-    ensures words { IfOk result (AreWords (texts words.now)) }
-    ensures fault { IfErr result (IsFault (texts words.now)) }
+    ensures words { IfOk result (AreListenWords (texts words.now)) }
+    ensures fault { IfErr result (IsFaultOfWords (texts words.now)) }
 {
     let command = program_command(alloc)?;
     match command.try_get_matches_from(words) {

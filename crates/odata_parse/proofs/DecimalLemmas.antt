@@ -8,7 +8,7 @@ use Rattle.std.proofs.Math.Seq.{get_or-append_seam}
 use Rattle.std.specs.List.{position_or_len}
 use Rattle.std.specs.Int.{IsInRange}
 use Rattle.std.specs.Str.Parse.{AllDigits, digits_value}
-use Rattle.odata_lex.specs.Token.{point, AreDigits, IsNumber, IsDecimal}
+use Rattle.odata_lex.specs.Token.{point, AreDigits, IsNumberToken, IsDecimal}
 use Rattle.std.proofs.Math.Nat.{mul-le-mul}
 use Rattle.std.proofs.lemmas.Int.{ints}
 use Rattle.std.proofs.lemmas.Str.Pattern.{IsSplitOnceResult, split_once_first}
@@ -16,20 +16,20 @@ use Rattle.std.specs.Option.{IsSome}
 use denote.Bor.{Bor}
 use mir.Syntax.{w128}
 use mir.Val.{SFits}
-use Rattle.odata_parse.specs.Literal.{is_point, whole_of, fraction_of, millionths_of}
+use Rattle.odata_parse.specs.Literal.{is_decimal_point, whole_of, fraction_of, millionths_of}
 
 own : IsNumeralModel (AllDigits 10) (digits_value 10)
 own = numerals_by_value _ tells_digits
 
-no_point : (b : ℕ) → IsInRange 48 57 b → is_point b ≡ false
+no_point : (b : ℕ) → IsInRange 48 57 b → is_decimal_point b ≡ false
 no_point b range = grind (arith, nat_tests)
 
 -- the point stands behind the digits
-point_at : (whole fraction : List ℕ) → AreDigits whole → position_or_len is_point (whole ++ point ∷ fraction) ≡ length whole
+point_at : (whole fraction : List ℕ) → AreDigits whole → position_or_len is_decimal_point (whole ++ point ∷ fraction) ≡ length whole
 point_at whole fraction digits =
-    position_or_len_is is_point (whole ++ point ∷ fraction) (length whole) 0 (omega (arith, length-append whole (point ∷ fraction)))
-    (λ k below. ap is_point (get_or_append_left whole (point ∷ fraction) 0 k below) ∙ no_point (get_or whole k 0) (digit_at whole k digits below))
-    (λ _. ap is_point (get_or-append_seam whole point fraction 0))
+    position_or_len_is is_decimal_point (whole ++ point ∷ fraction) (length whole) 0 (omega (arith, length-append whole (point ∷ fraction)))
+    (λ k below. ap is_decimal_point (get_or_append_left whole (point ∷ fraction) 0 k below) ∙ no_point (get_or whole k 0) (digit_at whole k digits below))
+    (λ _. ap is_decimal_point (get_or-append_seam whole point fraction 0))
 
 whole_is : (whole fraction : List ℕ) → AreDigits whole → whole_of (whole ++ point ∷ fraction) ≡ whole
 whole_is whole fraction digits =
@@ -43,9 +43,9 @@ fraction_is whole fraction digits =
 
 -- a decimal parted at its point
 pub record Parts (text : List ℕ) : Type 0 where
-  pub point_within : position_or_len is_point text < length text
-  pub whole_number : IsNumber (whole_of text)
-  pub fraction_number : IsNumber (fraction_of text)
+  pub point_within : position_or_len is_decimal_point text < length text
+  pub whole_number : IsNumberToken (whole_of text)
+  pub fraction_number : IsNumberToken (fraction_of text)
   pub fraction_short : length (fraction_of text) ≤ 6
   pub whole_small : digits_value 10 (whole_of text) < 10 ^ 32
   pub fraction_small : digits_value 10 (fraction_of text) < 10 ^ 6
@@ -54,7 +54,7 @@ pub parts_of : (text : List ℕ) → IsDecimal text → Parts text
 parts_of text d =
     let whole : whole_of text ≡ d.whole = ap whole_of d.printed ∙ whole_is d.whole d.fraction d.before in
     let fraction : fraction_of text ≡ d.fraction = ap fraction_of d.printed ∙ fraction_is d.whole d.fraction d.before in
-    let at : position_or_len is_point text ≡ length d.whole = ap (position_or_len is_point) d.printed ∙ point_at d.whole d.fraction d.before in
+    let at : position_or_len is_decimal_point text ≡ length d.whole = ap (position_or_len is_decimal_point) d.printed ∙ point_at d.whole d.fraction d.before in
     record {
       point_within = omega (arith, at, ap length d.printed, length-append d.whole (point ∷ d.fraction));
       whole_number = rw whole (record { digits = d.before; nonempty = d.some_before; short = omega (arith, d.few_before) });

@@ -2,13 +2,13 @@
 use Rattle.std.proofs.Common.{◌≡◌, ℕ, zero, suc, ◌+◌, ◌-◌, ◌<◌, ◌≤◌, List, [], ◌∷◌, take, drop, sym, subst, arith}
 use Rattle.odata_lex.specs.Token.{TokenOf}
 use Rattle.odata_parse.specs.declared.tree.UnaryOperator.{UnaryOperator}
-use Rattle.odata_parse.specs.Depth.{OpensTooMany, RepeatsOperators, BeginsWithOperators, no_operators, more_operators, open_behind, open_after}
+use Rattle.odata_parse.specs.Depth.{OpensTooMany, RepeatsOperators, BeginsWithOperators, no_operators, more_operators, open_behind, open_groups_after}
 use Rattle.odata_parse.specs.Expression.{IsUnaryOperator}
 
 -- at some place from here on, with n open before, more than 32 are open
 pub record OpensFrom (n : ℕ) (tokens : List TokenOf) : Type 0 where
   pub place : ℕ
-  pub many : 32 < open_after n (take place tokens)
+  pub many : 32 < open_groups_after n (take place tokens)
 
 -- the whole opens too many exactly where it does from here on
 pub record OpensLater (whole rest : List TokenOf) (n : ℕ) : Type 0 where
@@ -23,7 +23,7 @@ OpensLater-init whole = record {
   back = λ o. record { place = o.place; many = o.many };
 }
 
-opens_step : (n : ℕ) (t : TokenOf) (tokens : List TokenOf) (k : ℕ) → n ≤ 32 → 32 < open_after n (take k (t ∷ tokens)) → OpensFrom (open_behind n t.kind) tokens
+opens_step : (n : ℕ) (t : TokenOf) (tokens : List TokenOf) (k : ℕ) → n ≤ 32 → 32 < open_groups_after n (take k (t ∷ tokens)) → OpensFrom (open_behind n t.kind) tokens
 opens_step n t tokens zero h many = absurd (omega arith)
 opens_step n t tokens (suc k) h many = record { place = k; many = many }
 
@@ -37,7 +37,7 @@ OpensLater-more whole rest tokens n m t o is step few = record {
 pub OpensLater-now : (whole rest tokens : List TokenOf) (n m : ℕ) (t : TokenOf) → OpensLater whole rest n → rest ≡ t ∷ tokens → m ≡ open_behind n t.kind → 32 < m → OpensTooMany whole
 OpensLater-now whole rest tokens n m t o is step many = o.back (subst (λ (s : List TokenOf). OpensFrom n s) (sym is) (record { place = 1; many = rw step at many }))
 
-nothing_opens : (n k : ℕ) → n ≤ 32 → 32 < open_after n (take k []) → ⊥
+nothing_opens : (n k : ℕ) → n ≤ 32 → 32 < open_groups_after n (take k []) → ⊥
 nothing_opens n zero h many = omega arith
 nothing_opens n (suc k) h many = omega arith
 

@@ -10,7 +10,7 @@ use Rattle.std.specs.List.{slice_range}
 use Rattle.std.specs.Result.{IsOk}
 use Rattle.std.specs.Str.{IsCharBoundary}
 use Rattle.std.specs.Str.Parse.{AllDigits, digits_value, ParsesSigned}
-use Rattle.odata_lex.specs.Token.{quote, doubled, IsText, IsNumber, TokenOf}
+use Rattle.odata_lex.specs.Token.{apostrophe, apostrophes_doubled, IsTextToken, IsNumberToken, TokenOf}
 use Rattle.odata_lex.specs.declared.token.TokenKind.{TokenKind}
 use Rattle.odata_lex.specs.declared.token.TokenKind.TheVariants.{Text, Date, Decimal, Number, Word, Dollar, OpenParenthesis, CloseParenthesis, Comma, Slash, Minus, Star, EqualsSign}
 use Rattle.odata_parse.proofs.KeywordLemmas.{one_keyword, null_word, true_word, false_word}
@@ -25,29 +25,29 @@ own : IsNumeralModel (AllDigits 10) (digits_value 10)
 own = numerals_by_value _ tells_digits
 
 -- 38 digits write a number below 2 to the 127
-pub number_fits : (digits : List ℕ) → IsNumber digits → digits_value 10 digits < 2 ^ 127
+pub number_fits : (digits : List ℕ) → IsNumberToken digits → digits_value 10 digits < 2 ^ 127
 number_fits digits n = omega (arith, digits_value_short own digits 38 n.digits n.short)
 
-pub number_parses : {E : Type 0} (digits : List ℕ) (r : Result ℤ E) → ParsesSigned w128 10 digits r → IsNumber digits → IsOk r
+pub number_parses : {E : Type 0} (digits : List ℕ) (r : Result ℤ E) → ParsesSigned w128 10 digits r → IsNumberToken digits → IsOk r
 number_parses digits (Ok x) h n = refl
 number_parses digits (Err e) h n = absurd (parse_signed_digits own w128 digits (Err e) h n.digits (n.nonempty, number_fits digits n))
 
 -- a content from its first byte on
-doubled_cases : (b : ℕ) (bytes : List ℕ) (t : Bool) → (b == quote) ≡ t → ((b ≡ 39) × (doubled (b ∷ bytes) ≡ 39 ∷ 39 ∷ doubled bytes)) ⊎ ((b ≢ 39) × (doubled (b ∷ bytes) ≡ b ∷ doubled bytes))
+doubled_cases : (b : ℕ) (bytes : List ℕ) (t : Bool) → (b == apostrophe) ≡ t → ((b ≡ 39) × (apostrophes_doubled (b ∷ bytes) ≡ 39 ∷ 39 ∷ apostrophes_doubled bytes)) ⊎ ((b ≢ 39) × (apostrophes_doubled (b ∷ bytes) ≡ b ∷ apostrophes_doubled bytes))
 doubled_cases b bytes true e = inl (grind (arith, nat_tests), rw e refl)
 doubled_cases b bytes false e = inr (grind (arith, nat_tests), rw e refl)
 
-pub doubled_first : (b : ℕ) (bytes : List ℕ) → ((b ≡ 39) × (doubled (b ∷ bytes) ≡ 39 ∷ 39 ∷ doubled bytes)) ⊎ ((b ≢ 39) × (doubled (b ∷ bytes) ≡ b ∷ doubled bytes))
-doubled_first b bytes = doubled_cases b bytes (b == quote) refl
+pub doubled_first : (b : ℕ) (bytes : List ℕ) → ((b ≡ 39) × (apostrophes_doubled (b ∷ bytes) ≡ 39 ∷ 39 ∷ apostrophes_doubled bytes)) ⊎ ((b ≢ 39) × (apostrophes_doubled (b ∷ bytes) ≡ b ∷ apostrophes_doubled bytes))
+doubled_first b bytes = doubled_cases b bytes (b == apostrophe) refl
 
 -- In d, which is these bytes with doubled quotes, a quote stands at k and another one behind it.
 pub record IsPair (d bytes : List ℕ) (k : ℕ) : Type 0 where
   pub front : take (suc k) d ≡ take (suc k) bytes
-  pub back : drop (suc (suc k)) d ≡ doubled (drop (suc k) bytes)
+  pub back : drop (suc (suc k)) d ≡ apostrophes_doubled (drop (suc k) bytes)
   pub within : suc (suc k) ≤ length d
   pub second : get_or d (suc k) 0 ≡ 39
 
-pair_here : (b : ℕ) (bytes : List ℕ) (k : ℕ) → b ≡ 39 → ((i : ℕ) → i < k → get_or (39 ∷ 39 ∷ doubled bytes) i 0 ≢ 39) → IsPair (39 ∷ 39 ∷ doubled bytes) (b ∷ bytes) k
+pair_here : (b : ℕ) (bytes : List ℕ) (k : ℕ) → b ≡ 39 → ((i : ℕ) → i < k → get_or (39 ∷ 39 ∷ apostrophes_doubled bytes) i 0 ≢ 39) → IsPair (39 ∷ 39 ∷ apostrophes_doubled bytes) (b ∷ bytes) k
 pair_here b bytes zero is none = record {
   front = rw is refl;
   back = refl;
@@ -67,43 +67,43 @@ pair_later b d bytes (suc k) other later within is none =
       second = p.second;
     }
 
-doubled_pair_more : (b : ℕ) (bytes : List ℕ) (k : ℕ) → ((b ≡ 39) × (doubled (b ∷ bytes) ≡ 39 ∷ 39 ∷ doubled bytes)) ⊎ ((b ≢ 39) × (doubled (b ∷ bytes) ≡ b ∷ doubled bytes)) → ((j : ℕ) → j < length (doubled bytes) → get_or (doubled bytes) j 0 ≡ 39 → ((i : ℕ) → i < j → get_or (doubled bytes) i 0 ≢ 39) → IsPair (doubled bytes) bytes j) → k < length (doubled (b ∷ bytes)) → get_or (doubled (b ∷ bytes)) k 0 ≡ 39 → ((i : ℕ) → i < k → get_or (doubled (b ∷ bytes)) i 0 ≢ 39) → IsPair (doubled (b ∷ bytes)) (b ∷ bytes) k
+doubled_pair_more : (b : ℕ) (bytes : List ℕ) (k : ℕ) → ((b ≡ 39) × (apostrophes_doubled (b ∷ bytes) ≡ 39 ∷ 39 ∷ apostrophes_doubled bytes)) ⊎ ((b ≢ 39) × (apostrophes_doubled (b ∷ bytes) ≡ b ∷ apostrophes_doubled bytes)) → ((j : ℕ) → j < length (apostrophes_doubled bytes) → get_or (apostrophes_doubled bytes) j 0 ≡ 39 → ((i : ℕ) → i < j → get_or (apostrophes_doubled bytes) i 0 ≢ 39) → IsPair (apostrophes_doubled bytes) bytes j) → k < length (apostrophes_doubled (b ∷ bytes)) → get_or (apostrophes_doubled (b ∷ bytes)) k 0 ≡ 39 → ((i : ℕ) → i < k → get_or (apostrophes_doubled (b ∷ bytes)) i 0 ≢ 39) → IsPair (apostrophes_doubled (b ∷ bytes)) (b ∷ bytes) k
 doubled_pair_more b bytes k (inl p) later within is none = subst (λ (d : List ℕ). ((i : ℕ) → i < k → get_or d i 0 ≢ 39) → IsPair d (b ∷ bytes) k) (sym p.1) (pair_here b bytes k p.0) none
-doubled_pair_more b bytes k (inr p) later within is none = subst (λ (d : List ℕ). k < length d → get_or d k 0 ≡ 39 → ((i : ℕ) → i < k → get_or d i 0 ≢ 39) → IsPair d (b ∷ bytes) k) (sym p.1) (pair_later b (doubled bytes) bytes k p.0 later) within is none
+doubled_pair_more b bytes k (inr p) later within is none = subst (λ (d : List ℕ). k < length d → get_or d k 0 ≡ 39 → ((i : ℕ) → i < k → get_or d i 0 ≢ 39) → IsPair d (b ∷ bytes) k) (sym p.1) (pair_later b (apostrophes_doubled bytes) bytes k p.0 later) within is none
 
-doubled_same_more : (b : ℕ) (bytes : List ℕ) → ((b ≡ 39) × (doubled (b ∷ bytes) ≡ 39 ∷ 39 ∷ doubled bytes)) ⊎ ((b ≢ 39) × (doubled (b ∷ bytes) ≡ b ∷ doubled bytes)) → (((i : ℕ) → i < length (doubled bytes) → get_or (doubled bytes) i 0 ≢ 39) → doubled bytes ≡ bytes) → ((i : ℕ) → i < length (doubled (b ∷ bytes)) → get_or (doubled (b ∷ bytes)) i 0 ≢ 39) → doubled (b ∷ bytes) ≡ b ∷ bytes
+doubled_same_more : (b : ℕ) (bytes : List ℕ) → ((b ≡ 39) × (apostrophes_doubled (b ∷ bytes) ≡ 39 ∷ 39 ∷ apostrophes_doubled bytes)) ⊎ ((b ≢ 39) × (apostrophes_doubled (b ∷ bytes) ≡ b ∷ apostrophes_doubled bytes)) → (((i : ℕ) → i < length (apostrophes_doubled bytes) → get_or (apostrophes_doubled bytes) i 0 ≢ 39) → apostrophes_doubled bytes ≡ bytes) → ((i : ℕ) → i < length (apostrophes_doubled (b ∷ bytes)) → get_or (apostrophes_doubled (b ∷ bytes)) i 0 ≢ 39) → apostrophes_doubled (b ∷ bytes) ≡ b ∷ bytes
 doubled_same_more b bytes (inl p) same none = absurd (subst (λ (d : List ℕ). ((i : ℕ) → i < length d → get_or d i 0 ≢ 39) → ⊥) (sym p.1) (λ h. h 0 (omega arith) refl) none)
-doubled_same_more b bytes (inr p) same none = p.1 ∙ ap (λ (s : List ℕ). b ∷ s) (same (subst (λ (d : List ℕ). ((i : ℕ) → i < length d → get_or d i 0 ≢ 39) → (i : ℕ) → i < length (doubled bytes) → get_or (doubled bytes) i 0 ≢ 39) (sym p.1) (λ h i short. h (suc i) (omega arith)) none))
+doubled_same_more b bytes (inr p) same none = p.1 ∙ ap (λ (s : List ℕ). b ∷ s) (same (subst (λ (d : List ℕ). ((i : ℕ) → i < length d → get_or d i 0 ≢ 39) → (i : ℕ) → i < length (apostrophes_doubled bytes) → get_or (apostrophes_doubled bytes) i 0 ≢ 39) (sym p.1) (λ h i short. h (suc i) (omega arith)) none))
 
-pub doubled_pair : (bytes : List ℕ) (k : ℕ) → k < length (doubled bytes) → get_or (doubled bytes) k 0 ≡ 39 → ((i : ℕ) → i < k → get_or (doubled bytes) i 0 ≢ 39) → IsPair (doubled bytes) bytes k
+pub doubled_pair : (bytes : List ℕ) (k : ℕ) → k < length (apostrophes_doubled bytes) → get_or (apostrophes_doubled bytes) k 0 ≡ 39 → ((i : ℕ) → i < k → get_or (apostrophes_doubled bytes) i 0 ≢ 39) → IsPair (apostrophes_doubled bytes) bytes k
 doubled_pair [] k within is none = absurd (omega arith)
 doubled_pair (b ∷ bytes) k within is none = doubled_pair_more b bytes k (doubled_first b bytes) (λ j h e before. doubled_pair bytes j h e before) within is none
 
 -- bytes without a quote double to themselves
-doubled_same : (bytes : List ℕ) → ((i : ℕ) → i < length (doubled bytes) → get_or (doubled bytes) i 0 ≢ 39) → doubled bytes ≡ bytes
+doubled_same : (bytes : List ℕ) → ((i : ℕ) → i < length (apostrophes_doubled bytes) → get_or (apostrophes_doubled bytes) i 0 ≢ 39) → apostrophes_doubled bytes ≡ bytes
 doubled_same [] none = refl
 doubled_same (b ∷ bytes) none = doubled_same_more b bytes (doubled_first b bytes) (λ h. doubled_same bytes h) none
 
 -- the content so far and what is left behind it, as the text has it doubled
 pub record Unquoting (quoted content rest : List ℕ) : Type 0 where
   pub left : List ℕ
-  pub is_doubled : rest ≡ doubled left
+  pub is_doubled : rest ≡ apostrophes_doubled left
   pub whole : Quotes (content ++ left) quoted
 
-pub Unquoting-init : (quoted rest : List ℕ) → IsText quoted → rest ≡ slice_range quoted 1 (length quoted - 1) → Unquoting quoted [] rest
+pub Unquoting-init : (quoted rest : List ℕ) → IsTextToken quoted → rest ≡ slice_range quoted 1 (length quoted - 1) → Unquoting quoted [] rest
 Unquoting-init quoted rest t is = record {
   left = t.content;
   is_doubled =
-      let n : length quoted ≡ suc (length (doubled t.content ++ quote ∷ [])) = ap length t.printed in
-      let m : length quoted - 1 - 1 ≡ length (doubled t.content) = omega (arith, n, length-append (doubled t.content) (quote ∷ [])) in
-      let cut : drop 1 quoted ≡ doubled t.content ++ quote ∷ [] = ap (λ (s : List ℕ). drop 1 s) t.printed in
-      is ∙ (rw (m, cut) (take-append_seam (doubled t.content) (quote ∷ [])));
+      let n : length quoted ≡ suc (length (apostrophes_doubled t.content ++ apostrophe ∷ [])) = ap length t.printed in
+      let m : length quoted - 1 - 1 ≡ length (apostrophes_doubled t.content) = omega (arith, n, length-append (apostrophes_doubled t.content) (apostrophe ∷ [])) in
+      let cut : drop 1 quoted ≡ apostrophes_doubled t.content ++ apostrophe ∷ [] = ap (λ (s : List ℕ). drop 1 s) t.printed in
+      is ∙ (rw (m, cut) (take-append_seam (apostrophes_doubled t.content) (apostrophe ∷ [])));
   whole = t.printed;
 }
 
 -- the content lies between two bytes
-pub text_long : (quoted : List ℕ) → IsText quoted → 2 ≤ length quoted
-text_long quoted t = omega (arith, ap length t.printed, length-append (doubled t.content) (quote ∷ []))
+pub text_long : (quoted : List ℕ) → IsTextToken quoted → 2 ≤ length quoted
+text_long quoted t = omega (arith, ap length t.printed, length-append (apostrophes_doubled t.content) (apostrophe ∷ []))
 
 pub Unquoting-more : (quoted content more rest after : List ℕ) (k : ℕ) → Unquoting quoted content rest → k < length rest → get_or rest k 0 ≡ 39 → ((i : ℕ) → i < k → get_or rest i 0 ≢ 39) → more ≡ content ++ take (k + 1) rest → after ≡ drop (k + 2) rest → Unquoting quoted more after
 Unquoting-more quoted content more rest after k u within is none pushed cut =
@@ -166,28 +166,28 @@ IsWordLiteral-unique bytes (date y m d) w h k = absurd h
 IsWordLiteral-unique bytes (decimal n) w h k = absurd h
 
 -- contents that are doubled alike are one
-doubled_empty : (c : List ℕ) → 1 ≡ length (doubled c ++ 39 ∷ []) → [] ≡ c
+doubled_empty : (c : List ℕ) → 1 ≡ length (apostrophes_doubled c ++ 39 ∷ []) → [] ≡ c
 doubled_empty [] e = refl
 doubled_empty (b ∷ c) e = elim (doubled_first b c) as (λ _. [] ≡ b ∷ c) [
   | inl p ↦ absurd (omega (arith, e, ap (λ (s : List ℕ). length (s ++ 39 ∷ [])) p.1))
-  | inr p ↦ absurd (omega (arith, e, ap (λ (s : List ℕ). length (s ++ 39 ∷ [])) p.1, length-append (doubled c) (39 ∷ [])))
+  | inr p ↦ absurd (omega (arith, e, ap (λ (s : List ℕ). length (s ++ 39 ∷ [])) p.1, length-append (apostrophes_doubled c) (39 ∷ [])))
 ]
 
-doubled_injective_more : (a b : ℕ) (c d x y : List ℕ) → ((a ≡ 39) × (x ≡ 39 ∷ 39 ∷ doubled c)) ⊎ ((a ≢ 39) × (x ≡ a ∷ doubled c)) → ((b ≡ 39) × (y ≡ 39 ∷ 39 ∷ doubled d)) ⊎ ((b ≢ 39) × (y ≡ b ∷ doubled d)) → x ++ 39 ∷ [] ≡ y ++ 39 ∷ [] → (a ≡ b) × (doubled c ++ 39 ∷ [] ≡ doubled d ++ 39 ∷ [])
-doubled_injective_more a b c d x y (inl p) (inl q) e = (p.0 ∙ sym q.0, let k : 39 ∷ 39 ∷ (doubled c ++ 39 ∷ []) ≡ 39 ∷ 39 ∷ (doubled d ++ 39 ∷ []) = rw (p.1, q.1) at e in cc)
-doubled_injective_more a b c d x y (inl p) (inr q) e = absurd (q.0 (let k : 39 ∷ 39 ∷ (doubled c ++ 39 ∷ []) ≡ b ∷ (doubled d ++ 39 ∷ []) = rw (p.1, q.1) at e in cc))
-doubled_injective_more a b c d x y (inr p) (inl q) e = absurd (p.0 (let k : a ∷ (doubled c ++ 39 ∷ []) ≡ 39 ∷ 39 ∷ (doubled d ++ 39 ∷ []) = rw (p.1, q.1) at e in cc))
-doubled_injective_more a b c d x y (inr p) (inr q) e = let k : a ∷ (doubled c ++ 39 ∷ []) ≡ b ∷ (doubled d ++ 39 ∷ []) = rw (p.1, q.1) at e in ((cc), (cc))
+doubled_injective_more : (a b : ℕ) (c d x y : List ℕ) → ((a ≡ 39) × (x ≡ 39 ∷ 39 ∷ apostrophes_doubled c)) ⊎ ((a ≢ 39) × (x ≡ a ∷ apostrophes_doubled c)) → ((b ≡ 39) × (y ≡ 39 ∷ 39 ∷ apostrophes_doubled d)) ⊎ ((b ≢ 39) × (y ≡ b ∷ apostrophes_doubled d)) → x ++ 39 ∷ [] ≡ y ++ 39 ∷ [] → (a ≡ b) × (apostrophes_doubled c ++ 39 ∷ [] ≡ apostrophes_doubled d ++ 39 ∷ [])
+doubled_injective_more a b c d x y (inl p) (inl q) e = (p.0 ∙ sym q.0, let k : 39 ∷ 39 ∷ (apostrophes_doubled c ++ 39 ∷ []) ≡ 39 ∷ 39 ∷ (apostrophes_doubled d ++ 39 ∷ []) = rw (p.1, q.1) at e in cc)
+doubled_injective_more a b c d x y (inl p) (inr q) e = absurd (q.0 (let k : 39 ∷ 39 ∷ (apostrophes_doubled c ++ 39 ∷ []) ≡ b ∷ (apostrophes_doubled d ++ 39 ∷ []) = rw (p.1, q.1) at e in cc))
+doubled_injective_more a b c d x y (inr p) (inl q) e = absurd (p.0 (let k : a ∷ (apostrophes_doubled c ++ 39 ∷ []) ≡ 39 ∷ 39 ∷ (apostrophes_doubled d ++ 39 ∷ []) = rw (p.1, q.1) at e in cc))
+doubled_injective_more a b c d x y (inr p) (inr q) e = let k : a ∷ (apostrophes_doubled c ++ 39 ∷ []) ≡ b ∷ (apostrophes_doubled d ++ 39 ∷ []) = rw (p.1, q.1) at e in ((cc), (cc))
 
-doubled_injective : (c d : List ℕ) → doubled c ++ 39 ∷ [] ≡ doubled d ++ 39 ∷ [] → c ≡ d
+doubled_injective : (c d : List ℕ) → apostrophes_doubled c ++ 39 ∷ [] ≡ apostrophes_doubled d ++ 39 ∷ [] → c ≡ d
 doubled_injective [] d e = doubled_empty d (ap length e)
 doubled_injective (a ∷ c) [] e = sym (doubled_empty (a ∷ c) (sym (ap length e)))
 doubled_injective (a ∷ c) (b ∷ d) e =
-    let p = doubled_injective_more a b c d (doubled (a ∷ c)) (doubled (b ∷ d)) (doubled_first a c) (doubled_first b d) e in
+    let p = doubled_injective_more a b c d (apostrophes_doubled (a ∷ c)) (apostrophes_doubled (b ∷ d)) (doubled_first a c) (doubled_first b d) e in
     let q = doubled_injective c d p.1 in cc
 
 Quotes-unique : (c d bytes : List ℕ) → Quotes c bytes → Quotes d bytes → c ≡ d
-Quotes-unique c d bytes h k = doubled_injective c d (let e : quote ∷ (doubled c ++ quote ∷ []) ≡ quote ∷ (doubled d ++ quote ∷ []) = sym h ∙ k in cc)
+Quotes-unique c d bytes h k = doubled_injective c d (let e : apostrophe ∷ (apostrophes_doubled c ++ apostrophe ∷ []) ≡ apostrophe ∷ (apostrophes_doubled d ++ apostrophe ∷ []) = sym h ∙ k in cc)
 
 IsLiteralOfKind-unique : (kind : TokenKind) (bytes : List ℕ) (v w : LiteralOf) → IsLiteralOfKind kind bytes v → IsLiteralOfKind kind bytes w → v ≡ w
 IsLiteralOfKind-unique Number bytes v w h k = h ∙ sym k

@@ -14,14 +14,14 @@ open_behind n CloseParenthesis = n - 1
 open_behind n _ = n
 
 -- and behind these tokens
-abbrev pub open_after : ℕ → List TokenOf → ℕ
-open_after n [] = n
-open_after n (t ∷ tokens) = open_after (open_behind n t.kind) tokens
+abbrev pub open_groups_after : ℕ → List TokenOf → ℕ
+open_groups_after n [] = n
+open_groups_after n (t ∷ tokens) = open_groups_after (open_behind n t.kind) tokens
 
 -- at some place more `(` are open than allowed
 pub record OpensTooMany (tokens : List TokenOf) : Type 0 where
   pub place : ℕ
-  pub many : MAX_OPEN < open_after 0 (take place tokens)
+  pub many : MAX_OPEN < open_groups_after 0 (take place tokens)
 
 -- a token is `-` or `not`
 abbrev pub IsPrefixToken : TokenOf → Type 0

@@ -2,7 +2,7 @@
 use Rattle.std.specs.Prelude.{◌≡◌, ℕ, ◌+◌, ◌-◌, ◌*◌, ◌^◌, ℤ, pos, neg_ℤ, Bool, ◌==◌, true, false, List, [], ◌∷◌, ◌++◌, length, codes}
 use Rattle.std.specs.List.{before_first, after_first}
 use Rattle.std.specs.Str.Parse.{digits_value}
-use Rattle.odata_lex.specs.Token.{quote, point, doubled, year_of, month_of, day_of, TokenOf}
+use Rattle.odata_lex.specs.Token.{apostrophe, point, apostrophes_doubled, year_of, month_of, day_digits, TokenOf}
 use Rattle.odata_lex.specs.declared.token.TokenKind.{TokenKind}
 use Rattle.odata_lex.specs.declared.token.TokenKind.TheVariants.{Text, Date, Decimal, Number, Word, Minus}
 use Rattle.odata_parse.specs.declared.fault.PhraseFault.{PhraseFault}
@@ -19,17 +19,17 @@ IsWordLiteral bytes _ = ⊥
 
 -- a text is this content with each `'` doubled, between `'` and `'`
 abbrev pub Quotes : List ℕ → List ℕ → Type 0
-Quotes content bytes = bytes ≡ quote ∷ doubled content ++ quote ∷ []
+Quotes content bytes = bytes ≡ apostrophe ∷ apostrophes_doubled content ++ apostrophe ∷ []
 
-abbrev pub is_point : ℕ → Bool
-is_point b = b == point
+abbrev pub is_decimal_point : ℕ → Bool
+is_decimal_point b = b == point
 
 -- the digits before the point, and those behind it
 abbrev pub whole_of : List ℕ → List ℕ
-whole_of bytes = before_first is_point bytes
+whole_of bytes = before_first is_decimal_point bytes
 
 abbrev pub fraction_of : List ℕ → List ℕ
-fraction_of bytes = after_first is_point bytes
+fraction_of bytes = after_first is_decimal_point bytes
 
 -- the millionths that a decimal writes
 abbrev pub millionths_of : List ℕ → ℕ
@@ -40,7 +40,7 @@ millionths_of bytes =
 abbrev pub IsLiteralOfKind : TokenKind → List ℕ → LiteralOf → Type 0
 IsLiteralOfKind Number bytes v = v ≡ number (pos (digits_value 10 bytes))
 IsLiteralOfKind Decimal bytes v = v ≡ decimal (pos (millionths_of bytes))
-IsLiteralOfKind Date bytes v = v ≡ date (pos (year_of bytes)) (month_of bytes) (day_of bytes)
+IsLiteralOfKind Date bytes v = v ≡ date (pos (year_of bytes)) (month_of bytes) (day_digits bytes)
 IsLiteralOfKind Text bytes v = (content : List ℕ) × Quotes content bytes × (v ≡ text content)
 IsLiteralOfKind Word bytes v = IsWordLiteral bytes v
 IsLiteralOfKind _ bytes v = ⊥

@@ -50,9 +50,9 @@ abbrev pub item_trees : {T X A : Type 0} → (T → X) → Vec T A → List X
 item_trees tree items = map tree items.items
 
 -- a parser gives this tree and stops before these tokens, unless memory ran out
-abbrev pub Gives : {T X : Type 0} → (T → X) → X → List TokenOf → Result T PhraseFault → List TokenOf → Type 0
-Gives view x after (Ok e) new = (view e ≡ x) × (new ≡ after)
-Gives view x after (Err e) new = e ≡ NoMemoryForPhrase
+abbrev pub GivesPhrase : {T X : Type 0} → (T → X) → X → List TokenOf → Result T PhraseFault → List TokenOf → Type 0
+GivesPhrase view x after (Ok e) new = (view e ≡ x) × (new ≡ after)
+GivesPhrase view x after (Err e) new = e ≡ NoMemoryForPhrase
 
 -- what a parser gives is read from these tokens, and stops before those
 abbrev pub Finds : {T X : Type 0} → (T → X) → (List TokenOf → X → List TokenOf → Type 0) → List TokenOf → Result T PhraseFault → List TokenOf → Type 0
@@ -60,11 +60,11 @@ Finds view reads old result new = IfOk result (λ x. reads old (view x) new)
 
 -- a parser gives each tree that is read from these tokens and ends where it can end, unless memory ran out: the only one
 abbrev pub Parses : {T X : Type 0} → (T → X) → (List TokenOf → X → List TokenOf → Type 0) → (List TokenOf → Type 0) → List TokenOf → Result T PhraseFault → List TokenOf → Type 0
-Parses {X = X} view reads ends old result new = (x : X) (after : List TokenOf) → reads old x after → ends after → Gives view x after result new
+Parses {X = X} view reads ends old result new = (x : X) (after : List TokenOf) → reads old x after → ends after → GivesPhrase view x after result new
 
 -- the same for trees that can end anywhere
 abbrev pub ParsesAll : {T X : Type 0} → (T → X) → (List TokenOf → X → List TokenOf → Type 0) → List TokenOf → Result T PhraseFault → List TokenOf → Type 0
-ParsesAll {X = X} view reads old result new = (x : X) (after : List TokenOf) → reads old x after → Gives view x after result new
+ParsesAll {X = X} view reads old result new = (x : X) (after : List TokenOf) → reads old x after → GivesPhrase view x after result new
 
 -- a phrase of level l does not go on with this token
 pub record MayFollow (l : ℕ) (t : TokenOf) : Type 0 where

@@ -9,7 +9,7 @@ use Rattle.odata_parse.specs.declared.tree.Transformation.{Transformation}
 use Rattle.odata_parse.specs.Apply.{ReadsAggregateItem, ReadsTransformation}
 use Rattle.odata_parse.specs.Cursor.{NotFirst}
 use Rattle.odata_parse.specs.Keyword.{IsKeyword, method_text}
-use Rattle.odata_parse.specs.Parsing.{Gives}
+use Rattle.odata_parse.specs.Parsing.{GivesPhrase}
 use Rattle.odata_parse.specs.Tree.{AggregateItemOf, aggregate_item_view, TransformationOf, transformation_view}
 
 -- a method was the first token, and where none is
@@ -22,7 +22,7 @@ NoMethod tokens = (t : TokenOf) (rest : List TokenOf) (m : AggregationMethod) �
 -- a parser gives each item that does not begin with a Dollar
 abbrev pub ParsesColumn : List TokenOf → Result AggregateItem PhraseFault → List TokenOf → Type 0
 ParsesColumn old result new =
-    (x : AggregateItemOf) (after : List TokenOf) → ReadsAggregateItem old x after → NotFirst (λ t. t.kind ≡ Dollar) old → Gives aggregate_item_view x after result new
+    (x : AggregateItemOf) (after : List TokenOf) → ReadsAggregateItem old x after → NotFirst (λ t. t.kind ≡ Dollar) old → GivesPhrase aggregate_item_view x after result new
 
 -- what a parser gives is, with the keyword before it, a transformation
 abbrev pub FindsBehind : List ℕ → List TokenOf → Result Transformation PhraseFault → List TokenOf → Type 0
@@ -32,4 +32,4 @@ FindsBehind keyword old result new =
 -- a parser gives each transformation that begins with the keyword
 abbrev pub ParsesBehind : List ℕ → List TokenOf → Result Transformation PhraseFault → List TokenOf → Type 0
 ParsesBehind keyword old result new =
-    (t : TokenOf) (x : TransformationOf) (after : List TokenOf) → IsKeyword keyword t → ReadsTransformation (t ∷ old) x after → Gives transformation_view x after result new
+    (t : TokenOf) (x : TransformationOf) (after : List TokenOf) → IsKeyword keyword t → ReadsTransformation (t ∷ old) x after → GivesPhrase transformation_view x after result new

@@ -63,8 +63,8 @@ pub data OrderItemOf : Type 0 where
 abbrev pub order_item_view : OrderItem → OrderItemOf
 order_item_view i = order_item (expr_view i.expression) i.descending
 
-abbrev pub order_view : {A : Type 0} → Vec OrderItem A → List OrderItemOf
-order_view items = map order_item_view items.items
+abbrev pub order_by_view : {A : Type 0} → Vec OrderItem A → List OrderItemOf
+order_by_view items = map order_item_view items.items
 
 -- an item of `$select`
 pub data SelectItemOf : Type 0 where

@@ -3,7 +3,7 @@
 ghost use Rattle.std.specs.Prelude.{◌≡◌, ◌≢◌, List, [], ◌∷◌, drop, IfSome, IfNone, IfOk, IfErr, OnOk, OnErr};
 ghost use Rattle.std.specs.List.{All};
 ghost use Rattle.odata_lex.specs.Lexer.{AreTokens, IsTokenAt};
-ghost use Rattle.odata_lex.specs.Token.{IsOfKind, TokenOf, token_views};
+ghost use Rattle.odata_lex.specs.Token.{IsOfTokenKind, TokenOf, token_views};
 ghost use Rattle.odata_parse.specs.Keyword.{IsKeyword, lower};
 ghost use Rattle.odata_parse.specs.Cursor.{lexeme_view, NotFirst, TakesKind, StaysNoKind, TakesKeyword, StaysNoKeyword};
 
@@ -48,7 +48,7 @@ impl<'a> Cursor<'a> {
     /// The next token, which stays.
     pub(crate) fn peek(&self) -> Option<Lexeme<'a>>
         ensures some { IfSome result (λ l. self.now ≡ lexeme_view l ∷ drop 1 self.now) }
-        ensures form { IfSome result (λ l. IsOfKind l.kind l.text.now) }
+        ensures form { IfSome result (λ l. IsOfTokenKind l.kind l.text.now) }
         ensures none { IfNone result (self.now ≡ []) }
     {
         let token = *self.rest.first()?;
@@ -71,7 +71,7 @@ impl<'a> Cursor<'a> {
     /// Takes the next token.
     pub(crate) fn next(&mut self) -> Option<Lexeme<'a>>
         ensures some { IfSome result (λ l. self.old ≡ lexeme_view l ∷ self.new) }
-        ensures form { IfSome result (λ l. IsOfKind l.kind l.text.now) }
+        ensures form { IfSome result (λ l. IsOfTokenKind l.kind l.text.now) }
         ensures none { IfNone result ((self.old ≡ []) × (self.new ≡ [])) }
     {
         let first = self.peek();
@@ -82,7 +82,7 @@ impl<'a> Cursor<'a> {
     /// Takes the next token if it is of a kind.
     pub(crate) fn take(&mut self, kind: TokenKind) -> Option<Lexeme<'a>>
         ensures some { IfSome result (λ l. TakesKind kind l self.old self.new) }
-        ensures form { IfSome result (λ l. IsOfKind l.kind l.text.now) }
+        ensures form { IfSome result (λ l. IsOfTokenKind l.kind l.text.now) }
         ensures none { IfNone result (StaysNoKind kind self.old self.new) }
     {
         let first = self.peek()?;
@@ -109,7 +109,7 @@ impl<'a> Cursor<'a> {
     /// Takes the next token, which has to be of a kind.
     pub(crate) fn expect(&mut self, kind: TokenKind) -> Result<Lexeme<'a>, PhraseFault>
         ensures ok { IfOk result (λ l. TakesKind kind l self.old self.new) }
-        ensures form { IfOk result (λ l. IsOfKind l.kind l.text.now) }
+        ensures form { IfOk result (λ l. IsOfTokenKind l.kind l.text.now) }
         ensures err { OnErr result (NotFirst (λ t. t.kind ≡ kind) self.old) }
         ensures fault { IfErr result (λ e. e ≡ PhraseFault.Syntax) }
     {

@@ -15,13 +15,11 @@ use crate::fault::{ParseFault, PhraseFault};
 use crate::keyword::{binary_function, binary_operator, spells, unary_function};
 use crate::list::{Item, enclosed};
 use crate::literal::{literal_of, word_literal};
-use crate::tree::{
-    ArithmeticOperator, BinaryOperator, ComparisonOperator, Expr, Literal, LogicOperator,
-    UnaryOperator,
-};
+use crate::tree::{BinaryOperator, Expr, Literal, LogicOperator, UnaryOperator};
 use crate::whole::whole_item;
 use odata_lex::{Token, TokenKind};
 use std::alloc::Global;
+use typed_trees::{ArithmeticOperator, ComparisonOperator};
 
 /// The level of a whole expression.
 pub(crate) const TOP: usize = 8;

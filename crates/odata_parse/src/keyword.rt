@@ -4,17 +4,17 @@ ghost use Rattle.std.specs.Prelude.{◌≡◌, ◌≢◌, ◌↔◌, IsTrue, IfS
 ghost use Rattle.odata_parse.specs.Format.{same_text};
 ghost use Rattle.odata_parse.specs.Keyword.{lower, logic_text, comparison_text, arithmetic_text, operator_text, unary_function_text, binary_function_text, method_text};
 ghost use Rattle.odata_parse.specs.declared.tree.LogicOperator.{LogicOperator};
-ghost use Rattle.odata_parse.specs.declared.tree.ComparisonOperator.{ComparisonOperator};
-ghost use Rattle.odata_parse.specs.declared.tree.ArithmeticOperator.{ArithmeticOperator};
+ghost use Rattle.typed_trees.specs.declared.operator.ComparisonOperator.{ComparisonOperator};
+ghost use Rattle.typed_trees.specs.declared.operator.ArithmeticOperator.{ArithmeticOperator};
 ghost use Rattle.odata_parse.specs.declared.tree.BinaryOperator.{BinaryOperator};
 ghost use Rattle.odata_parse.specs.declared.tree.UnaryFunction.{UnaryFunction};
 ghost use Rattle.odata_parse.specs.declared.tree.BinaryFunction.{BinaryFunction};
 ghost use Rattle.odata_parse.specs.declared.tree.AggregationMethod.{AggregationMethod};
 
 use crate::tree::{
-    AggregationMethod, ArithmeticOperator, BinaryFunction, BinaryOperator, ComparisonOperator,
-    LogicOperator, UnaryFunction,
+    AggregationMethod, BinaryFunction, BinaryOperator, LogicOperator, UnaryFunction,
 };
+use typed_trees::{ArithmeticOperator, ComparisonOperator};
 
 /// Whether a text is a keyword in any ASCII case.
 pub(crate) fn spells(text: &str, keyword: &str) -> bool

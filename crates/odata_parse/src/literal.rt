@@ -2,7 +2,7 @@
 
 ghost use Rattle.std.specs.Prelude.{◌≡◌, ◌<◌, pos, length, string_bytes, IfOk, IfErr, OnOk, IfSome, IfNone};
 ghost use Rattle.std.specs.Str.Parse.{digits_value};
-ghost use Rattle.odata_lex.specs.Token.{IsDecimal, IsNumber, IsText, IsDateText, IsOfKind};
+ghost use Rattle.odata_lex.specs.Token.{IsDecimal, IsNumberToken, IsTextToken, IsDateToken, IsOfTokenKind};
 ghost use Rattle.odata_parse.specs.Cursor.{lexeme_view};
 ghost use Rattle.odata_parse.specs.Literal.{IsLiteral, IsLiteralOfKind, FailsLiteral, IsWordLiteral, Quotes, ReadsNegative, millionths_of, ReadsLiteral};
 ghost use Rattle.odata_parse.specs.Parsing.{Finds, ParsesAll};
@@ -21,7 +21,7 @@ const MILLION: i128 = 1_000_000;
 
 /// The number that digits write.
 fn number(digits: &str) -> i128
-    requires { IsNumber digits.now }
+    requires { IsNumberToken digits.now }
     ensures { result ≡ pos (digits_value 10 digits.now) }
 {
     digits.parse::<i128>().unwrap()
@@ -39,7 +39,7 @@ fn millionths(text: &str) -> i128
 
 /// The day that a date writes.
 fn date(text: &str) -> Literal
-    requires { IsDateText text.now }
+    requires { IsDateToken text.now }
     ensures { IsLiteralOfKind TokenKind.Date text.now (literal_view result) }
 {
     Literal::Date(date_in(text.as_bytes()).unwrap())
@@ -47,7 +47,7 @@ fn date(text: &str) -> Literal
 
 /// What stands between quotes, each doubled quote made one.
 fn content(alloc: Global, quoted: &str) -> Result<String, AllocError>
-    requires { IsText quoted.now }
+    requires { IsTextToken quoted.now }
     ensures { IfOk result (λ s. Quotes (string_bytes s) quoted.now) }
 {
     let mut content = String::new(alloc);
@@ -78,7 +78,7 @@ pub(crate) fn word_literal(text: &str) -> Option<Literal>
 
 /// The value that a token is.
 pub(crate) fn literal_of(alloc: Global, lexeme: Lexeme<'_>) -> Result<Literal, PhraseFault>
-    requires { IsOfKind lexeme.kind lexeme.text.now }
+    requires { IsOfTokenKind lexeme.kind lexeme.text.now }
     ensures found { IfOk result (λ v. IsLiteral (lexeme_view lexeme.entry) (literal_view v)) }
     ensures none { IfErr result (FailsLiteral (lexeme_view lexeme.entry)) }
 {

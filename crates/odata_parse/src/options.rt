@@ -6,7 +6,7 @@ ghost use Rattle.odata_lex.specs.Lexer.{AreTokens};
 ghost use Rattle.odata_lex.specs.Token.{token_views};
 ghost use Rattle.odata_parse.specs.Options.{IsOrder, IsSelection, IsKey, ReadsOrderItem, ReadsSelectItem, ReadsKeyPair};
 ghost use Rattle.odata_parse.specs.Parsing.{HasEqualsSign, IsParsed};
-ghost use Rattle.odata_parse.specs.Tree.{order_view, selection_view, key_view, OrderItemOf, order_item_view, SelectItemOf, select_item_view, KeyPairOf, key_pair_view};
+ghost use Rattle.odata_parse.specs.Tree.{order_by_view, selection_view, key_view, OrderItemOf, order_item_view, SelectItemOf, select_item_view, KeyPairOf, key_pair_view};
 
 use crate::cursor::Cursor;
 use crate::expression::{TOP, phrase};
@@ -52,7 +52,7 @@ pub fn parse_orderby(
     tokens: &[Token],
 ) -> Result<Vec<OrderItem>, ParseFault>
     requires { AreTokens source.now tokens.now }
-    ensures { IsParsed order_view IsOrder source.now tokens.now result }
+    ensures { IsParsed order_by_view IsOrder source.now tokens.now result }
 {
     whole_list::<OrderItem>(alloc, source, tokens, TokenKind::Comma)
 }

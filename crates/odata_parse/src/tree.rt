@@ -2,6 +2,7 @@
 //! 4.0, section 3). Parentheses leave no node: the shape of a tree says what stands together.
 
 use jiff::civil::Date;
+pub use typed_trees::{ArithmeticOperator, ComparisonOperator};
 
 /// A value written in an expression (section 5.1.1.14.1).
 #[derive(Drop)]
@@ -30,27 +31,6 @@ pub enum UnaryOperator {
 pub enum LogicOperator {
     And,
     Or,
-}
-
-/// `eq`, `ne`, `gt`, `ge`, `lt` and `le` (sections 5.1.1.1.1 to 5.1.1.1.6).
-#[derive(Clone, Copy, PartialEq, Eq)]
-pub enum ComparisonOperator {
-    Equal,
-    NotEqual,
-    GreaterThan,
-    GreaterOrEqual,
-    LessThan,
-    LessOrEqual,
-}
-
-/// `add`, `sub`, `mul`, `div` and `mod` (section 5.1.1.2).
-#[derive(Clone, Copy, PartialEq, Eq)]
-pub enum ArithmeticOperator {
-    Add,
-    Sub,
-    Mul,
-    Div,
-    Mod,
 }
 
 /// An operator between two operands.

@@ -13,26 +13,27 @@ use Rattle.odata_types.specs.declared.fault.TypeFault.{TypeFault}
 use Rattle.odata_types.specs.declared.fault.TypeFault.TheVariants.{BadKey}
 use Rattle.odata_types.specs.declared.types.ColumnType.{ColumnType}
 use Rattle.odata_types.specs.declared.types.ColumnType.TheVariants as column
-use Rattle.odata_types.specs.declared.types.TheConstants.{MILLIONTHS, MOST_SIZE}
+use Rattle.typed_trees.specs.declared.tree.TheConstants.{MILLIONTHS}
+use Rattle.odata_types.specs.declared.types.TheConstants.{MOST_SIZE}
 use Rattle.odata_types.specs.Columns.{InputOf}
 use Rattle.odata_types.specs.Result.{◌>>=◌}
-use Rattle.odata_query.specs.Key.{column_value, key_typing, key_value, named_value, named_value_in, named_values, scaled_value, value_in, value_of_type, value_under}
-use Rattle.odata_query.specs.KeyValues.{Answers, AreNamed, IsKeyOf, IsNamedAt, IsUnder, IsValueAt, IsValueIn}
+use Rattle.odata_query.specs.Key.{value_in_place, key_typing, key_value, named_value, named_value_in, named_values, scaled_value, literal_in, value_of_type, value_under}
+use Rattle.odata_query.specs.KeyValues.{AnswersOnly, AreNamed, IsKeyOf, IsNamedAt, IsUnder, IsValueAt, IsValueIn}
 
 -- the same answer to another relation that gives the same
-pub other : {X : Type 0} (P Q : X → Type 0) (r : Result X TypeFault) → ((x : X) → P x → Q x) → ((x : X) → Q x → P x) → Answers P r → Answers Q r
+pub other : {X : Type 0} (P Q : X → Type 0) (r : Result X TypeFault) → ((x : X) → P x → Q x) → ((x : X) → Q x → P x) → AnswersOnly P r → AnswersOnly Q r
 other P Q (Ok x) to from a = (to x a.0, (λ y q. a.1 y (from y q)))
 other P Q (Err e) to from a = (a.0, (λ y q. a.1 y (from y q)))
 
-scaled_answers : (bound : ℕ) (n : ℤ) → Answers (IsValueIn (column.Decimal bound) (tree.number n)) (scaled_value n)
+scaled_answers : (bound : ℕ) (n : ℤ) → AnswersOnly (IsValueIn (column.Decimal bound) (tree.number n)) (scaled_value n)
 scaled_answers bound n = by (nat_le (unsigned_abs n * MILLIONTHS) MOST_SIZE) refl
   where
     by : (c : Bool) → nat_le (unsigned_abs n * MILLIONTHS) MOST_SIZE ≡ c
-        → Answers (IsValueIn (column.Decimal bound) (tree.number n)) (if c then Ok (value.decimal (n *ℤ pos MILLIONTHS)) else Err BadKey)
+        → AnswersOnly (IsValueIn (column.Decimal bound) (tree.number n)) (if c then Ok (value.decimal (n *ℤ pos MILLIONTHS)) else Err BadKey)
     by true e = ((leb-true (unsigned_abs n * MILLIONTHS) MOST_SIZE e, refl), (λ y h. h.1))
     by false e = (refl, (λ y h. let other_way = le-leb (unsigned_abs n * MILLIONTHS) MOST_SIZE h.0 in absurd (cc)))
 
-pub value_answers : (type : ColumnType) (literal : LiteralOf) → Answers (IsValueIn type literal) (key_value type literal)
+pub value_answers : (type : ColumnType) (literal : LiteralOf) → AnswersOnly (IsValueIn type literal) (key_value type literal)
 value_answers (column.Integer bound) tree.null = (refl, (λ y h. h))
 value_answers (column.Integer bound) (tree.boolean b) = (refl, (λ y h. h))
 value_answers (column.Integer bound) (tree.number n) = (refl, (λ y h. h))
@@ -67,7 +68,7 @@ value_answers (column.Decimal bound) (tree.decimal n) = (refl, (λ y h. h))
 -- ---- a literal alone
 
 at : (inputs : List InputOf) (place : ℕ) (literal : LiteralOf) (o : Option InputOf) → slice_get inputs place ≡ o
-    → Answers (IsValueAt inputs place literal) (value_in o literal)
+    → AnswersOnly (IsValueAt inputs place literal) (literal_in o literal)
 at inputs place literal None e = (refl, (λ y h. let there = h.there in absurd (cc)))
 at inputs place literal (Some c) e =
     other (IsValueIn c.column_type literal) (IsValueAt inputs place literal) (key_value c.column_type literal)
@@ -75,8 +76,8 @@ at inputs place literal (Some c) e =
     (λ x h. let there = h.there in let same : c ≡ h.column = cc in rw same h.fits)
     (value_answers c.column_type literal)
 
-alone : (inputs : List InputOf) (place : ℕ) (literal : LiteralOf) (r : Result CellValue TypeFault) → Answers (IsValueAt inputs place literal) r
-    → Answers (IsKeyOf inputs (place ∷ []) (single literal)) (r >>= λ x. Ok (x ∷ []))
+alone : (inputs : List InputOf) (place : ℕ) (literal : LiteralOf) (r : Result CellValue TypeFault) → AnswersOnly (IsValueAt inputs place literal) r
+    → AnswersOnly (IsKeyOf inputs (place ∷ []) (single literal)) (r >>= λ x. Ok (x ∷ []))
 alone inputs place literal (Ok x) a = (a.0, only)
   where
     only : (y : List CellValue) → IsKeyOf inputs (place ∷ []) (single literal) y → y ≡ x ∷ []
@@ -110,7 +111,7 @@ under (key_pair n l ∷ pairs) name literal (inr h) =
     ]
 
 named_in : (inputs : List InputOf) (pairs : List KeyPairOf) (place : ℕ) (c : InputOf) → slice_get inputs place ≡ Some c
-    → (o : Option LiteralOf) → value_under pairs c.name ≡ o → Answers (IsNamedAt inputs pairs place) (value_of_type c.column_type o)
+    → (o : Option LiteralOf) → value_under pairs c.name ≡ o → AnswersOnly (IsNamedAt inputs pairs place) (value_of_type c.column_type o)
 named_in inputs pairs place c e None u = (refl, none)
   where
     none : (y : CellValue) → IsNamedAt inputs pairs place y → ⊥
@@ -132,13 +133,13 @@ named_in inputs pairs place c e (Some l) u =
         rw (alike, same) h.fits
 
 named_at : (inputs : List InputOf) (pairs : List KeyPairOf) (place : ℕ) (o : Option InputOf) → slice_get inputs place ≡ o
-    → Answers (IsNamedAt inputs pairs place) (named_value_in o pairs)
+    → AnswersOnly (IsNamedAt inputs pairs place) (named_value_in o pairs)
 named_at inputs pairs place None e = (refl, (λ y h. let there = h.there in absurd (cc)))
 named_at inputs pairs place (Some c) e = named_in inputs pairs place c e (value_under pairs c.name) refl
 
 one_more : (inputs : List InputOf) (pairs : List KeyPairOf) (place : ℕ) (places : List ℕ) (a : Result CellValue TypeFault) (b : Result (List CellValue) TypeFault)
-    → Answers (IsNamedAt inputs pairs place) a → Answers (AreNamed inputs pairs places) b
-    → Answers (AreNamed inputs pairs (place ∷ places)) (a >>= λ v. b >>= λ vs. Ok (v ∷ vs))
+    → AnswersOnly (IsNamedAt inputs pairs place) a → AnswersOnly (AreNamed inputs pairs places) b
+    → AnswersOnly (AreNamed inputs pairs (place ∷ places)) (a >>= λ v. b >>= λ vs. Ok (v ∷ vs))
 one_more inputs pairs place places (Err e) b p q = (p.0, none)
   where
     none : (y : List CellValue) → AreNamed inputs pairs (place ∷ places) y → ⊥
@@ -159,14 +160,14 @@ no_more : (y : List CellValue) (inputs : List InputOf) (pairs : List KeyPairOf) 
 no_more [] inputs pairs h = refl
 no_more (v ∷ vs) inputs pairs h = absurd h
 
-all_named : (inputs : List InputOf) (pairs : List KeyPairOf) (places : List ℕ) → Answers (AreNamed inputs pairs places) (named_values inputs pairs places)
+all_named : (inputs : List InputOf) (pairs : List KeyPairOf) (places : List ℕ) → AnswersOnly (AreNamed inputs pairs places) (named_values inputs pairs places)
 all_named inputs pairs [] = (tt, (λ y h. no_more y inputs pairs h))
 all_named inputs pairs (place ∷ places) =
     one_more inputs pairs place places (named_value inputs pairs place) (named_values inputs pairs places)
     (named_at inputs pairs place (slice_get inputs place) refl) (all_named inputs pairs places)
 
 as_many : (inputs : List InputOf) (pairs : List KeyPairOf) (places : List ℕ) (c : Bool) → nat_eq (length pairs) (length places) ≡ c
-    → Answers (λ values. (length pairs ≡ length places) × AreNamed inputs pairs places values) (if c then named_values inputs pairs places else Err BadKey)
+    → AnswersOnly (λ values. (length pairs ≡ length places) × AreNamed inputs pairs places values) (if c then named_values inputs pairs places else Err BadKey)
 as_many inputs pairs places true e =
     let many = (unsigned_Decides (length pairs) (length places)).0 e in
     other (AreNamed inputs pairs places) (λ values. (length pairs ≡ length places) × AreNamed inputs pairs places values) (named_values inputs pairs places)
@@ -175,11 +176,11 @@ as_many inputs pairs places false e = (refl, (λ y h. let many = (unsigned_Decid
 
 -- ---- keys
 
-pub key_answers : (inputs : List InputOf) (places : List ℕ) (key : KeyOf) → Answers (IsKeyOf inputs places key) (key_typing inputs places key)
+pub key_answers : (inputs : List InputOf) (places : List ℕ) (key : KeyOf) → AnswersOnly (IsKeyOf inputs places key) (key_typing inputs places key)
 key_answers inputs [] (single literal) = (refl, (λ y h. h))
 key_answers inputs [] (named pairs) = (refl, (λ y h. h))
 key_answers inputs (place ∷ []) (single literal) =
-    alone inputs place literal (column_value inputs place literal) (at inputs place literal (slice_get inputs place) refl)
+    alone inputs place literal (value_in_place inputs place literal) (at inputs place literal (slice_get inputs place) refl)
 key_answers inputs (place ∷ next ∷ places) (single literal) = (refl, (λ y h. h))
 key_answers inputs (place ∷ []) (named pairs) = as_many inputs pairs (place ∷ []) (nat_eq (length pairs) (length (place ∷ []))) refl
 key_answers inputs (place ∷ next ∷ places) (named pairs) =

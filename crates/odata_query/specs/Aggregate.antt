@@ -1,7 +1,7 @@
 -- Transformations with their types, whichever memory keeps them (OData Data Aggregation 4.0, section 3).
 use Rattle.std.specs.Prelude.{ℕ, List, map, string_bytes, Vec}
 use Rattle.odata_types.specs.declared.types.ColumnType.{ColumnType}
-use Rattle.odata_types.specs.TypedTree.{TruthExprOf, boxed_truth}
+use Rattle.typed_trees.specs.TypedTree.{TruthExprOf, boxed_truth}
 use Rattle.odata_query.specs.declared.aggregate.Aggregate.{Aggregate}
 use Rattle.odata_query.specs.declared.aggregate.NamedAggregate.{NamedAggregate}
 use Rattle.odata_query.specs.declared.aggregate.TypedTransformation.{TypedTransformation}
@@ -26,13 +26,13 @@ pub data TypedTransformationOf : Type 0 where
   aggregate_rows : List NamedAggregateOf → TypedTransformationOf
   group_rows : List ℕ → List NamedAggregateOf → TypedTransformationOf
 
-abbrev pub transformation_view : TypedTransformation → TypedTransformationOf
-transformation_view (typed.Filter e) = filter_rows (boxed_truth e)
-transformation_view (typed.Aggregate made) = aggregate_rows (map named_view made.items)
-transformation_view (typed.GroupBy places made) = group_rows places.items (map named_view made.items)
+abbrev pub typed_transformation_view : TypedTransformation → TypedTransformationOf
+typed_transformation_view (typed.Filter e) = filter_rows (boxed_truth e)
+typed_transformation_view (typed.Aggregate made) = aggregate_rows (map named_view made.items)
+typed_transformation_view (typed.GroupBy places made) = group_rows places.items (map named_view made.items)
 
 abbrev pub transformations_view : {A : Type 0} → Vec TypedTransformation A → List TypedTransformationOf
-transformations_view made = map transformation_view made.items
+transformations_view made = map typed_transformation_view made.items
 
 -- an aggregate with its alias and its type
 pub record ItemOf : Type 0 where

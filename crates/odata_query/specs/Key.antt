@@ -9,7 +9,8 @@ use Rattle.odata_types.specs.declared.fault.TypeFault.{TypeFault}
 use Rattle.odata_types.specs.declared.fault.TypeFault.TheVariants.{BadKey}
 use Rattle.odata_types.specs.declared.types.ColumnType.{ColumnType}
 use Rattle.odata_types.specs.declared.types.ColumnType.TheVariants as column
-use Rattle.odata_types.specs.declared.types.TheConstants.{MILLIONTHS, MOST_SIZE}
+use Rattle.typed_trees.specs.declared.tree.TheConstants.{MILLIONTHS}
+use Rattle.odata_types.specs.declared.types.TheConstants.{MOST_SIZE}
 use Rattle.odata_types.specs.Columns.{InputOf}
 use Rattle.odata_types.specs.Result.{◌>>=◌}
 
@@ -43,16 +44,16 @@ value_of_type type None = Err BadKey
 value_of_type type (Some v) = key_value type v
 
 -- a literal, or the one under the column's name, in the column of a key
-abbrev pub value_in : Option InputOf → LiteralOf → Result CellValue TypeFault
-value_in None v = Err BadKey
-value_in (Some c) v = key_value c.column_type v
+abbrev pub literal_in : Option InputOf → LiteralOf → Result CellValue TypeFault
+literal_in None v = Err BadKey
+literal_in (Some c) v = key_value c.column_type v
 
 abbrev pub named_value_in : Option InputOf → List KeyPairOf → Result CellValue TypeFault
 named_value_in None pairs = Err BadKey
 named_value_in (Some c) pairs = value_of_type c.column_type (value_under pairs c.name)
 
-abbrev pub column_value : List InputOf → ℕ → LiteralOf → Result CellValue TypeFault
-column_value inputs place v = value_in (slice_get inputs place) v
+abbrev pub value_in_place : List InputOf → ℕ → LiteralOf → Result CellValue TypeFault
+value_in_place inputs place v = literal_in (slice_get inputs place) v
 
 abbrev pub named_value : List InputOf → List KeyPairOf → ℕ → Result CellValue TypeFault
 named_value inputs pairs place = named_value_in (slice_get inputs place) pairs
@@ -63,7 +64,7 @@ named_values inputs pairs [] = Ok []
 named_values inputs pairs (place ∷ places) = named_value inputs pairs place >>= λ v. named_values inputs pairs places >>= λ vs. Ok (v ∷ vs)
 
 abbrev pub single_values : List InputOf → ℕ → LiteralOf → Result (List CellValue) TypeFault
-single_values inputs place v = column_value inputs place v >>= λ x. Ok (x ∷ [])
+single_values inputs place v = value_in_place inputs place v >>= λ x. Ok (x ∷ [])
 
 -- The values of a key, for a table whose key is these columns: a literal alone is for a key of one column; under names there are as many values as
 -- columns, in any order, and one under the name of each.

@@ -8,7 +8,8 @@ use Rattle.odata_types.specs.declared.fault.TypeFault.{TypeFault}
 use Rattle.odata_types.specs.declared.fault.TypeFault.TheVariants.{BadKey}
 use Rattle.odata_types.specs.declared.types.ColumnType.{ColumnType}
 use Rattle.odata_types.specs.declared.types.ColumnType.TheVariants as column
-use Rattle.odata_types.specs.declared.types.TheConstants.{MILLIONTHS, MOST_SIZE}
+use Rattle.typed_trees.specs.declared.tree.TheConstants.{MILLIONTHS}
+use Rattle.odata_types.specs.declared.types.TheConstants.{MOST_SIZE}
 use Rattle.odata_types.specs.Columns.{InputOf}
 use Rattle.odata_query.specs.Key.{key_typing}
 
@@ -56,10 +57,10 @@ IsKeyOf inputs places (single literal) values = ⊥
 IsKeyOf inputs places (named pairs) values = (length pairs ≡ length places) × AreNamed inputs pairs places values
 
 -- an answer is the one that the relation gives; it is refused just where the relation gives none
-abbrev pub Answers : {X : Type 0} → (X → Type 0) → Result X TypeFault → Type 0
-Answers Is (Ok x) = Is x × ((y : _) → Is y → y ≡ x)
-Answers Is (Err cause) = (cause ≡ BadKey) × ((y : _) → Is y → ⊥)
+abbrev pub AnswersOnly : {X : Type 0} → (X → Type 0) → Result X TypeFault → Type 0
+AnswersOnly Is (Ok x) = Is x × ((y : _) → Is y → y ≡ x)
+AnswersOnly Is (Err cause) = (cause ≡ BadKey) × ((y : _) → Is y → ⊥)
 
 -- a key predicate has a type just where it has values in the columns of the key, and these are they
 abbrev pub KeysAreTyped : Type 0
-KeysAreTyped = (inputs : List InputOf) (places : List ℕ) (key : KeyOf) → Answers (IsKeyOf inputs places key) (key_typing inputs places key)
+KeysAreTyped = (inputs : List InputOf) (places : List ℕ) (key : KeyOf) → AnswersOnly (IsKeyOf inputs places key) (key_typing inputs places key)

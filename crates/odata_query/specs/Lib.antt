@@ -1,6 +1,6 @@
 pub use Rattle.odata_parse.specs.Tree as Trees
 pub use Rattle.odata_types.specs.Columns
-pub use Rattle.odata_types.specs.TypedTree
+pub use Rattle.typed_trees.specs.TypedTree
 pub mod Key
 pub mod KeyValues
 pub mod Selection

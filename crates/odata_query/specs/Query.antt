@@ -9,13 +9,13 @@ use Rattle.odata_types.specs.declared.types.InputColumn.{InputColumn}
 use Rattle.odata_types.specs.Columns.{InputOf, inputs_view}
 use Rattle.odata_types.specs.Result.{◌>>=◌}
 use Rattle.odata_types.specs.Schema.{inputs_of}
-use Rattle.odata_types.specs.TypedTree.{TruthExprOf, TypedExprOf, boxed_truth, typed_view}
+use Rattle.typed_trees.specs.TypedTree.{TruthExprOf, TypedExprOf, boxed_truth, typed_view}
 use Rattle.odata_types.specs.Typing.{filter_typing, typing}
 use Rattle.odata_query.specs.declared.aggregate.TypedTransformation.{TypedTransformation}
 use Rattle.odata_query.specs.declared.query.OrderBy.{OrderBy}
 use Rattle.odata_query.specs.declared.query.Query.{Query}
 use Rattle.odata_query.specs.declared.query.Typed.{Typed}
-use Rattle.odata_query.specs.Aggregate.{TypedTransformationOf, transformation_view, transformations_view}
+use Rattle.odata_query.specs.Aggregate.{TypedTransformationOf, typed_transformation_view, transformations_view}
 use Rattle.odata_query.specs.Apply.{apply_typing}
 use Rattle.odata_query.specs.Key.{optional_key_typing}
 use Rattle.odata_query.specs.Selection.{optional_selection_typing}
@@ -84,7 +84,7 @@ query_typed_view q = record {
 
 -- a transformation, or more, and the columns of the result
 abbrev pub transformed_view : {A : Type 0} → TypedTransformation × Vec InputColumn A → TypedTransformationOf × List InputOf
-transformed_view made = (transformation_view made.0, inputs_view made.1.items)
+transformed_view made = (typed_transformation_view made.0, inputs_view made.1.items)
 
 abbrev pub applied_view : {A B : Type 0} → Vec TypedTransformation A × Vec InputColumn B → List TypedTransformationOf × List InputOf
 applied_view made = (transformations_view made.0, inputs_view made.1.items)

@@ -1,6 +1,6 @@
 //! Transformations of `$apply` with their types (OData Data Aggregation 4.0, section 3). Columns are their numbers in the input.
 
-use odata_types::TruthExpr;
+use typed_trees::TruthExpr;
 
 /// How many rows an input has at most: 2 to the 30, for a table's file has no more bytes.
 pub const MOST_ROWS: u128 = 1_073_741_824;

@@ -5,15 +5,16 @@ ghost use Rattle.cell_types.specs.Value.{value_view};
 ghost use Rattle.odata_parse.specs.Tree.{key_view, key_pair_view, literal_view};
 ghost use Rattle.odata_types.specs.Columns.{inputs_view};
 ghost use Rattle.odata_types.specs.Result.{Gives};
-ghost use Rattle.odata_query.specs.Key.{column_value as column_value_of, key_typing, key_value as key_value_of, scaled_value as scaled_value_of, single_values, named_value as named_value_of, named_values as named_values_of, optional_key_typing, value_of_type, value_under as value_under_name};
+ghost use Rattle.odata_query.specs.Key.{value_in_place as column_value_of, key_typing, key_value as key_value_of, scaled_value as scaled_value_of, single_values, named_value as named_value_of, named_values as named_values_of, optional_key_typing, value_of_type, value_under as value_under_name};
 ghost use Rattle.odata_query.specs.Query.{optional_values, values_view};
 
 use crate::group::column_at;
 use cell_types::Value;
 use odata_parse::tree::{Key, KeyPair, Literal};
-use odata_types::{ColumnType, InputColumn, MILLIONTHS, TypeFault, scaled};
+use odata_types::{ColumnType, InputColumn, TypeFault, scaled};
 use std::alloc::Global;
 use std::borrow::CowStr;
+use typed_trees::MILLIONTHS;
 
 /// A whole number of a key as a decimal.
 fn scaled_value(number: i128) -> Result<Value<'static>, TypeFault>

@@ -1,12 +1,12 @@
 //! The laws of queries: each function is a theorem, and does nothing.
 
 ghost use Rattle.odata_query.specs.KeyValues.{KeysAreTyped};
-ghost use Rattle.odata_query.specs.Laws.{Sizes};
+ghost use Rattle.odata_query.specs.Laws.{QuerySizes};
 ghost use Rattle.odata_query.specs.Worked.{WorkedKeys, WorkedTransformations};
 
 /// The numbers of the profile.
 pub fn sizes()
-    ensures { Sizes }
+    ensures { QuerySizes }
 {}
 
 /// A key predicate has a type just where each of its literals has a value in its column of the key, and then these values are it; it is

@@ -4,13 +4,14 @@ ghost use Rattle.std.specs.Prelude.{map, option_map};
 ghost use Rattle.odata_parse.specs.Tree.{expr_view, order_item_view};
 ghost use Rattle.odata_types.specs.Columns.{inputs_view};
 ghost use Rattle.odata_types.specs.Result.{Gives};
-ghost use Rattle.odata_types.specs.TypedTree.{boxed_truth};
+ghost use Rattle.typed_trees.specs.TypedTree.{boxed_truth};
 ghost use Rattle.odata_query.specs.Query.{item_typing, optional_typing, order_typing, order_view};
 
 use crate::query::OrderBy;
 use odata_parse::tree::{Expr, OrderItem};
-use odata_types::{InputColumn, TruthExpr, TypeFault, typed_expr, typed_filter};
+use odata_types::{InputColumn, TypeFault, typed_expr, typed_filter};
 use std::alloc::Global;
+use typed_trees::TruthExpr;
 
 /// The filter, where there is one.
 pub(crate) fn optional_filter(

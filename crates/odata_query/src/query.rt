@@ -3,7 +3,7 @@
 use crate::aggregate::TypedTransformation;
 use cell_types::Value;
 use odata_parse::tree::{Expr, Key, OrderItem, SelectItem, Transformation};
-use odata_types::{TruthExpr, TypedExpr};
+use typed_trees::{TruthExpr, TypedExpr};
 
 /// A key or the options of a query on a table.
 #[derive(Drop)]

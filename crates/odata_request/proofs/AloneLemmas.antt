@@ -22,18 +22,18 @@ use Rattle.http_heads.specs.declared.checks.HeadFault.{HeadFault}
 use Rattle.odata_request.specs.Fault.{type_code, url_code}
 use Rattle.odata_request.specs.Resource as resource
 use Rattle.odata_request.specs.Resource.{ResourceOf, path_resource}
-use Rattle.odata_request.specs.Options.{TextsOf, asked_format, options_fault, texts_of, value_of}
+use Rattle.odata_request.specs.Options.{TextsOf, asked_format, options_fault, texts_of, option_value}
 use Rattle.odata_request.specs.Query.{AsksQuery, IsRefusedBy, IsTyped, ReadsQuery}
 use Rattle.odata_request.specs.Reading.{ReadsApply, ReadsOption, ReadsOr, ReadsTree, Then, goes_on, stops}
 use Rattle.odata_request.specs.Request.{AsksFitting, AsksFor, AsksOptions, AsksResource, AsksRows, AsksService, AsksTable, AsksTarget, AsksUnder, AsksUnless, RequestOf, RowsRequestOf, rows, rows_request, service}
 use Rattle.odata_request.specs.Laws.{KeysStandAlone}
 
 -- of the options that fit the row of a key none is `$apply`
-no_apply : (number : ℕ) (text : List ℕ) (options : List QueryOption) → options_fault (resource.key number text) options ≡ None → value_of name.Apply options ≡ None
+no_apply : (number : ℕ) (text : List ℕ) (options : List QueryOption) → options_fault (resource.key number text) options ≡ None → option_value name.Apply options ≡ None
 no_apply number text [] e = refl
 no_apply number text (option ∷ options) e = of option.0 option.1 (λ h. no_apply number text options h) e
   where
-    of : (n : OptionName) (value : List ℕ) → (options_fault (resource.key number text) options ≡ None → value_of name.Apply options ≡ None) → options_fault (resource.key number text) ((n, value) ∷ options) ≡ None → value_of name.Apply ((n, value) ∷ options) ≡ None
+    of : (n : OptionName) (value : List ℕ) → (options_fault (resource.key number text) options ≡ None → option_value name.Apply options ≡ None) → options_fault (resource.key number text) ((n, value) ∷ options) ≡ None → option_value name.Apply ((n, value) ∷ options) ≡ None
     of name.Format value rest h = rest h
     of name.Select value rest h = rest h
     of name.Apply value rest h = absurd (cc h)

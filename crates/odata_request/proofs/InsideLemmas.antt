@@ -19,8 +19,8 @@ use Rattle.odata_parse.specs.Options.{IsOrder}
 use Rattle.odata_parse.specs.Tree.{ExprOf, OrderItemOf, TransformationOf}
 use Rattle.odata_types.specs.declared.fault.TypeFault.{TypeFault}
 use Rattle.odata_query.specs.Query.{QueryOf, TypedOf, query_typing}
-use Rattle.row_eval.specs.Input.{IsQueried, IsQueriedItem, IsQueriedTransformation, IsShort}
-use Rattle.row_eval.specs.Laws.{ExpressionsAreQueried, FiltersAreQueried}
+use Rattle.odata_types.specs.Input.{IsQueried, IsQueriedItem, IsQueriedTransformation, IsShort}
+use Rattle.odata_types.specs.Laws.{ExpressionsAreQueried, FiltersAreQueried}
 use Rattle.query_meaning.specs.Fitting.{AreQueried, IsTypedFor}
 use Rattle.reply_codes.specs.declared.code.Code.{Code}
 use Rattle.http_heads.specs.declared.checks.HeadFault.{HeadFault}
@@ -29,7 +29,7 @@ use Rattle.odata_request.specs.Reading.{ReadsApply, ReadsOption, ReadsOr, ReadsT
 use Rattle.odata_request.specs.Query.{AsksQuery, IsRefusedBy, IsTyped, ReadsQuery}
 use Rattle.odata_request.specs.Resource as resource
 use Rattle.odata_request.specs.Resource.{ResourceOf, path_resource}
-use Rattle.odata_request.specs.Options.{TextsOf, asked_format, is_named, options_fault, texts_of, value_of}
+use Rattle.odata_request.specs.Options.{TextsOf, asked_format, is_named, options_fault, texts_of, option_value}
 use Rattle.odata_request.specs.Request.{AsksFitting, AsksFor, AsksResource, AsksRows, AsksService, AsksTable, AsksTarget, AsksUnder, AsksUnless, IsInside, RequestOf, refused, rows_request}
 use Rattle.odata_request.proofs.LengthLemmas.{HaveShortValues, target_short}
 
@@ -176,7 +176,7 @@ found_short : (n : ℕ) (b : Bool) (option : QueryOption) (o : Option QueryOptio
 found_short n true option o h k = h
 found_short n false option o h k = k
 
-value_short : (n : ℕ) (wanted : OptionName) (options : List QueryOption) → HaveShortValues n options → IfSome (value_of wanted options) (λ text. length text ≤ n)
+value_short : (n : ℕ) (wanted : OptionName) (options : List QueryOption) → HaveShortValues n options → IfSome (option_value wanted options) (λ text. length text ≤ n)
 value_short n wanted [] h = tt
 value_short n wanted (option ∷ options) h = found_short n (is_named wanted option) option (find (is_named wanted) options) h.0 (value_short n wanted options h.1)
 

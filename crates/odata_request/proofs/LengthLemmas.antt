@@ -11,7 +11,7 @@ use Rattle.odata_url.specs.Fault.{◌>>=◌}
 use Rattle.odata_url.specs.Escapes.{decoded_text, octet, octets_of, percent_sign, utf8_text}
 use Rattle.odata_url.specs.Cuts.{behind, in_front, is_byte, parts}
 use Rattle.odata_url.specs.OptionName.{begins_with, option_of_name}
-use Rattle.odata_url.specs.Target.{QueryOption, ampersand, behind_authority, behind_scheme, ends_authority, equals_sign, has_bytes, is_absolute, is_among, option_of, options_of, origin_form, question_mark, scheme, segments_of, slash, target_of, with_option, with_part, with_parts, with_slash, with_value}
+use Rattle.odata_url.specs.Target.{QueryOption, ampersand, behind_authority, behind_scheme, ends_authority, equals_sign, has_bytes, is_absolute, stands_among, option_of, options_of, origin_form, question_mark, scheme, segments_of, slash, target_of, with_option, with_part, with_parts, with_slash, with_value}
 
 -- ---- walks
 
@@ -139,7 +139,7 @@ option_added : (n : ℕ) (options : List QueryOption) (o : Option QueryOption) �
 unfolding with_option
 option_added n options None h k = h
 option_added n options (Some option) h k =
-    either_ok (HaveShortValues n) (is_among options option.0) (Err OptionTwice) (Ok (options ++ option ∷ [])) tt (added n options option h k)
+    either_ok (HaveShortValues n) (stands_among options option.0) (Err OptionTwice) (Ok (options ++ option ∷ [])) tt (added n options option h k)
 
 part_added : (n : ℕ) (options : List QueryOption) (part : List ℕ) → HaveShortValues n options → length part ≤ n → IfOk (with_part options part) (HaveShortValues n)
 unfolding with_part

@@ -9,7 +9,7 @@ use Rattle.odata_url.specs.declared.option_name.OptionName.TheVariants.{Apply, F
 use Rattle.odata_url.specs.OptionName.{option_text}
 use Rattle.odata_url.specs.Target.{QueryOption, option_view}
 use Rattle.odata_request.specs.Resource.{ResourceOf}
-use Rattle.odata_request.specs.Options.{is_named, option_fault, options_fault, value_of}
+use Rattle.odata_request.specs.Options.{is_named, option_fault, options_fault, option_value}
 
 -- `==` of two names is `==` of their texts
 pub eq-option_text : (a b : OptionName) → (ghosts).eq a b ≡ bytes_eq (option_text a) (option_text b)
@@ -42,8 +42,8 @@ chosen false option o = refl
 -- the value among the options from one on is its own, or among those behind it
 pub value_from : (name : OptionName) (options : List (OptionName × String Global)) (i : ℕ) (option : OptionName × String Global)
     → i < length options → option ≡ get_or options i option
-    → value_of name (map option_view (drop i options))
-    ≡ cond (is_named name (option_view option)) (Some (string_bytes option.1)) (value_of name (map option_view (drop (i + 1) options)))
+    → option_value name (map option_view (drop i options))
+    ≡ cond (is_named name (option_view option)) (Some (string_bytes option.1)) (option_value name (map option_view (drop (i + 1) options)))
 value_from name options i option less at =
-    ap (λ (os : List (OptionName × String Global)). value_of name (map option_view os)) (from_here options i option less at)
+    ap (λ (os : List (OptionName × String Global)). option_value name (map option_view os)) (from_here options i option less at)
     ∙ chosen (is_named name (option_view option)) (option_view option) (find (is_named name) (map option_view (drop (i + 1) options)))

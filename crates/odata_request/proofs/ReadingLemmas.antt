@@ -16,7 +16,7 @@ use Rattle.odata_types.specs.Result.{IsCause}
 use Rattle.reply_codes.specs.declared.code.Code.{Code}
 use Rattle.odata_request.specs.declared.fault.RequestFault.{RequestFault}
 use Rattle.odata_request.specs.declared.fault.RequestFault.TheVariants.{Refused, NoMemory}
-use Rattle.odata_request.specs.Fault.{Gives, Refuses, fault_of, lex_code, parse_code, type_code}
+use Rattle.odata_request.specs.Fault.{Yields, Refuses, fault_of, lex_code, parse_code, type_code}
 use Rattle.odata_request.specs.Options.{TextsOf}
 use Rattle.odata_request.specs.Query.{AsksQuery, IsTyped, ReadsQuery}
 use Rattle.odata_request.specs.Reading.{ReadsText, bad_token, goes_on, has_tokens, has_tree, no_tree, stops, too_deep, too_many}
@@ -31,7 +31,7 @@ tree_not_deep x e = cc e
 
 -- a text that has no tokens
 pub unread_lex : {T X : Type 0} (view : T → X) (IsDeep : List TokenOf → Type 0) (IsTree : List TokenOf → X → Type 0) (text : List ℕ) (fault : LexFault)
-    → IsFault text fault → Gives view (ReadsText IsDeep IsTree text) (Err (fault_of (lex_code fault)))
+    → IsFault text fault → Yields view (ReadsText IsDeep IsTree text) (Err (fault_of (lex_code fault)))
 unread_lex view IsDeep IsTree text lex.Bad h = bad_token h refl
 unread_lex view IsDeep IsTree text lex.TooMany h = too_many h refl
 unread_lex view IsDeep IsTree text lex.NoMemory h = tt
@@ -39,7 +39,7 @@ unread_lex view IsDeep IsTree text lex.NoMemory h = tt
 -- a text whose tokens have no tree
 pub unread_tree : {T X : Type 0} (view : T → X) (IsDeep : List TokenOf → Type 0) (IsTree : List TokenOf → X → Type 0) (text : List ℕ) (tokens : List Token) (fault : ParseFault)
     → AreTokens text tokens → IsParsedUnless IsDeep view IsTree (token_views text tokens) (Err fault)
-    → Gives view (ReadsText IsDeep IsTree text) (Err (fault_of (parse_code fault)))
+    → Yields view (ReadsText IsDeep IsTree text) (Err (fault_of (parse_code fault)))
 unread_tree view IsDeep IsTree text tokens parse.TooDeep are h = has_tokens tokens are (too_deep (h.too_deep.0 refl) refl)
 unread_tree view IsDeep IsTree text tokens parse.Syntax are h = has_tokens tokens are (no_tree (λ d. syntax_not_deep (h.too_deep.1 d)) (h.syntax refl) refl)
 unread_tree view IsDeep IsTree text tokens parse.NoMemory are h = tt
@@ -51,9 +51,9 @@ read_tree view IsDeep IsTree text tokens tree are h = has_tokens tokens are (has
 
 -- a fault that is passed on as another is that one
 pub passed_on : {T X : Type 0} (view : T → X) (R : Result X Code → Type 0) (result : Result T RequestFault) (made : RequestFault) → IsErrAnd result (λ fault. fault ≡ made)
-    → Gives view R (Err made) → Gives view R result
+    → Yields view R (Err made) → Yields view R result
 passed_on view R (Ok tree) made h g = absurd h
-passed_on view R (Err fault) made h g = subst (λ (f : RequestFault). Gives view R (Err f)) (sym h) g
+passed_on view R (Err fault) made h g = subst (λ (f : RequestFault). Yields view R (Err f)) (sym h) g
 
 -- ---- types
 

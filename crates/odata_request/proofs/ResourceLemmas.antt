@@ -8,13 +8,13 @@ use Rattle.table_store.specs.Table.{TableOf}
 use Rattle.odata_url.specs.OptionName.{begins_with, dollar_sign}
 use Rattle.reply_codes.specs.declared.code.Code.{Code}
 use Rattle.reply_codes.specs.declared.code.Code.TheVariants.{NotServed}
-use Rattle.odata_request.specs.Resource.{ResourceOf, LeadsInside, count, has_parenthesis, in_table, is_count_path, is_parenthesis, key, key_resource, known_number, one_resource, other_resource, path_resource, rows, segment_resource, service, table_in, table_number, without_end}
+use Rattle.odata_request.specs.Resource.{ResourceOf, LeadsInside, count, has_parenthesis, in_table, is_count_path, is_parenthesis, key, key_resource, known_number, one_resource, other_resource, path_resource, rows, segment_resource, service, resource_table, table_number, without_end}
 
 number_inside : (tables : List TableOf) (name : List ℕ) (n : ℕ) → position (λ t. bytes_eq t.schema.name name) tables ≡ Some n → n < length tables
 number_inside [] name n e = let bad : None ≡ Some n = e in absurd (cc bad)
 number_inside (table ∷ tables) name n e = (position-Some (λ t. bytes_eq t.schema.name name) (table ∷ tables) n table e).0
 
-table_inside : (tables : List TableOf) (leads : ℕ → ResourceOf) → ((n : ℕ) → table_in (leads n) ≡ Some n) → (o : Option ℕ)
+table_inside : (tables : List TableOf) (leads : ℕ → ResourceOf) → ((n : ℕ) → resource_table (leads n) ≡ Some n) → (o : Option ℕ)
     → ((n : ℕ) → o ≡ Some n → n < length tables) → LeadsInside tables (in_table leads (known_number o))
 table_inside tables leads at None h = tt
 table_inside tables leads at (Some n) h = rw at (h n refl)
@@ -24,7 +24,7 @@ either_inside : (tables : List TableOf) (b : Bool) (x y : Result ResourceOf Code
 either_inside tables true x y h k = h
 either_inside tables false x y h k = k
 
-named_inside : (tables : List TableOf) (leads : ℕ → ResourceOf) → ((n : ℕ) → table_in (leads n) ≡ Some n) → (name : List ℕ)
+named_inside : (tables : List TableOf) (leads : ℕ → ResourceOf) → ((n : ℕ) → resource_table (leads n) ≡ Some n) → (name : List ℕ)
     → LeadsInside tables (in_table leads (table_number tables name))
 named_inside tables leads at name = table_inside tables leads at (position (λ t. bytes_eq t.schema.name name) tables) (number_inside tables name)
 

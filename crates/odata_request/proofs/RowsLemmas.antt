@@ -11,16 +11,16 @@ use Rattle.reply_codes.specs.declared.code.Code.{Code}
 use Rattle.odata_request.specs.declared.fault.RequestFault.{RequestFault}
 use Rattle.odata_request.specs.declared.fault.RequestFault.TheVariants.{Refused, NoMemory}
 use Rattle.odata_request.specs.declared.request.Request.{Request}
-use Rattle.odata_request.specs.Fault.{Gives}
+use Rattle.odata_request.specs.Fault.{Yields}
 use Rattle.odata_request.specs.Options.{TextsOf}
 use Rattle.odata_request.specs.Query.{AsksQuery}
-use Rattle.odata_request.specs.Request.{AsksRows, Makes, RequestOf, rows_request}
+use Rattle.odata_request.specs.Request.{AsksRows, Requests, RequestOf, rows_request}
 
 -- a fault that is passed on as another is that one
 pub made_on : (asks : RequestOf → Type 0) (result : Result Request RequestFault) (made : RequestFault) → IsErrAnd result (λ fault. fault ≡ made)
-    → Makes asks (Err made) → Makes asks result
+    → Requests asks (Err made) → Requests asks result
 made_on asks (Ok request) made h g = absurd h
-made_on asks (Err fault) made h g = subst (λ (f : RequestFault). Makes asks (Err f)) (sym h) g
+made_on asks (Err fault) made h g = subst (λ (f : RequestFault). Requests asks (Err f)) (sym h) g
 
 -- the table of a number that is one of these
 pub table_at : (tables seen : List TableOf) (number : ℕ) (table : TableOf) → seen ≡ tables → number < length tables → table ≡ get_or seen number table
@@ -43,6 +43,6 @@ asks_rows catalog number texts format table schema limit at of most query asks =
 
 pub refused_rows : (catalog : CatalogOf) (number : ℕ) (texts : TextsOf) (format : Format) (table : TableOf) (schema : SchemaOf) (limit : ℕ)
     → slice_get catalog.tables number ≡ Some table → schema ≡ table.schema → limit ≡ catalog.limits.transformations → (fault : RequestFault)
-    → Gives query_typed_view (AsksQuery limit schema texts) (Err fault) → Makes (AsksRows catalog number texts format) (Err fault)
+    → Yields query_typed_view (AsksQuery limit schema texts) (Err fault) → Requests (AsksRows catalog number texts format) (Err fault)
 refused_rows catalog number texts format table schema limit at of most (Refused code) h = asks_rows catalog number texts format table schema limit at of most (Err code) h
 refused_rows catalog number texts format table schema limit at of most NoMemory h = tt

@@ -16,7 +16,7 @@ use Rattle.reply_codes.specs.declared.code.Code.TheVariants.{BadToken}
 use Rattle.odata_request.specs.Fault.{type_code}
 use Rattle.odata_request.specs.Options.{TextsOf}
 use Rattle.odata_request.specs.Query.{AsksQuery, IsRefusedBy, IsTyped, ReadsQuery}
-use Rattle.odata_request.specs.Reading.{◌>>=◌, Is, ReadsFlag, ReadsNumber, ReadsOption, ReadsOr, ReadsText, ReadsTokens, bad_token, goes_on, has_tokens, has_tree, is_number, no_number, no_tree, stops, too_deep, too_many}
+use Rattle.odata_request.specs.Reading.{◌>>=◌, IsResult, ReadsFlag, ReadsNumber, ReadsOption, ReadsOr, ReadsText, ReadsTokens, bad_token, goes_on, has_tokens, has_tree, is_number, no_number, no_tree, stops, too_deep, too_many}
 
 -- the laws of tokens and trees
 pub record Grammars : Type 0 where
@@ -45,7 +45,7 @@ value_in other (Err code) = other
 no_code : {X : Type 0} (x : X) (code : Code) → ◌≡◌ {A = Result X Code} (Ok x) (Err code) → ⊥
 no_code x code e = cc e
 
-is_one : {X : Type 0} (made : Result X Code) → HasOne (Is made)
+is_one : {X : Type 0} (made : Result X Code) → HasOne (IsResult made)
 is_one made r s e f = e ∙ sym f
 
 steps_one : {X Y : Type 0} (step : Result X Code → Type 0) (next : X → Result Y Code → Type 0) → HasOne step → ((x : X) → HasOne (next x)) → HasOne (step >>= next)

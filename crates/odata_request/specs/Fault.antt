@@ -59,6 +59,6 @@ Refuses R (Refused code) = R (Err code)
 Refuses R NoMemory = ⊤
 
 -- A call gives what a relation says: a value, seen by view, or the code under which it is refused; or memory ran out.
-abbrev pub Gives : {T X : Type 0} → (T → X) → (Result X Code → Type 0) → Result T RequestFault → Type 0
-Gives view R (Ok value) = R (Ok (view value))
-Gives view R (Err fault) = Refuses R fault
+abbrev pub Yields : {T X : Type 0} → (T → X) → (Result X Code → Type 0) → Result T RequestFault → Type 0
+Yields view R (Ok value) = R (Ok (view value))
+Yields view R (Err fault) = Refuses R fault

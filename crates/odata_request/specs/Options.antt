@@ -35,8 +35,8 @@ abbrev pub is_named : OptionName → QueryOption → Bool
 is_named name option = bytes_eq (option_text option.0) (option_text name)
 
 -- the value of the option of that name, where it is one of these
-abbrev pub value_of : OptionName → List QueryOption → Option (List ℕ)
-value_of name options = option_map (λ option. option.1) (find (is_named name) options)
+abbrev pub option_value : OptionName → List QueryOption → Option (List ℕ)
+option_value name options = option_map (λ option. option.1) (find (is_named name) options)
 
 -- the format that a value asks for: JSON where there is none; none where the value is not served
 abbrev pub format_in : Option (List ℕ) → Option Format
@@ -45,7 +45,7 @@ format_in (Some text) = format_of text
 
 -- the format that options ask for
 abbrev pub asked_format : List QueryOption → Option Format
-asked_format options = format_in (value_of name.Format options)
+asked_format options = format_in (option_value name.Format options)
 
 -- the texts of a query on a table: its key, whether its rows are counted by the path, and the values of its options, each where it is there
 pub record TextsOf : Type 0 where
@@ -59,31 +59,31 @@ pub record TextsOf : Type 0 where
   pub top : Option (List ℕ)
   pub select : Option (List ℕ)
 
-abbrev pub text_view : Option (Bor (List ℕ)) → Option (List ℕ)
-text_view text = option_map (λ t. t.now) text
+abbrev pub lent_view : Option (Bor (List ℕ)) → Option (List ℕ)
+lent_view text = option_map (λ t. t.now) text
 
-abbrev pub texts_view : Texts → TextsOf
-texts_view texts = record {
-  key = text_view texts.key;
+abbrev pub asked_view : Texts → TextsOf
+asked_view texts = record {
+  key = lent_view texts.key;
   counting = texts.counting;
-  apply = text_view texts.apply;
-  filter = text_view texts.filter;
-  count = text_view texts.count;
-  order = text_view texts.order;
-  skip = text_view texts.skip;
-  top = text_view texts.top;
-  select = text_view texts.select;
+  apply = lent_view texts.apply;
+  filter = lent_view texts.filter;
+  count = lent_view texts.count;
+  order = lent_view texts.order;
+  skip = lent_view texts.skip;
+  top = lent_view texts.top;
+  select = lent_view texts.select;
 }
 
 abbrev pub texts_of : Option (List ℕ) → Bool → List QueryOption → TextsOf
 texts_of key counting options = record {
   key = key;
   counting = counting;
-  apply = value_of name.Apply options;
-  filter = value_of name.Filter options;
-  count = value_of name.Count options;
-  order = value_of name.OrderBy options;
-  skip = value_of name.Skip options;
-  top = value_of name.Top options;
-  select = value_of name.Select options;
+  apply = option_value name.Apply options;
+  filter = option_value name.Filter options;
+  count = option_value name.Count options;
+  order = option_value name.OrderBy options;
+  skip = option_value name.Skip options;
+  top = option_value name.Top options;
+  select = option_value name.Select options;
 }

@@ -8,7 +8,7 @@ use Rattle.odata_query.specs.Query.{QueryOf, TypedOf, query_typing}
 use Rattle.reply_codes.specs.declared.code.Code.{Code}
 use Rattle.odata_request.specs.Fault.{type_code}
 use Rattle.odata_request.specs.Options.{TextsOf}
-use Rattle.odata_request.specs.Reading.{◌>>=◌, Is, ReadsApply, ReadsFlag, ReadsNumber, ReadsOption, ReadsOr, ReadsTree}
+use Rattle.odata_request.specs.Reading.{◌>>=◌, IsResult, ReadsApply, ReadsFlag, ReadsNumber, ReadsOption, ReadsOr, ReadsTree}
 
 -- how the texts of a query read, one after another: the first code is told
 abbrev pub ReadsQuery : ℕ → TextsOf → Result QueryOf Code → Type 0
@@ -21,7 +21,7 @@ ReadsQuery limit texts = do
   skip ← ReadsOr 0 ReadsNumber texts.skip
   top ← ReadsOption ReadsNumber texts.top
   select ← ReadsOption (ReadsTree IsSelection) texts.select
-  Is (Ok (record {
+  IsResult (Ok (record {
     key = key;
     counting = texts.counting;
     apply = apply;

@@ -23,8 +23,8 @@ abbrev pub ◌>>=◌ : {X Y : Type 0} → (Result X Code → Type 0) → (X → 
 step >>= next = λ result. Then step next result
 
 -- this result and no other
-abbrev pub Is : {X : Type 0} → Result X Code → Result X Code → Type 0
-Is made result = result ≡ made
+abbrev pub IsResult : {X : Type 0} → Result X Code → Result X Code → Type 0
+IsResult made result = result ≡ made
 
 -- how tokens read: that they nest too deep comes before their tree
 pub data ReadsTokens {X : Type 0} (IsDeep : List TokenOf → Type 0) (IsTree : List TokenOf → X → Type 0) (tokens : List TokenOf) (result : Result X Code) : Type 0 where

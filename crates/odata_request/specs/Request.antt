@@ -28,8 +28,8 @@ pub record RowsRequestOf : Type 0 where
   pub query : TypedOf
   pub format : Format
 
-abbrev pub rows_view : RowsRequest → RowsRequestOf
-rows_view asked = record { table = asked.table; query = query_typed_view asked.query; format = asked.format }
+abbrev pub rows_request_view : RowsRequest → RowsRequestOf
+rows_request_view asked = record { table = asked.table; query = query_typed_view asked.query; format = asked.format }
 
 pub data RequestOf : Type 0 where
   refused : Code → RequestOf
@@ -39,7 +39,7 @@ pub data RequestOf : Type 0 where
 abbrev pub request_view : Request → RequestOf
 request_view (Refused code) = refused code
 request_view Service = service
-request_view (Rows asked) = rows (rows_view asked)
+request_view (Rows asked) = rows (rows_request_view asked)
 
 -- the query of a request, or the code under which it is refused
 abbrev pub rows_request : ℕ → Format → Result TypedOf Code → RequestOf
@@ -103,10 +103,10 @@ AsksFor catalog (Some fault) target request = request ≡ refused (head_code fau
 AsksFor catalog None target request = AsksTarget catalog (target_of target) request
 
 -- A call makes a request of which this holds, or a fault as which it is refused; or memory ran out.
-abbrev pub Makes : (RequestOf → Type 0) → Result Request RequestFault → Type 0
-Makes asks (Ok request) = asks (request_view request)
-Makes asks (Err (fault.Refused code)) = asks (refused code)
-Makes asks (Err fault.NoMemory) = ⊤
+abbrev pub Requests : (RequestOf → Type 0) → Result Request RequestFault → Type 0
+Requests asks (Ok request) = asks (request_view request)
+Requests asks (Err (fault.Refused code)) = asks (refused code)
+Requests asks (Err fault.NoMemory) = ⊤
 
 -- the table is one of these, and the query is one on its columns
 pub record IsRowsInside (catalog : CatalogOf) (asked : RowsRequestOf) : Type 0 where

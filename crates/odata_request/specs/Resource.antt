@@ -88,15 +88,15 @@ path_resource tables (segment ∷ behind ∷ []) = two_resource tables segment b
 path_resource tables segments = other_resource segments
 
 -- the table that a resource is of
-abbrev pub table_in : ResourceOf → Option ℕ
-table_in service = None
-table_in (rows number) = Some number
-table_in (count number) = Some number
-table_in (key number text) = Some number
+abbrev pub resource_table : ResourceOf → Option ℕ
+resource_table service = None
+resource_table (rows number) = Some number
+resource_table (count number) = Some number
+resource_table (key number text) = Some number
 
 -- the table that a path leads into is one of these
 abbrev pub IsOfTables : List TableOf → ResourceOf → Type 0
-IsOfTables tables resource = IfSome (table_in resource) (λ number. number < length tables)
+IsOfTables tables resource = IfSome (resource_table resource) (λ number. number < length tables)
 
 abbrev pub LeadsInside : List TableOf → Result ResourceOf Code → Type 0
 LeadsInside tables (Ok resource) = IsOfTables tables resource

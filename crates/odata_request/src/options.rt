@@ -1,7 +1,7 @@
 //! The options of a query: whether each fits what the path leads to, in the query's order, and then their values, by their names.
 ghost use Rattle.std.specs.Prelude.{◌≡◌, map};
 ghost use Rattle.odata_url.specs.Target.{option_view};
-ghost use Rattle.odata_request.specs.Options.{asked_format, format_in, option_fault, options_fault, text_view, texts_of, texts_view, value_of};
+ghost use Rattle.odata_request.specs.Options.{asked_format, format_in, option_fault, options_fault, lent_view, texts_of, asked_view, option_value};
 ghost use Rattle.odata_request.specs.Resource.{resource_view};
 
 use crate::resource::Resource;
@@ -39,7 +39,7 @@ pub(crate) fn options_fault(
 
 /// The value of the option of that name, where it is one of these.
 fn value_of(options: &[(OptionName, String)], name: OptionName) -> Option<&str>
-    ensures { text_view result ≡ value_of name (map option_view options.now) }
+    ensures { lent_view result ≡ option_value name (map option_view options.now) }
 {
     for option in options {
         if option.0 == name {
@@ -51,7 +51,7 @@ fn value_of(options: &[(OptionName, String)], name: OptionName) -> Option<&str>
 
 /// The format that a value asks for, if it is one that is served; JSON where there is none.
 fn format_in(text: Option<&str>) -> Option<Format>
-    ensures { result ≡ format_in (text_view text.entry) }
+    ensures { result ≡ format_in (lent_view text.entry) }
 {
     match text {
         Some(text) => parse_format(text).ok(),
@@ -89,8 +89,8 @@ impl<'a> Texts<'a> {
         counting: bool,
         options: &'a [(OptionName, String)],
     ) -> Texts<'a>
-        ensures { texts_view result
-            ≡ texts_of (text_view key.entry) counting (map option_view options.now) }
+        ensures { asked_view result
+            ≡ texts_of (lent_view key.entry) counting (map option_view options.now) }
     {
         Texts {
             key,

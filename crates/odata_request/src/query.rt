@@ -1,8 +1,8 @@
 //! From the texts of a query to a typed query.
 ghost use Rattle.csvw_meta.specs.Schema.{schema_view};
 ghost use Rattle.odata_query.specs.Query.{query_typed_view, query_view};
-ghost use Rattle.odata_request.specs.Fault.{Gives};
-ghost use Rattle.odata_request.specs.Options.{texts_view};
+ghost use Rattle.odata_request.specs.Fault.{Yields};
+ghost use Rattle.odata_request.specs.Options.{asked_view};
 ghost use Rattle.odata_request.specs.Query.{AsksQuery, ReadsQuery};
 
 use crate::fault::RequestFault;
@@ -17,7 +17,7 @@ use std::alloc::Global;
 
 /// The query of these texts, which are read one after another.
 fn read_query(alloc: Global, limit: u32, texts: Texts<'_>) -> Result<Query, RequestFault>
-    ensures { Gives query_view (ReadsQuery limit (texts_view texts.entry)) result }
+    ensures { Yields query_view (ReadsQuery limit (asked_view texts.entry)) result }
 {
     let key = optional_key(alloc, texts.key)?;
     let apply = apply_or_none(alloc, limit, texts.apply)?;
@@ -47,8 +47,8 @@ pub(crate) fn typed_query(
     schema: &Schema,
     texts: Texts<'_>,
 ) -> Result<Typed, RequestFault>
-    ensures { Gives query_typed_view
-        (AsksQuery limit (schema_view schema.now) (texts_view texts.entry)) result }
+    ensures { Yields query_typed_view
+        (AsksQuery limit (schema_view schema.now) (asked_view texts.entry)) result }
 {
     let query = read_query(alloc, limit, texts)?;
     Ok(check(alloc, schema, query)?)

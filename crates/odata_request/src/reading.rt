@@ -2,9 +2,9 @@
 ghost use Rattle.std.specs.Prelude.{[], false, option_map};
 ghost use Rattle.odata_parse.specs.Expression.{IsFilter};
 ghost use Rattle.odata_parse.specs.Options.{IsKey, IsOrder, IsSelection};
-ghost use Rattle.odata_parse.specs.Tree.{apply_view, expr_view, key_view, order_view, selection_view};
-ghost use Rattle.odata_request.specs.Fault.{Gives};
-ghost use Rattle.odata_request.specs.Options.{text_view};
+ghost use Rattle.odata_parse.specs.Tree.{apply_view, expr_view, key_view, order_by_view, selection_view};
+ghost use Rattle.odata_request.specs.Fault.{Yields};
+ghost use Rattle.odata_request.specs.Options.{lent_view};
 ghost use Rattle.odata_request.specs.Reading.{ReadsApply, ReadsFlag, ReadsNumber, ReadsOption, ReadsOr, ReadsTree};
 
 use crate::fault::RequestFault;
@@ -17,7 +17,7 @@ use std::alloc::Global;
 
 /// A key's text.
 fn read_key(alloc: Global, text: &str) -> Result<Key, RequestFault>
-    ensures { Gives key_view (ReadsTree IsKey text.now) result }
+    ensures { Yields key_view (ReadsTree IsKey text.now) result }
 {
     odata_lex::tokens_or_fault();
     let tokens = lex(alloc, text)?;
@@ -26,7 +26,7 @@ fn read_key(alloc: Global, text: &str) -> Result<Key, RequestFault>
 
 /// The value of `$apply`, where `/` may part so many transformations at most.
 fn read_apply(alloc: Global, limit: u32, text: &str) -> Result<Vec<Transformation>, RequestFault>
-    ensures { Gives apply_view (ReadsApply limit text.now) result }
+    ensures { Yields apply_view (ReadsApply limit text.now) result }
 {
     odata_lex::tokens_or_fault();
     let tokens = lex(alloc, text)?;
@@ -35,7 +35,7 @@ fn read_apply(alloc: Global, limit: u32, text: &str) -> Result<Vec<Transformatio
 
 /// The value of `$filter`.
 fn read_filter(alloc: Global, text: &str) -> Result<Expr, RequestFault>
-    ensures { Gives expr_view (ReadsTree IsFilter text.now) result }
+    ensures { Yields expr_view (ReadsTree IsFilter text.now) result }
 {
     odata_lex::tokens_or_fault();
     let tokens = lex(alloc, text)?;
@@ -44,7 +44,7 @@ fn read_filter(alloc: Global, text: &str) -> Result<Expr, RequestFault>
 
 /// The value of `$orderby`.
 fn read_order(alloc: Global, text: &str) -> Result<Vec<OrderItem>, RequestFault>
-    ensures { Gives order_view (ReadsTree IsOrder text.now) result }
+    ensures { Yields order_by_view (ReadsTree IsOrder text.now) result }
 {
     odata_lex::tokens_or_fault();
     let tokens = lex(alloc, text)?;
@@ -53,7 +53,7 @@ fn read_order(alloc: Global, text: &str) -> Result<Vec<OrderItem>, RequestFault>
 
 /// The value of `$select`.
 fn read_selection(alloc: Global, text: &str) -> Result<Vec<SelectItem>, RequestFault>
-    ensures { Gives selection_view (ReadsTree IsSelection text.now) result }
+    ensures { Yields selection_view (ReadsTree IsSelection text.now) result }
 {
     odata_lex::tokens_or_fault();
     let tokens = lex(alloc, text)?;
@@ -62,15 +62,15 @@ fn read_selection(alloc: Global, text: &str) -> Result<Vec<SelectItem>, RequestF
 
 /// The value of `$skip` or `$top`.
 fn read_number(text: &str) -> Result<u64, RequestFault>
-    ensures { Gives (λ number. number) (ReadsNumber text.now) result }
+    ensures { Yields (λ number. number) (ReadsNumber text.now) result }
 {
     Ok(parse_number(text)?)
 }
 
 /// The key, where the path has one.
 pub(crate) fn optional_key(alloc: Global, text: Option<&str>) -> Result<Option<Key>, RequestFault>
-    ensures { Gives (λ key. option_map key_view key)
-        (ReadsOption (ReadsTree IsKey) (text_view text.entry)) result }
+    ensures { Yields (λ key. option_map key_view key)
+        (ReadsOption (ReadsTree IsKey) (lent_view text.entry)) result }
 {
     match text {
         Some(text) => Ok(Some(read_key(alloc, text)?)),
@@ -84,7 +84,7 @@ pub(crate) fn apply_or_none(
     limit: u32,
     text: Option<&str>,
 ) -> Result<Vec<Transformation>, RequestFault>
-    ensures { Gives apply_view (ReadsOr [] (ReadsApply limit) (text_view text.entry)) result }
+    ensures { Yields apply_view (ReadsOr [] (ReadsApply limit) (lent_view text.entry)) result }
 {
     match text {
         Some(text) => read_apply(alloc, limit, text),
@@ -97,8 +97,8 @@ pub(crate) fn optional_filter(
     alloc: Global,
     text: Option<&str>,
 ) -> Result<Option<Expr>, RequestFault>
-    ensures { Gives (λ tree. option_map expr_view tree)
-        (ReadsOption (ReadsTree IsFilter) (text_view text.entry)) result }
+    ensures { Yields (λ tree. option_map expr_view tree)
+        (ReadsOption (ReadsTree IsFilter) (lent_view text.entry)) result }
 {
     match text {
         Some(text) => Ok(Some(read_filter(alloc, text)?)),
@@ -108,7 +108,7 @@ pub(crate) fn optional_filter(
 
 /// Whether the query asks for the number of rows by `$count`.
 pub(crate) fn flag_or_false(text: Option<&str>) -> Result<bool, RequestFault>
-    ensures { Gives (λ flag. flag) (ReadsOr false ReadsFlag (text_view text.entry)) result }
+    ensures { Yields (λ flag. flag) (ReadsOr false ReadsFlag (lent_view text.entry)) result }
 {
     match text {
         Some(text) => Ok(parse_flag(text)?),
@@ -121,7 +121,7 @@ pub(crate) fn order_or_none(
     alloc: Global,
     text: Option<&str>,
 ) -> Result<Vec<OrderItem>, RequestFault>
-    ensures { Gives order_view (ReadsOr [] (ReadsTree IsOrder) (text_view text.entry)) result }
+    ensures { Yields order_by_view (ReadsOr [] (ReadsTree IsOrder) (lent_view text.entry)) result }
 {
     match text {
         Some(text) => read_order(alloc, text),
@@ -131,7 +131,7 @@ pub(crate) fn order_or_none(
 
 /// The value of `$skip`; 0 where the query does not have it.
 pub(crate) fn number_or_zero(text: Option<&str>) -> Result<u64, RequestFault>
-    ensures { Gives (λ number. number) (ReadsOr 0 ReadsNumber (text_view text.entry)) result }
+    ensures { Yields (λ number. number) (ReadsOr 0 ReadsNumber (lent_view text.entry)) result }
 {
     match text {
         Some(text) => read_number(text),
@@ -141,7 +141,7 @@ pub(crate) fn number_or_zero(text: Option<&str>) -> Result<u64, RequestFault>
 
 /// The value of `$top`, where the query has it.
 pub(crate) fn optional_number(text: Option<&str>) -> Result<Option<u64>, RequestFault>
-    ensures { Gives (λ number. number) (ReadsOption ReadsNumber (text_view text.entry)) result }
+    ensures { Yields (λ number. number) (ReadsOption ReadsNumber (lent_view text.entry)) result }
 {
     match text {
         Some(text) => Ok(Some(read_number(text)?)),
@@ -154,8 +154,8 @@ pub(crate) fn optional_selection(
     alloc: Global,
     text: Option<&str>,
 ) -> Result<Option<Vec<SelectItem>>, RequestFault>
-    ensures { Gives (λ items. option_map selection_view items)
-        (ReadsOption (ReadsTree IsSelection) (text_view text.entry)) result }
+    ensures { Yields (λ items. option_map selection_view items)
+        (ReadsOption (ReadsTree IsSelection) (lent_view text.entry)) result }
 {
     match text {
         Some(text) => Ok(Some(read_selection(alloc, text)?)),

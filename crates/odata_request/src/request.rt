@@ -1,8 +1,8 @@
 //! From a head and the tables to a request.
 ghost use Rattle.std.specs.Prelude.{◌<◌, ◌≤◌, IfOk, length, map, string_bytes};
 ghost use Rattle.odata_url.specs.Target.{option_view, target_of};
-ghost use Rattle.odata_request.specs.Options.{texts_view};
-ghost use Rattle.odata_request.specs.Request.{AsksFitting, AsksFor, AsksOptions, AsksPath, AsksRows, AsksService, AsksTable, AsksTarget, IsInside, Makes, request_view};
+ghost use Rattle.odata_request.specs.Options.{asked_view};
+ghost use Rattle.odata_request.specs.Request.{AsksFitting, AsksFor, AsksOptions, AsksPath, AsksRows, AsksService, AsksTable, AsksTarget, IsInside, Requests, request_view};
 ghost use Rattle.odata_request.specs.Resource.{IsOfTables, resource_view};
 
 use crate::fault::RequestFault;
@@ -47,7 +47,7 @@ fn rows_request(
     format: Format,
 ) -> Result<Request, RequestFault>
     requires { number < length catalog.now.tables }
-    ensures { Makes (AsksRows catalog.now number (texts_view texts.entry) format) result }
+    ensures { Requests (AsksRows catalog.now number (asked_view texts.entry) format) result }
 {
     let table = &catalog.tables()[number];
     let limit = catalog.limits().transformations;
@@ -68,7 +68,7 @@ fn table_request(
     format: Option<Format>,
 ) -> Result<Request, RequestFault>
     requires { number < length catalog.now.tables }
-    ensures { Makes (AsksTable catalog.now number (texts_view texts.entry) format) result }
+    ensures { Requests (AsksTable catalog.now number (asked_view texts.entry) format) result }
 {
     match format {
         Some(format) => rows_request(alloc, catalog, number, texts, format),
@@ -78,7 +78,7 @@ fn table_request(
 
 /// The service document in a format.
 fn service_request(format: Option<Format>) -> Result<Request, RequestFault>
-    ensures { Makes (AsksService format) result }
+    ensures { Requests (AsksService format) result }
 {
     match format {
         Some(Format::Json) => Ok(Request::Service),
@@ -94,7 +94,7 @@ fn fitting_request(
     options: &[(OptionName, String)],
 ) -> Result<Request, RequestFault>
     requires { IsOfTables catalog.now.tables (resource_view resource) }
-    ensures { Makes (AsksFitting catalog.now (resource_view resource.entry)
+    ensures { Requests (AsksFitting catalog.now (resource_view resource.entry)
         (map option_view options.now)) result }
 {
     let format = asked_format(options);
@@ -123,7 +123,7 @@ fn request_for(
     options: &[(OptionName, String)],
 ) -> Result<Request, RequestFault>
     requires { IsOfTables catalog.now.tables (resource_view resource) }
-    ensures { Makes (AsksOptions catalog.now (resource_view resource.entry)
+    ensures { Requests (AsksOptions catalog.now (resource_view resource.entry)
         (map option_view options.now)) result }
 {
     match options_fault(resource, options) {
@@ -139,7 +139,7 @@ fn path_request(
     segments: &[String],
     options: &[(OptionName, String)],
 ) -> Result<Request, RequestFault>
-    ensures { Makes (AsksPath catalog.now
+    ensures { Requests (AsksPath catalog.now
         (map string_bytes segments.now) (map option_view options.now)) result }
 {
     let resource = resource_of(catalog, segments)?;
@@ -148,7 +148,7 @@ fn path_request(
 
 /// What a target asks for.
 fn target_request(alloc: Global, catalog: &Catalog, target: &[u8]) -> Result<Request, RequestFault>
-    ensures { Makes (AsksTarget catalog.now (target_of target.now)) result }
+    ensures { Requests (AsksTarget catalog.now (target_of target.now)) result }
 {
     let target = Target::read(alloc, target)?;
     path_request(
@@ -166,7 +166,7 @@ fn head_request(
     fault: Option<HeadFault>,
     target: &[u8],
 ) -> Result<Request, RequestFault>
-    ensures { Makes (AsksFor catalog.now fault target.now) result }
+    ensures { Requests (AsksFor catalog.now fault target.now) result }
 {
     match fault {
         Some(fault) => Err(RequestFault::from(fault)),
@@ -188,8 +188,8 @@ pub fn request_of(
     ensures inside { IfOk result
         (λ request. IsInside catalog.now (request_view request)) }
 {
-    row_eval::filters_are_queried();
-    row_eval::expressions_are_queried();
+    odata_types::filters_are_queried();
+    odata_types::expressions_are_queried();
     match head_request(alloc, catalog, fault, target) {
         Ok(request) => Ok(request),
         Err(RequestFault::Refused(code)) => Ok(Request::Refused(code)),

@@ -3,7 +3,7 @@ use Rattle.std.proofs.Common.{◌≡◌, ◌≢◌, ℕ, zero, suc, List, [], �
 use Rattle.std.specs.Prelude.{slice_get, Bool, true, false, ◌==◌, if◌then◌else◌, ◌||◌}
 use Rattle.std.proofs.lemmas.Bool.Decides.{eqb_tells}
 use Rattle.std.specs.Io.KnownBytes.{Appends, Consumes}
-use Rattle.odata_hub.specs.Connections.{Answer, Call, End, Own, Piece, Take, Turn, came_with, ends_with, given_by, has_ended, stream_of, taken_of}
+use Rattle.odata_hub.specs.Connections.{Answer, Call, End, Own, Piece, Take, Turn, came_with, ends_with, given_by, input_ended, stream_of, taken_of}
 use Rattle.odata_hub.specs.Laws.{GivesReplies, IsFrontOf}
 use Rattle.odata_hub.specs.Schedules.{Drop, Event, Happening, On, Open, Reload, own_before, own_of}
 use Rattle.odata_hub.specs.Streams.{bytes_of}
@@ -11,7 +11,7 @@ use Rattle.odata_rounds.specs.declared.seat.Seat.{Seat}
 use Rattle.odata_rounds.specs.Peers.{WireOf}
 use Rattle.odata_rounds.specs.Visits.{IsReadOut, Moves, at_place, piece_of, pieces_of}
 use Rattle.odata_rounds.specs.Rounds.{ServesAt, SightOf}
-use Rattle.odata_rounds.specs.Laws.{AreAccepted, AreCalls, IsAccepted, IsCall, Moved, MovesAt, MovesJoin, RoundMoves, ServesSocket, waits_at}
+use Rattle.odata_rounds.specs.Laws.{AllWereTaken, AreCalls, WasTaken, IsCall, Moved, MovesAt, MovesJoin, RoundMoves, ServesSocket, waits_at}
 use Rattle.odata_rounds.proofs.RunLemmas.{run_joins, run_none}
 use Rattle.odata_rounds.proofs.ByteLemmas.{consumes_none}
 use Rattle.odata_rounds.proofs.VisitLemmas.{appends_none}
@@ -42,10 +42,10 @@ or_assoc : (a b c : Bool) → (a || b) || c ≡ a || (b || c)
 or_assoc true b c = refl
 or_assoc false b c = refl
 
-ended_join : (os ps : List Own) → has_ended (os ++ ps) ≡ has_ended os || has_ended ps
+ended_join : (os ps : List Own) → input_ended (os ++ ps) ≡ input_ended os || input_ended ps
 ended_join [] ps = refl
 ended_join (o ∷ os) ps = ap (λ b. ends_with o.call o.answer || b) (ended_join os ps)
-    ∙ sym (or_assoc (ends_with o.call o.answer) (has_ended os) (has_ended ps))
+    ∙ sym (or_assoc (ends_with o.call o.answer) (input_ended os) (input_ended ps))
 
 none_behind : (xs ys : List ℕ) → xs ++ ys ≡ [] → ys ≡ []
 none_behind [] ys e = e
@@ -70,7 +70,7 @@ moves_join a b c before mid after os ps p q =
           ∙ sym (append_assoc p.sent q.sent after);
       taken = appends_join _ _ _ p.sent q.sent p.taken q.taken;
       left = subst P (sym (pieces_join os ps)) (consumes_join _ _ _ (pieces_of os) (pieces_of ps) p.left q.left);
-      ended = λ e. read_out_join _ _ _ (pieces_of os) (pieces_of ps) (has_ended os) (has_ended ps) p.left q.left p.ended q.ended
+      ended = λ e. read_out_join _ _ _ (pieces_of os) (pieces_of ps) (input_ended os) (input_ended ps) p.left q.left p.ended q.ended
           (sym (ended_join os ps) ∙ e);
     }
 
@@ -185,14 +185,14 @@ round_moves (suc place) a b r = moved_more place a r.0 b (round_moves place a r.
 
 -- ---- what a socket was given
 
-stream_join : (call : Call) (answer : Answer) (os : List Own) → IsAccepted call answer → bytes_of (stream_of os) ≡ pieces_of os
+stream_join : (call : Call) (answer : Answer) (os : List Own) → WasTaken call answer → bytes_of (stream_of os) ≡ pieces_of os
     → bytes_of (came_with call answer ++ stream_of os) ≡ piece_of call ++ pieces_of os
 stream_join (Piece catalog bytes) answer os a e = rw a (ap (λ l. bytes ++ l) e)
 stream_join End answer os a e = e
 stream_join Turn answer os a e = e
 stream_join (Take room) answer os a e = e
 
-stream_is : (os : List Own) → AreAccepted os → bytes_of (stream_of os) ≡ pieces_of os
+stream_is : (os : List Own) → AllWereTaken os → bytes_of (stream_of os) ≡ pieces_of os
 stream_is [] a = refl
 stream_is (o ∷ os) a = stream_join o.call o.answer os a.0 (stream_is os a.1)
 

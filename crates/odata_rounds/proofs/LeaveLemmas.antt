@@ -6,7 +6,7 @@ use Rattle.odata_hub.specs.declared.answers.HubFault.{HubFault}
 use Rattle.odata_hub.specs.declared.answers.Turned.TheVariants.{Idle}
 use Rattle.odata_hub.specs.Connections.{Answer, Call, ConnOf, End, Gave, Own, Piece, Refused, Step, Take, Turn, Went, taken_of}
 use Rattle.odata_hub.specs.Schedules.{CallsOn, HubOf, HubRun, HubStep, On, StepsAt, conn_at}
-use Rattle.odata_hub.specs.Stands.{StandsFor}
+use Rattle.odata_hub.specs.Stands.{Models}
 use Rattle.odata_rounds.specs.declared.answers.Stepped.{Stepped}
 use Rattle.odata_rounds.specs.declared.answers.Stepped.TheVariants.{Free, Rests, Worked, Answered, Lost, Failed}
 use Rattle.odata_rounds.specs.declared.outbox.TheConstants.{TAKE_BYTES}
@@ -252,7 +252,7 @@ calls_away place other h n (o ∷ os) away r =
 
 -- ---- a place whose connection is over
 
-rests_open : (hub : Hub) (place : ℕ) (h : HubOf) (after : List ℕ) (last : Last) → IsAtRest hub place after last → after ≡ [] → StandsFor hub h
+rests_open : (hub : Hub) (place : ℕ) (h : HubOf) (after : List ℕ) (last : Last) → IsAtRest hub place after last → after ≡ [] → Models hub h
     → is_over_at h place ≡ true → ⊥
 rests_open hub place h [] last r e s over = let bad : false ≡ true = sym (r.1 h s) ∙ over in absurd (cc bad)
 rests_open hub place h (x ∷ after) last r e s over = absurd (cc e)
@@ -272,7 +272,7 @@ free_none place h n [] _ _ (none _ _ (idles _ _ (ends answer))) e r = absurd (cc
 
 -- a visit tells a place that its connection is over, where nothing is left to be written
 pub visit_over : (place : ℕ) (h n : HubOf) (before after sent : List ℕ) (last : Last) (os : List Own) (stepped : Stepped) (hub : Hub) (old new : WireOf)
-    → IsVisit before last os → HubRun h (at_place place os) n → StandsFor hub n → Became stepped hub place old new sent after last → after ≡ []
+    → IsVisit before last os → HubRun h (at_place place os) n → Models hub n → Became stepped hub place old new sent after last → after ≡ []
     → is_over_at n place ≡ true → MayTellOver stepped
 visit_over place h n before after sent last os Free hub old new v r s b e over =
     let none : is_over_at n place ≡ false = ap is_over_of (free_none place h n before last os v b r) in

@@ -3,7 +3,7 @@ use Rattle.std.proofs.Common.{List, [], ◌∷◌, ◌++◌, refl}
 use Rattle.odata_hub.specs.declared.hub.Hub.{Hub}
 use Rattle.odata_hub.specs.Connections.{Answer}
 use Rattle.odata_hub.specs.Schedules.{Event, Happening, HubOf}
-use Rattle.odata_hub.specs.Stands.{IsHubStep, StandsFor}
+use Rattle.odata_hub.specs.Stands.{IsHubStep, Models}
 use Rattle.odata_rounds.specs.Comes.{AreSchedules, MayHappen, ServingRun}
 use Rattle.odata_rounds.specs.Visits.{IsHubRun}
 
@@ -12,7 +12,7 @@ run_none a h s = (h, refl, s)
 
 -- an event may happen to the hub, whatever that stands for
 abbrev pub MayCome : Hub → Event → Type 0
-MayCome a event = (h : HubOf) → StandsFor a h → MayHappen h event
+MayCome a event = (h : HubOf) → Models a h → MayHappen h event
 
 pub run_step : (a b c : Hub) (event : Event) (answer : Answer) (events : List Happening) → IsHubStep a event answer b → MayCome a event
     → IsHubRun b events c → IsHubRun a (record { event = event; answer = answer } ∷ events) c

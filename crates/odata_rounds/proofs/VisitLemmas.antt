@@ -8,7 +8,7 @@ use Rattle.odata_hub.specs.declared.hub.Hub.{Hub}
 use Rattle.odata_hub.specs.declared.answers.HubFault.{HubFault}
 use Rattle.odata_hub.specs.declared.answers.HubFault.TheVariants.{Full, NoSuchConnection, Ended, Failed as HubFailed, NoMemory}
 use Rattle.odata_hub.specs.declared.answers.Turned.TheVariants.{Idle, Worked as TurnWorked}
-use Rattle.odata_hub.specs.Connections.{Done, End, Gave, Piece, Refused, Take, Turn, Went, answer_of, given_by}
+use Rattle.odata_hub.specs.Connections.{Done, End, Gave, Piece, Refused, Take, Turn, Went, call_answer, given_by}
 use Rattle.odata_hub.specs.Schedules.{On}
 use Rattle.odata_hub.specs.Stands.{IsHubStep}
 use Rattle.odata_rounds.specs.declared.answers.PeerFault.TheVariants.{Waits, Lost as PeerLost}
@@ -16,18 +16,18 @@ use Rattle.odata_rounds.specs.declared.answers.Stepped.{Stepped}
 use Rattle.odata_rounds.specs.declared.answers.Stepped.TheVariants.{Free, Rests, Worked, Answered, Lost, Failed}
 use Rattle.odata_rounds.specs.declared.outbox.TheConstants.{TAKE_BYTES}
 use Rattle.odata_rounds.specs.Peers.{IsRead, IsWrite, KeepsOthers, WireOf}
-use Rattle.odata_rounds.specs.Visits.{AfterIdle, AfterTake, Became, Calls, IsAtRest, IsOverAt, IsWork, Last, Serves, Writes, at_place, came, came_to, end, nothing, nowhere, piece, reads, ends, goes, idles, none, gives, refused, took, turned, went, wrote}
+use Rattle.odata_rounds.specs.Visits.{AfterIdle, AfterTake, Became, MakesCalls, IsAtRest, IsOverAt, DidWork, Last, Serves, Writes, at_place, came, came_to, end, nothing, nowhere, piece, reads, ends, goes, idles, none, gives, refused, took, turned, went, wrote}
 use Rattle.odata_rounds.proofs.ByteLemmas.{consumes_none, keeps_appends, keeps_consumes, read_out}
 use Rattle.odata_rounds.proofs.RunLemmas.{run_none, run_one, run_step}
 
 -- ---- answers to pieces and ends
 
-came_output : (answer : Result ⊤ HubFault) → given_by (answer_of (λ _. Done) answer) ++ [] ≡ []
+came_output : (answer : Result ⊤ HubFault) → given_by (call_answer (λ _. Done) answer) ++ [] ≡ []
 came_output (Ok u) = refl
 came_output (Err fault) = refl
 
 came_became : (answer : Result ⊤ HubFault) (hub : Hub) (place : ℕ) (old new : WireOf)
-    → Became (came_to answer) hub place old new [] [] (came (answer_of (λ _. Done) answer))
+    → Became (came_to answer) hub place old new [] [] (came (call_answer (λ _. Done) answer))
 came_became (Ok u) hub place old new = inr refl
 came_became (Err Full) hub place old new = (Full, inr (λ e. absurd (cc e), refl))
 came_became (Err NoSuchConnection) hub place old new = (NoSuchConnection, inr (λ e. absurd (cc e), refl))
@@ -36,21 +36,21 @@ came_became (Err Ended) hub place old new = inl refl
 came_became (Err NoMemory) hub place old new = (NoMemory, inr (λ e. absurd (cc e), refl))
 
 pub came_became_by : (answer : Result ⊤ HubFault) (stepped : Stepped) (hub : Hub) (place : ℕ) (old new : WireOf) → stepped ≡ came_to answer
-    → Became stepped hub place old new [] [] (came (answer_of (λ _. Done) answer))
+    → Became stepped hub place old new [] [] (came (call_answer (λ _. Done) answer))
 came_became_by answer stepped hub place old new e =
-    let P : Stepped → Type 0 = λ x. Became x hub place old new [] [] (came (answer_of (λ _. Done) answer)) in
+    let P : Stepped → Type 0 = λ x. Became x hub place old new [] [] (came (call_answer (λ _. Done) answer)) in
     subst P (sym e) (came_became answer hub place old new)
 
 -- ---- what is read of an idle connection's socket
 
 pub read_end : (place : ℕ) (a b : Hub) (w v : ℕ → WireOf) (buf : List ℕ) (n : ℕ) (answer : Result ⊤ HubFault) (stepped : Stepped)
     → n ≡ 0 → 0 < length buf → IsRead (w place) (v place) buf (Ok n) → KeepsOthers place w v → IsOverAt a place false
-    → IsHubStep a (On place End) (answer_of (λ _. Done) answer) b → stepped ≡ came_to answer → Calls AfterIdle place a b w v stepped
+    → IsHubStep a (On place End) (call_answer (λ _. Done) answer) b → stepped ≡ came_to answer → MakesCalls AfterIdle place a b w v stepped
 read_end place a b w v buf zero answer stepped e lt r others not_over step is = record {
-  os = end (answer_of (λ _. Done) answer) ∷ [];
-  last = came (answer_of (λ _. Done) answer);
-  kind = ends (answer_of (λ _. Done) answer);
-  run = run_one a b (On place End) (answer_of (λ _. Done) answer) step not_over;
+  os = end (call_answer (λ _. Done) answer) ∷ [];
+  last = came (call_answer (λ _. Done) answer);
+  kind = ends (call_answer (λ _. Done) answer);
+  run = run_one a b (On place End) (call_answer (λ _. Done) answer) step not_over;
   output = came_output answer;
   taken = r.taken;
   left = r.left.0;
@@ -62,14 +62,14 @@ read_end place a b w v buf (suc n) answer stepped e lt r others not_over step is
 
 piece_of_bytes : (place : ℕ) (a b : Hub) (w v : ℕ → WireOf) (bytes : List ℕ) (catalog : CatalogOf) (answer : Result ⊤ HubFault) (stepped : Stepped)
     → 0 < length bytes → Consumes (w place).left (v place).left bytes → (v place).taken ≡ (w place).taken → KeepsOthers place w v
-    → IsOverAt a place false → IsHubStep a (On place (Piece catalog bytes)) (answer_of (λ _. Done) answer) b → stepped ≡ came_to answer → Calls AfterIdle place a b w v stepped
+    → IsOverAt a place false → IsHubStep a (On place (Piece catalog bytes)) (call_answer (λ _. Done) answer) b → stepped ≡ came_to answer → MakesCalls AfterIdle place a b w v stepped
 piece_of_bytes place a b w v [] catalog answer stepped lt left taken others not_over step is = absurd (omega arith)
 piece_of_bytes place a b w v (x ∷ bytes) catalog answer stepped lt left taken others not_over step is =
     let P : List ℕ → Type 0 = λ l. Consumes (w place).left (v place).left l in record {
-      os = piece catalog (x ∷ bytes) (answer_of (λ _. Done) answer) ∷ [];
-      last = came (answer_of (λ _. Done) answer);
-      kind = reads catalog x bytes (answer_of (λ _. Done) answer);
-      run = run_one a b (On place (Piece catalog (x ∷ bytes))) (answer_of (λ _. Done) answer) step not_over;
+      os = piece catalog (x ∷ bytes) (call_answer (λ _. Done) answer) ∷ [];
+      last = came (call_answer (λ _. Done) answer);
+      kind = reads catalog x bytes (call_answer (λ _. Done) answer);
+      run = run_one a b (On place (Piece catalog (x ∷ bytes))) (call_answer (λ _. Done) answer) step not_over;
       output = came_output answer;
       taken = taken;
       left = subst P (sym (append-nil (x ∷ bytes))) left;
@@ -80,14 +80,14 @@ piece_of_bytes place a b w v (x ∷ bytes) catalog answer stepped lt left taken 
 
 pub read_piece : (place : ℕ) (a b : Hub) (w v : ℕ → WireOf) (buf : List ℕ) (n : ℕ) (catalog : CatalogOf) (answer : Result ⊤ HubFault)
     (stepped : Stepped) → 0 < n → IsRead (w place) (v place) buf (Ok n) → KeepsOthers place w v → IsOverAt a place false
-    → IsHubStep a (On place (Piece catalog (take n buf))) (answer_of (λ _. Done) answer) b → stepped ≡ came_to answer
-    → Calls AfterIdle place a b w v stepped
+    → IsHubStep a (On place (Piece catalog (take n buf))) (call_answer (λ _. Done) answer) b → stepped ≡ came_to answer
+    → MakesCalls AfterIdle place a b w v stepped
 read_piece place a b w v buf n catalog answer stepped lt r others not_over step is =
     let some : length (take n buf) ≡ n = sym r.bound.1 in
     piece_of_bytes place a b w v (take n buf) catalog answer stepped (omega arith) r.left.0 r.taken others not_over step is
 
 pub read_waits : (place : ℕ) (a : Hub) (w v : ℕ → WireOf) (buf : List ℕ) → IsRead (w place) (v place) buf (Err Waits) → KeepsOthers place w v
-    → IsOverAt a place false → Calls AfterIdle place a a w v Rests
+    → IsOverAt a place false → MakesCalls AfterIdle place a a w v Rests
 read_waits place a w v buf r others not_over = record {
   os = [];
   last = turned (Went Idle);
@@ -102,7 +102,7 @@ read_waits place a w v buf r others not_over = record {
 }
 
 pub read_lost : (place : ℕ) (a : Hub) (w v : ℕ → WireOf) (buf : List ℕ) → IsRead (w place) (v place) buf (Err PeerLost) → KeepsOthers place w v
-    → IsOverAt a place false → Calls AfterIdle place a a w v Lost
+    → IsOverAt a place false → MakesCalls AfterIdle place a a w v Lost
 read_lost place a w v buf r others not_over = record {
   os = [];
   last = turned (Went Idle);
@@ -116,7 +116,7 @@ read_lost place a w v buf r others not_over = record {
   others = others;
 }
 
-pub idle_over : (place : ℕ) (a : Hub) (w : ℕ → WireOf) → IsOverAt a place true → Calls AfterIdle place a a w w Answered
+pub idle_over : (place : ℕ) (a : Hub) (w : ℕ → WireOf) → IsOverAt a place true → MakesCalls AfterIdle place a a w w Answered
 idle_over place a w over = record {
   os = [];
   last = turned (Went Idle);
@@ -133,7 +133,7 @@ idle_over place a w over = record {
 -- ---- turns
 
 pub turn_worked : (place : ℕ) (a b : Hub) (w : ℕ → WireOf) → IsHubStep a (On place Turn) (Went TurnWorked) b
-    → Calls AfterTake place a b w w Worked
+    → MakesCalls AfterTake place a b w w Worked
 turn_worked place a b w step = record {
   os = went (Went TurnWorked) ∷ [];
   last = turned (Went TurnWorked);
@@ -148,7 +148,7 @@ turn_worked place a b w step = record {
 }
 
 pub turn_refused : (place : ℕ) (a b : Hub) (w : ℕ → WireOf) (fault : HubFault) → IsHubStep a (On place Turn) (Refused fault) b
-    → Calls AfterTake place a b w w Failed
+    → MakesCalls AfterTake place a b w w Failed
 turn_refused place a b w fault step = record {
   os = went (Refused fault) ∷ [];
   last = turned (Refused fault);
@@ -163,7 +163,7 @@ turn_refused place a b w fault step = record {
 }
 
 pub turn_idle : (place : ℕ) (a b c : Hub) (w v : ℕ → WireOf) (stepped : Stepped) → IsHubStep a (On place Turn) (Went Idle) b
-    → Calls AfterIdle place b c w v stepped → Calls AfterTake place a c w v stepped
+    → MakesCalls AfterIdle place b c w v stepped → MakesCalls AfterTake place a c w v stepped
 turn_idle place a b c w v stepped step rest = record {
   os = went (Went Idle) ∷ rest.os;
   last = rest.last;
@@ -179,7 +179,7 @@ turn_idle place a b c w v stepped step rest = record {
 
 -- ---- writes
 
-IsWork-some : (n : ℕ) (xs : List ℕ) → 0 < n → n ≤ length xs → IsWork (take n xs) wrote
+IsWork-some : (n : ℕ) (xs : List ℕ) → 0 < n → n ≤ length xs → DidWork (take n xs) wrote
 IsWork-some zero xs lt le = absurd (omega arith)
 IsWork-some (suc n) [] lt le = absurd (omega arith)
 IsWork-some (suc n) (x ∷ xs) lt le = tt
@@ -255,7 +255,7 @@ serves_output place a b w v (y ∷ mid) after stepped lt step x = record {
 }
 
 pub serves_none : (place : ℕ) (a b c : Hub) (w v : ℕ → WireOf) (mid : List ℕ) (stepped : Stepped) → length mid ≡ 0
-    → IsHubStep a (On place (Take TAKE_BYTES)) (Gave mid) b → Calls AfterTake place b c w v stepped → Serves place a c w v [] mid stepped
+    → IsHubStep a (On place (Take TAKE_BYTES)) (Gave mid) b → MakesCalls AfterTake place b c w v stepped → Serves place a c w v [] mid stepped
 serves_none place a b c w v [] stepped e step x = record {
   os = took (Gave []) ∷ x.os;
   last = x.last;

@@ -6,7 +6,7 @@ use Rattle.std.proofs.lemmas.Bool.{or_parts}
 use Rattle.std.proofs.lemmas.Bool.Decides.{eqb_tells}
 use Rattle.odata_hub.specs.Connections.{ConnOf}
 use Rattle.odata_hub.specs.Schedules.{Happening, HubOf, HubRun, conn_at}
-use Rattle.odata_hub.specs.Stands.{StandsFor}
+use Rattle.odata_hub.specs.Stands.{Models}
 use Rattle.odata_rounds.specs.declared.seat.Seat.{Seat}
 use Rattle.odata_rounds.specs.Comes.{ServingRun, is_over_of}
 use Rattle.odata_rounds.specs.Visits.{at_place}
@@ -26,7 +26,7 @@ record Walk (places : ℕ) (old new : SightOf) (h : HubOf) : Type 0 where
   events : List Happening
   calls : AreCalls events
   run : ServingRun h events next
-  stands : StandsFor new.hub next
+  stands : Models new.hub next
   one_reply : (place : ℕ) → HoldsOneReply h old place → HoldsOneReply next new place
   at_ease : AreResting places new.seats → (place : ℕ) → place < places → IsAtEase (conn_at next place) (waits_at new.seats place)
   over : (place : ℕ) (seat : Seat) → place < places → slice_get new.seats place ≡ Some seat → IsToldOver next place seat
@@ -73,7 +73,7 @@ seat_here place a b s seat e =
     let same : Some seat ≡ Some s.next = sym e ∙ is in cc same
 
 over_here : (place : ℕ) (a b : SightOf) (h n : HubOf) (s : ServesAt place a b) (seat : Seat) → HubRun h (at_place place s.serves.os) n
-    → StandsFor b.hub n → slice_get b.seats place ≡ Some seat → IsToldOver n place seat
+    → Models b.hub n → slice_get b.seats place ≡ Some seat → IsToldOver n place seat
 over_here place a b h n s seat r stands e =
     let P : Seat → Type 0 = λ x. IsToldOver n place x in
     let m = s.serves.moves in
@@ -168,7 +168,7 @@ walk_more place a b c h w s =
       ];
     }
 
-walk_none : (a b : SightOf) (h : HubOf) → b ≡ a → StandsFor a.hub h → Walk zero a b h
+walk_none : (a b : SightOf) (h : HubOf) → b ≡ a → Models a.hub h → Walk zero a b h
 walk_none a b h e stands = let P : SightOf → Type 0 = λ x. Walk zero a x h in subst P (sym e) (record {
   next = h;
   events = [];
@@ -180,7 +180,7 @@ walk_none a b h e stands = let P : SightOf → Type 0 = λ x. Walk zero a x h in
   over = λ place seat lt at. absurd (omega (arith, lt));
 })
 
-walk : (places : ℕ) (a b : SightOf) (h : HubOf) → Rounds places a b → StandsFor a.hub h → Walk places a b h
+walk : (places : ℕ) (a b : SightOf) (h : HubOf) → Rounds places a b → Models a.hub h → Walk places a b h
 walk zero a b h r stands = walk_none a b h r stands
 walk (suc place) a b h r stands = walk_more place a r.0 b h (walk place a r.0 h r.1 stands) r.2
 

@@ -2,9 +2,9 @@
 use Rattle.std.specs.Prelude.{◌≡◌, ⊤, ℕ, zero, suc, true, List, [], ◌∷◌, ◌++◌}
 use Rattle.std.specs.Io.KnownBytes.{Appends, Consumes}
 use Rattle.odata_hub.specs.declared.hub.Hub.{Hub}
-use Rattle.odata_hub.specs.Connections.{Answer, Call, Done, End, Own, Piece, Take, Turn, has_ended, stream_of}
+use Rattle.odata_hub.specs.Connections.{Answer, Call, Done, End, Own, Piece, Take, Turn, input_ended, stream_of}
 use Rattle.odata_hub.specs.Laws.{IsFrontOf}
-use Rattle.odata_hub.specs.Replies.{AreFirstReplies, AreReplies}
+use Rattle.odata_hub.specs.Replies.{AreFirstHubReplies, AreHubReplies}
 use Rattle.odata_hub.specs.Schedules.{Event, Happening, HubOf, HubRun, On, opened, own_of}
 use Rattle.odata_hub.specs.Streams.{bytes_of}
 use Rattle.odata_rounds.specs.declared.seat.Seat.{Seat}
@@ -53,30 +53,30 @@ abbrev pub RunsJoin : Type 0
 RunsJoin = (a b c : Hub) (xs ys : List Happening) → IsHubRun a xs b → IsHubRun b ys c → IsHubRun a (xs ++ ys) c
 
 -- no piece was refused
-abbrev pub IsAccepted : Call → Answer → Type 0
-IsAccepted (Piece catalog bytes) answer = answer ≡ Done
-IsAccepted End answer = ⊤
-IsAccepted Turn answer = ⊤
-IsAccepted (Take room) answer = ⊤
+abbrev pub WasTaken : Call → Answer → Type 0
+WasTaken (Piece catalog bytes) answer = answer ≡ Done
+WasTaken End answer = ⊤
+WasTaken Turn answer = ⊤
+WasTaken (Take room) answer = ⊤
 
-abbrev pub AreAccepted : List Own → Type 0
-AreAccepted [] = ⊤
-AreAccepted (o ∷ os) = IsAccepted o.call o.answer × AreAccepted os
+abbrev pub AllWereTaken : List Own → Type 0
+AllWereTaken [] = ⊤
+AllWereTaken (o ∷ os) = WasTaken o.call o.answer × AllWereTaken os
 
 -- What a socket took is a front of the replies of the stream, each head answered from its own tables; and the stream is what was read from the socket,
 -- where no piece of it was refused; and it ended only where nothing is left to be read there.
-pub record IsServed (os : List Own) (old new : WireOf) : Type 0 where
+pub record IsServedWire (os : List Own) (old new : WireOf) : Type 0 where
   pub sent : List ℕ
   pub taken : Appends old.taken new.taken sent
   pub some : List ℕ
-  pub first : AreFirstReplies (stream_of os) (has_ended os) some
+  pub first : AreFirstHubReplies (stream_of os) (input_ended os) some
   pub front : IsFrontOf sent some
-  pub whole : (all : List ℕ) → AreReplies (stream_of os) (has_ended os) all → IsFrontOf sent all
+  pub whole : (all : List ℕ) → AreHubReplies (stream_of os) (input_ended os) all → IsFrontOf sent all
   pub left : Consumes old.left new.left (pieces_of os)
-  pub stream : AreAccepted os → bytes_of (stream_of os) ≡ pieces_of os
-  pub ended : has_ended os ≡ true → IsReadOut old.left new.left
+  pub stream : AllWereTaken os → bytes_of (stream_of os) ≡ pieces_of os
+  pub ended : input_ended os ≡ true → IsReadOut old.left new.left
 
 -- Whatever happened since a connection was opened: its socket, for which nothing waited then, was served so by its own events.
 abbrev pub ServesSocket : Type 0
 ServesSocket = (start end : HubOf) (place : ℕ) (events : List Happening) (old new : WireOf) (after : List ℕ)
-    → HubRun start (opened place ∷ events) end → Moves old new [] after (own_of place events) → IsServed (own_of place events) old new
+    → HubRun start (opened place ∷ events) end → Moves old new [] after (own_of place events) → IsServedWire (own_of place events) old new

@@ -5,7 +5,7 @@ use Rattle.odata_http.specs.Replies.{last_reply}
 use Rattle.odata_hub.specs.Connections.{ConnOf, works}
 use Rattle.odata_hub.specs.Replies.{IsReplyTo}
 use Rattle.odata_hub.specs.Schedules.{Happening, HubOf, conn_at}
-use Rattle.odata_hub.specs.Stands.{StandsFor}
+use Rattle.odata_hub.specs.Stands.{Models}
 use Rattle.odata_hub.specs.Streams.{Asked}
 use Rattle.odata_rounds.specs.declared.answers.Stepped.{Stepped}
 use Rattle.odata_rounds.specs.declared.answers.Stepped.TheVariants.{Free, Rests, Worked, Answered, Lost, Failed}
@@ -60,7 +60,7 @@ pub record Leaves (places : ℕ) (old new : SightOf) (h : HubOf) : Type 0 where
   pub events : List Happening
   pub calls : AreCalls events
   pub run : ServingRun h events next
-  pub stands : StandsFor new.hub next
+  pub stands : Models new.hub next
   pub one_reply : (place : ℕ) → HoldsOneReply h old place → HoldsOneReply next new place
   pub at_ease : list_any is_working new.seats ≡ false → (place : ℕ) → place < places
       → IsAtEase (conn_at next place) (waits_at new.seats place)
@@ -69,4 +69,4 @@ pub record Leaves (places : ℕ) (old new : SightOf) (h : HubOf) : Type 0 where
 -- No more than one reply waits at a place where that was so before the round; a round in which nothing worked leaves each place at rest; and a place
 -- whose connection is over is told so.
 abbrev pub RoundLeaves : Type 0
-RoundLeaves = (places : ℕ) (old new : SightOf) (h : HubOf) → Rounds places old new → StandsFor old.hub h → Leaves places old new h
+RoundLeaves = (places : ℕ) (old new : SightOf) (h : HubOf) → Rounds places old new → Models old.hub h → Leaves places old new h

@@ -7,9 +7,9 @@ use Rattle.odata_hub.specs.declared.hub.Hub.{Hub}
 use Rattle.odata_hub.specs.declared.answers.HubFault.{HubFault}
 use Rattle.odata_hub.specs.declared.answers.HubFault.TheVariants as refusal
 use Rattle.odata_hub.specs.declared.answers.Turned.TheVariants.{Idle, Worked as TurnWorked}
-use Rattle.odata_hub.specs.Connections.{Answer, Call, Done, End, Gave, Own, Piece, Refused, Take, Turn, Went, has_ended, taken_of}
+use Rattle.odata_hub.specs.Connections.{Answer, Call, Done, End, Gave, Own, Piece, Refused, Take, Turn, Went, input_ended, taken_of}
 use Rattle.odata_hub.specs.Schedules.{Happening, HubOf, On}
-use Rattle.odata_hub.specs.Stands.{StandsFor}
+use Rattle.odata_hub.specs.Stands.{Models}
 use Rattle.odata_rounds.specs.declared.answers.Stepped.{Stepped}
 use Rattle.odata_rounds.specs.declared.answers.Stepped.TheVariants.{Free, Rests, Worked, Answered, Lost, Failed}
 use Rattle.odata_rounds.specs.declared.outbox.TheConstants.{TAKE_BYTES}
@@ -18,7 +18,7 @@ use Rattle.odata_rounds.specs.Peers.{KeepsOthers, WireOf}
 
 -- a schedule of calls leads from one hub to the other, in which nothing more of its stream comes to a connection that is over
 abbrev pub IsHubRun : Hub → List Happening → Hub → Type 0
-IsHubRun old events new = (h : HubOf) → StandsFor old h → (n : HubOf) × ServingRun h events n × StandsFor new n
+IsHubRun old events new = (h : HubOf) → Models old h → (n : HubOf) × ServingRun h events n × Models new n
 
 -- the calls on the connection at a place, as happenings of the hub
 abbrev pub at_place : ℕ → List Own → List Happening
@@ -90,11 +90,11 @@ pub record Moves (old new : WireOf) (before after : List ℕ) (os : List Own) : 
   pub output : before ++ taken_of os ≡ sent ++ after
   pub taken : Appends old.taken new.taken sent
   pub left : Consumes old.left new.left (pieces_of os)
-  pub ended : has_ended os ≡ true → IsReadOut old.left new.left
+  pub ended : input_ended os ≡ true → IsReadOut old.left new.left
 
 -- whether the connection at the place is over
 abbrev pub IsOverAt : Hub → ℕ → Bool → Type 0
-IsOverAt hub place over = (h : HubOf) → StandsFor hub h → is_over_at h place ≡ over
+IsOverAt hub place over = (h : HubOf) → Models hub h → is_over_at h place ≡ over
 
 -- bytes wait, or the connection has nothing to do and is not over
 abbrev pub IsAtRest : Hub → ℕ → List ℕ → Last → Type 0
@@ -102,14 +102,14 @@ IsAtRest hub place [] last = (last ≡ turned (Went Idle)) × IsOverAt hub place
 IsAtRest hub place (b ∷ waits) last = ⊤
 
 -- the end came to a stream that had ended; or the connection has nothing to do and is over, and nothing was asked of its socket
-abbrev pub IsAnswered : Hub → ℕ → WireOf → WireOf → Last → Type 0
-IsAnswered hub place old new last =
+abbrev pub IsAnsweredAtPlace : Hub → ℕ → WireOf → WireOf → Last → Type 0
+IsAnsweredAtPlace hub place old new last =
     (last ≡ came (Refused refusal.Ended)) ⊎ ((last ≡ turned (Went Idle)) × IsOverAt hub place true × (new ≡ old))
 
 -- the socket took bytes, or the last call did something
-abbrev pub IsWork : List ℕ → Last → Type 0
-IsWork [] last = (last ≡ turned (Went TurnWorked)) ⊎ (last ≡ came Done)
-IsWork (b ∷ sent) last = ⊤
+abbrev pub DidWork : List ℕ → Last → Type 0
+DidWork [] last = (last ≡ turned (Went TurnWorked)) ⊎ (last ≡ came Done)
+DidWork (b ∷ sent) last = ⊤
 
 -- a call was refused, and not since the stream had ended
 abbrev pub IsFailure : Last → Type 0
@@ -119,13 +119,13 @@ IsFailure last = (fault : HubFault) × ((last ≡ turned (Refused fault)) ⊎ ((
 abbrev pub Became : Stepped → Hub → ℕ → WireOf → WireOf → List ℕ → List ℕ → Last → Type 0
 Became Free hub place old new sent after last = last ≡ nowhere
 Became Rests hub place old new sent after last = Counts old.waits new.waits × IsAtRest hub place after last
-Became Worked hub place old new sent after last = IsWork sent last
-Became Answered hub place old new sent after last = IsAnswered hub place old new last
+Became Worked hub place old new sent after last = DidWork sent last
+Became Answered hub place old new sent after last = IsAnsweredAtPlace hub place old new last
 Became Lost hub place old new sent after last = Counts old.losses new.losses × IsAtRest hub place after last
 Became Failed hub place old new sent after last = IsFailure last
 
 -- the calls of a visit that writes nothing are of a kind, and this is what they came to
-pub record Calls (Kind : Last → List Own → Type 0) (place : ℕ) (old new : Hub) (wires next : ℕ → WireOf) (stepped : Stepped) : Type 0 where
+pub record MakesCalls (Kind : Last → List Own → Type 0) (place : ℕ) (old new : Hub) (wires next : ℕ → WireOf) (stepped : Stepped) : Type 0 where
   pub os : List Own
   pub last : Last
   pub kind : Kind last os
@@ -133,7 +133,7 @@ pub record Calls (Kind : Last → List Own → Type 0) (place : ℕ) (old new : 
   pub output : taken_of os ≡ []
   pub taken : (next place).taken ≡ (wires place).taken
   pub left : Consumes (wires place).left (next place).left (pieces_of os)
-  pub ended : has_ended os ≡ true → IsReadOut (wires place).left (next place).left
+  pub ended : input_ended os ≡ true → IsReadOut (wires place).left (next place).left
   pub became : Became stepped new place (wires place) (next place) [] [] last
   pub others : KeepsOthers place wires next
 

@@ -1,6 +1,6 @@
 //! The bytes that were taken from a connection and wait for its socket.
 ghost use Rattle.std.specs.Prelude.{◌≡◌, ◌==◌, ◌≤◌, [], IfOk, OnErr, drop, length};
-ghost use Rattle.odata_hub.specs.Connections.{Gave, Take, answer_of};
+ghost use Rattle.odata_hub.specs.Connections.{Gave, Take, call_answer};
 ghost use Rattle.odata_hub.specs.Schedules.{On};
 ghost use Rattle.odata_hub.specs.Stands.{IsHubStep};
 
@@ -77,7 +77,7 @@ impl Outbox {
     /// Takes the first bytes of a connection's output, as many as there are or fit, where nothing waits.
     pub fn fill(&mut self, hub: &mut Hub, place: u32) -> Result<usize, HubFault>
         ensures step { IsHubStep hub.old (On place (Take TAKE_BYTES))
-            (answer_of (λ _. Gave self.new) result) hub.new }
+            (call_answer (λ _. Gave self.new) result) hub.new }
         ensures count { IfOk result (λ count. count ≡ length self.new) }
         ensures err { OnErr result (self.new ≡ []) }
     {

@@ -1,7 +1,7 @@
 //! One visit at a place: what waits for its socket is written; else output is taken and written; else the connection has one turn; else, where
 //! that was idle, one piece is read, or the end told.
 ghost use Rattle.std.specs.Prelude.{◌≡◌, ◌<◌, [], false, length};
-ghost use Rattle.odata_rounds.specs.Visits.{AfterIdle, AfterTake, Calls, IsOverAt, Serves, Writes, came_to};
+ghost use Rattle.odata_rounds.specs.Visits.{AfterIdle, AfterTake, MakesCalls, IsOverAt, Serves, Writes, came_to};
 
 use crate::answers::{PeerFault, Stepped};
 use crate::outbox::Outbox;
@@ -48,7 +48,7 @@ fn is_over(hub: &Hub, place: u32) -> bool
 fn read_in<P: Peers>(hub: &mut Hub, peers: &mut P, place: u32, room: &mut [u8]) -> Stepped
     requires room { 0 < length room.old }
     requires not_over { IsOverAt hub.old place false }
-    ensures { Calls AfterIdle place hub.old hub.new
+    ensures { MakesCalls AfterIdle place hub.old hub.new
         (P.wires peers.old) (P.wires peers.new) result }
 {
     match peers.read(place, room) {
@@ -62,7 +62,7 @@ fn read_in<P: Peers>(hub: &mut Hub, peers: &mut P, place: u32, room: &mut [u8]) 
 /// An idle connection is over, or reads on.
 fn read_unless_over<P: Peers>(hub: &mut Hub, peers: &mut P, place: u32, room: &mut [u8]) -> Stepped
     requires { 0 < length room.old }
-    ensures { Calls AfterIdle place hub.old hub.new
+    ensures { MakesCalls AfterIdle place hub.old hub.new
         (P.wires peers.old) (P.wires peers.new) result }
 {
     if is_over(hub, place) {
@@ -75,7 +75,7 @@ fn read_unless_over<P: Peers>(hub: &mut Hub, peers: &mut P, place: u32, room: &m
 /// One turn of a connection of which no output waits, and where it is idle a piece.
 fn turn_or_read<P: Peers>(hub: &mut Hub, peers: &mut P, place: u32, room: &mut [u8]) -> Stepped
     requires { 0 < length room.old }
-    ensures { Calls AfterTake place hub.old hub.new
+    ensures { MakesCalls AfterTake place hub.old hub.new
         (P.wires peers.old) (P.wires peers.new) result }
 {
     match hub.turn(Conn(place)) {

@@ -8,7 +8,7 @@ use Rattle.std.proofs.lemmas.Str.Parse.{digit_from_value}
 use Rattle.clap.specs.Lexer.{without_minus}
 use Rattle.clap.specs.Values.{IsSignedIn}
 use Rattle.clap.specs.Words.{Text}
-use Rattle.command_words.specs.Words.{IsNumberOf}
+use Rattle.command_words.specs.Words.{IsNumberOfBits}
 
 without_minus-cond : (t : Text) → without_minus t ≡ cond (starts_with_minus t) (drop 1 t) t
 without_minus-cond [] = refl
@@ -25,7 +25,7 @@ no_plus (d ∷ ds) h =
     ap (λ (b : Bool). drop (cond b 1 0) (d ∷ ds)) plus
 
 -- a text that `clap` takes for a number from zero up is one, behind a `-` that it may have before zero
-pub number_taken : (bits high : ℕ) (t : Text) → high < 2 ^ bits → IsSignedIn (pos 0) (pos high) t → (n : ℕ) × IsNumberOf bits (Some (without_minus t)) n
+pub number_taken : (bits high : ℕ) (t : Text) → high < 2 ^ bits → IsSignedIn (pos 0) (pos high) t → (n : ℕ) × IsNumberOfBits bits (Some (without_minus t)) n
 number_taken bits high t fits h =
     let u = without_leading_plus (without_minus t) in
     (digits_value 10 u, (subst (λ (v : Text). Fits (without_leading_plus v)) (sym (without_minus-cond t)) (go (starts_with_minus t) refl), refl))

@@ -5,7 +5,7 @@ use Rattle.clap.specs.Kinds.{Kinds}
 use Rattle.clap.specs.declared.error.ErrorKind.{ErrorKind}
 use Rattle.clap.specs.declared.error.ErrorKind.TheVariants.{OutOfMemory}
 use Rattle.clap.proofs.OnLiterals.{clap_on_literals}
-use Rattle.command_words.specs.Words.{IsNumberOf}
+use Rattle.command_words.specs.Words.{IsNumberOfBits}
 use Rattle.odata_serve.specs.Words.{SaysNothing, program_app}
 use Rattle.odata_serve.specs.declared.words.Words.TheVariants.{Nothing, Check, Query, Answer, Replay, Serve}
 
@@ -39,7 +39,7 @@ first_byte e = ap (λ (t : Text). slice_index t 0) e
 
 -- `serve` without a number of connections asks for nothing
 pub no_connections : (name : Text) (rows : List Row) → name ≡ codes "serve"
-    → ((n : ℕ) → IsNumberOf 32 (one_of (codes "connections") rows) n → ⊥) → SaysNothing (Some (name, rows))
+    → ((n : ℕ) → IsNumberOfBits 32 (one_of (codes "connections") rows) n → ⊥) → SaysNothing (Some (name, rows))
 no_connections name rows e none Nothing h = h
 no_connections name rows e none (Check folder) h =
     let bad : 115 ≡ 99 = first_byte (sym e ∙ h.0) in absurd (omega (arith, bad))

@@ -16,8 +16,8 @@ use Rattle.clap.specs.declared.builder.value_parser.ValueParser.{ValueParser}
 use Rattle.clap.specs.declared.builder.value_parser.ValueParser.TheVariants as parser
 use Rattle.clap.proofs.OnLiterals.{clap_on_literals}
 use Rattle.clap.proofs.ValueTestLemmas.{accepts-Accepts}
-use Rattle.command_words.specs.Words.{IsNumberOf}
-use Rattle.odata_serve.specs.Words.{Says, folder_and_app, folder_app, program_app, serve_app}
+use Rattle.command_words.specs.Words.{IsNumberOfBits}
+use Rattle.odata_serve.specs.Words.{SaysWords, folder_and_app, folder_app, program_app, serve_app}
 use Rattle.odata_serve.specs.declared.words.Words.{Words}
 use Rattle.odata_serve.specs.declared.words.Words.TheVariants.{Nothing, Check, Query, Answer, Replay, Serve}
 use Rattle.odata_serve.proofs.Numbers.{number_taken}
@@ -79,7 +79,7 @@ text_read a rows h = (
 
 -- and its number
 number_read : (a : Rule) (rows : List Row) (bits high : ℕ) → a.parser ≡ Some (parser.Signed (pos 0) (pos high)) → high < 2 ^ bits → HasOne a rows
-    → (n : ℕ) × IsNumberOf bits (one_of a.id rows) n
+    → (n : ℕ) × IsNumberOfBits bits (one_of a.id rows) n
 number_read a rows bits high is fits h =
     let v = h.2.value in
     let accepted = subst (λ (p : Option ValueParser). accepts a.ignore_case (parser_of_value p) v ≡ true) is h.2.accepted in
@@ -89,20 +89,20 @@ number_read a rows bits high is fits h =
     ap (option_and_then row_text) h.1
     ∙ ap₂ (λ (r : Reading) (vs : List Text). option_map (read_as r) (slice_get vs 0)) how h.2.values in
     let number = number_taken bits high v fits inside in
-    (number.0, subst (λ (o : Option Text). IsNumberOf bits o number.0) (sym text) number.1)
+    (number.0, subst (λ (o : Option Text). IsNumberOfBits bits o number.0) (sym text) number.1)
 
 -- a reference to a text
 abbrev to : Text → Bor Text
 to text = record { ref_ptr = (0, 0); now = text }
 
-check_asks : (words : List Text) → level_fault check [] nothing_held words false [] ≡ [] → (w : Words) × Says w (Some (rows_at check words))
+check_asks : (words : List Text) → level_fault check [] nothing_held words false [] ≡ [] → (w : Words) × SaysWords w (Some (rows_at check words))
 check_asks words e =
     let rows = rows_after check.rules [] words in
     let given = required_rows check words check_plain refl refl e in
     let folder = text_read _ rows (given.0 refl) in
     (Check (to folder.0), (refl, folder.1))
 
-query_asks : (words : List Text) → level_fault query [] nothing_held words false [] ≡ [] → (w : Words) × Says w (Some (rows_at query words))
+query_asks : (words : List Text) → level_fault query [] nothing_held words false [] ≡ [] → (w : Words) × SaysWords w (Some (rows_at query words))
 query_asks words e =
     let rows = rows_after query.rules [] words in
     let given = required_rows query words query_plain refl refl e in
@@ -110,7 +110,7 @@ query_asks words e =
     let target = text_read _ rows (given.1.0 refl) in
     (Query (to folder.0) (to target.0), (refl, folder.1, target.1))
 
-answer_asks : (words : List Text) → level_fault answer [] nothing_held words false [] ≡ [] → (w : Words) × Says w (Some (rows_at answer words))
+answer_asks : (words : List Text) → level_fault answer [] nothing_held words false [] ≡ [] → (w : Words) × SaysWords w (Some (rows_at answer words))
 answer_asks words e =
     let rows = rows_after answer.rules [] words in
     let given = required_rows answer words answer_plain refl refl e in
@@ -118,7 +118,7 @@ answer_asks words e =
     let file = text_read _ rows (given.1.0 refl) in
     (Answer (to folder.0) (to file.0), (refl, folder.1, file.1))
 
-replay_asks : (words : List Text) → level_fault replay [] nothing_held words false [] ≡ [] → (w : Words) × Says w (Some (rows_at replay words))
+replay_asks : (words : List Text) → level_fault replay [] nothing_held words false [] ≡ [] → (w : Words) × SaysWords w (Some (rows_at replay words))
 replay_asks words e =
     let rows = rows_after replay.rules [] words in
     let given = required_rows replay words replay_plain refl refl e in
@@ -126,7 +126,7 @@ replay_asks words e =
     let script = text_read _ rows (given.1.0 refl) in
     (Replay (to folder.0) (to script.0), (refl, folder.1, script.1))
 
-serve_asks : (words : List Text) → level_fault serve [] nothing_held words false [] ≡ [] → (w : Words) × Says w (Some (rows_at serve words))
+serve_asks : (words : List Text) → level_fault serve [] nothing_held words false [] ≡ [] → (w : Words) × SaysWords w (Some (rows_at serve words))
 serve_asks words e =
     let rows = rows_after serve.rules [] words in
     let given = required_rows serve words serve_plain refl refl e in
@@ -136,7 +136,7 @@ serve_asks words e =
     (Serve (to folder.0) port.0 connections.0, (refl, folder.1, port.1, connections.1))
 
 -- what a subcommand that was entered without a fault asks for
-entered_asks : (stop : Option (Text × List Text)) → entered_fault (built program_app) stop ≡ [] → (w : Words) × Says w (entered (built program_app) stop)
+entered_asks : (stop : Option (Text × List Text)) → entered_fault (built program_app) stop ≡ [] → (w : Words) × SaysWords w (entered (built program_app) stop)
 entered_asks None e = (Nothing, refl)
 entered_asks (Some p) e =
     go (answers_to p.0 (label_of check)) (answers_to p.0 (label_of query)) (answers_to p.0 (label_of answer)) (answers_to p.0 (label_of replay))
@@ -146,7 +146,7 @@ entered_asks (Some p) e =
     found a b c d s = cond a (Some check) (cond b (Some query) (cond c (Some answer) (cond d (Some replay) (cond s (Some serve) None))))
 
     go : (a b c d s : Bool) → option_map_or (λ s. level_fault s [] nothing_held p.1 false []) (found a b c d s) [] ≡ []
-        → (w : Words) × Says w (option_map (λ s. rows_at s p.1) (found a b c d s))
+        → (w : Words) × SaysWords w (option_map (λ s. rows_at s p.1) (found a b c d s))
     go true b c d s e = check_asks p.1 e
     go false true c d s e = query_asks p.1 e
     go false false true d s e = answer_asks p.1 e
@@ -155,7 +155,7 @@ entered_asks (Some p) e =
     go false false false false false e = (Nothing, refl)
 
 -- words that are taken ask for something
-pub taken_asks : (line : List Text) → fault_of program_app line ≡ [] → (w : Words) × Says w (subcommand_of program_app line)
+pub taken_asks : (line : List Text) → fault_of program_app line ≡ [] → (w : Words) × SaysWords w (subcommand_of program_app line)
 taken_asks line e =
     let top = built program_app in
     let stop = stop_after top.top.rules (names_of top) (argument_words program_app line) in

@@ -5,7 +5,7 @@ use Rattle.program_ends.specs.declared.text.TheConstants.{REFUSED, USAGE, DEVICE
 use Rattle.program_ends.specs.declared.fault.TheConstants.{MAX_READS}
 use Rattle.hub_scripts.specs.declared.replay.TheConstants.{PLACES}
 
-pub record Sizes : Type 0 where
+pub record ServeSizes : Type 0 where
   pub reads : MAX_READS ≡ 1_048_576
   pub places : PLACES ≡ 64
   pub done : DONE ≡ 0

@@ -35,16 +35,16 @@ abbrev pub FailsToTell : Serving → Type 0
 FailsToTell s = (port : ℕ) × (s.listener_after.port ≡ Some port) × (n : ℕ) × HasFailed s.sink s.sink_after (take n (port_line port))
 
 -- so many connections were answered, where the count was not full
-abbrev pub Answers : ℕ → ListenerOf → ListenerOf → Type 0
-Answers n old new = old.answered + n < 2 ^ 64 → new.answered ≡ old.answered + n
+abbrev pub CountsAnswers : ℕ → ListenerOf → ListenerOf → Type 0
+CountsAnswers n old new = old.answered + n < 2 ^ 64 → new.answered ≡ old.answered + n
 
 -- fewer connections than that were answered
 abbrev pub AnswersFewer : ℕ → ListenerOf → ListenerOf → Type 0
-AnswersFewer most old new = (n : ℕ) × (n < most) × Answers n old new
+AnswersFewer most old new = (n : ℕ) × (n < most) × CountsAnswers n old new
 
 -- how answering so many connections in turn ended
 abbrev pub AnswersInTurn : ℕ → ListenerOf → ListenerOf → Result ⊤ ProgramFault → Type 0
-AnswersInTurn connections old new (Ok u) = Answers connections old new × (new.failed ≡ old.failed)
+AnswersInTurn connections old new (Ok u) = CountsAnswers connections old new × (new.failed ≡ old.failed)
 AnswersInTurn connections old new (Err Device) = AnswersFewer connections old new × Counts old.failed new.failed
 AnswersInTurn connections old new (Err NoMemory) = AnswersFewer connections old new × (new.failed ≡ old.failed)
 AnswersInTurn connections old new r = ⊥

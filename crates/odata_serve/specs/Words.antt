@@ -3,7 +3,7 @@ use Rattle.std.specs.Prelude.{◌≡◌, List, Option, Some, None, [], codes, po
 use Rattle.std.specs.Borrow.{Bor}
 use Rattle.clap.specs.Words.{App, Row, Rule, Text, fault_of, first_of, new_app, one_of, subcommand_of, with_rule, with_subcommand}
 use Rattle.clap.specs.declared.builder.ValueParser.TheVariants as parser
-use Rattle.command_words.specs.Words.{IsNumberOf, port_rule, required_rule}
+use Rattle.command_words.specs.Words.{IsNumberOfBits, port_rule, required_rule}
 use Rattle.odata_serve.specs.declared.words.Words.{Words}
 use Rattle.odata_serve.specs.declared.words.Words.TheVariants.{Nothing, Check, Query, Answer, Replay, Serve}
 
@@ -50,17 +50,17 @@ SubcommandSays (Answer folder file) name rows = (name ≡ codes "answer") × (fi
 SubcommandSays (Replay folder script) name rows = (name ≡ codes "replay") × (first_of (codes "folder") rows ≡ Some folder.now)
     × (first_of (codes "script") rows ≡ Some script.now)
 SubcommandSays (Serve folder port connections) name rows = (name ≡ codes "serve") × (first_of (codes "folder") rows ≡ Some folder.now)
-    × IsNumberOf 16 (one_of (codes "port") rows) port
-    × IsNumberOf 32 (one_of (codes "connections") rows) connections
+    × IsNumberOfBits 16 (one_of (codes "port") rows) port
+    × IsNumberOfBits 32 (one_of (codes "connections") rows) connections
 
 -- what a reading asks for, by its subcommand and that one's arguments; without a subcommand nothing
-abbrev pub Says : Words → Option (Text × List Row) → Type 0
-Says words None = words ≡ Nothing
-Says words (Some (name, rows)) = SubcommandSays words name rows
+abbrev pub SaysWords : Words → Option (Text × List Row) → Type 0
+SaysWords words None = words ≡ Nothing
+SaysWords words (Some (name, rows)) = SubcommandSays words name rows
 
 -- no words ask for what the reading has
 abbrev pub SaysNothing : Option (Text × List Row) → Type 0
-SaysNothing reading = (words : Words) → Says words reading → ⊥
+SaysNothing reading = (words : Words) → SaysWords words reading → ⊥
 
 -- `clap` takes the texts
 abbrev pub IsTaken : List Text → Type 0
@@ -68,7 +68,7 @@ IsTaken line = fault_of program_app line ≡ []
 
 -- `clap` takes the texts, and what it reads asks for these words
 abbrev pub AreWords : List Text → Words → Type 0
-AreWords line words = IsTaken line × Says words (subcommand_of program_app line)
+AreWords line words = IsTaken line × SaysWords words (subcommand_of program_app line)
 
 -- what `clap` reads of the texts asks for a script to be played
 abbrev pub AsksForReplay : List Text → Type 0

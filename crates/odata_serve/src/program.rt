@@ -2,7 +2,7 @@
 ghost use Rattle.std.specs.Prelude.{◌≡◌, ◌<◌, ◌^◌, IfOk, string_bytes};
 ghost use Rattle.odata_http.specs.Device.{CountsFit};
 ghost use Rattle.odata_http.specs.Runs.{course};
-ghost use Rattle.odata_serve.specs.Laws.{Sizes};
+ghost use Rattle.odata_serve.specs.Laws.{ServeSizes};
 ghost use Rattle.odata_serve.specs.Program.{IsAnswer, IsQuery, request_to};
 ghost use Rattle.served_folders.specs.Loads.{loading};
 
@@ -13,7 +13,7 @@ use std::alloc::{AllocError, Global};
 
 /// The numbers of the program: its limits and its exit statuses.
 pub fn sizes()
-    ensures { Sizes }
+    ensures { ServeSizes }
 {}
 
 /// Loads the folder of that name, and answers the input's stream over it in the output, in at most [`MAX_READS`] reads.

@@ -3,7 +3,7 @@
 ghost use Rattle.std.specs.Prelude.{◌≡◌, IfOk, IfErr, IfNone, IfSome, false, Some};
 ghost use Rattle.clap.specs.Words.{app_of, found_of, rows_of, rule_of, subcommand_rows_of, with_subcommand};
 ghost use Rattle.clap.specs.declared.Command.TheViews.{out-Command};
-ghost use Rattle.odata_serve.specs.Words.{AreWords, IsTaken, Says, SaysNothing, connections_rule, folder_app, folder_and_app, program_app, serve_app};
+ghost use Rattle.odata_serve.specs.Words.{AreWords, IsTaken, SaysWords, SaysNothing, connections_rule, folder_app, folder_and_app, program_app, serve_app};
 ghost use Rattle.command_words.specs.Words.{texts};
 
 use clap::error::ErrorKind;
@@ -130,7 +130,7 @@ fn program_command<'a>(alloc: Global) -> Result<Command<'a>, AllocError>
 #[tactic(auto, using(crate::proofs::Readings::no_connections))]
 fn subcommand_words<'a>(name: &'a str, inner: &ArgMatches<'a>) -> Option<Words<'a>>
     ensures some { IfSome result (λ words.
-        Says words (Some (name.now, rows_of (found_of inner.now)))) }
+        SaysWords words (Some (name.now, rows_of (found_of inner.now)))) }
     ensures none { IfNone result (SaysNothing (Some (name.now, rows_of (found_of inner.now)))) }
 {
     match name {
@@ -169,7 +169,7 @@ fn subcommand_words<'a>(name: &'a str, inner: &ArgMatches<'a>) -> Option<Words<'
 
 /// What the matches ask for.
 fn matches_words<'a>(matches: &ArgMatches<'a>) -> Option<Words<'a>>
-    ensures some { IfSome result (λ words. Says words (subcommand_rows_of matches.now)) }
+    ensures some { IfSome result (λ words. SaysWords words (subcommand_rows_of matches.now)) }
     ensures none { IfNone result (SaysNothing (subcommand_rows_of matches.now)) }
 {
     match matches.subcommand() {

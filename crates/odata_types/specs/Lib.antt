@@ -1,8 +1,9 @@
 pub use Rattle.odata_parse.specs.Tree as Trees
+pub use Rattle.typed_trees.specs.TypedTree
 pub mod Columns
-pub mod TypedTree
 pub mod Typing
 pub mod Result
-pub mod CanFault
 pub mod Schema
+pub mod Input
+pub mod Laws
 pub mod Worked

@@ -8,9 +8,9 @@ use Rattle.odata_parse.specs.declared.tree.UnaryOperator.{UnaryOperator}
 use Rattle.odata_parse.specs.declared.tree.UnaryOperator.TheVariants.{Negate, Not}
 use Rattle.odata_parse.specs.declared.tree.LogicOperator.{LogicOperator}
 use Rattle.odata_parse.specs.declared.tree.LogicOperator.TheVariants.{And, Or}
-use Rattle.odata_parse.specs.declared.tree.ComparisonOperator.{ComparisonOperator}
-use Rattle.odata_parse.specs.declared.tree.ArithmeticOperator.{ArithmeticOperator}
-use Rattle.odata_parse.specs.declared.tree.ArithmeticOperator.TheVariants.{Add, Sub, Mul, Div, Mod}
+use Rattle.typed_trees.specs.declared.operator.ComparisonOperator.{ComparisonOperator}
+use Rattle.typed_trees.specs.declared.operator.ArithmeticOperator.{ArithmeticOperator}
+use Rattle.typed_trees.specs.declared.operator.ArithmeticOperator.TheVariants.{Add, Sub, Mul, Div, Mod}
 use Rattle.odata_parse.specs.declared.tree.BinaryOperator.{BinaryOperator}
 use Rattle.odata_parse.specs.declared.tree.BinaryOperator.TheVariants as operator
 use Rattle.odata_parse.specs.declared.tree.UnaryFunction.{UnaryFunction}
@@ -19,19 +19,20 @@ use Rattle.odata_parse.specs.declared.tree.BinaryFunction.{BinaryFunction}
 use Rattle.odata_parse.specs.declared.tree.BinaryFunction.TheVariants.{Contains, StartsWith, EndsWith, IndexOf, Concat}
 use Rattle.odata_parse.specs.Tree as tree
 use Rattle.odata_parse.specs.Tree.{LiteralOf, ExprOf}
-use Rattle.odata_types.specs.declared.types.TheConstants.{MOST_SIZE, MILLIONTHS, FUNCTION_SIZE}
+use Rattle.typed_trees.specs.declared.tree.TheConstants.{MILLIONTHS}
+use Rattle.odata_types.specs.declared.types.TheConstants.{MOST_SIZE, FUNCTION_SIZE}
 use Rattle.odata_types.specs.declared.types.ColumnType.{ColumnType}
 use Rattle.odata_types.specs.declared.types.ColumnType.TheVariants as column
 use Rattle.odata_types.specs.declared.types.ExprType.{ExprType}
 use Rattle.odata_types.specs.declared.types.ExprType.TheVariants as kind
 use Rattle.odata_types.specs.declared.fault.TypeFault.{TypeFault}
 use Rattle.odata_types.specs.declared.fault.TypeFault.TheVariants.{UnknownName, Mismatch, TooLarge}
-use Rattle.odata_types.specs.declared.tree.DatePart.{DatePart}
-use Rattle.odata_types.specs.declared.tree.DatePart.TheVariants as part
-use Rattle.odata_types.specs.declared.tree.TextTest.TheVariants as test
+use Rattle.typed_trees.specs.declared.tree.DatePart.{DatePart}
+use Rattle.typed_trees.specs.declared.tree.DatePart.TheVariants as part
+use Rattle.typed_trees.specs.declared.tree.TextTest.TheVariants as test
 use Rattle.odata_types.specs.Columns.{InputOf}
 use Rattle.odata_types.specs.Result.{◌>>=◌}
-use Rattle.odata_types.specs.TypedTree.{DayOf, DateExprOf, TextExprOf, IntegerExprOf, DecimalExprOf, TruthExprOf, TypedExprOf, null_date, date_column, date_literal, null_text, text_column, text_literal, concat, null_integer, integer_column, integer_literal, negated, arithmetic, length_of, index_of, part_of, null_decimal, decimal_column, decimal_literal, decimal_negated, decimal_sum, decimal_difference, scaled, null_truth, truth_column, truth_literal, negation, conjunction, disjunction, compare_integers, compare_decimals, compare_texts, compare_dates, compare_truths, integer_in, decimal_in, text_in, date_in, truth_in, test_text, nothing, integer, text, truth, date, decimal}
+use Rattle.typed_trees.specs.TypedTree.{DayOf, DateExprOf, TextExprOf, IntegerExprOf, DecimalExprOf, TruthExprOf, TypedExprOf, null_date, date_column, date_literal, null_text, text_column, text_literal, concat, null_integer, integer_column, integer_literal, negated, arithmetic, length_of, index_of, part_of, null_decimal, decimal_column, decimal_literal, decimal_negated, decimal_sum, decimal_difference, scaled, null_truth, truth_column, truth_literal, negation, conjunction, disjunction, compare_integers, compare_decimals, compare_texts, compare_dates, compare_truths, integer_in, decimal_in, text_in, date_in, truth_in, test_text, nothing, integer, text, truth, date, decimal}
 
 -- a typed expression, or the cause
 abbrev pub Typing : Type 0
@@ -187,15 +188,15 @@ list_type type [] = type
 list_type type (v ∷ vs) = list_type (common_type type (literal_type v)) vs
 
 -- a type fits where another is asked for
-abbrev pub fits : ExprType → ExprType → Bool
-fits wanted kind.Null = true
-fits kind.Decimal kind.Integer = true
-fits kind.Decimal kind.Decimal = true
-fits kind.Integer kind.Integer = true
-fits kind.Text kind.Text = true
-fits kind.Boolean kind.Boolean = true
-fits kind.Date kind.Date = true
-fits wanted type = false
+abbrev pub type_fits : ExprType → ExprType → Bool
+type_fits wanted kind.Null = true
+type_fits kind.Decimal kind.Integer = true
+type_fits kind.Decimal kind.Decimal = true
+type_fits kind.Integer kind.Integer = true
+type_fits kind.Text kind.Text = true
+type_fits kind.Boolean kind.Boolean = true
+type_fits kind.Date kind.Date = true
+type_fits wanted type = false
 
 abbrev pub integer_item : LiteralOf → Option ℤ
 integer_item (tree.number n) = Some n
@@ -231,7 +232,7 @@ list_as _ a vs = as_truth a >>= λ x. Ok (truth_in x (map truth_item vs))
 
 -- the operand and all items are of one type or null; each integer among decimals is scaled
 abbrev pub list_in_type : ExprType → TypedExprOf → List LiteralOf → Typing
-list_in_type type a vs = if list_all (λ v. fits type (literal_type v)) vs then (list_as type a vs >>= λ e. Ok (truth e)) else Err Mismatch
+list_in_type type a vs = if list_all (λ v. type_fits type (literal_type v)) vs then (list_as type a vs >>= λ e. Ok (truth e)) else Err Mismatch
 
 abbrev pub in_typing : TypedExprOf → List LiteralOf → Typing
 in_typing a vs = if list_all is_small vs then list_in_type (list_type (type_of a) vs) a vs else Err TooLarge

@@ -3,13 +3,13 @@
 ghost use Rattle.std.specs.Prelude.{◌≡◌, Ok};
 ghost use Rattle.odata_types.specs.Columns.{inputs_view};
 ghost use Rattle.odata_types.specs.Result.{Gives};
-ghost use Rattle.odata_types.specs.TypedTree.{typed_view};
+ghost use Rattle.typed_trees.specs.TypedTree.{typed_view};
 ghost use Rattle.odata_types.specs.Typing.{column_expr as column_expr_of, name_typing, place_of as place_in};
 
 use crate::fault::TypeFault;
-use crate::tree::{DateExpr, DecimalExpr, IntegerExpr, TextExpr, TruthExpr, TypedExpr};
 use crate::types::{ColumnType, InputColumn};
 use std::alloc::Global;
+use typed_trees::{DateExpr, DecimalExpr, IntegerExpr, TextExpr, TruthExpr, TypedExpr};
 
 /// The number of the first column with that name, or how many there are where none has it.
 pub fn place_of(columns: &[InputColumn<'_>], name: &str) -> usize

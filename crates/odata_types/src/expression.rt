@@ -3,7 +3,7 @@
 ghost use Rattle.odata_parse.specs.Tree.{expr_view};
 ghost use Rattle.odata_types.specs.Columns.{inputs_view};
 ghost use Rattle.odata_types.specs.Result.{Gives};
-ghost use Rattle.odata_types.specs.TypedTree.{boxed_truth, typed_view};
+ghost use Rattle.typed_trees.specs.TypedTree.{boxed_truth, typed_view};
 ghost use Rattle.odata_types.specs.Typing.{filter_typing, typing};
 
 use crate::column::named_expr;
@@ -11,11 +11,12 @@ use crate::fault::TypeFault;
 use crate::function::{binary_call, unary_call};
 use crate::list::in_expr;
 use crate::literal::literal_expr;
+use crate::operand::truth_operand;
 use crate::operator::{binary_expr, unary_expr};
-use crate::tree::{TruthExpr, TypedExpr};
 use crate::types::InputColumn;
 use odata_parse::tree::Expr;
 use std::alloc::Global;
+use typed_trees::{TruthExpr, TypedExpr};
 
 /// An expression over columns with its types; or the first cause why it has none.
 pub fn typed_expr(
@@ -63,5 +64,5 @@ pub fn typed_filter(
         result }
 {
     let expr = typed_expr(alloc, columns, filter)?;
-    expr.into_truth(alloc)
+    truth_operand(alloc, expr)
 }

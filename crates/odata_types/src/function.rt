@@ -2,20 +2,21 @@
 
 ghost use Rattle.std.specs.Prelude.{Ok};
 ghost use Rattle.odata_types.specs.Result.{Gives};
-ghost use Rattle.odata_types.specs.TypedTree.{boxed_text, test_text, truth, typed_view};
+ghost use Rattle.typed_trees.specs.TypedTree.{boxed_text, test_text, truth, typed_view};
 ghost use Rattle.odata_types.specs.Typing.{binary_call_typing, part_typing, unary_call_typing};
 
 use crate::fault::TypeFault;
-use crate::tree::{DatePart, IntegerExpr, TextExpr, TextTest, TruthExpr, TypedExpr};
+use crate::operand::{date_operand, text_operand};
 use crate::types::FUNCTION_SIZE;
 use odata_parse::tree::{BinaryFunction, UnaryFunction};
 use std::alloc::Global;
+use typed_trees::{DatePart, IntegerExpr, TextExpr, TextTest, TruthExpr, TypedExpr};
 
 /// A part of a date.
 fn part_expr(alloc: Global, part: DatePart, argument: TypedExpr) -> Result<TypedExpr, TypeFault>
     ensures { Gives typed_view (part_typing part (typed_view argument)) result }
 {
-    let date = argument.into_date()?;
+    let date = date_operand(argument)?;
     let expr = IntegerExpr::PartOf(part, date);
     Ok(TypedExpr::Integer(Box::new(alloc, expr)?, FUNCTION_SIZE))
 }
@@ -30,7 +31,7 @@ pub(crate) fn unary_call(
 {
     match function {
         UnaryFunction::Length => {
-            let text = argument.into_text(alloc)?;
+            let text = text_operand(alloc, argument)?;
             let expr = IntegerExpr::Length(text);
             Ok(TypedExpr::Integer(Box::new(alloc, expr)?, FUNCTION_SIZE))
         }
@@ -64,8 +65,8 @@ pub(crate) fn binary_call(
     ensures { Gives typed_view (binary_call_typing function (typed_view left) (typed_view right))
         result }
 {
-    let left = left.into_text(alloc)?;
-    let right = right.into_text(alloc)?;
+    let left = text_operand(alloc, left)?;
+    let right = text_operand(alloc, right)?;
     match function {
         BinaryFunction::Contains => test_expr(alloc, TextTest::Contains, left, right),
         BinaryFunction::StartsWith => test_expr(alloc, TextTest::StartsWith, left, right),

@@ -4,7 +4,6 @@
 #![tactic(auto)]
 
 mod column;
-mod division;
 mod expression;
 mod fault;
 mod function;
@@ -14,19 +13,18 @@ mod literal;
 mod operand;
 mod operator;
 mod schema;
-mod tree;
 mod types;
 
 pub use column::place_of;
-pub use division::{can_fault, truth_can_fault};
 pub use expression::{typed_expr, typed_filter};
 pub use fault::TypeFault;
-pub use law::worked_typings;
+pub use law::{
+    expressions_are_queried, filters_are_queried, sizes, tables_are_inputs, worked_typings,
+};
 pub use operand::{scaled, within};
 pub use schema::schema_columns;
-pub use tree::{
-    DateExpr, DatePart, DecimalExpr, IntegerExpr, TextExpr, TextTest, TruthExpr, TypedExpr,
+pub use typed_trees::{
+    DateExpr, DatePart, DecimalExpr, IntegerExpr, MILLIONTHS, TextExpr, TextTest, TruthExpr,
+    TypedExpr, can_fault, truth_can_fault,
 };
-pub use types::{
-    COLUMN_SIZE, ColumnType, ExprType, FUNCTION_SIZE, InputColumn, MILLIONTHS, MOST_SIZE,
-};
+pub use types::{COLUMN_SIZE, ColumnType, ExprType, FUNCTION_SIZE, InputColumn, MOST_SIZE};

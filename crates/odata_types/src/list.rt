@@ -4,18 +4,20 @@ ghost use Rattle.std.specs.Prelude.{◌≡◌, map, IfOk};
 ghost use Rattle.std.specs.List.{list_all};
 ghost use Rattle.odata_parse.specs.Tree.{literal_view};
 ghost use Rattle.odata_types.specs.Result.{Gives};
-ghost use Rattle.odata_types.specs.TypedTree.{boxed_truth, optional_day, optional_text, typed_view};
-ghost use Rattle.odata_types.specs.Typing.{date_item as date_item_of, decimal_item as decimal_item_of, decimal_items as decimal_items_of, fits as fits_in, in_typing, integer_item as integer_item_of, is_small as is_small_of, list_as as list_as_of, list_in_type, list_type as list_type_of, literal_type as literal_type_of, text_item as text_item_of, truth_item as truth_item_of};
+ghost use Rattle.typed_trees.specs.TypedTree.{boxed_truth, optional_day, optional_text, typed_view};
+ghost use Rattle.odata_types.specs.Typing.{date_item as date_item_of, decimal_item as decimal_item_of, decimal_items as decimal_items_of, type_fits as fits_in, in_typing, integer_item as integer_item_of, is_small as is_small_of, list_as as list_as_of, list_in_type, list_type as list_type_of, literal_type as literal_type_of, text_item as text_item_of, truth_item as truth_item_of};
 
 use crate::fault::TypeFault;
 use crate::literal::{is_small, literal_type};
-use crate::operand::scaled;
+use crate::operand::{
+    date_operand, decimal_operand, expr_type, integer_operand, scaled, text_operand, truth_operand,
+};
 use crate::operator::common_type;
-use crate::tree::{TruthExpr, TypedExpr};
-use crate::types::{ExprType, MILLIONTHS};
+use crate::types::ExprType;
 use jiff::civil::Date;
 use odata_parse::tree::Literal;
 use std::alloc::{AllocError, Global};
+use typed_trees::{MILLIONTHS, TruthExpr, TypedExpr};
 
 /// The type of an operand and a list together.
 fn list_type(first: ExprType, items: &[Literal]) -> ExprType
@@ -189,23 +191,23 @@ fn list_as(
 {
     let expr = match common {
         ExprType::Integer => {
-            let (operand, _) = operand.into_integer(alloc)?;
+            let (operand, _) = integer_operand(alloc, operand)?;
             TruthExpr::IntegerIn(operand, integer_items(alloc, items)?)
         }
         ExprType::Decimal => {
-            let (operand, _) = operand.into_decimal(alloc)?;
+            let (operand, _) = decimal_operand(alloc, operand)?;
             TruthExpr::DecimalIn(operand, decimal_items(alloc, items)?)
         }
         ExprType::Text => {
-            let operand = operand.into_text(alloc)?;
+            let operand = text_operand(alloc, operand)?;
             TruthExpr::TextIn(operand, text_items(alloc, items)?)
         }
         ExprType::Date => {
-            let operand = operand.into_date()?;
+            let operand = date_operand(operand)?;
             TruthExpr::DateIn(operand, date_items(alloc, items)?)
         }
         ExprType::Boolean | ExprType::Null => {
-            let operand = operand.into_truth(alloc)?;
+            let operand = truth_operand(alloc, operand)?;
             TruthExpr::TruthIn(operand, truth_items(alloc, items)?)
         }
     };
@@ -241,6 +243,6 @@ pub(crate) fn in_expr(
     if !are_small(items) {
         return Err(TypeFault::TooLarge);
     }
-    let common = list_type(operand.expr_type(), items);
+    let common = list_type(expr_type(&operand), items);
     list_in_type(alloc, common, operand, items)
 }

@@ -3,15 +3,15 @@
 ghost use Rattle.std.specs.Prelude.{◌≡◌};
 ghost use Rattle.odata_parse.specs.Tree.{literal_view};
 ghost use Rattle.odata_types.specs.Result.{Gives};
-ghost use Rattle.odata_types.specs.TypedTree.{typed_view};
+ghost use Rattle.typed_trees.specs.TypedTree.{typed_view};
 ghost use Rattle.odata_types.specs.Typing.{literal_typing, literal_type as literal_type_of, is_small as is_small_of};
 
 use crate::fault::TypeFault;
 use crate::operand::within;
-use crate::tree::{DateExpr, DecimalExpr, IntegerExpr, TextExpr, TruthExpr, TypedExpr};
 use crate::types::{ExprType, MOST_SIZE};
 use odata_parse::tree::Literal;
 use std::alloc::Global;
+use typed_trees::{DateExpr, DecimalExpr, IntegerExpr, TextExpr, TruthExpr, TypedExpr};
 
 /// A value as an expression.
 pub(crate) fn literal_expr(alloc: Global, literal: &Literal) -> Result<TypedExpr, TypeFault>

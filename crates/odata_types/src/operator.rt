@@ -2,17 +2,19 @@
 
 ghost use Rattle.std.specs.Prelude.{◌≡◌};
 ghost use Rattle.odata_types.specs.Result.{Gives};
-ghost use Rattle.odata_types.specs.TypedTree.{boxed_truth, decimal_difference, decimal_sum, typed_view};
+ghost use Rattle.typed_trees.specs.TypedTree.{boxed_truth, decimal_difference, decimal_sum, typed_view};
 ghost use Rattle.odata_types.specs.Typing.{arithmetic_typing, binary_typing, common_type as common_type_of, comparison_as as comparison_as_of, comparison_typing, computed_size as computed_size_of, decimals_typing, integers_typing, logic_typing, unary_typing, within};
 
 use crate::fault::TypeFault;
-use crate::operand::within;
-use crate::tree::{DecimalExpr, IntegerExpr, TruthExpr, TypedExpr};
-use crate::types::ExprType;
-use odata_parse::tree::{
-    ArithmeticOperator, BinaryOperator, ComparisonOperator, LogicOperator, UnaryOperator,
+use crate::operand::{
+    date_operand, decimal_operand, expr_type, integer_operand, text_operand, truth_operand, within,
 };
+use crate::types::ExprType;
+use odata_parse::tree::{BinaryOperator, LogicOperator, UnaryOperator};
 use std::alloc::Global;
+use typed_trees::{
+    ArithmeticOperator, ComparisonOperator, DecimalExpr, IntegerExpr, TruthExpr, TypedExpr,
+};
 
 /// `-` and `not` before an operand.
 pub(crate) fn unary_expr(
@@ -28,11 +30,11 @@ pub(crate) fn unary_expr(
             bound,
         )),
         (UnaryOperator::Negate, operand) => {
-            let (expr, bound) = operand.into_integer(alloc)?;
+            let (expr, bound) = integer_operand(alloc, operand)?;
             Ok(TypedExpr::Integer(Box::new(alloc, IntegerExpr::Negate(expr))?, bound))
         }
         (UnaryOperator::Not, operand) => {
-            let expr = operand.into_truth(alloc)?;
+            let expr = truth_operand(alloc, operand)?;
             Ok(TypedExpr::Boolean(Box::new(alloc, TruthExpr::Not(expr))?))
         }
     }
@@ -47,8 +49,8 @@ fn logic_expr(
 ) -> Result<TypedExpr, TypeFault>
     ensures { Gives typed_view (logic_typing operator (typed_view left) (typed_view right)) result }
 {
-    let left = left.into_truth(alloc)?;
-    let right = right.into_truth(alloc)?;
+    let left = truth_operand(alloc, left)?;
+    let right = truth_operand(alloc, right)?;
     let expr = match operator {
         LogicOperator::And => TruthExpr::And(left, right),
         LogicOperator::Or => TruthExpr::Or(left, right),
@@ -82,8 +84,8 @@ fn integers_expr(
     ensures { Gives typed_view (integers_typing operator (typed_view left) (typed_view right))
         result }
 {
-    let (left, left_bound) = left.into_integer(alloc)?;
-    let (right, right_bound) = right.into_integer(alloc)?;
+    let (left, left_bound) = integer_operand(alloc, left)?;
+    let (right, right_bound) = integer_operand(alloc, right)?;
     let bound = computed_size(operator, left_bound, right_bound)?;
     let expr = IntegerExpr::Arithmetic(operator, left, right);
     Ok(TypedExpr::Integer(Box::new(alloc, expr)?, bound))
@@ -94,8 +96,8 @@ fn decimal_sum(alloc: Global, left: TypedExpr, right: TypedExpr) -> Result<Typed
     ensures { Gives typed_view (decimals_typing decimal_sum (typed_view left) (typed_view right))
         result }
 {
-    let (left, left_bound) = left.into_decimal(alloc)?;
-    let (right, right_bound) = right.into_decimal(alloc)?;
+    let (left, left_bound) = decimal_operand(alloc, left)?;
+    let (right, right_bound) = decimal_operand(alloc, right)?;
     let bound = computed_size(ArithmeticOperator::Add, left_bound, right_bound)?;
     Ok(TypedExpr::Decimal(Box::new(alloc, DecimalExpr::Add(left, right))?, bound))
 }
@@ -109,8 +111,8 @@ fn decimal_difference(
     ensures { Gives typed_view
         (decimals_typing decimal_difference (typed_view left) (typed_view right)) result }
 {
-    let (left, left_bound) = left.into_decimal(alloc)?;
-    let (right, right_bound) = right.into_decimal(alloc)?;
+    let (left, left_bound) = decimal_operand(alloc, left)?;
+    let (right, right_bound) = decimal_operand(alloc, right)?;
     let bound = computed_size(ArithmeticOperator::Sub, left_bound, right_bound)?;
     Ok(TypedExpr::Decimal(Box::new(alloc, DecimalExpr::Sub(left, right))?, bound))
 }
@@ -136,7 +138,7 @@ fn arithmetic_expr(
     ensures { Gives typed_view (arithmetic_typing operator (typed_view left) (typed_view right))
         result }
 {
-    let common = common_type(left.expr_type(), right.expr_type());
+    let common = common_type(expr_type(&left), expr_type(&right));
     match (common, operator) {
         (ExprType::Decimal, ArithmeticOperator::Add) => decimal_sum(alloc, left, right),
         (ExprType::Decimal, ArithmeticOperator::Sub) => decimal_difference(alloc, left, right),
@@ -157,28 +159,28 @@ fn comparison_as(
 {
     let expr = match common {
         ExprType::Integer => {
-            let (left, _) = left.into_integer(alloc)?;
-            let (right, _) = right.into_integer(alloc)?;
+            let (left, _) = integer_operand(alloc, left)?;
+            let (right, _) = integer_operand(alloc, right)?;
             TruthExpr::CompareIntegers(operator, left, right)
         }
         ExprType::Decimal => {
-            let (left, _) = left.into_decimal(alloc)?;
-            let (right, _) = right.into_decimal(alloc)?;
+            let (left, _) = decimal_operand(alloc, left)?;
+            let (right, _) = decimal_operand(alloc, right)?;
             TruthExpr::CompareDecimals(operator, left, right)
         }
         ExprType::Text => {
-            let left = left.into_text(alloc)?;
-            let right = right.into_text(alloc)?;
+            let left = text_operand(alloc, left)?;
+            let right = text_operand(alloc, right)?;
             TruthExpr::CompareTexts(operator, left, right)
         }
         ExprType::Date => {
-            let left = left.into_date()?;
-            let right = right.into_date()?;
+            let left = date_operand(left)?;
+            let right = date_operand(right)?;
             TruthExpr::CompareDates(operator, left, right)
         }
         ExprType::Boolean | ExprType::Null => {
-            let left = left.into_truth(alloc)?;
-            let right = right.into_truth(alloc)?;
+            let left = truth_operand(alloc, left)?;
+            let right = truth_operand(alloc, right)?;
             TruthExpr::CompareTruths(operator, left, right)
         }
     };
@@ -195,7 +197,7 @@ fn comparison_expr(
     ensures { Gives typed_view (comparison_typing operator (typed_view left) (typed_view right))
         result }
 {
-    let common = common_type(left.expr_type(), right.expr_type());
+    let common = common_type(expr_type(&left), expr_type(&right));
     let expr = comparison_as(alloc, common, operator, left, right)?;
     Ok(TypedExpr::Boolean(expr))
 }

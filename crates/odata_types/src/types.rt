@@ -6,9 +6,6 @@ pub const MOST_SIZE: u128 = 85_070_591_730_234_615_865_843_651_857_942_052_864;
 /// The bound of a table's numbers, which have 64 signed bits: 2 to the 63.
 pub const COLUMN_SIZE: u128 = 9_223_372_036_854_775_808;
 
-/// How many millionths a whole is. A decimal is a number of millionths.
-pub const MILLIONTHS: u128 = 1_000_000;
-
 /// The bound of what `length`, `indexof`, `year`, `month` and `day` give: 2 to the 40. No text has more bytes.
 pub const FUNCTION_SIZE: u128 = 1_099_511_627_776;
 

@@ -9,7 +9,7 @@ use Rattle.odata_url.specs.Fault.{◌>>=◌, each}
 use Rattle.odata_url.specs.Escapes.{octets_of, utf8_text, decoded_text}
 use Rattle.odata_url.specs.Cuts.{in_front, behind, parts}
 use Rattle.odata_url.specs.OptionName.{begins_with, dollar_sign, plain_name, served_option, or_custom, option_of_name}
-use Rattle.odata_url.specs.Target.{slash, question_mark, ampersand, equals_sign, QueryOption, TargetOf, is_absolute, with_slash, behind_authority, behind_scheme, origin_form, segments_of, with_value, option_of, is_among, with_option, with_part, with_parts, has_bytes, options_of, target_of}
+use Rattle.odata_url.specs.Target.{slash, question_mark, ampersand, equals_sign, QueryOption, TargetOf, is_absolute, with_slash, behind_authority, behind_scheme, origin_form, segments_of, with_value, option_of, stands_among, with_option, with_part, with_parts, has_bytes, options_of, target_of}
 
 -- it is not want of memory that it tells
 abbrev HasMemory : {A : Type 0} → Result A UrlFault → Type 0
@@ -62,7 +62,7 @@ option_of-HasMemory part =
 with_option-HasMemory : (options : List QueryOption) (option : Option QueryOption) → HasMemory (with_option options option)
 unfolding with_option
 with_option-HasMemory options None = is_value options
-with_option-HasMemory options (Some option) = either_has (is_among options option.0) (Err OptionTwice) (Ok (options ++ option ∷ [])) (λ memory. cc) (is_value (options ++ option ∷ []))
+with_option-HasMemory options (Some option) = either_has (stands_among options option.0) (Err OptionTwice) (Ok (options ++ option ∷ [])) (λ memory. cc) (is_value (options ++ option ∷ []))
 
 with_parts-HasMemory : (options : List QueryOption) (texts : List (List ℕ)) → HasMemory (with_parts options texts)
 unfolding with_part

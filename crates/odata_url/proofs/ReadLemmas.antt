@@ -12,7 +12,7 @@ use Rattle.odata_url.specs.Fault.{◌>>=◌, each}
 use Rattle.odata_url.specs.Escapes.{octets_of, utf8_text, decoded_text}
 use Rattle.odata_url.specs.Cuts.{is_byte, in_front, behind, parts}
 use Rattle.odata_url.specs.OptionName.{option_of_name}
-use Rattle.odata_url.specs.Target.{slash, question_mark, ampersand, equals_sign, QueryOption, TargetOf, origin_form, segments_of, with_value, option_of, is_among, with_option, with_part, with_parts, has_bytes, options_of, target_of}
+use Rattle.odata_url.specs.Target.{slash, question_mark, ampersand, equals_sign, QueryOption, TargetOf, origin_form, segments_of, with_value, option_of, stands_among, with_option, with_part, with_parts, has_bytes, options_of, target_of}
 use Rattle.odata_url.specs.Laws.{EachOnce, IsTarget}
 
 -- a step that was made, and what it led to
@@ -98,9 +98,9 @@ unfolding with_option
 added earlier options None part is made =
     let same : earlier ≡ options = cc in
     record { more = []; all = sym same ∙ sym (append-nil earlier); once = tt; utf8 = tt }
-added earlier options (Some option) part is made = tested (is_among earlier option.0) refl made
+added earlier options (Some option) part is made = tested (stands_among earlier option.0) refl made
   where
-    tested : (test : Bool) → is_among earlier option.0 ≡ test → cond test (Err OptionTwice) (Ok (earlier ++ option ∷ [])) ≡ Ok options → Behind earlier options
+    tested : (test : Bool) → stands_among earlier option.0 ≡ test → cond test (Err OptionTwice) (Ok (earlier ++ option ∷ [])) ≡ Ok options → Behind earlier options
     tested true among added = cc
     tested false other added =
         let same : earlier ++ option ∷ [] ≡ options = cc in

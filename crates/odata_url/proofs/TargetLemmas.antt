@@ -10,7 +10,7 @@ use Rattle.odata_url.specs.declared.fault.UrlFault.{UrlFault}
 use Rattle.odata_url.specs.Fault.{each}
 use Rattle.odata_url.specs.Escapes.{decoded_text}
 use Rattle.odata_url.specs.Cuts.{in_front, behind, parts, parts_left}
-use Rattle.odata_url.specs.Target.{slash, ampersand, question_mark, QueryOption, option_view, is_among, origin_form, segments_of, has_bytes, with_part, with_parts, options_of, target_of}
+use Rattle.odata_url.specs.Target.{slash, ampersand, question_mark, QueryOption, option_view, stands_among, origin_form, segments_of, has_bytes, with_part, with_parts, options_of, target_of}
 use Rattle.odata_url.proofs.CutLemmas.{in_front-past, behind-past}
 use Rattle.odata_url.proofs.FaultLemmas.{onto, each_fault}
 
@@ -72,13 +72,13 @@ unfolding options_of
 options_of-nothing = refl
 
 -- the option at a place, and those behind it
-is_among-at : (options : List (OptionName × String Global)) (name : OptionName) (i : ℕ) (option : OptionName × String Global) → i < length options → option ≡ get_or options i option → is_among (map option_view (drop i options)) name ≡ (bytes_eq (option_text option.0) (option_text name) || is_among (map option_view (drop (i + 1) options)) name)
+is_among-at : (options : List (OptionName × String Global)) (name : OptionName) (i : ℕ) (option : OptionName × String Global) → i < length options → option ≡ get_or options i option → stands_among (map option_view (drop i options)) name ≡ (bytes_eq (option_text option.0) (option_text name) || stands_among (map option_view (drop (i + 1) options)) name)
 is_among-at options name i option within is =
     let next : drop i options ≡ option ∷ drop (i + 1) options = drop_more options i option within ∙ ap (λ first. first ∷ drop (i + 1) options) (sym is) in
-    ap (λ left. is_among (map option_view left) name) next
+    ap (λ left. stands_among (map option_view left) name) next
 
-pub is_among-past : (options : List (OptionName × String Global)) (name : OptionName) (i : ℕ) (option : OptionName × String Global) → i < length options → option ≡ get_or options i option → bytes_eq (option_text option.0) (option_text name) ≡ false → is_among (map option_view (drop i options)) name ≡ is_among (map option_view (drop (i + 1) options)) name
+pub is_among-past : (options : List (OptionName × String Global)) (name : OptionName) (i : ℕ) (option : OptionName × String Global) → i < length options → option ≡ get_or options i option → bytes_eq (option_text option.0) (option_text name) ≡ false → stands_among (map option_view (drop i options)) name ≡ stands_among (map option_view (drop (i + 1) options)) name
 is_among-past options name i option within is other = is_among-at options name i option within is ∙ rw other
 
-pub is_among-found : (options : List (OptionName × String Global)) (name : OptionName) (i : ℕ) (option : OptionName × String Global) → i < length options → option ≡ get_or options i option → bytes_eq (option_text option.0) (option_text name) ≡ true → is_among (map option_view (drop i options)) name ≡ true
+pub is_among-found : (options : List (OptionName × String Global)) (name : OptionName) (i : ℕ) (option : OptionName × String Global) → i < length options → option ≡ get_or options i option → bytes_eq (option_text option.0) (option_text name) ≡ true → stands_among (map option_view (drop i options)) name ≡ true
 is_among-found options name i option within is same = is_among-at options name i option within is ∙ rw same

@@ -17,6 +17,6 @@ each read (text ∷ texts) = do
   Ok (value ∷ values)
 
 -- A call that was to give this answer gave it, its value seen by view; or memory ran out.
-abbrev pub Gives : {X Y : Type 0} → (X → Y) → Result Y UrlFault → Result X UrlFault → Type 0
-Gives view answer (Ok value) = answer ≡ Ok (view value)
-Gives view answer (Err fault) = (fault ≡ NoMemory) ⊎ (answer ≡ Err fault)
+abbrev pub GivesPart : {X Y : Type 0} → (X → Y) → Result Y UrlFault → Result X UrlFault → Type 0
+GivesPart view answer (Ok value) = answer ≡ Ok (view value)
+GivesPart view answer (Err fault) = (fault ≡ NoMemory) ⊎ (answer ≡ Err fault)

@@ -7,7 +7,7 @@ use Rattle.odata_url.specs.declared.fault.UrlFault.{UrlFault}
 use Rattle.odata_url.specs.declared.fault.UrlFault.TheVariants.{NoMemory}
 use Rattle.odata_url.specs.declared.option_name.OptionName.{OptionName}
 use Rattle.odata_url.specs.Escapes.{percent_sign, octet, octets_of}
-use Rattle.odata_url.specs.Target.{slash, question_mark, ampersand, equals_sign, QueryOption, TargetOf, is_among, target_of}
+use Rattle.odata_url.specs.Target.{slash, question_mark, ampersand, equals_sign, QueryOption, TargetOf, stands_among, target_of}
 use Rattle.odata_url.specs.OptionName.{dollar_sign, option_text, option_of_name}
 
 -- The text is an encoding of the octets: each of them is escaped, or is a byte other than `%` that stands for itself (RFC 3986, section 2.1).
@@ -52,7 +52,7 @@ printed_target target =
 -- each option is none of those before it
 abbrev pub EachOnce : List QueryOption → List QueryOption → Type 0
 EachOnce earlier [] = Unit {0}
-EachOnce earlier (option ∷ options) = (is_among earlier option.0 ≡ false) × EachOnce (earlier ++ option ∷ []) options
+EachOnce earlier (option ∷ options) = (stands_among earlier option.0 ≡ false) × EachOnce (earlier ++ option ∷ []) options
 
 -- a target that may be asked for: it has a segment, its texts are UTF-8, and no option stands twice
 pub record IsTarget (target : TargetOf) : Type 0 where

@@ -91,13 +91,13 @@ option_of part = do
   with_value option (behind equals_sign part)
 
 -- the option stands among these
-abbrev pub is_among : List QueryOption → OptionName → Bool
-is_among options name = list_any (λ other. bytes_eq (option_text other.0) (option_text name)) options
+abbrev pub stands_among : List QueryOption → OptionName → Bool
+stands_among options name = list_any (λ other. bytes_eq (option_text other.0) (option_text name)) options
 
 -- options, and one more where there is one, which is none of them
 unfoldable pub with_option : List QueryOption → Option QueryOption → Result (List QueryOption) UrlFault
 with_option options None = Ok options
-with_option options (Some option) = if is_among options option.0 then Err OptionTwice else Ok (options ++ option ∷ [])
+with_option options (Some option) = if stands_among options option.0 then Err OptionTwice else Ok (options ++ option ∷ [])
 
 -- options, and the option of one more part
 unfoldable pub with_part : List QueryOption → List ℕ → Result (List QueryOption) UrlFault

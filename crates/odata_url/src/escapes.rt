@@ -1,6 +1,6 @@
 //! The text of a percent-encoded part (RFC 3986, section 2.1), where a broken escape is a fault.
 ghost use Rattle.std.specs.Prelude.{◌≡◌, is_none, string_bytes};
-ghost use Rattle.odata_url.specs.Fault.{Gives};
+ghost use Rattle.odata_url.specs.Fault.{GivesPart};
 ghost use Rattle.odata_url.specs.Escapes.{begins_with_digits, octets_of, decoded_text};
 
 use crate::fault::UrlFault;
@@ -9,7 +9,7 @@ use std::alloc::Global;
 
 /// The text that an encoded one says. A broken escape anywhere in it comes before bytes that are not UTF-8.
 pub(crate) fn decode(alloc: Global, text: &[u8]) -> Result<String, UrlFault>
-    ensures { Gives string_bytes (decoded_text text.now) result }
+    ensures { GivesPart string_bytes (decoded_text text.now) result }
 {
     if has_broken_escape(text) {
         return Err(UrlFault::BadEscape);

@@ -1,7 +1,7 @@
 //! Request targets (RFC 9112, section 3.2), split before anything is decoded (OData URL Conventions 4.01, section 2).
 ghost use Rattle.std.specs.Prelude.{◌≡◌, ◌∷◌, Ok, Err, string_bytes, map, MatchOption, MatchResult, true, false, option_map};
-ghost use Rattle.odata_url.specs.Fault.{Gives};
-ghost use Rattle.odata_url.specs.Target.{slash, origin_form, segments_of, options_of, option_of, is_among, with_part, option_view, is_absolute, behind_scheme, behind_authority, target_of};
+ghost use Rattle.odata_url.specs.Fault.{GivesPart};
+ghost use Rattle.odata_url.specs.Target.{slash, origin_form, segments_of, options_of, option_of, stands_among, with_part, option_view, is_absolute, behind_scheme, behind_authority, target_of};
 
 use crate::cuts::cut;
 use crate::escapes::decode;
@@ -28,7 +28,7 @@ impl Target {
     /// What the bytes of a target say, in origin form or in absolute form; or the first fault from left to right. Each part is decoded
     /// after the target was split, so an escaped separator separates nothing.
     pub fn read(alloc: Global, bytes: &[u8]) -> Result<Target, UrlFault>
-        ensures { Gives target_view (target_of bytes.now) result }
+        ensures { GivesPart target_view (target_of bytes.now) result }
     {
         let (path, query) = cut(behind_slash(bytes)?, b'?');
         let segments = read_segments(alloc, path)?;
@@ -80,7 +80,7 @@ fn behind_authority(text: &[u8]) -> &[u8]
 
 /// The decoded segments of a path, without its first `/`.
 fn read_segments(alloc: Global, path: &[u8]) -> Result<Vec<String>, UrlFault>
-    ensures { Gives (λ segments. map string_bytes segments.items)
+    ensures { GivesPart (λ segments. map string_bytes segments.items)
         (segments_of (slash ∷ path.now)) result }
 {
     let mut segments = Vec::new(alloc);
@@ -95,7 +95,7 @@ fn read_segments(alloc: Global, path: &[u8]) -> Result<Vec<String>, UrlFault>
 
 /// The options of a query that are served.
 fn read_options(alloc: Global, query: &[u8]) -> Result<Vec<(OptionName, String)>, UrlFault>
-    ensures { Gives (λ options. map option_view options.items) (options_of query.now) result }
+    ensures { GivesPart (λ options. map option_view options.items) (options_of query.now) result }
 {
     let mut options = Vec::new(alloc);
     let mut rest = Some(query);
@@ -116,7 +116,7 @@ fn add_option(
     options: &mut Vec<(OptionName, String)>,
     part: &[u8],
 ) -> Result<(), UrlFault>
-    ensures { Gives (λ _. map option_view options.new.items)
+    ensures { GivesPart (λ _. map option_view options.new.items)
         (with_part (map option_view options.old.items) part.now) result }
 {
     let Some((name, value)) = read_option(alloc, part)? else {
@@ -131,7 +131,7 @@ fn add_option(
 
 /// Whether an option of that name is one of these.
 fn is_among(options: &[(OptionName, String)], name: OptionName) -> bool
-    ensures { result ≡ is_among (map option_view options.now) name }
+    ensures { result ≡ stands_among (map option_view options.now) name }
 {
     for option in options {
         if option.0 == name {
@@ -144,7 +144,7 @@ fn is_among(options: &[(OptionName, String)], name: OptionName) -> bool
 /// The option that a part of a query is; none where it is custom, and then its value is not decoded.
 #[tactic(auto, unfolding(crate::specs::Target::option_of, crate::specs::Target::with_value))]
 fn read_option(alloc: Global, part: &[u8]) -> Result<Option<(OptionName, String)>, UrlFault>
-    ensures { Gives (λ option. option_map option_view option) (option_of part.now) result }
+    ensures { GivesPart (λ option. option_map option_view option) (option_of part.now) result }
 {
     let (name, value) = cut(part, b'=');
     match option_of_name(decode(alloc, name)?)? {

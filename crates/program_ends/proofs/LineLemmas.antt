@@ -20,7 +20,7 @@ use Rattle.cell_types.specs.Fault.{cell_fault_name}
 use Rattle.csvw_meta.specs.declared.fault.MetaFault.{MetaFault}
 use Rattle.csvw_meta.specs.Document.{schemas_of}
 use Rattle.csvw_meta.specs.Fault.{meta_fault_text}
-use Rattle.csvw_meta.specs.Forms.{has_url_end, is_table_url, is_url_byte, is_word, table_name, url_end}
+use Rattle.csvw_meta.specs.Forms.{has_url_end, is_table_url, is_url_byte, is_word_of, table_name, url_end}
 use Rattle.csvw_meta.specs.Laws.{AcceptedSchemas, IsAccepted}
 use Rattle.csvw_meta.specs.Limits.{LimitsOf}
 use Rattle.csvw_meta.specs.Schema.{SchemaOf}
@@ -100,7 +100,7 @@ url_bytes_plain (b ∷ bs) h =
     let low = url_byte_low b parts.0 in
     one_more b bs low.0 low.1 (url_bytes_plain bs parts.1)
 
-word_plain : (name : List ℕ) → is_word is_url_byte name ≡ true → IsPlain name
+word_plain : (name : List ℕ) → is_word_of is_url_byte name ≡ true → IsPlain name
 word_plain [] h = ([], refl, tt)
 word_plain (b ∷ bs) h =
     let parts = and_parts (nat_lt 0 (length (b ∷ bs)) && is_ascii_alphabetic b) (list_all is_url_byte bs) h in
@@ -116,9 +116,9 @@ table_name_is url name e ends =
 url_plain : (url name : List ℕ) → is_table_url url ≡ true → url ≡ name ++ url_end → IsPlain url
 url_plain url name form e =
     let short = nat_le (length url) 132 in
-    let parts = and_parts (short && has_url_end url) (is_word is_url_byte (table_name url)) form in
+    let parts = and_parts (short && has_url_end url) (is_word_of is_url_byte (table_name url)) form in
     let ends = (and_parts short (has_url_end url) parts.0).1 in
-    let word : is_word is_url_byte name ≡ true = subst (λ (n : List ℕ). is_word is_url_byte n ≡ true) (table_name_is url name e ends) parts.1 in
+    let word : is_word_of is_url_byte name ≡ true = subst (λ (n : List ℕ). is_word_of is_url_byte n ≡ true) (table_name_is url name e ends) parts.1 in
     subst IsPlain (sym e) (plain_append name url_end (word_plain name word) (printable_plain url_end refl))
 
 -- the file of a table that is refused

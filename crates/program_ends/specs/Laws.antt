@@ -30,7 +30,7 @@ pub record FaultsAreOneLine : Type 0 where
   pub numbers : (n : ℕ) → IsOneLine (decimal n)
   pub joined : (front text : List ℕ) → IsOneLine front → IsOneLine text → IsOneLine (front ++ text)
 
-pub record Sizes : Type 0 where
+pub record ReadSizes : Type 0 where
   pub reads : MAX_READS ≡ 1_048_576
   pub done : DONE ≡ 0
   pub refused : REFUSED ≡ 1

@@ -1,6 +1,6 @@
 //! Why a program over a folder ended early.
 ghost use Rattle.std.specs.Prelude.{◌≡◌};
-ghost use Rattle.program_ends.specs.Laws.{Sizes};
+ghost use Rattle.program_ends.specs.Laws.{ReadSizes};
 
 use odata_http::RunFault;
 use served_folders::FolderFault;
@@ -11,7 +11,7 @@ pub const MAX_READS: u32 = 1_048_576;
 
 /// The numbers of the programs over folders: the most reads, and the exit statuses.
 pub fn sizes()
-    ensures { Sizes }
+    ensures { ReadSizes }
 {}
 
 /// Why the program ended early.

@@ -6,8 +6,8 @@ use Rattle.std.proofs.lemmas.List.Elements.{All-from_recursion}
 use Rattle.std.proofs.lemmas.Bool.{and_parts, cases_Bool}
 use Rattle.std.proofs.lemmas.Option.{same_Some}
 use Rattle.cell_types.specs.Value.{CellValue}
-use Rattle.odata_types.specs.TypedTree as typed
-use Rattle.odata_types.specs.TypedTree.{TypedExprOf}
+use Rattle.typed_trees.specs.TypedTree as typed
+use Rattle.typed_trees.specs.TypedTree.{TypedExprOf}
 use Rattle.row_eval.specs.Bounds.{NumbersFit}
 use Rattle.row_eval.specs.Outcome.{outcome}
 use Rattle.row_columns.specs.Picked.{numbered}
@@ -20,12 +20,12 @@ use Rattle.query_plan.specs.Plan.{node_view}
 use Rattle.query_plan.specs.Push.{room_of}
 use Rattle.query_plan.specs.declared.plan.Node.{Node}
 use Rattle.query_exec.specs.declared.run.Run.{Run}
-use Rattle.query_exec.specs.Gathers.{behind}
+use Rattle.query_exec.specs.Gathers.{after_gathered}
 use Rattle.query_exec.specs.Run.{steps_of}
-use Rattle.query_exec.specs.Taking.{HasCut, HasTaken}
+use Rattle.query_exec.specs.Taking.{HasCutRows, HasTaken}
 use Rattle.query_exec.specs.Useful.{steps_result, useful, StepsFit}
-use Rattle.query_exec.specs.Underway.{AreAll}
-use Rattle.block_filter.specs.Conditions.{joined}
+use Rattle.query_exec.specs.Underway.{AreAllNumbers}
+use Rattle.block_filter.specs.Conditions.{rows_joined}
 use Rattle.query_exec.proofs.PieceLemmas.{first_front, piece_same}
 use Rattle.query_exec.proofs.StepLemmas.{all_numbered}
 
@@ -159,7 +159,7 @@ abbrev pub Alike : List NodeOf → Option (List (List CellValue)) → Option (Li
 Alike steps kept passed = option_map (useful steps) kept ≡ option_map (useful steps) passed
 
 -- rows behind others, of which the step has a use for the same
-pub alike_joined : BestInPieces → (steps : List NodeOf) (kept passed back : Option (List (List CellValue))) → Alike steps kept passed → Alike steps (joined kept back) (joined passed back)
+pub alike_joined : BestInPieces → (steps : List NodeOf) (kept passed back : Option (List (List CellValue))) → Alike steps kept passed → Alike steps (rows_joined kept back) (rows_joined passed back)
 alike_joined law steps None None back e = refl
 alike_joined law steps None (Some zs) back e = absurd (cc)
 alike_joined law steps (Some xs) None back e = absurd (cc)
@@ -187,7 +187,7 @@ alike_fit steps r many (Some zs) xs e count fit =
 
 -- no condition divided by zero where rows passed
 pub none_faulted : (steps : List NodeOf) (faulted : Bool) (gone kept zs : List (List CellValue)) (passed : Option (List (List CellValue)))
-    → Alike steps (behind gone (cond faulted None (Some kept))) passed → passed ≡ Some zs → faulted ≡ false
+    → Alike steps (after_gathered gone (cond faulted None (Some kept))) passed → passed ≡ Some zs → faulted ≡ false
 none_faulted steps false gone kept zs passed e is = refl
 none_faulted steps true gone kept zs None e is = absurd (cc)
 none_faulted steps true gone kept zs (Some rows) e is = absurd (cc)
@@ -196,7 +196,7 @@ kept_alike : (steps : List NodeOf) (b : Bool) (xs zs : List (List CellValue)) �
 kept_alike steps true xs zs e = refl
 kept_alike steps false xs zs e = ap (λ rows. Some rows) e
 
-pub taken_and_cut : (old taken less : Run) (rows : List (List CellValue)) → HasTaken old taken rows → HasCut taken less → HasTaken old less rows
+pub taken_and_cut : (old taken less : Run) (rows : List (List CellValue)) → HasTaken old taken rows → HasCutRows taken less → HasTaken old less rows
 taken_and_cut old taken less rows has cut =
     let steps_are : steps_of taken ≡ steps_of old = ap (λ ns. map node_view ns.items) has.same.steps in
     let useful_are = subst (λ steps. useful steps less.kept.rows ≡ useful steps taken.kept.rows) steps_are cut.useful_are in
@@ -236,7 +236,7 @@ first_are_useful law (n ∷ ns) node items most rows made at is plain e =
 pub never_faults : (items : List Item) (most : ℕ) (rows : List (List CellValue)) → are_plain items ≡ true → best_rows items most rows ≡ None → ⊥
 never_faults items most rows plain e = let is = sym (plain_best items most rows plain) ∙ e in cc
 
-pub best_made : (items : List Item) (most : ℕ) (numbers : List ℕ) (rows made : List (List CellValue)) → are_plain items ≡ true → AreAll numbers (length rows)
+pub best_made : (items : List Item) (most : ℕ) (numbers : List ℕ) (rows made : List (List CellValue)) → are_plain items ≡ true → AreAllNumbers numbers (length rows)
     → best_rows items most (numbered numbers rows) ≡ Some made → made ≡ take most (sorted (rows_cmp items) rows)
 best_made items most numbers rows made plain all e =
     same_Some made (take most (sorted (rows_cmp items) rows))

@@ -3,14 +3,14 @@ use Rattle.std.proofs.Common.{◌≡◌, ℕ, Option, Some, None, List, [], ◌�
 use Rattle.std.specs.Prelude.{option_and_then, option_map}
 use Rattle.std.proofs.lemmas.List.{map-append}
 use Rattle.cell_types.specs.Value.{CellValue}
-use Rattle.odata_types.specs.TypedTree.{TruthExprOf}
+use Rattle.typed_trees.specs.TypedTree.{TruthExprOf}
 use Rattle.query_meaning.specs.Filter.{passing}
 use Rattle.query_plan.specs.Fitting.{NodesFit}
 use Rattle.query_plan.specs.Laws.{NodesInTurn}
 use Rattle.query_meaning.specs.Meaning.{ResultOf, selected_names}
 use Rattle.query_plan.specs.Plan.{NodeOf, nodes_result, select_nodes}
 use Rattle.row_columns.specs.Picked.{values_at}
-use Rattle.block_filter.specs.Conditions.{joined, passing_all}
+use Rattle.block_filter.specs.Conditions.{rows_joined, passing_all}
 use Rattle.query_exec.specs.Conditions.{condition_nodes}
 use Rattle.query_exec.specs.Picked.{selected_rows}
 
@@ -47,7 +47,7 @@ selected_none None = refl
 selected_none (Some places) = refl
 
 pub selected_joined : (picked : Option (List ℕ)) (front back : Option (List (List CellValue)))
-    → option_map (selected_rows picked) (joined front back) ≡ joined (option_map (selected_rows picked) front) (option_map (selected_rows picked) back)
+    → option_map (selected_rows picked) (rows_joined front back) ≡ rows_joined (option_map (selected_rows picked) front) (option_map (selected_rows picked) back)
 selected_joined picked None back = refl
 selected_joined picked (Some xs) None = refl
 selected_joined picked (Some xs) (Some ys) = ap (λ rows. Some rows) (selected_append picked xs ys)

@@ -7,7 +7,7 @@ use Rattle.std.proofs.lemmas.List.Concat.{flat_map-append}
 use Rattle.block_summary.specs.Blocks.{block_at}
 use Rattle.cell_types.specs.Value.{CellValue}
 use Rattle.csvw_meta.specs.Schema.{SchemaOf}
-use Rattle.row_eval.specs.Input.{IsTableRow}
+use Rattle.odata_types.specs.Input.{IsTableRow}
 use Rattle.query_plan.specs.Fitting.{NodesFit}
 use Rattle.query_meaning.specs.Fitting.{AreTableRows}
 use Rattle.query_plan.specs.Laws.{ScansReadTableRows}
@@ -16,14 +16,14 @@ use Rattle.query_plan.specs.Plan.{NodeOf, PlanOf, aggregating, choosing, filteri
 use Rattle.query_plan.specs.Scan.{rows_of_blocks}
 use Rattle.row_columns.specs.Picked.{numbered}
 use Rattle.row_groups.specs.declared.gathering.Gathering.{Gathering}
-use Rattle.row_groups.specs.Gathered.{Joins, MayJoin}
+use Rattle.row_groups.specs.Gathered.{Adjoins, MayJoin}
 use Rattle.table_store.specs.Table.{TableOf}
-use Rattle.block_filter.specs.Conditions.{joined}
+use Rattle.block_filter.specs.Conditions.{rows_joined}
 use Rattle.query_exec.specs.declared.run.Run.{Run}
-use Rattle.query_exec.specs.Gathers.{behind, GathersFor, KeepsNone, MayGather}
+use Rattle.query_exec.specs.Gathers.{after_gathered, GathersFor, KeepsNone, MayGather}
 use Rattle.query_exec.specs.Run.{handed_rows, rows_so_far, steps_of}
 use Rattle.query_exec.specs.Taking.{passed_rows, taken_rows, HasGathered, HasTaken, HasTakenIn}
-use Rattle.query_exec.specs.Underway.{AreAll}
+use Rattle.query_exec.specs.Underway.{AreAllNumbers}
 use Rattle.query_exec.specs.Useful.{first_result, useful}
 use Rattle.query_exec.proofs.BestLemmas.{Alike}
 use Rattle.query_exec.proofs.StepLemmas.{aggregate_fits, all_numbered}
@@ -62,25 +62,25 @@ same_of steps g gone at kept passed e =
 
 -- ---- behind those that were gathered
 
-behind_none : (rows : Option (List (List CellValue))) → behind [] rows ≡ rows
+behind_none : (rows : Option (List (List CellValue))) → after_gathered [] rows ≡ rows
 behind_none None = refl
 behind_none (Some rows) = refl
 
-pub behind_joined : (gone : List (List CellValue)) (front back : Option (List (List CellValue))) → behind gone (joined front back) ≡ joined (behind gone front) back
+pub behind_joined : (gone : List (List CellValue)) (front back : Option (List (List CellValue))) → after_gathered gone (rows_joined front back) ≡ rows_joined (after_gathered gone front) back
 behind_joined gone None back = refl
 behind_joined gone (Some xs) None = refl
 behind_joined gone (Some xs) (Some ys) = ap (λ rows. Some rows) (sym (append_assoc gone xs ys))
 
 pub behind_alike : (steps : List NodeOf) (gathering : Option Gathering) (gone : List (List CellValue)) → GathersFor steps gathering gone
-    → (kept passed : Option (List (List CellValue))) → Alike steps kept passed → Alike steps (behind gone kept) (behind gone passed)
+    → (kept passed : Option (List (List CellValue))) → Alike steps kept passed → Alike steps (after_gathered gone kept) (after_gathered gone passed)
 behind_alike steps None gone at kept passed e =
-    subst (λ first. Alike steps (behind first kept) (behind first passed)) (sym at)
+    subst (λ first. Alike steps (after_gathered first kept) (after_gathered first passed)) (sym at)
     (ap (option_map (useful steps)) (behind_none kept) ∙ e ∙ ap (option_map (useful steps)) (sym (behind_none passed)))
-behind_alike steps (Some g) gone at kept passed e = ap (λ rows. option_map (useful steps) (behind gone rows)) (same_of steps g gone at kept passed e)
+behind_alike steps (Some g) gone at kept passed e = ap (λ rows. option_map (useful steps) (after_gathered gone rows)) (same_of steps g gone at kept passed e)
 
 -- ---- rows that are kept join those that were gathered
 
-joined_for : (steps : List NodeOf) (old new : Gathering) (gone more : List (List CellValue)) → GathersFor steps (Some old) gone → Joins old new more
+joined_for : (steps : List NodeOf) (old new : Gathering) (gone more : List (List CellValue)) → GathersFor steps (Some old) gone → Adjoins old new more
     → GathersFor steps (Some new) (gone ++ more)
 joined_for [] old new gone more at joins = absurd at
 joined_for (filtering e ∷ ns) old new gone more at joins = absurd at
@@ -91,8 +91,8 @@ joined_for (choosing items most ∷ ns) old new gone more at joins = absurd at
 joined_for (slicing s ∷ ns) old new gone more at joins = absurd at
 joined_for (projecting places ∷ ns) old new gone more at joins = absurd at
 
-pub gathered_all : (old new : Run) (g h : Gathering) (numbers : List ℕ) → old.faulted ≡ false → old.gathering ≡ Some g → AreAll numbers (length old.kept.rows)
-    → Joins g h (numbered numbers old.kept.rows) → new ≡ record old { gathering = Some h; kept = new.kept } → new.kept.kinds ≡ old.kept.kinds → new.kept.rows ≡ []
+pub gathered_all : (old new : Run) (g h : Gathering) (numbers : List ℕ) → old.faulted ≡ false → old.gathering ≡ Some g → AreAllNumbers numbers (length old.kept.rows)
+    → Adjoins g h (numbered numbers old.kept.rows) → new ≡ record old { gathering = Some h; kept = new.kept } → new.kept.kinds ≡ old.kept.kinds → new.kept.rows ≡ []
     → HasGathered old new
 gathered_all old new g h numbers works at all joins is kinds none = record {
   same = record {
@@ -112,10 +112,10 @@ gathered_all old new g h numbers works at all joins is kinds none = record {
       let kept = old.kept.rows in (
         gone ++ kept,
         subst (λ gs. GathersFor (steps_of old) gs (gone ++ kept)) (sym (ap (λ (r : Run). r.gathering) is))
-            (joined_for (steps_of old) g h gone kept (subst (λ gs. GathersFor (steps_of old) gs gone) at gathers) (subst (Joins g h) (all_numbered numbers kept all) joins)),
-        ap (λ b. behind (gone ++ kept) (cond b None (Some new.kept.rows))) (ap (λ (r : Run). r.faulted) is ∙ works)
+            (joined_for (steps_of old) g h gone kept (subst (λ gs. GathersFor (steps_of old) gs gone) at gathers) (subst (Adjoins g h) (all_numbered numbers kept all) joins)),
+        ap (λ b. after_gathered (gone ++ kept) (cond b None (Some new.kept.rows))) (ap (λ (r : Run). r.faulted) is ∙ works)
             ∙ ap (λ rows. Some ((gone ++ kept) ++ rows)) none ∙ ap (λ rows. Some rows) (append-nil (gone ++ kept))
-            ∙ ap (λ b. behind gone (cond b None (Some kept))) (sym works),
+            ∙ ap (λ b. after_gathered gone (cond b None (Some kept))) (sym works),
       );
 }
 
@@ -171,7 +171,7 @@ taken_and_gathered old less more new rows has gathered left is =
             after.0,
             subst (λ gs. GathersFor (steps_of old) gs after.0) (sym (ap (λ (r : Run). r.gathering) is))
                 (subst (λ ns. GathersFor ns more.gathering after.0) (sym steps_are) after.1),
-            ap (λ (r : Run). option_map (useful (steps_of old)) (behind after.0 (rows_so_far r))) is
+            ap (λ (r : Run). option_map (useful (steps_of old)) (after_gathered after.0 (rows_so_far r))) is
                 ∙ ap (option_map (useful (steps_of old))) after.2
                 ∙ behind_alike (steps_of old) old.gathering gone gathers (rows_so_far less) (taken_rows old rows) has.passed
                 ∙ ap (option_map (useful (steps_of old))) (behind_joined gone (rows_so_far old) (passed_rows old rows)),

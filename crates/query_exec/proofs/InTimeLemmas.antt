@@ -6,7 +6,7 @@ use Rattle.std.proofs.lemmas.List.{get_or-map, length-map}
 use Rattle.std.proofs.lemmas.List.Elements.{recursion_from_All}
 use Rattle.std.proofs.lemmas.Option.{same_Some}
 use Rattle.block_filter.specs.Columns.{unless_null}
-use Rattle.block_summary.specs.Cells.{cell}
+use Rattle.block_summary.specs.Cells.{number_or_null}
 use Rattle.block_summary.specs.Types.{cell_of}
 use Rattle.block_summary.specs.declared.number.PackedType.{PackedType}
 use Rattle.cell_types.specs.Value.{CellValue, null}
@@ -19,7 +19,7 @@ use Rattle.row_order.specs.InTime.{key_at, AreEnoughByKeys, HaveKeys, NeverFault
 use Rattle.row_columns.specs.declared.keys.KeyColumn.{KeyColumn}
 use Rattle.row_columns.specs.declared.keys.Keys.{Keys}
 use Rattle.query_exec.specs.declared.run.Run.{Run}
-use Rattle.block_filter.specs.Lanes.{AreKeysOf, StandAt}
+use Rattle.block_filter.specs.Lanes.{AreKeysAt, StandAt}
 use Rattle.query_exec.specs.Picked.{selected_rows}
 use Rattle.query_exec.specs.Run.{places_of}
 use Rattle.query_exec.specs.Taking.{AreOfUse, IsSourceOf}
@@ -28,7 +28,7 @@ use Rattle.query_exec.proofs.BestLemmas.{none_faults, plain_best, useful_plain}
 
 -- ---- keys of rows
 
-cell_is : (b : Bool) (n : ℤ) → unless_null b n ≡ cell b n
+cell_is : (b : Bool) (n : ℤ) → unless_null b n ≡ number_or_null b n
 cell_is true n = refl
 cell_is false n = refl
 
@@ -93,7 +93,7 @@ all_of_use run rows numbers within = record { within = within; useful_are = refl
 -- what is enough for the order is of the same use
 pub enough_of_use : (run : Run) (rows : List (List CellValue)) (numbers made : List ℕ) (node : Node) (items : List Item) (most col : ℕ) (column : KeyColumn) (keys : Keys)
     → slice_get run.steps.items 0 ≡ Some node → node_view node ≡ choosing items most → are_plain items ≡ true → IsSourceOf (places_of run) column.place col
-    → AreKeysOf rows col column keys → All (λ n. n < length rows) numbers → AreEnoughByKeys items most keys run.kept.rows numbers made → AreOfUse run rows numbers made
+    → AreKeysAt rows col column keys → All (λ n. n < length rows) numbers → AreEnoughByKeys items most keys run.kept.rows numbers made → AreOfUse run rows numbers made
 enough_of_use run rows numbers made node items most col column keys at is plain source are within enough =
     let places = places_of run in
     let picked = selected_rows places rows in

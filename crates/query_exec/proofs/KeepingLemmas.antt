@@ -12,7 +12,7 @@ use Rattle.block_filter.specs.declared.block.Passed.{Passed}
 use Rattle.block_filter.specs.Passing.{unless_faulted, ArePassing}
 use Rattle.query_exec.specs.Taking.{room_behind, HasKept, HasTaken, IsSpare, LooksOn, MayCount}
 use Rattle.query_exec.specs.Useful.{useful}
-use Rattle.block_filter.specs.Conditions.{joined, passing_all}
+use Rattle.block_filter.specs.Conditions.{rows_joined, passing_all}
 use Rattle.query_meaning.specs.Meaning.{first_rows}
 use Rattle.query_meaning.specs.Filter.{passes_each}
 use Rattle.query_exec.proofs.PieceLemmas.{first_selected}
@@ -57,8 +57,8 @@ taken_some old mid new most rows found is room count spare are now was none kept
       ∙ ap (λ rs. Some rs) (subst (λ (r : Run). useful (steps_of r) new.kept.rows ≡ useful (steps_of r) (r.kept.rows ++ picked first)) is kept.useful_are)
       ∙ ap (λ rs. Some (useful steps (old.kept.rows ++ rs))) (ap picked (sym all.2) ∙ first_selected (places_of old) most all.0)
       ∙ ap (λ rs. Some rs) (spare (picked all.0))
-      ∙ ap (λ b. option_map (useful steps) (joined (cond b None (Some old.kept.rows)) (Some (picked all.0)))) (sym was)
-      ∙ ap (λ passed. option_map (useful steps) (joined (cond old.faulted None (Some old.kept.rows)) (option_map picked passed))) (sym all.1);
+      ∙ ap (λ b. option_map (useful steps) (rows_joined (cond b None (Some old.kept.rows)) (Some (picked all.0)))) (sym was)
+      ∙ ap (λ passed. option_map (useful steps) (rows_joined (cond old.faulted None (Some old.kept.rows)) (option_map picked passed))) (sym all.1);
 }
 
 pub kept_is_taken : {X E : Type 0} (old new : Run) (lanes : Lanes) (room most : Option ℕ) (count : ℕ) (rows : List (List CellValue)) (found : Passed) (result : Result X E)
@@ -77,9 +77,9 @@ count_fits run most rows found are none may = subst (λ n. run.count + n < 2 ^ 6
 
 -- a run that keeps none, since a condition divided by zero
 none_joined : (picked : Option (List ℕ)) (was faulted : Bool) (kept : List (List CellValue)) (passed : Option (List (List CellValue))) → (was || faulted) ≡ true
-    → (faulted ≡ true → passed ≡ None) → joined (cond was None (Some kept)) (option_map (selected_rows picked) passed) ≡ None
+    → (faulted ≡ true → passed ≡ None) → rows_joined (cond was None (Some kept)) (option_map (selected_rows picked) passed) ≡ None
 none_joined picked true faulted kept passed h none = refl
-none_joined picked false faulted kept passed h none = ap (λ p. joined (Some kept) (option_map (selected_rows picked) p)) (none h)
+none_joined picked false faulted kept passed h none = ap (λ p. rows_joined (Some kept) (option_map (selected_rows picked) p)) (none h)
 
 pub taken_none : (old : Run) (lanes : Lanes) (room most : Option ℕ) (rows : List (List CellValue)) (found : Passed) → room ≡ room_behind old.room found.count
     → ArePassing (conditions_of old) most rows found → (old.faulted || found.faulted) ≡ true
@@ -105,5 +105,5 @@ not_taken run rows faults none = record {
   passed =
       let passed = option_map (selected_rows (places_of run)) (passing_all (conditions_of run) rows) in
       ap (λ b. option_map (useful (steps_of run)) (cond b None (Some run.kept.rows))) faults
-      ∙ sym (ap (λ b. option_map (useful (steps_of run)) (joined (cond b None (Some run.kept.rows)) passed)) faults);
+      ∙ sym (ap (λ b. option_map (useful (steps_of run)) (rows_joined (cond b None (Some run.kept.rows)) passed)) faults);
 }

@@ -18,11 +18,11 @@ use Rattle.row_groups.specs.Gathered.{Gathers}
 use Rattle.row_groups.specs.Groups.{grouped_rows}
 use Rattle.query_exec.specs.declared.underway.Underway.{Underway}
 use Rattle.query_exec.specs.declared.run.Run.{Run}
-use Rattle.query_exec.specs.Gathers.{behind, uncounted, GathersFor, GivesOfGathered, IsMade, MayBeMade}
+use Rattle.query_exec.specs.Gathers.{after_gathered, without_count, GathersFor, GivesOfGathered, IsMade, MayBeMade}
 use Rattle.query_exec.specs.declared.fault.ExecFault.{ExecFault}
 use Rattle.query_exec.specs.Fault.{exec_fault}
 use Rattle.query_rows.specs.Rows.{RowsOf}
-use Rattle.query_exec.specs.Run.{kept_result, steps_of, wanted_block, GoesOn, IsKeptAnswer, IsReady}
+use Rattle.query_exec.specs.Run.{kept_result, steps_of, wanted_block, RunGoesOn, IsKeptAnswer, IsReady}
 use Rattle.query_exec.specs.Underway.{underway_view, GivesUnderway, IsUnderway, Makes}
 use Rattle.query_exec.specs.Useful.{first_result, steps_result, StepsFit}
 
@@ -72,17 +72,17 @@ nothing_gathers g gone at = at
 
 pub aggregate_made : (aggregates : List NamedAggregateOf) (names : List (List ℕ)) (rows made_rows : List (List CellValue)) (made : Underway)
     → IsMade (map (λ a. a.alias) aggregates) made_rows made → made_rows ≡ computed_values aggregates rows ∷ []
-    → Makes (node_result (aggregating aggregates) (uncounted names rows)) made
+    → Makes (node_result (aggregating aggregates) (without_count names rows)) made
 aggregate_made aggregates names rows made_rows made is are = record {
-  result = ap (λ rs. Some (uncounted (map (λ a. a.alias) aggregates) rs)) (sym are) ∙ ap (λ r. Some r) (sym is.result);
+  result = ap (λ rs. Some (without_count (map (λ a. a.alias) aggregates) rs)) (sym are) ∙ ap (λ r. Some r) (sym is.result);
   underway = is.underway;
 }
 
 pub group_made : (places : List ℕ) (aggregates : List NamedAggregateOf) (names : List (List ℕ)) (rows made_rows : List (List CellValue)) (made : Underway)
     → IsMade (names_at places names ++ map (λ a. a.alias) aggregates) made_rows made → made_rows ≡ grouped_rows places aggregates rows
-    → Makes (node_result (grouping places aggregates) (uncounted names rows)) made
+    → Makes (node_result (grouping places aggregates) (without_count names rows)) made
 group_made places aggregates names rows made_rows made is are = record {
-  result = ap (λ rs. Some (uncounted (names_at places names ++ map (λ a. a.alias) aggregates) rs)) (sym are) ∙ ap (λ r. Some r) (sym is.result);
+  result = ap (λ rs. Some (without_count (names_at places names ++ map (λ a. a.alias) aggregates) rs)) (sym are) ∙ ap (λ r. Some r) (sym is.result);
   underway = is.underway;
 }
 
@@ -102,19 +102,19 @@ named_long view names places all is = sym (length-map names view) ∙ ap length 
 module _ (run : Run) where
   abbrev answer_of : List (List CellValue) → Bool → Option ResultOf
   answer_of gone faulted =
-      option_and_then (λ rows. steps_result (steps_of run) run.count (record (kept_result run) { rows = rows })) (behind gone (cond faulted None (Some run.kept.rows)))
+      option_and_then (λ rows. steps_result (steps_of run) run.count (record (kept_result run) { rows = rows })) (after_gathered gone (cond faulted None (Some run.kept.rows)))
 
   pub ready_made : IsReady run → run.faulted ≡ false → MayBeMade (steps_of run) (map string_bytes run.names.items) run.gathering run.kept.rows run.count
   ready_made ready works = record {
     gone = ready.gone;
     gathers = ready.gathered.gathers;
-    fits = ready.fits (ready.gone ++ run.kept.rows) (ap (λ b. behind ready.gone (cond b None (Some run.kept.rows))) works);
+    fits = ready.fits (ready.gone ++ run.kept.rows) (ap (λ b. after_gathered ready.gone (cond b None (Some run.kept.rows))) works);
   }
 
   -- unless a condition divided by zero it is that of all rows that passed
   pub answer_made : (answer : Option ResultOf) → run.faulted ≡ false
       → ((gone : List (List CellValue)) → GathersFor (steps_of run) run.gathering gone
-      → steps_result (steps_of run) run.count (uncounted (map string_bytes run.names.items) (gone ++ run.kept.rows)) ≡ answer) → IsKeptAnswer run answer
+      → steps_result (steps_of run) run.count (without_count (map string_bytes run.names.items) (gone ++ run.kept.rows)) ≡ answer) → IsKeptAnswer run answer
   answer_made answer works each = λ gone g. ap (answer_of gone) works ∙ each gone g.gathers
 
   pub answer_none : run.faulted ≡ true → IsKeptAnswer run None
@@ -166,30 +166,30 @@ no_more [] (Some g) gone is at = absurd at
 no_more (n ∷ ns) gathering gone is at = absurd (cc)
 
 pub kept_goes_on : (old new : Run) (rows : RowsOf) → wanted_block old ≡ None → old.faulted ≡ false → steps_of old ≡ [] → rows ≡ kept_result old
-    → GoesOn old new (Ok (Some rows))
+    → RunGoesOn old new (Ok (Some rows))
 kept_goes_on old new rows beyond works none is = (
   beyond,
   answer_made old (Some rows) works (λ gone gathers.
       let names = map string_bytes old.names.items in
-      ap (λ steps. steps_result steps old.count (uncounted names (gone ++ old.kept.rows))) none
-      ∙ ap (λ first. Some (uncounted names (first ++ old.kept.rows))) (no_more (steps_of old) old.gathering gone none gathers)
+      ap (λ steps. steps_result steps old.count (without_count names (gone ++ old.kept.rows))) none
+      ∙ ap (λ first. Some (without_count names (first ++ old.kept.rows))) (no_more (steps_of old) old.gathering gone none gathers)
       ∙ ap (λ made. Some made) (sym is)),
 )
 
 -- a fault of the steps is one of the run
 pub err_goes_on : (old new : Run) (fault : EvalFault) → wanted_block old ≡ None → old.faulted ≡ false
     → GivesOfGathered (steps_of old) (map string_bytes old.names.items) old.gathering old.kept.rows old.count (Err fault)
-    → GoesOn old new (Err (exec_fault fault))
+    → RunGoesOn old new (Err (exec_fault fault))
 err_goes_on old new DivisionByZero beyond works each = (beyond, answer_made old None works each)
 err_goes_on old new NoMemory beyond works each = tt
 
 pub residual_goes_on : (old new : Run) (fault : EvalFault) (result : Result (Option RowsOf) ExecFault) → IsErrAnd result (λ made. made ≡ exec_fault fault)
-    → GoesOn old new (Err (exec_fault fault)) → GoesOn old new result
+    → RunGoesOn old new (Err (exec_fault fault)) → RunGoesOn old new result
 residual_goes_on old new fault (Ok made) is goes = absurd is
-residual_goes_on old new fault (Err made) is goes = subst (λ f. GoesOn old new (Err f)) (sym is) goes
+residual_goes_on old new fault (Err made) is goes = subst (λ f. RunGoesOn old new (Err f)) (sym is) goes
 
 pub fault_goes_on : (old new : Run) (fault : EvalFault) (result : Result (Option RowsOf) ExecFault) → IsErrAnd result (λ made. made ≡ exec_fault fault)
     → wanted_block old ≡ None → old.faulted ≡ false
     → GivesOfGathered (steps_of old) (map string_bytes old.names.items) old.gathering old.kept.rows old.count (Err fault)
-    → GoesOn old new result
+    → RunGoesOn old new result
 fault_goes_on old new fault result is beyond works each = residual_goes_on old new fault result is (err_goes_on old new fault beyond works each)

@@ -7,7 +7,7 @@ use Rattle.std.proofs.lemmas.List.Concat.{flat_map-append}
 use Rattle.std.proofs.lemmas.Option.{get_or_from_slice_get, slice_get_within}
 use Rattle.block_summary.specs.Blocks.{block_at}
 use Rattle.cell_types.specs.Value.{CellValue}
-use Rattle.odata_types.specs.TypedTree.{TruthExprOf}
+use Rattle.typed_trees.specs.TypedTree.{TruthExprOf}
 use Rattle.table_store.specs.Block.{block_of}
 use Rattle.table_store.specs.Table.{TableOf}
 use Rattle.query_plan.specs.Plan.{PlanOf, needed}

@@ -3,7 +3,7 @@ use Rattle.std.proofs.Common.{◌≡◌, ℕ, true, false, Option, Some, None, L
 use Rattle.std.specs.Prelude.{◌==◌, Vec, is_none, is_some}
 use Rattle.std.proofs.Math.Dec.{eqb-suc-zero}
 use Rattle.std.proofs.lemmas.List.{map-append, map_push}
-use Rattle.odata_types.specs.TypedTree.{TruthExprOf}
+use Rattle.typed_trees.specs.TypedTree.{TruthExprOf}
 use Rattle.odata_query.specs.Query.{optional_numbers}
 use Rattle.query_plan.specs.declared.plan.Node.{Node}
 use Rattle.query_plan.specs.Plan.{NodeOf, aggregating, choosing, filtering, grouping, leading, node_view, projecting, select_nodes, slicing, sorting}

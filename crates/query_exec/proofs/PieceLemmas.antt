@@ -12,10 +12,10 @@ use Rattle.query_plan.specs.Push.{room_of}
 use Rattle.query_plan.specs.declared.plan.Node.{Node}
 use Rattle.query_exec.specs.declared.run.Run.{Run}
 use Rattle.query_exec.specs.declared.underway.Underway.{Underway}
-use Rattle.query_exec.specs.Gathers.{uncounted}
+use Rattle.query_exec.specs.Gathers.{without_count}
 use Rattle.query_exec.specs.Picked.{selected_rows}
 use Rattle.query_exec.specs.Taking.{room_behind, IsSpare}
-use Rattle.query_exec.specs.Underway.{AreBetween, AreOfPiece, Makes}
+use Rattle.query_exec.specs.Underway.{AreNumbersBetween, AreOfPiece, Makes}
 use Rattle.query_exec.specs.Useful.{first_result, piece_of_kept, useful}
 use Rattle.query_exec.proofs.StepLemmas.{between_numbered, between_within}
 
@@ -96,7 +96,7 @@ first_selected (Some places) (Some n) rows = sym (take-map (values_at places) n 
 
 -- ---- a piece of rows, by the numbers of its own
 
-module _ (s : SliceOf) (len start end : ℕ) (numbers : List ℕ) (start_is : start ≡ min s.skip len) (are : AreBetween numbers start end) where
+module _ (s : SliceOf) (len start end : ℕ) (numbers : List ℕ) (start_is : start ≡ min s.skip len) (are : AreNumbersBetween numbers start end) where
   behind : (rows : List (List CellValue)) → length rows ≡ len → drop start rows ≡ drop s.skip rows
   behind rows long = ap (λ k. drop k rows) (start_is ∙ ap (min s.skip) (sym long)) ∙ drop_min s.skip rows
 
@@ -137,7 +137,7 @@ module _ (s : SliceOf) (len start end : ℕ) (numbers : List ℕ) (start_is : st
 
 -- what the piece makes of those that are kept of so many that passed
 pub piece_made : (s : SliceOf) (passed : ℕ) (u : Underway) → length u.columns.kinds ≡ length u.names.items → AreOfPiece s (length u.columns.rows) u.numbers.items
-    → u.count ≡ cond s.counts (Some passed) None → Makes (Some (piece_of_kept s passed (uncounted (map string_bytes u.names.items) u.columns.rows))) u
+    → u.count ≡ cond s.counts (Some passed) None → Makes (Some (piece_of_kept s passed (without_count (map string_bytes u.names.items) u.columns.rows))) u
 piece_made s passed u width are count_is = record {
   result =
       ap (λ rows. Some (record { names = map string_bytes u.names.items; rows = rows; count = cond s.counts (Some passed) None })) (sym (are.rows_are u.columns.rows refl))

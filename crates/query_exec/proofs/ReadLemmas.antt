@@ -7,7 +7,7 @@ use Rattle.cell_types.specs.declared.column.Column.{Column}
 use Rattle.cell_types.specs.Column.{ColumnOf, column_view}
 use Rattle.cell_types.specs.Value.{CellValue}
 use Rattle.odata_query.specs.Query.{optional_numbers}
-use Rattle.odata_types.specs.TypedTree.{boxed_truth, TruthExprOf}
+use Rattle.typed_trees.specs.TypedTree.{boxed_truth, TruthExprOf}
 use Rattle.table_store.specs.Block.{block_of}
 use Rattle.table_store.specs.Table.{TableOf}
 use Rattle.query_plan.specs.Fitting.{IsFitFor, NodesFit}
@@ -22,11 +22,11 @@ use Rattle.row_columns.specs.Kinds.{any, kinds_of, KindOf}
 use Rattle.query_exec.specs.declared.run.Run.{Run}
 use Rattle.query_exec.specs.declared.run.Stage.TheVariants.{Reading}
 use Rattle.query_exec.specs.Answer.{plan_answer}
-use Rattle.block_filter.specs.Conditions.{joined, passing_all, ConditionsInTurn}
+use Rattle.block_filter.specs.Conditions.{rows_joined, passing_all, ConditionsInTurn}
 use Rattle.query_exec.specs.Conditions.{condition_nodes}
 use Rattle.query_exec.specs.Picked.{selected_kinds, selected_rows}
 use Rattle.query_exec.specs.Run.{conditions_of, handed_rows, kept_answer, kept_result, next_block, places_of, rows_so_far, steps_of, wanted_block, IsReady, StandsFor}
-use Rattle.query_exec.specs.Gathers.{behind, GathersFor, IsGathered}
+use Rattle.query_exec.specs.Gathers.{after_gathered, GathersFor, IsGathered}
 use Rattle.query_exec.specs.Taking.{room_behind, HasTakenIn}
 use Rattle.query_exec.specs.Useful.{useful, StepsFit}
 use Rattle.query_exec.proofs.NeededLemmas.{all_rows, drop_one, first_left, more_rows, needed_behind, wanted_is_first}
@@ -55,7 +55,7 @@ pub record HasRead (run : Run) (plan : PlanOf) (table : TableOf) (blocks : ℕ) 
   pub count_is : run.faulted ≡ false → run.count ≡ count_by (passes_each (conditions_of run)) (handed_rows plan table blocks)
   pub gone : List (List CellValue)
   pub gathered : IsGathered (steps_of run) run gone
-  pub passed : Alike (steps_of run) (behind gone (rows_so_far run)) (option_map (selected_rows (places_of run)) (passing_all (conditions_of run) (handed_rows plan table blocks)))
+  pub passed : Alike (steps_of run) (after_gathered gone (rows_so_far run)) (option_map (selected_rows (places_of run)) (passing_all (conditions_of run) (handed_rows plan table blocks)))
 
 pub no_block_read : (run : Run) (plan : PlanOf) (table : TableOf) (handed : ℕ) → StandsFor run plan table handed → HasRead run plan table handed
 no_block_read run plan table handed stands = record {
@@ -84,7 +84,7 @@ wanted_is_next run plan table blocks has =
 -- what is kept behind one block more
 pub one_block_more : ConditionsInTurn → BestInPieces → (steps : List NodeOf) (es : List TruthExprOf) (picked : Option (List ℕ)) (front block whole : List (List CellValue))
     (before after : Option (List (List CellValue))) → whole ≡ front ++ block → Alike steps before (option_map (selected_rows picked) (passing_all es front))
-    → Alike steps after (joined before (option_map (selected_rows picked) (passing_all es block))) → Alike steps after (option_map (selected_rows picked) (passing_all es whole))
+    → Alike steps after (rows_joined before (option_map (selected_rows picked) (passing_all es block))) → Alike steps after (option_map (selected_rows picked) (passing_all es whole))
 one_block_more law pieces steps es picked front block whole before after whole_is was taken =
     let kept = option_map (selected_rows picked) in
     taken ∙ alike_joined pieces steps before (kept (passing_all es front)) (kept (passing_all es block)) was
@@ -102,7 +102,7 @@ block_read law pieces old new plan table handed number stands next taken =
     let steps_are : steps_of old ≡ steps_of new = ap (λ ns. map node_view ns.items) (sym same.steps) in
     let after = taken.passed stands.gone stands.gathered.gathers in
     let kept = one_block_more law pieces (steps_of old) (conditions_of old) (places_of old) (handed_rows plan table handed) (block_of table number).rows
-    (handed_rows plan table (handed + 1)) (behind stands.gone (rows_so_far old)) (behind after.0 (rows_so_far new)) (more_rows plan table handed number next) stands.passed after.2 in
+    (handed_rows plan table (handed + 1)) (after_gathered stands.gone (rows_so_far old)) (after_gathered after.0 (rows_so_far new)) (more_rows plan table handed number next) stands.passed after.2 in
     let first : slice_get (up_to old.room (conditions_of old) rows old.left.items) 0 ≡ Some number =
     ap (λ numbers. slice_get numbers 0) stands.left_are ∙ first_left (needed plan rows) handed ∙ next in
     record {
@@ -130,7 +130,7 @@ block_read law pieces old new plan table handed number stands next taken =
       gone = after.0;
       gathered = record { gathers = subst (λ ns. GathersFor ns new.gathering after.0) steps_are after.1; keeps_none = taken.keeps_none };
       passed =
-          subst (λ steps. Alike steps (behind after.0 (rows_so_far new)) (option_map (selected_rows (places_of new)) (passing_all (conditions_of new) (handed_rows plan table (handed + 1))))) steps_are
+          subst (λ steps. Alike steps (after_gathered after.0 (rows_so_far new)) (option_map (selected_rows (places_of new)) (passing_all (conditions_of new) (handed_rows plan table (handed + 1))))) steps_are
           (kept ∙ ap (λ es. option_map (useful (steps_of old)) (option_map (selected_rows (places_of old)) (passing_all es (handed_rows plan table (handed + 1))))) es_are
           ∙ ap (λ picked. option_map (useful (steps_of old)) (option_map (selected_rows picked) (passing_all (conditions_of new) (handed_rows plan table (handed + 1))))) picked_are);
     }
@@ -141,7 +141,7 @@ read_rows plan table = rows_of_blocks table.rows (needed plan table.rows)
 
 -- what the conditions make of these
 whole_read : (run : Run) (plan : PlanOf) (table : TableOf) (blocks : ℕ) (has : HasRead run plan table blocks) → next_block plan table blocks ≡ None
-    → Alike (steps_of run) (behind has.gone (rows_so_far run)) (option_map (selected_rows (places_of run)) (passing_all (conditions_of run) (read_rows plan table)))
+    → Alike (steps_of run) (after_gathered has.gone (rows_so_far run)) (option_map (selected_rows (places_of run)) (passing_all (conditions_of run) (read_rows plan table)))
 whole_read run plan table blocks has beyond =
     has.passed
     ∙ ap (λ rows. option_map (useful (steps_of run)) (option_map (selected_rows (places_of run)) (passing_all (conditions_of run) rows))) (all_rows plan table blocks beyond)
@@ -159,7 +159,7 @@ whole_count run plan table blocks has beyond zs is =
 
 -- the rows that are kept may go through the steps
 fits_behind : NodesInTurn → ScansReadTableRows → (run : Run) (plan : PlanOf) (table : TableOf) (blocks : ℕ) (has : HasRead run plan table blocks) → next_block plan table blocks ≡ None
-    → (rows : List (List CellValue)) → behind has.gone (rows_so_far run) ≡ Some rows → StepsFit (steps_of run) run.count (record (kept_result run) { rows = rows })
+    → (rows : List (List CellValue)) → after_gathered has.gone (rows_so_far run) ≡ Some rows → StepsFit (steps_of run) run.count (record (kept_result run) { rows = rows })
 fits_behind law scans run plan table blocks has beyond rows is =
     let es = conditions_of run in
     let all = read_rows plan table in
@@ -208,5 +208,5 @@ answer_is run plan table blocks has beyond =
     ap (λ ns. nodes_result ns r) (sym has.plan_is)
     ∙ parts_give es picked (steps_of run) r all
     ∙ ap (λ names. option_and_then (kept names) (option_map (selected_rows picked) (passing_all es all))) (sym has.names_are)
-    ∙ sym (alike_answer (steps_of run) (kept_result run) run.count (behind has.gone (rows_so_far run)) (option_map (selected_rows picked) (passing_all es all))
+    ∙ sym (alike_answer (steps_of run) (kept_result run) run.count (after_gathered has.gone (rows_so_far run)) (option_map (selected_rows picked) (passing_all es all))
     (whole_read run plan table blocks has beyond) (whole_count run plan table blocks has beyond))

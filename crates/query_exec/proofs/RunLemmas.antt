@@ -16,12 +16,12 @@ use Rattle.row_order.specs.Best.{BestInPieces}
 use Rattle.query_exec.specs.declared.fault.ExecFault.{ExecFault}
 use Rattle.query_exec.specs.declared.fault.ExecFault.TheVariants.{DivisionByZero, NoMemory, Failed}
 use Rattle.query_exec.specs.declared.run.Run.{Run}
-use Rattle.block_filter.specs.Conditions.{joined, passing_all, ConditionsInTurn}
+use Rattle.block_filter.specs.Conditions.{rows_joined, passing_all, ConditionsInTurn}
 use Rattle.query_exec.specs.Conditions.{condition_nodes}
 use Rattle.query_rows.specs.Rows.{RowsOf}
 use Rattle.query_exec.specs.Picked.{selected_rows}
-use Rattle.query_exec.specs.Run.{conditions_of, handed_block, handed_rows, next_block, places_of, rows_so_far, run_length, steps_of, wanted_block, GoesOn, IsReady, StandsFor, StepsTo}
-use Rattle.query_exec.specs.Gathers.{behind, GathersFor, MayGather}
+use Rattle.query_exec.specs.Run.{conditions_of, handed_block, handed_rows, next_block, places_of, rows_so_far, run_length, steps_of, wanted_block, RunGoesOn, IsReady, StandsFor, StepsTo}
+use Rattle.query_exec.specs.Gathers.{after_gathered, GathersFor, MayGather}
 use Rattle.query_exec.specs.Taking.{passed_rows, taken_rows, HasTakenIn, MayCount}
 use Rattle.query_exec.proofs.NeededLemmas.{is_block, is_no_block, more_rows, none_behind}
 use Rattle.query_exec.proofs.BestLemmas.{Alike}
@@ -58,7 +58,7 @@ some_next (Some number) is = (number, refl)
 -- of so many calls before
 pub answers : (run new : Run) (plan : PlanOf) (table : TableOf) (handed blocks : ℕ) (result : Result (Option RowsOf) ExecFault) → HasRead run plan table blocks
     → ((number : ℕ) → next_block plan table blocks ≡ Some number → blocks ≡ handed + 1) → (next_block plan table blocks ≡ None → handed + 1 ≡ run_length plan table)
-    → GoesOn run new result → StepsTo plan table handed new result
+    → RunGoesOn run new result → StepsTo plan table handed new result
 answers run new plan table handed blocks (Ok None) has more last goes =
     let next = some_next (next_block plan table blocks) (ap is_some (sym (wanted_is_next run plan table blocks has)) ∙ goes.0) in
     let one : blocks ≡ handed + 1 = more next.0 next.1 in
@@ -79,7 +79,7 @@ answers run new plan table handed blocks (Ok None) has more last goes =
         count_is = λ works. has.count_is works ∙ ap (λ k. count_by (passes_each (conditions_of run)) (handed_rows plan table k)) one;
         gone = has.gone;
         gathered = has.gathered;
-        passed = subst (λ k. Alike (steps_of run) (behind has.gone (rows_so_far run)) (option_map (selected_rows (places_of run)) (passing_all (conditions_of run) (handed_rows plan table k)))) one
+        passed = subst (λ k. Alike (steps_of run) (after_gathered has.gone (rows_so_far run)) (option_map (selected_rows (places_of run)) (passing_all (conditions_of run) (handed_rows plan table k)))) one
             has.passed;
       }),
     )
@@ -94,7 +94,7 @@ answers run new plan table handed blocks (Err Failed) has more last goes = goes
 
 pub after_block : ConditionsInTurn → BestInPieces → (old new next : Run) (block : TableOf) (plan : PlanOf) (table : TableOf) (handed : ℕ) (result : Result (Option RowsOf) ExecFault)
     → StandsFor old plan table handed → Some block ≡ handed_block plan table handed → HasTakenIn old new block.rows
-    → GoesOn new next result → StepsTo plan table handed next result
+    → RunGoesOn new next result → StepsTo plan table handed next result
 after_block law pieces old new next block plan table handed result stands is taken goes =
     let at = is_block plan table handed block is in
     answers new next plan table handed (handed + 1) result
@@ -102,7 +102,7 @@ after_block law pieces old new next block plan table handed result stands is tak
     (λ number h. refl) (λ h. last_block plan table handed at.0 at.1 h) goes
 
 pub after_none : (run next : Run) (plan : PlanOf) (table : TableOf) (handed : ℕ) (result : Result (Option RowsOf) ExecFault) → StandsFor run plan table handed
-    → None ≡ handed_block plan table handed → GoesOn run next result → StepsTo plan table handed next result
+    → None ≡ handed_block plan table handed → RunGoesOn run next result → StepsTo plan table handed next result
 after_none run next plan table handed result stands is goes =
     let beyond = is_no_block plan table handed is in
     answers run next plan table handed handed result (no_block_read run plan table handed stands)
@@ -155,12 +155,12 @@ block_may_be_gathered law pieces turn scans run block plan table handed stands i
       let at = is_block plan table handed block is in
       let gathers : GathersFor steps (Some g) gone = subst (λ gs. GathersFor steps gs gone) gathering stands.gathered.gathers in
       let whole_is : whole ≡ front ++ block.rows = more_rows plan table handed at.0 at.1 ∙ ap (λ (b : TableOf). front ++ b.rows) (sym at.2) in
-      let before = behind gone (rows_so_far run) in
-      let after = joined before (passed_rows run block.rows) in
+      let before = after_gathered gone (rows_so_far run) in
+      let after = rows_joined before (passed_rows run block.rows) in
       let alike = one_block_more law pieces steps es picked front block.rows whole before after whole_is stands.passed refl in
       let passed : option_map (selected_rows picked) (passing_all es whole) ≡ Some (gone ++ kept) =
       sym (same_of steps g gone gathers after (option_map (selected_rows picked) (passing_all es whole)) alike)
-      ∙ sym (behind_joined gone (rows_so_far run) (passed_rows run block.rows)) ∙ ap (behind gone) kept_is in
+      ∙ sym (behind_joined gone (rows_so_far run) (passed_rows run block.rows)) ∙ ap (after_gathered gone) kept_is in
       let are = handed_are_rows scans plan table (handed + 1) stands.are_rows in
       let r = table_result table.schema whole in
       let fit : NodesFit (condition_nodes es ++ select_nodes picked ++ steps) r = subst (λ ns. NodesFit ns r) (sym stands.plan_is) (stands.fits whole are) in

@@ -17,19 +17,19 @@ use Rattle.query_plan.specs.Plan.{node_result, node_view, nodes_result}
 use Rattle.query_plan.specs.declared.plan.Node.{Node}
 use Rattle.row_columns.specs.Picked.{numbered}
 use Rattle.row_groups.specs.Tallies.{FitsAll}
-use Rattle.query_exec.specs.Underway.{underway_view, AreAll, AreBetween, GivesUnderway, IsUnderway, Makes}
+use Rattle.query_exec.specs.Underway.{underway_view, AreAllNumbers, AreNumbersBetween, GivesUnderway, IsUnderway, Makes}
 use Rattle.query_exec.specs.declared.underway.Underway.{Underway}
 
 -- ---- rows by all of their numbers
 
-pub between_within : (numbers : List ℕ) (start end : ℕ) → AreBetween numbers start end → All (λ i. i < end) numbers
+pub between_within : (numbers : List ℕ) (start end : ℕ) → AreNumbersBetween numbers start end → All (λ i. i < end) numbers
 between_within numbers start end are = λ k d h.
     let inside : start + k < end = omega (arith, h, are.count) in
     let at : get_or numbers k d ≡ start + k = get_or_default numbers k d 0 h ∙ are.each k inside in
     subst (λ i. i < end) (sym at) inside
 
 -- the rows from one on up to another
-pub between_numbered : (numbers : List ℕ) (start end : ℕ) (rows : List (List CellValue)) → AreBetween numbers start end → end ≤ length rows
+pub between_numbered : (numbers : List ℕ) (start end : ℕ) (rows : List (List CellValue)) → AreNumbersBetween numbers start end → end ≤ length rows
     → numbered numbers rows ≡ take (end - start) (drop start rows)
 between_numbered numbers start end rows are within =
     let pick : ℕ → List CellValue = λ k. get_or rows k [] in
@@ -43,7 +43,7 @@ between_numbered numbers start end rows are within =
     ∙ sym (get_or-take (end - start) (drop start rows) i [] less ∙ get_or-drop start rows i []))
 
 -- all rows, in their order
-pub all_numbered : (numbers : List ℕ) (rows : List (List CellValue)) → AreAll numbers (length rows) → numbered numbers rows ≡ rows
+pub all_numbered : (numbers : List ℕ) (rows : List (List CellValue)) → AreAllNumbers numbers (length rows) → numbered numbers rows ≡ rows
 all_numbered numbers rows all =
     let whole : length rows - 0 ≡ length rows = omega arith in
     between_numbered numbers 0 (length rows) rows all (omega arith) ∙ ap (λ n. take n rows) whole ∙ take_all (length rows) rows (omega arith)
@@ -105,7 +105,7 @@ abbrev pub with_rows : Underway → List (List CellValue) → ResultOf
 with_rows u rows = record { names = map string_bytes u.names.items; rows = rows; count = u.count }
 
 -- where all rows are there, they are the result's
-pub whole_is : (u : Underway) → AreAll u.numbers.items (length u.columns.rows) → underway_view u ≡ with_rows u u.columns.rows
+pub whole_is : (u : Underway) → AreAllNumbers u.numbers.items (length u.columns.rows) → underway_view u ≡ with_rows u u.columns.rows
 whole_is u all = ap (with_rows u) (all_numbered u.numbers.items u.columns.rows all)
 
 pub aggregate_fits : (r : ResultOf) (width : ℕ) → length r.names ≡ width → length r.rows < 2 ^ 64 → (a : Aggregate) → AggregateFits r a → FitsAll width r.rows a

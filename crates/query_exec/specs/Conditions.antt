@@ -1,6 +1,6 @@
 -- The conditions that a plan begins with: of the rows of a table those go on that pass each of them in turn.
 use Rattle.std.specs.Prelude.{List, map}
-use Rattle.odata_types.specs.TypedTree.{TruthExprOf}
+use Rattle.typed_trees.specs.TypedTree.{TruthExprOf}
 use Rattle.query_plan.specs.Plan.{NodeOf, filtering}
 
 -- the steps that they are

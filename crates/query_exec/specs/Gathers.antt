@@ -29,8 +29,8 @@ pub record IsGathered (steps : List NodeOf) (run : Run) (gone : List (List CellV
   pub keeps_none : run.faulted ≡ false → KeepsNone run.gathering run.kept.rows
 
 -- rows behind those that were gathered
-abbrev pub behind : List (List CellValue) → Option (List (List CellValue)) → Option (List (List CellValue))
-behind gone rows = option_map (λ kept. gone ++ kept) rows
+abbrev pub after_gathered : List (List CellValue) → Option (List (List CellValue)) → Option (List (List CellValue))
+after_gathered gone rows = option_map (λ kept. gone ++ kept) rows
 
 -- rows may be gathered behind those that were, where rows are gathered
 pub record MayGather (steps : List NodeOf) (run : Run) (rows : Option (List (List CellValue))) : Type 0 where
@@ -41,31 +41,31 @@ pub record MayGather (steps : List NodeOf) (run : Run) (rows : Option (List (Lis
 -- ---- inside
 
 -- rows under their names, uncounted
-abbrev pub uncounted : List (List ℕ) → List (List CellValue) → ResultOf
-uncounted names rows = record { names = names; rows = rows; count = None }
+abbrev pub without_count : List (List ℕ) → List (List CellValue) → ResultOf
+without_count names rows = record { names = names; rows = rows; count = None }
 
 -- these rows under these names
 pub record IsMade (names : List (List ℕ)) (rows : List (List CellValue)) (made : Underway) : Type 0 where
-  pub result : underway_view made ≡ uncounted names rows
+  pub result : underway_view made ≡ without_count names rows
   pub underway : IsUnderway made
 
 -- a first step may make its result of the rows that were gathered for it
 pub record MayBeFirst (n : NodeOf) (names : List (List ℕ)) (gathering : Gathering) : Type 0 where
   pub gone : List (List CellValue)
   pub gathers : GathersFor (n ∷ []) (Some gathering) gone
-  pub fits : IsFitNode n (uncounted names gone)
+  pub fits : IsFitNode n (without_count names gone)
 
 -- the steps may go over the rows that were gathered, and those that are kept, of so many that passed
 pub record MayBeMade (steps : List NodeOf) (names : List (List ℕ)) (gathering : Option Gathering) (kept : List (List CellValue)) (passed : ℕ) : Type 0 where
   pub gone : List (List CellValue)
   pub gathers : GathersFor steps gathering gone
-  pub fits : StepsFit steps passed (uncounted names (gone ++ kept))
+  pub fits : StepsFit steps passed (without_count names (gone ++ kept))
 
 -- what a first step makes of the rows that were gathered for it
 abbrev pub MakesOfGathered : NodeOf → List (List ℕ) → Gathering → Underway → Type 0
-MakesOfGathered n names gathering made = (rows : List (List CellValue)) → GathersFor (n ∷ []) (Some gathering) rows → Makes (node_result n (uncounted names rows)) made
+MakesOfGathered n names gathering made = (rows : List (List CellValue)) → GathersFor (n ∷ []) (Some gathering) rows → Makes (node_result n (without_count names rows)) made
 
 -- and what the steps in turn make of those, and of those that are kept, of so many that passed
 abbrev pub GivesOfGathered : List NodeOf → List (List ℕ) → Option Gathering → List (List CellValue) → ℕ → Result Underway EvalFault → Type 0
 GivesOfGathered steps names gathering kept passed result =
-    (gone : List (List CellValue)) → GathersFor steps gathering gone → GivesUnderway (steps_result steps passed (uncounted names (gone ++ kept))) result
+    (gone : List (List CellValue)) → GathersFor steps gathering gone → GivesUnderway (steps_result steps passed (without_count names (gone ++ kept))) result

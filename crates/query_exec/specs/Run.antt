@@ -3,7 +3,7 @@ use Rattle.std.specs.Prelude.{◌≡◌, ◌<◌, ◌+◌, ◌++◌, ⊤, ℕ, f
 use Rattle.std.specs.List.{All}
 use Rattle.cell_types.specs.Value.{CellValue}
 use Rattle.odata_query.specs.Query.{optional_numbers}
-use Rattle.odata_types.specs.TypedTree.{TruthExprOf, boxed_truth}
+use Rattle.typed_trees.specs.TypedTree.{TruthExprOf, boxed_truth}
 use Rattle.table_store.specs.Block.{block_of}
 use Rattle.table_store.specs.Table.{TableOf}
 use Rattle.row_columns.specs.Kinds.{kinds_of}
@@ -22,7 +22,7 @@ use Rattle.query_exec.specs.declared.run.Step.TheVariants.{More, Done}
 use Rattle.query_exec.specs.Answer.{plan_answer}
 use Rattle.block_filter.specs.Conditions.{passing_all}
 use Rattle.query_exec.specs.Conditions.{condition_nodes}
-use Rattle.query_exec.specs.Gathers.{behind, IsGathered}
+use Rattle.query_exec.specs.Gathers.{after_gathered, IsGathered}
 use Rattle.query_exec.specs.Picked.{selected_kinds, selected_rows}
 use Rattle.query_rows.specs.Rows.{RowsOf}
 use Rattle.query_exec.specs.Useful.{steps_result, useful, StepsFit}
@@ -78,20 +78,20 @@ pub record StandsFor (run : Run) (plan : PlanOf) (table : TableOf) (handed : ℕ
   pub count_is : run.faulted ≡ false → run.count ≡ count_by (passes_each (conditions_of run)) (handed_rows plan table handed)
   pub gone : List (List CellValue)
   pub gathered : IsGathered (steps_of run) run gone
-  pub passed : option_map (useful (steps_of run)) (behind gone (rows_so_far run))
+  pub passed : option_map (useful (steps_of run)) (after_gathered gone (rows_so_far run))
       ≡ option_map (useful (steps_of run)) (option_map (selected_rows (places_of run)) (passing_all (conditions_of run) (handed_rows plan table handed)))
 
 -- the run is done, and gives this
-abbrev pub Gives : Run → RowsOf → Type 0
-Gives run rows = run.stage ≡ Ended rows
+abbrev pub RunGives : Run → RowsOf → Type 0
+RunGives run rows = run.stage ≡ Ended rows
 
 -- the run answered Done
-abbrev pub IsDone : Run → Type 0
-IsDone run = (rows : RowsOf) × Gives run rows
+abbrev pub RunIsDone : Run → Type 0
+RunIsDone run = (rows : RowsOf) × RunGives run rows
 
 -- the run was refused
-abbrev pub HasFailed : Run → Type 0
-HasFailed run = run.stage ≡ Refused
+abbrev pub RunIsRefused : Run → Type 0
+RunIsRefused run = run.stage ≡ Refused
 
 -- the next block of a table that the run stands for, or none where that has no more
 abbrev pub IsAwaited : Run → Option TableOf → Type 0
@@ -99,15 +99,15 @@ IsAwaited run block = (plan : PlanOf) × (table : TableOf) × (handed : ℕ) × 
 
 -- What a run may be handed: what is awaited, before the run is over, and anything then.
 pub data MayBeHanded (run : Run) (block : Option TableOf) : Type 0 where
-  done : IsDone run → MayBeHanded run block
-  failed : HasFailed run → MayBeHanded run block
+  done : RunIsDone run → MayBeHanded run block
+  failed : RunIsRefused run → MayBeHanded run block
   awaited : IsAwaited run block → MayBeHanded run block
 
 -- What a run answers that was handed so many blocks before: Done with the answer, or the division by zero, at the call of its length, and
 -- More before it.
 abbrev pub AdvancesTo : PlanOf → TableOf → ℕ → Run → Result Step ExecFault → Type 0
 AdvancesTo plan table handed run (Ok More) = (handed + 1 < run_length plan table) × StandsFor run plan table (handed + 1)
-AdvancesTo plan table handed run (Ok Done) = (rows : RowsOf) × (handed + 1 ≡ run_length plan table) × (plan_answer plan table ≡ Some rows) × Gives run rows
+AdvancesTo plan table handed run (Ok Done) = (rows : RowsOf) × (handed + 1 ≡ run_length plan table) × (plan_answer plan table ≡ Some rows) × RunGives run rows
 AdvancesTo plan table handed run (Err DivisionByZero) = (handed + 1 ≡ run_length plan table) × (plan_answer plan table ≡ None)
 AdvancesTo plan table handed run (Err NoMemory) = ⊤
 AdvancesTo plan table handed run (Err Failed) = ⊥
@@ -124,7 +124,7 @@ StepsTo plan table handed run (Err Failed) = ⊥
 
 -- what the steps behind the conditions make of the rows that passed these
 abbrev pub kept_answer : Run → List (List CellValue) → Option RowsOf
-kept_answer run gone = option_and_then (λ rows. steps_result (steps_of run) run.count (record (kept_result run) { rows = rows })) (behind gone (rows_so_far run))
+kept_answer run gone = option_and_then (λ rows. steps_result (steps_of run) run.count (record (kept_result run) { rows = rows })) (after_gathered gone (rows_so_far run))
 
 abbrev pub IsKeptAnswer : Run → Option RowsOf → Type 0
 IsKeptAnswer run answer = (gone : List (List CellValue)) → IsGathered (steps_of run) run gone → kept_answer run gone ≡ answer
@@ -134,7 +134,7 @@ pub record IsReady (run : Run) : Type 0 where
   pub width : length run.kept.kinds ≡ length run.names.items
   pub gone : List (List CellValue)
   pub gathered : IsGathered (steps_of run) run gone
-  pub fits : (rows : List (List CellValue)) → behind gone (rows_so_far run) ≡ Some rows → StepsFit (steps_of run) run.count (record (kept_result run) { rows = rows })
+  pub fits : (rows : List (List CellValue)) → after_gathered gone (rows_so_far run) ≡ Some rows → StepsFit (steps_of run) run.count (record (kept_result run) { rows = rows })
 
 -- the next of the blocks that are left, where the stop looks for rows behind those before it
 abbrev pub wanted : Option ℕ → Option ℕ → Option ℕ
@@ -145,9 +145,9 @@ abbrev pub wanted_block : Run → Option ℕ
 wanted_block run = wanted run.room (slice_get run.left.items 0)
 
 -- what a run makes of the blocks that were handed in: nothing yet where others are to come
-abbrev pub GoesOn : Run → Run → Result (Option RowsOf) ExecFault → Type 0
-GoesOn old new (Ok None) = (is_some (wanted_block old) ≡ true) × (new ≡ old)
-GoesOn old new (Ok (Some rows)) = (wanted_block old ≡ None) × IsKeptAnswer old (Some rows)
-GoesOn old new (Err DivisionByZero) = (wanted_block old ≡ None) × IsKeptAnswer old None
-GoesOn old new (Err NoMemory) = ⊤
-GoesOn old new (Err Failed) = ⊥
+abbrev pub RunGoesOn : Run → Run → Result (Option RowsOf) ExecFault → Type 0
+RunGoesOn old new (Ok None) = (is_some (wanted_block old) ≡ true) × (new ≡ old)
+RunGoesOn old new (Ok (Some rows)) = (wanted_block old ≡ None) × IsKeptAnswer old (Some rows)
+RunGoesOn old new (Err DivisionByZero) = (wanted_block old ≡ None) × IsKeptAnswer old None
+RunGoesOn old new (Err NoMemory) = ⊤
+RunGoesOn old new (Err Failed) = ⊥

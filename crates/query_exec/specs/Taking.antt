@@ -8,8 +8,8 @@ use Rattle.table_store.specs.Table.{TableOf}
 use Rattle.query_meaning.specs.Meaning.{first_rows}
 use Rattle.query_meaning.specs.Filter.{passes_each}
 use Rattle.query_exec.specs.declared.run.Run.{Run}
-use Rattle.block_filter.specs.Conditions.{joined, passing_all}
-use Rattle.query_exec.specs.Gathers.{behind, GathersFor, KeepsNone}
+use Rattle.block_filter.specs.Conditions.{rows_joined, passing_all}
+use Rattle.query_exec.specs.Gathers.{after_gathered, GathersFor, KeepsNone}
 use Rattle.query_exec.specs.Picked.{selected_kinds, selected_rows}
 use Rattle.query_exec.specs.Run.{conditions_of, places_of, rows_so_far, steps_of}
 use Rattle.query_exec.specs.Useful.{useful}
@@ -19,7 +19,7 @@ abbrev pub passed_rows : Run → List (List CellValue) → Option (List (List Ce
 passed_rows run rows = option_map (selected_rows (places_of run)) (passing_all (conditions_of run) rows)
 
 abbrev pub taken_rows : Run → List (List CellValue) → Option (List (List CellValue))
-taken_rows run rows = joined (rows_so_far run) (passed_rows run rows)
+taken_rows run rows = rows_joined (rows_so_far run) (passed_rows run rows)
 
 -- how many rows a stop looks for behind so many
 abbrev pub room_behind : Option ℕ → ℕ → Option ℕ
@@ -93,10 +93,10 @@ pub record HasTaken (old new : Run) (rows : List (List CellValue)) : Type 0 wher
   pub looks_on : LooksOn old new rows
   pub counts_on : CountsOn old new rows
   pub passed : option_map (useful (steps_of old)) (rows_so_far new)
-      ≡ option_map (useful (steps_of old)) (joined (rows_so_far old) (option_map (selected_rows (places_of old)) (passing_all (conditions_of old) rows)))
+      ≡ option_map (useful (steps_of old)) (rows_joined (rows_so_far old) (option_map (selected_rows (places_of old)) (passing_all (conditions_of old) rows)))
 
 -- of the rows that a run kept it let go of some that the first step has no use for
-pub record HasCut (old new : Run) : Type 0 where
+pub record HasCutRows (old new : Run) : Type 0 where
   pub same : IsSameRun old new
   pub left_is : new.left ≡ old.left
   pub room_is : new.room ≡ old.room
@@ -113,7 +113,7 @@ pub record HasGathered (old new : Run) : Type 0 where
   pub faulted_is : new.faulted ≡ old.faulted
   pub keeps_none : new.faulted ≡ false → KeepsNone new.gathering new.kept.rows
   pub passed : (gone : List (List CellValue)) → GathersFor (steps_of old) old.gathering gone → (more : List (List CellValue))
-      × GathersFor (steps_of old) new.gathering more × (behind more (rows_so_far new) ≡ behind gone (rows_so_far old))
+      × GathersFor (steps_of old) new.gathering more × (after_gathered more (rows_so_far new) ≡ after_gathered gone (rows_so_far old))
 
 -- a run took in the rows of the first of the blocks that are left, as `HasTaken`: of the rows that it has so, some were gathered
 pub record HasTakenIn (old new : Run) (rows : List (List CellValue)) : Type 0 where
@@ -124,5 +124,5 @@ pub record HasTakenIn (old new : Run) (rows : List (List CellValue)) : Type 0 wh
   pub keeps_none : new.faulted ≡ false → KeepsNone new.gathering new.kept.rows
   pub passed : (gone : List (List CellValue)) → GathersFor (steps_of old) old.gathering gone → (more : List (List CellValue))
       × GathersFor (steps_of old) new.gathering more
-      × (option_map (useful (steps_of old)) (behind more (rows_so_far new))
-      ≡ option_map (useful (steps_of old)) (joined (behind gone (rows_so_far old)) (option_map (selected_rows (places_of old)) (passing_all (conditions_of old) rows))))
+      × (option_map (useful (steps_of old)) (after_gathered more (rows_so_far new))
+      ≡ option_map (useful (steps_of old)) (rows_joined (after_gathered gone (rows_so_far old)) (option_map (selected_rows (places_of old)) (passing_all (conditions_of old) rows))))

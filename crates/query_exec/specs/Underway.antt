@@ -22,13 +22,13 @@ pub record IsUnderway (u : Underway) : Type 0 where
   pub width : length u.columns.kinds ≡ length u.names.items
 
 -- the numbers from one on up to another, in their order
-pub record AreBetween (numbers : List ℕ) (start end : ℕ) : Type 0 where
+pub record AreNumbersBetween (numbers : List ℕ) (start end : ℕ) : Type 0 where
   pub count : start + length numbers ≡ end
   pub each : (k : ℕ) → start + k < end → get_or numbers k 0 ≡ start + k
 
 -- the numbers of so many rows, all of them
-abbrev pub AreAll : List ℕ → ℕ → Type 0
-AreAll numbers len = AreBetween numbers 0 len
+abbrev pub AreAllNumbers : List ℕ → ℕ → Type 0
+AreAllNumbers numbers len = AreNumbersBetween numbers 0 len
 
 -- of so many rows the numbers of those in a piece
 pub record AreOfPiece (s : SliceOf) (len : ℕ) (numbers : List ℕ) : Type 0 where

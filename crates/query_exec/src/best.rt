@@ -6,7 +6,7 @@ ghost use Rattle.query_meaning.specs.Order.{are_plain, rows_cmp, sorted};
 ghost use Rattle.block_filter.specs.Conditions.{ConditionsFit};
 ghost use Rattle.query_exec.specs.Gathers.{MayGather};
 ghost use Rattle.query_exec.specs.Run.{conditions_of, rows_so_far, steps_of};
-ghost use Rattle.query_exec.specs.Taking.{taken_rows, HasCut, HasGathered, HasTakenIn, MayCount, MayTake};
+ghost use Rattle.query_exec.specs.Taking.{taken_rows, HasCutRows, HasGathered, HasTakenIn, MayCount, MayTake};
 
 use crate::run::Run;
 use crate::underway::all_numbers;
@@ -41,7 +41,7 @@ fn best_rows(
 impl Run {
     /// Lets go of the rows that the first step has no use for, once they are many.
     fn cut(&mut self, alloc: Global) -> Result<(), AllocError>
-        ensures { OnOk result (HasCut self.old self.new) }
+        ensures { OnOk result (HasCutRows self.old self.new) }
     {
         best_in_pieces();
         let Some(Node::Best(items, most)) = self.steps.first() else {

@@ -3,7 +3,7 @@ ghost use Rattle.std.specs.Prelude.{◌≡◌, ◌<◌, ◌++◌, [], IfOk, IfSo
 ghost use Rattle.std.specs.List.{All};
 ghost use Rattle.cell_types.specs.Column.{column_view};
 ghost use Rattle.odata_query.specs.Query.{optional_numbers};
-ghost use Rattle.odata_types.specs.TypedTree.{boxed_truth};
+ghost use Rattle.typed_trees.specs.TypedTree.{boxed_truth};
 ghost use Rattle.query_meaning.specs.Meaning.{selected_names};
 ghost use Rattle.query_plan.specs.Plan.{leading, node_view, select_nodes};
 ghost use Rattle.row_columns.specs.Kinds.{kinds_of};
@@ -11,11 +11,11 @@ ghost use Rattle.query_exec.specs.Conditions.{condition_nodes};
 ghost use Rattle.query_exec.specs.Picked.{selected_kinds};
 
 use cell_types::Column;
-use odata_types::TruthExpr;
 use query_plan::Node;
 use query_rows::{names_of, picked_names};
 use row_columns::Columns;
 use std::alloc::{AllocError, Global};
+use typed_trees::TruthExpr;
 
 /// The parts of a plan.
 #[derive(Drop)]

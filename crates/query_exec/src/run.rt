@@ -9,7 +9,7 @@ ghost use Rattle.query_plan.specs.Plan.{plan_view, PlanOf};
 ghost use Rattle.query_rows.specs.Rows.{RowsOf};
 ghost use Rattle.query_exec.specs.declared.fault.ExecFault.TheVariants.{NoMemory, Failed};
 ghost use Rattle.query_exec.specs.declared.run.Step.TheVariants.{Done};
-ghost use Rattle.query_exec.specs.Run.{handed_block, next_block, AdvancesTo, Gives, GoesOn, HasFailed, IsAwaited, IsDone, IsReady, MayBeHanded, StandsFor, StepsTo, wanted_block};
+ghost use Rattle.query_exec.specs.Run.{handed_block, next_block, AdvancesTo, RunGives, RunGoesOn, RunIsRefused, IsAwaited, RunIsDone, IsReady, MayBeHanded, StandsFor, StepsTo, wanted_block};
 
 use crate::admitted::admitted;
 use crate::fault::ExecFault;
@@ -18,7 +18,6 @@ use crate::parts::{Parts, kept_columns, kept_names, split};
 use block_filter::{Lanes, conditions_in_turn};
 use block_summary::{Summary, one_range};
 use csvw_meta::Schema;
-use odata_types::TruthExpr;
 use query_plan::{Node, Plan, nodes_in_turn, scans_read_table_rows};
 use query_rows::Rows;
 use row_columns::Columns;
@@ -28,6 +27,7 @@ use std::alloc::Global;
 use std::collections::VecDeque;
 use std::mem;
 use table_store::Block;
+use typed_trees::TruthExpr;
 
 /// Whether a run goes on.
 #[derive(Clone, Copy, PartialEq, Eq)]
@@ -87,7 +87,7 @@ impl Run {
     /// condition too, is told here.
     fn go_on(&mut self, alloc: Global) -> Result<Option<Rows>, ExecFault>
         requires { wanted_block self.old ≡ None → IsReady self.old }
-        ensures { GoesOn self.old self.new result }
+        ensures { RunGoesOn self.old self.new result }
     {
         if self.wanted().is_some() {
             return Ok(None);
@@ -171,8 +171,8 @@ impl Run {
     pub fn next(&self) -> Option<usize>
         ensures needed { (plan : PlanOf) (table : TableOf) (handed : ℕ)
             → StandsFor self.now plan table handed → result ≡ next_block plan table handed }
-        ensures done { IsDone self.now → result ≡ None }
-        ensures failed { HasFailed self.now → result ≡ None }
+        ensures done { RunIsDone self.now → result ≡ None }
+        ensures failed { RunIsRefused self.now → result ≡ None }
     {
         match &self.stage {
             Stage::Reading => self.wanted(),
@@ -187,10 +187,10 @@ impl Run {
         ensures advances { (plan : PlanOf) (table : TableOf) (handed : ℕ)
             → StandsFor self.old plan table handed → block.entry ≡ handed_block plan table handed
             → AdvancesTo plan table handed self.new result }
-        ensures done { (rows : RowsOf) → Gives self.old rows → (result ≡ Ok Done)
-            × Gives self.new rows }
-        ensures failed { IsErrOf result Failed ↔ HasFailed self.old }
-        ensures refused { OnErr result (HasFailed self.new) }
+        ensures done { (rows : RowsOf) → RunGives self.old rows → (result ≡ Ok Done)
+            × RunGives self.new rows }
+        ensures failed { IsErrOf result Failed ↔ RunIsRefused self.old }
+        ensures refused { OnErr result (RunIsRefused self.new) }
     {
         match &self.stage {
             Stage::Refused => return Err(ExecFault::Failed),
@@ -212,8 +212,8 @@ impl Run {
 
     /// The rows of a run that answered Done. It takes no memory.
     pub fn finish(self) -> Rows
-        requires { IsDone self }
-        ensures { (rows : RowsOf) → Gives self rows → result ≡ rows }
+        requires { RunIsDone self }
+        ensures { (rows : RowsOf) → RunGives self rows → result ≡ rows }
     {
         let Run { stage, .. } = self;
         match stage {

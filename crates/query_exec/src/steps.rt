@@ -5,7 +5,7 @@ ghost use Rattle.odata_query.specs.Aggregate.{named_view};
 ghost use Rattle.odata_query.specs.Query.{order_view};
 ghost use Rattle.query_plan.specs.Fitting.{IsFitNode, NodesFit};
 ghost use Rattle.query_plan.specs.Plan.{aggregating, choosing, counted, grouping, node_result, node_view, nodes_result, projecting, slice_view, sorting};
-ghost use Rattle.query_exec.specs.Gathers.{uncounted};
+ghost use Rattle.query_exec.specs.Gathers.{without_count};
 ghost use Rattle.query_exec.specs.Underway.{underway_view, AreOfPiece, GivesUnderway, IsUnderway, Makes};
 ghost use Rattle.query_exec.specs.Useful.{first_result, piece_of_kept, steps_result, StepsFit};
 
@@ -205,7 +205,7 @@ fn first_piece(
 ) -> Result<Underway, AllocError>
     requires { length columns.kinds ≡ length names.items }
     ensures { IfOk result (Makes (Some (piece_of_kept (slice_view slice) passed
-        (uncounted (map string_bytes names.items) columns.rows)))) }
+        (without_count (map string_bytes names.items) columns.rows)))) }
 {
     let numbers = piece_numbers(alloc, slice, columns.len())?;
     let count = if slice.counts { Some(passed) } else { None };
@@ -227,9 +227,9 @@ fn apply_first(
 ) -> Result<Underway, EvalFault>
     requires width { length columns.kinds ≡ length names.items }
     requires fits { IsFitNode (node_view node.now)
-        (uncounted (map string_bytes names.items) columns.rows) }
+        (without_count (map string_bytes names.items) columns.rows) }
     ensures { GivesUnderway (first_result (node_view node.now) passed
-        (uncounted (map string_bytes names.items) columns.rows)) result }
+        (without_count (map string_bytes names.items) columns.rows)) result }
 {
     match node {
         Node::Slice(slice) => Ok(first_piece(alloc, *slice, names, columns, passed)?),
@@ -250,9 +250,9 @@ pub(crate) fn apply_to_all(
 ) -> Result<Underway, EvalFault>
     requires width { length columns.kinds ≡ length names.items }
     requires fits { StepsFit (map node_view nodes.now) passed
-        (uncounted (map string_bytes names.items) columns.rows) }
+        (without_count (map string_bytes names.items) columns.rows) }
     ensures { GivesUnderway (steps_result (map node_view nodes.now) passed
-        (uncounted (map string_bytes names.items) columns.rows)) result }
+        (without_count (map string_bytes names.items) columns.rows)) result }
 {
     match nodes {
         [first, others @ ..] => {

@@ -1,6 +1,6 @@
 //! Results between two steps of a plan.
 ghost use Rattle.std.specs.Prelude.{◌≡◌, ◌≤◌, IfOk, IsTrue, length, map, string_bytes};
-ghost use Rattle.query_exec.specs.Underway.{underway_view, AreAll, AreBetween, IsUnderway};
+ghost use Rattle.query_exec.specs.Underway.{underway_view, AreAllNumbers, AreNumbersBetween, IsUnderway};
 
 use query_rows::Rows;
 use row_columns::Columns;
@@ -23,7 +23,7 @@ pub(crate) fn numbers_between(
     end: usize,
 ) -> Result<Vec<usize>, AllocError>
     requires { start ≤ end }
-    ensures { IfOk result (λ numbers. AreBetween numbers.items start end) }
+    ensures { IfOk result (λ numbers. AreNumbersBetween numbers.items start end) }
 {
     let mut numbers = Vec::with_capacity(alloc, end - start)?;
     for number in start..end {
@@ -34,14 +34,14 @@ pub(crate) fn numbers_between(
 
 /// The numbers of so many rows.
 pub(crate) fn all_numbers(alloc: Global, len: usize) -> Result<Vec<usize>, AllocError>
-    ensures { IfOk result (λ numbers. AreAll numbers.items len) }
+    ensures { IfOk result (λ numbers. AreAllNumbers numbers.items len) }
 {
     numbers_between(alloc, 0, len)
 }
 
 /// Whether these are the numbers of so many rows, all of them and in their order.
 pub(crate) fn are_all(numbers: &[usize], len: usize) -> bool
-    ensures { IsTrue result → AreAll numbers.now len }
+    ensures { IsTrue result → AreAllNumbers numbers.now len }
 {
     for (place, number) in numbers.iter().enumerate() {
         if *number != place {

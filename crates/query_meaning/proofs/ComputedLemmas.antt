@@ -14,8 +14,8 @@ use Rattle.std.proofs.lemmas.List.Sorted.{ranks_by}
 use Rattle.std.proofs.lemmas.Map.Made.{length-from_keys}
 use Rattle.cell_types.specs.Value.{CellValue, null, integer, text, boolean, date, decimal, value_cmp, value_eq}
 use Rattle.row_eval.specs.Row.{cell, decimal_in, integer_in}
-use Rattle.query_meaning.specs.Apply.{greatest_value, integer_sum, is_value, least_value, sum_value, value_at, values_in}
-use Rattle.query_meaning.specs.Laws.{DistinctValuesAreCounted, ExtremesAreValues, IsValueIn, SumsAddUp, added}
+use Rattle.query_meaning.specs.Apply.{greatest_value, integer_sum, is_value, least_value, sum_value, value_at, present_values}
+use Rattle.query_meaning.specs.Laws.{DistinctValuesAreCounted, ExtremesAreValues, StandsInColumn, SumsAddUp, added}
 use Rattle.query_meaning.proofs.FilterLemmas.{first_or_later, from_filter, here, into_filter, later, none_in}
 use Rattle.query_meaning.proofs.GroupLemmas.{map_from, map_into}
 
@@ -96,17 +96,17 @@ value_is (date y m d) h = refl
 value_is (decimal n) h = refl
 
 module _ (place : ℕ) (rows : List (List CellValue)) where
-  among : (v : CellValue) → IsValueIn place rows v → Contains (values_in place rows) v
+  among : (v : CellValue) → StandsInColumn place rows v → Contains (present_values place rows) v
   among v (some, (k, row, h, is, e)) =
       into_filter is_value (map (λ r. value_at r place) rows) v (value_is v some)
       (subst (Contains (map (λ r. value_at r place) rows)) e (map_into (λ r. value_at r place) rows row (k, h, is)))
 
-  found : (v : CellValue) → Contains (values_in place rows) v → IsValueIn place rows v
+  found : (v : CellValue) → Contains (present_values place rows) v → StandsInColumn place rows v
   found v h =
       let from = from_filter is_value (map (λ r. value_at r place) rows) v h in
       (λ e. false≢true (ap is_value (sym e) ∙ from.1), map_from (λ r. value_at r place) rows v from.0)
 
-no_values : (place : ℕ) (rows : List (List CellValue)) → AllByRecursion (λ row. value_at row place ≡ null) rows → values_in place rows ≡ []
+no_values : (place : ℕ) (rows : List (List CellValue)) → AllByRecursion (λ row. value_at row place ≡ null) rows → present_values place rows ≡ []
 no_values place [] a = refl
 no_values place (row ∷ rows) a = rw a.0 (no_values place rows a.1)
 
@@ -180,8 +180,8 @@ extremes_are_values total =
       none = λ place rows all.
           let empty = no_values place rows (recursion_from_All (λ row. value_at row place ≡ null) rows all) in
           (ap least_value empty, ap greatest_value empty);
-      least = λ place rows v is. let it = least_of order (values_in place rows) v (among place rows v is) in (found place rows (least_value (values_in place rows)) it.0, it.1);
-      greatest = λ place rows v is. let it = greatest_of order (values_in place rows) v (among place rows v is) in (found place rows (greatest_value (values_in place rows)) it.0, it.1);
+      least = λ place rows v is. let it = least_of order (present_values place rows) v (among place rows v is) in (found place rows (least_value (present_values place rows)) it.0, it.1);
+      greatest = λ place rows v is. let it = greatest_of order (present_values place rows) v (among place rows v is) in (found place rows (greatest_value (present_values place rows)) it.0, it.1);
     }
 
 -- ---- distinct values
@@ -205,7 +205,7 @@ module _ (equal : (a b : CellValue) → IsTrue (value_eq a b) ↔ (a ≡ b)) whe
 
   pub distinct_values_are_counted : DistinctValuesAreCounted
   distinct_values_are_counted place rows values distinct just =
-      ap (λ (n : ℕ). integer (pos n)) (sym (length-from_keys alike values (values_in place rows) distinct (λ v.
-      both_ways (is_member value_eq values v) (is_member value_eq (values_in place rows) v)
-      (λ e. in_is (values_in place rows) v (among place rows v ((just v).0 (is_in values v e))))
-      (λ e. in_is values v ((just v).1 (found place rows v (is_in (values_in place rows) v e)))))))
+      ap (λ (n : ℕ). integer (pos n)) (sym (length-from_keys alike values (present_values place rows) distinct (λ v.
+      both_ways (is_member value_eq values v) (is_member value_eq (present_values place rows) v)
+      (λ e. in_is (present_values place rows) v (among place rows v ((just v).0 (is_in values v e))))
+      (λ e. in_is values v ((just v).1 (found place rows v (is_in (present_values place rows) v e)))))))

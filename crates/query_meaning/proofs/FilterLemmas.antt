@@ -6,7 +6,7 @@ use Rattle.std.proofs.lemmas.Bool.{false≢true}
 use Rattle.std.proofs.lemmas.List.Elements.{Contains-append_cases, Contains-append_right, filter-append}
 use Rattle.std.proofs.lemmas.List.Folds.{Any-from_list_any, list_any-append, list_any-from_Any}
 use Rattle.cell_types.specs.Value.{CellValue}
-use Rattle.odata_types.specs.TypedTree.{TruthExprOf}
+use Rattle.typed_trees.specs.TypedTree.{TruthExprOf}
 use Rattle.row_eval.specs.declared.truth.Truth.{Truth}
 use Rattle.row_eval.specs.declared.truth.Truth.TheVariants.{False, Null, True}
 use Rattle.row_eval.specs.Outcome.{both, truth_outcome}

@@ -1,6 +1,6 @@
 -- The transformations of `$apply` on rows (OData Data Aggregation 4.0, section 3).
+pub use Rattle.cell_types.specs.Rows.{value_at, values_at, same_values}
 use Rattle.std.specs.Prelude.{ℕ, ℤ, pos, ◌+ℤ◌, Bool, true, false, List, [], ◌∷◌, ◌++◌, map, length, get_or, Option, Some, option_and_then, if◌then◌else◌}
-use Rattle.std.specs.Cmp.Lexicographic.{pointwise}
 use Rattle.std.specs.List.{filter, filter_map}
 use Rattle.std.specs.Ordering.{is_lt}
 use Rattle.std.specs.Set.{distinct_count}
@@ -12,14 +12,6 @@ use Rattle.odata_query.specs.Aggregate.{NamedAggregateOf, TypedTransformationOf,
 use Rattle.odata_query.specs.FirstSeen.{first_seen}
 use Rattle.query_meaning.specs.Filter.{passing}
 
--- the value of a row in the column with a number
-abbrev pub value_at : List CellValue → ℕ → CellValue
-value_at row place = get_or row place null
-
--- the values of a row in some columns
-abbrev pub values_at : List ℕ → List CellValue → List CellValue
-values_at places row = map (value_at row) places
-
 abbrev pub is_value : CellValue → Bool
 is_value null = false
 is_value _ = true
@@ -27,8 +19,8 @@ is_value _ = true
 -- ---- aggregates (section 3.1.3): each passes over nulls
 
 -- the values of a column that are not null
-abbrev pub values_in : ℕ → List (List CellValue) → List CellValue
-values_in place rows = filter is_value (map (λ row. value_at row place) rows)
+abbrev pub present_values : ℕ → List (List CellValue) → List CellValue
+present_values place rows = filter is_value (map (λ row. value_at row place) rows)
 
 abbrev pub integer_sum : List ℤ → ℤ
 integer_sum [] = pos 0
@@ -55,17 +47,14 @@ abbrev pub computed_value : List (List CellValue) → Aggregate → CellValue
 computed_value rows Count = integer (pos (length rows))
 computed_value rows (SumOfIntegers place) = sum_value integer (filter_map (λ row. cell integer_in row place) rows)
 computed_value rows (SumOfDecimals place) = sum_value decimal (filter_map (λ row. cell decimal_in row place) rows)
-computed_value rows (Min place) = least_value (values_in place rows)
-computed_value rows (Max place) = greatest_value (values_in place rows)
-computed_value rows (CountDistinct place) = integer (pos (distinct_count value_eq (values_in place rows)))
+computed_value rows (Min place) = least_value (present_values place rows)
+computed_value rows (Max place) = greatest_value (present_values place rows)
+computed_value rows (CountDistinct place) = integer (pos (distinct_count value_eq (present_values place rows)))
 
 abbrev pub computed_values : List NamedAggregateOf → List (List CellValue) → List CellValue
 computed_values aggregates rows = map (λ a. computed_value rows a.aggregate) aggregates
 
 -- ---- groups (section 3.2.3): rows with the same values in some columns; null is a value of its own here
-
-abbrev pub same_values : List CellValue → List CellValue → Bool
-same_values a b = pointwise value_eq a b
 
 -- the values of the groups, in the order of their first rows
 abbrev pub group_values : List ℕ → List (List CellValue) → List (List CellValue)

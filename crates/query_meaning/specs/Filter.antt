@@ -2,7 +2,7 @@
 use Rattle.std.specs.Prelude.{Bool, true, false, List, Option, Some, None, if◌then◌else◌, filter, is_none}
 use Rattle.std.specs.List.{list_all, list_any}
 use Rattle.cell_types.specs.Value.{CellValue}
-use Rattle.odata_types.specs.TypedTree.{TruthExprOf}
+use Rattle.typed_trees.specs.TypedTree.{TruthExprOf}
 use Rattle.row_eval.specs.declared.truth.Truth.{Truth}
 use Rattle.row_eval.specs.declared.truth.Truth.TheVariants.{True}
 use Rattle.row_eval.specs.Outcome.{truth_outcome}

@@ -7,7 +7,7 @@ use Rattle.csvw_meta.specs.declared.limits.TheConstants.{MOST_FILE_BYTES}
 use Rattle.odata_types.specs.Columns.{InputOf}
 use Rattle.odata_query.specs.declared.aggregate.TheConstants.{MOST_ROWS}
 use Rattle.odata_query.specs.Query.{QueryOf, TypedOf, query_typing}
-use Rattle.row_eval.specs.Input.{IsQueried, IsQueriedItem, IsQueriedTransformation, IsRowOf, IsTableRow}
+use Rattle.odata_types.specs.Input.{IsQueried, IsQueriedItem, IsQueriedTransformation, IsRowOf, IsTableRow}
 
 -- numbers of at most so many rows, of which the sums, also of some of them, fit 128 bits
 pub record AreSummable (numbers : List ℤ) (rows : ℕ) : Type 0 where

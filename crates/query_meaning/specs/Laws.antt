@@ -1,17 +1,35 @@
--- What holds of filters, orders, groups and aggregates.
-use Rattle.std.specs.Prelude.{◌≡◌, ◌≢◌, ℕ, ℤ, pos, ◌+ℤ◌, ◌↔◌, ◌++◌, false, List, [], ◌∷◌, Some, None, length}
+-- What holds of the numbers of expressions, and of filters, orders, groups and aggregates.
+use Rattle.std.specs.Prelude.{◌≡◌, ◌≢◌, ℕ, ℤ, pos, ◌+ℤ◌, ◌↔◌, ◌++◌, false, List, [], ◌∷◌, Some, None, Ok, length}
 use Rattle.std.specs.List.{All, Any, Contains, IsDistinct, flat_map}
 use Rattle.std.specs.List.Sorted.{IsPermutation, IsSorted, IsStable}
 use Rattle.std.specs.Ordering.{is_lt}
 use Rattle.cell_types.specs.Value.{CellValue, null, integer, decimal, value_cmp, value_eq}
-use Rattle.odata_types.specs.TypedTree.{TruthExprOf}
+use Rattle.odata_parse.specs.Tree.{ExprOf}
+use Rattle.typed_trees.specs.TypedTree as typed
+use Rattle.typed_trees.specs.TypedTree.{IntegerExprOf, DecimalExprOf, TruthExprOf, TypedExprOf}
+use Rattle.odata_types.specs.Columns.{InputOf}
+use Rattle.odata_types.specs.Input.{IsInput, IsQueried, IsRowOf}
+use Rattle.odata_types.specs.Typing.{filter_typing, typing}
+use Rattle.row_eval.specs.Bounds.{IsWithin, NumbersFit, TruthFits}
 use Rattle.row_eval.specs.declared.truth.Truth.TheVariants.{True}
 use Rattle.odata_query.specs.declared.aggregate.Aggregate.{Aggregate}
 use Rattle.odata_query.specs.declared.aggregate.Aggregate.TheVariants.{SumOfIntegers, SumOfDecimals, Min, Max, CountDistinct}
-use Rattle.row_eval.specs.Outcome.{both, outcome, truth_outcome}
+use Rattle.row_eval.specs.Outcome.{both, decimal_outcome, integer_outcome, outcome, truth_outcome}
 use Rattle.query_meaning.specs.Apply.{computed_value, group_values, rows_of_group, same_values, value_at, values_at}
 use Rattle.query_meaning.specs.Filter.{passing}
 use Rattle.query_meaning.specs.Order.{Item, ordered, rows_cmp, sorted}
+
+-- Of an expression that fits the columns of an input, each number that is computed on a row of the input fits 128 bits, and a value is not greater in size
+-- than its bound.
+pub record BoundsHold : Type 0 where
+  pub expressions : (inputs : List InputOf) (row : List CellValue) (e : ExprOf) (t : TypedExprOf)
+      → IsInput inputs → IsRowOf inputs row → IsQueried e → typing inputs e ≡ Ok t → NumbersFit t row
+  pub filters : (inputs : List InputOf) (row : List CellValue) (e : ExprOf) (t : TruthExprOf)
+      → IsInput inputs → IsRowOf inputs row → IsQueried e → filter_typing inputs e ≡ Ok t → TruthFits t row
+  pub integers : (inputs : List InputOf) (row : List CellValue) (e : ExprOf) (n : IntegerExprOf) (bound : ℕ)
+      → IsInput inputs → IsRowOf inputs row → IsQueried e → typing inputs e ≡ Ok (typed.integer n bound) → IsWithin bound (integer_outcome n row)
+  pub decimals : (inputs : List InputOf) (row : List CellValue) (e : ExprOf) (n : DecimalExprOf) (bound : ℕ)
+      → IsInput inputs → IsRowOf inputs row → IsQueried e → typing inputs e ≡ Ok (typed.decimal n bound) → IsWithin bound (decimal_outcome n row)
 
 -- A filter has no rows to give just where it divides by zero on some row. Else a row is kept just where it is one of the rows and its outcome is
 -- true. What is kept of rows and of rows behind them is what is kept of the first, and then what is kept of the others: so the rows that are
@@ -68,20 +86,20 @@ abbrev pub SumsAddUp : Type 0
 SumsAddUp = NumbersAddUp integer SumOfIntegers × NumbersAddUp decimal SumOfDecimals
 
 -- some row has the value in the column, and it is not null
-abbrev pub IsValueIn : ℕ → List (List CellValue) → CellValue → Type 0
-IsValueIn place rows v = (v ≢ null) × Any (λ row. value_at row place ≡ v) rows
+abbrev pub StandsInColumn : ℕ → List (List CellValue) → CellValue → Type 0
+StandsInColumn place rows v = (v ≢ null) × Any (λ row. value_at row place ≡ v) rows
 
 -- The least and the greatest of a column are null where each row has null there. Else they are values that rows have there, and no value there is below
 -- the least or above the greatest.
 pub record ExtremesAreValues : Type 0 where
   pub none : (place : ℕ) (rows : List (List CellValue)) → All (λ row. value_at row place ≡ null) rows
       → (computed_value rows (Min place) ≡ null) × (computed_value rows (Max place) ≡ null)
-  pub least : (place : ℕ) (rows : List (List CellValue)) (v : CellValue) → IsValueIn place rows v
-      → IsValueIn place rows (computed_value rows (Min place)) × (is_lt (value_cmp v (computed_value rows (Min place))) ≡ false)
-  pub greatest : (place : ℕ) (rows : List (List CellValue)) (v : CellValue) → IsValueIn place rows v
-      → IsValueIn place rows (computed_value rows (Max place)) × (is_lt (value_cmp (computed_value rows (Max place)) v) ≡ false)
+  pub least : (place : ℕ) (rows : List (List CellValue)) (v : CellValue) → StandsInColumn place rows v
+      → StandsInColumn place rows (computed_value rows (Min place)) × (is_lt (value_cmp v (computed_value rows (Min place))) ≡ false)
+  pub greatest : (place : ℕ) (rows : List (List CellValue)) (v : CellValue) → StandsInColumn place rows v
+      → StandsInColumn place rows (computed_value rows (Max place)) × (is_lt (value_cmp (computed_value rows (Max place)) v) ≡ false)
 
 -- The distinct values of a column are those that rows have there, each once, and null is none of them: their count is the length of any list of just these.
 abbrev pub DistinctValuesAreCounted : Type 0
 DistinctValuesAreCounted = (place : ℕ) (rows : List (List CellValue)) (values : List CellValue) → IsDistinct value_eq values
-    → ((v : CellValue) → Contains values v ↔ IsValueIn place rows v) → computed_value rows (CountDistinct place) ≡ integer (pos (length values))
+    → ((v : CellValue) → Contains values v ↔ StandsInColumn place rows v) → computed_value rows (CountDistinct place) ≡ integer (pos (length values))

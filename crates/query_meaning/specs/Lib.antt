@@ -1,7 +1,7 @@
 pub use Rattle.odata_types.specs.Columns
 pub use Rattle.odata_query.specs.Query as Queries
-pub use Rattle.odata_types.specs.TypedTree
-pub use Rattle.row_eval.specs.Input
+pub use Rattle.typed_trees.specs.TypedTree
+pub use Rattle.odata_types.specs.Input
 pub mod Filter
 pub mod Query
 pub mod Order

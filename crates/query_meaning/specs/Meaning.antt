@@ -39,8 +39,8 @@ abbrev pub first_rows : Option ℕ → List (List CellValue) → List (List Cell
 first_rows None rows = rows
 first_rows (Some most) rows = take most rows
 
-abbrev pub piece : TypedOf → List (List CellValue) → List (List CellValue)
-piece q rows = first_rows q.top (drop q.skip rows)
+abbrev pub skipped_and_topped : TypedOf → List (List CellValue) → List (List CellValue)
+skipped_and_topped q rows = first_rows q.top (drop q.skip rows)
 
 -- the number of rows, where `$count=true` asks for it
 abbrev pub asked_count : Bool → List (List CellValue) → Option ℕ
@@ -48,8 +48,8 @@ asked_count true rows = Some (length rows)
 asked_count false rows = None
 
 -- the rows of `$apply` and `$filter`; None is a division by zero, as everywhere below
-abbrev pub kept_rows : TypedOf → List (List CellValue) → Option (List (List CellValue))
-kept_rows q rows = option_and_then (filtered q.filter) (applied q.apply rows)
+abbrev pub filtered_rows : TypedOf → List (List CellValue) → Option (List (List CellValue))
+filtered_rows q rows = option_and_then (filtered q.filter) (applied q.apply rows)
 
 abbrev pub result_names : SchemaOf → TypedOf → List (List ℕ)
 result_names schema q = selected_names q.select (applied_names q.apply (table_names schema))
@@ -58,9 +58,9 @@ result_names schema q = selected_names q.select (applied_names q.apply (table_na
 abbrev pub query_result : SchemaOf → TypedOf → List (List CellValue) → Option ResultOf
 query_result schema q rows = option_and_then (λ kept. option_map (λ sorted. record {
   names = result_names schema q;
-  rows = map (selected_values q.select) (piece q sorted);
+  rows = map (selected_values q.select) (skipped_and_topped q sorted);
   count = asked_count q.count kept;
-}) (ordered q.order kept)) (kept_rows q rows)
+}) (ordered q.order kept)) (filtered_rows q rows)
 
 -- the first row with these values in the columns of the table's key
 abbrev pub keyed_row : SchemaOf → List CellValue → List (List CellValue) → Option (List CellValue)
@@ -72,7 +72,7 @@ row_meaning schema q (Some row) = single (selected_names q.select (table_names s
 
 -- without a key: the number of rows, for which nothing is put in order, or the result
 abbrev pub rows_meaning : Bool → SchemaOf → TypedOf → List (List CellValue) → Option MeaningOf
-rows_meaning true schema q rows = option_map (λ kept. number (length kept)) (kept_rows q rows)
+rows_meaning true schema q rows = option_map (λ kept. number (length kept)) (filtered_rows q rows)
 rows_meaning false schema q rows = option_map result (query_result schema q rows)
 
 abbrev pub keyed_meaning : Option (List CellValue) → SchemaOf → TypedOf → List (List CellValue) → Option MeaningOf

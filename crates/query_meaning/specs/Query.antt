@@ -1,7 +1,7 @@
 -- The rows that `$filter` keeps (OData 4.01 URL Conventions, section 5.1.2).
 use Rattle.std.specs.Prelude.{List, Option, Some, None}
 use Rattle.cell_types.specs.Value.{CellValue}
-use Rattle.odata_types.specs.TypedTree.{TruthExprOf}
+use Rattle.typed_trees.specs.TypedTree.{TruthExprOf}
 use Rattle.query_meaning.specs.Filter.{passing}
 
 -- all rows, where there is no filter

@@ -7,11 +7,11 @@ use Rattle.cell_types.specs.Datatype as datatype
 use Rattle.cell_types.specs.Datatype.{DatatypeOf, boolean_view}
 use Rattle.cell_types.specs.Value.{CellValue, null, integer, text, boolean, date, decimal}
 use Rattle.csvw_meta.specs.Schema.{SchemaOf}
-use Rattle.odata_parse.specs.declared.tree.ArithmeticOperator.TheVariants.{Div, Sub}
-use Rattle.odata_parse.specs.declared.tree.ComparisonOperator.TheVariants.{Equal, GreaterThan}
+use Rattle.typed_trees.specs.declared.operator.ArithmeticOperator.TheVariants.{Div, Sub}
+use Rattle.typed_trees.specs.declared.operator.ComparisonOperator.TheVariants.{Equal, GreaterThan}
 use Rattle.odata_types.specs.declared.types.TheConstants.{COLUMN_SIZE}
-use Rattle.odata_types.specs.TypedTree as typed
-use Rattle.odata_types.specs.TypedTree.{TypedExprOf, TruthExprOf}
+use Rattle.typed_trees.specs.TypedTree as typed
+use Rattle.typed_trees.specs.TypedTree.{TypedExprOf, TruthExprOf}
 use Rattle.odata_query.specs.declared.aggregate.Aggregate.{Aggregate}
 use Rattle.odata_query.specs.declared.aggregate.Aggregate.TheVariants.{Count, SumOfIntegers, SumOfDecimals, Min, Max, CountDistinct}
 use Rattle.odata_query.specs.Aggregate.{NamedAggregateOf, filter_rows, aggregate_rows, group_rows}
@@ -91,8 +91,8 @@ beyond = typed.compare_integers GreaterThan (typed.integer_column 0) (typed.inte
 abbrev pub populous : TruthExprOf
 populous = typed.compare_integers GreaterThan (typed.integer_column 2) (typed.integer_literal (pos 5))
 
-abbrev pub uncounted : TruthExprOf
-uncounted = typed.compare_integers Equal (typed.integer_column 2) typed.null_integer
+abbrev pub never_counted : TruthExprOf
+never_counted = typed.compare_integers Equal (typed.integer_column 2) typed.null_integer
 
 -- `10 div (Id sub 1) gt 0`
 abbrev pub divided : TruthExprOf
@@ -102,39 +102,39 @@ divided =
     (typed.integer_literal (pos 0))
 
 -- what a query without a key gives: these rows under these names, with this count
-abbrev pub Gives : TypedOf → List (List ℕ) → List (List CellValue) → Option ℕ → Type 0
-Gives q names rows count = query_meaning schema q cities ≡ Some (result (record { names = names; rows = rows; count = count }))
+abbrev pub MeansRows : TypedOf → List (List ℕ) → List (List CellValue) → Option ℕ → Type 0
+MeansRows q names rows count = query_meaning schema q cities ≡ Some (result (record { names = names; rows = rows; count = count }))
 
 pub record WorkedQueries : Type 0 where
   -- `$select=Id,Name`
-  pub selected : Gives (record every { select = Some (0 ∷ 1 ∷ []) }) (codes "Id" ∷ codes "Name" ∷ [])
+  pub selected : MeansRows (record every { select = Some (0 ∷ 1 ∷ []) }) (codes "Id" ∷ codes "Name" ∷ [])
       ((integer (pos 1) ∷ text (codes "Oslo") ∷ []) ∷ (integer (pos 2) ∷ text (codes "Foo, Bar") ∷ []) ∷ (integer (pos 3) ∷ null ∷ []) ∷ []) None
   -- `$apply=groupby((Open),aggregate(Pop with sum as S,$count as N))`
-  pub grouped : Gives (record every {
+  pub grouped : MeansRows (record every {
     apply = group_rows (3 ∷ []) (record { alias = codes "S"; aggregate = SumOfIntegers 2 } ∷ record { alias = codes "N"; aggregate = Count } ∷ []) ∷ [];
   }) (codes "Open" ∷ codes "S" ∷ codes "N" ∷ [])
       ((boolean true ∷ integer (pos 700_000) ∷ integer (pos 1) ∷ []) ∷ (boolean false ∷ null ∷ integer (pos 1) ∷ []) ∷ (null ∷ integer (pos 5) ∷ integer (pos 1) ∷ []) ∷ []) None
   -- `$orderby=Pop desc&$select=Id`, and `$orderby=Pop&$select=Id`
-  pub descending : Gives (record every { order = (pop, true) ∷ []; select = Some (0 ∷ []) }) (codes "Id" ∷ [])
+  pub descending : MeansRows (record every { order = (pop, true) ∷ []; select = Some (0 ∷ []) }) (codes "Id" ∷ [])
       ((integer (pos 1) ∷ []) ∷ (integer (pos 3) ∷ []) ∷ (integer (pos 2) ∷ []) ∷ []) None
-  pub ascending : Gives (record every { order = (pop, false) ∷ []; select = Some (0 ∷ []) }) (codes "Id" ∷ [])
+  pub ascending : MeansRows (record every { order = (pop, false) ∷ []; select = Some (0 ∷ []) }) (codes "Id" ∷ [])
       ((integer (pos 2) ∷ []) ∷ (integer (pos 3) ∷ []) ∷ (integer (pos 1) ∷ []) ∷ []) None
   -- `$filter=Pop gt 5&$select=Id`, and `$filter=Pop eq null&$select=Id`
-  pub greater : Gives (record every { filter = Some populous; select = Some (0 ∷ []) }) (codes "Id" ∷ []) ((integer (pos 1) ∷ []) ∷ []) None
-  pub unknown : Gives (record every { filter = Some uncounted; select = Some (0 ∷ []) }) (codes "Id" ∷ []) ((integer (pos 2) ∷ []) ∷ []) None
+  pub greater : MeansRows (record every { filter = Some populous; select = Some (0 ∷ []) }) (codes "Id" ∷ []) ((integer (pos 1) ∷ []) ∷ []) None
+  pub unknown : MeansRows (record every { filter = Some never_counted; select = Some (0 ∷ []) }) (codes "Id" ∷ []) ((integer (pos 2) ∷ []) ∷ []) None
   -- `$filter=10 div (Id sub 1) gt 0&$top=0`: of no row, and yet a division by zero
   pub faulty : query_meaning schema (record every { filter = Some divided; top = Some 0 }) cities ≡ None
   -- `$skip=1&$select=Id`
-  pub skipped : Gives (record every { skip = 1; select = Some (0 ∷ []) }) (codes "Id" ∷ []) ((integer (pos 2) ∷ []) ∷ (integer (pos 3) ∷ []) ∷ []) None
+  pub skipped : MeansRows (record every { skip = 1; select = Some (0 ∷ []) }) (codes "Id" ∷ []) ((integer (pos 2) ∷ []) ∷ (integer (pos 3) ∷ []) ∷ []) None
   -- `$count=true&$top=0`
-  pub counted : Gives (record every { count = true; top = Some 0 }) (codes "Id" ∷ codes "Name" ∷ codes "Pop" ∷ codes "Open" ∷ codes "Since" ∷ []) [] (Some 3)
+  pub counted : MeansRows (record every { count = true; top = Some 0 }) (codes "Id" ∷ codes "Name" ∷ codes "Pop" ∷ codes "Open" ∷ codes "Since" ∷ []) [] (Some 3)
   -- `$apply=filter(Id gt 9)/aggregate(Pop with max as M,$count as N)`
-  pub empty : Gives (record every {
+  pub empty : MeansRows (record every {
     apply =
         filter_rows beyond ∷ aggregate_rows (record { alias = codes "M"; aggregate = Max 2 } ∷ record { alias = codes "N"; aggregate = Count } ∷ []) ∷ [];
   }) (codes "M" ∷ codes "N" ∷ []) ((null ∷ integer (pos 0) ∷ []) ∷ []) None
   -- `$apply=aggregate(Pop with sum as S,Pop with min as L,Pop with max as M,Name with countdistinct as D)`
-  pub aggregated : Gives (record every { apply = aggregate_rows (named (codes "S") (SumOfIntegers 2) ∷ least_of 2 ∷ greatest_of 2 ∷ named (codes "D") (CountDistinct 1) ∷ []) ∷ [] })
+  pub aggregated : MeansRows (record every { apply = aggregate_rows (named (codes "S") (SumOfIntegers 2) ∷ least_of 2 ∷ greatest_of 2 ∷ named (codes "D") (CountDistinct 1) ∷ []) ∷ [] })
       (codes "S" ∷ codes "L" ∷ codes "M" ∷ codes "D" ∷ []) ((integer (pos 700_005) ∷ integer (pos 5) ∷ integer (pos 700_000) ∷ integer (pos 2) ∷ []) ∷ []) None
   -- of the prices `$apply=aggregate(Price with sum as S,Price with min as L,Price with max as M)`: 12.499999, -0.000001 and 10
   pub priced : query_meaning price_schema (record every { apply = aggregate_rows (named (codes "S") (SumOfDecimals 1) ∷ least_of 1 ∷ greatest_of 1 ∷ []) ∷ [] }) prices

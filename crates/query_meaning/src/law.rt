@@ -1,7 +1,13 @@
-//! The laws of filters, orders, groups and aggregates: each function is a theorem, and does nothing.
+//! The laws of the numbers of expressions, and of filters, orders, groups and aggregates: each function is a theorem, and does nothing.
 
-ghost use Rattle.query_meaning.specs.Laws.{DistinctValuesAreCounted, ExtremesAreValues, RowsAreInGroups, RowsAreInOrder, SumsAddUp, TrueRowsPass};
+ghost use Rattle.query_meaning.specs.Laws.{BoundsHold, DistinctValuesAreCounted, ExtremesAreValues, RowsAreInGroups, RowsAreInOrder, SumsAddUp, TrueRowsPass};
 ghost use Rattle.query_meaning.specs.Worked.{WorkedQueries};
+
+/// On the rows of an input, of expressions of at most 1,024 nodes and texts of at most 2 to the 30 bytes, each number that is computed
+/// fits 128 bits, and no value is greater in size than its bound.
+pub fn bounds_hold()
+    ensures { BoundsHold }
+{}
 
 /// A row passes a filter just where its outcome is true, and the rows that pass stay in their order; a division by zero on any row is
 /// one of the whole.

@@ -6,6 +6,6 @@
 mod law;
 
 pub use law::{
-    distinct_values_are_counted, extremes_are_values, rows_are_in_groups, rows_are_in_order,
-    sums_add_up, true_rows_pass, worked_queries,
+    bounds_hold, distinct_values_are_counted, extremes_are_values, rows_are_in_groups,
+    rows_are_in_order, sums_add_up, true_rows_pass, worked_queries,
 };

@@ -21,9 +21,9 @@ use Rattle.odata_query.specs.declared.aggregate.TheConstants.{COUNT_SIZE, MOST_R
 use Rattle.odata_query.specs.Aggregate.{ItemOf}
 use Rattle.odata_query.specs.Apply.{computed_typing, free_typing, has_alias, item_column, item_typing, items_typing, method_at, method_typing, named_of, optional_items, sum_typing}
 use Rattle.odata_query.specs.Selection.{has_name}
-use Rattle.row_eval.specs.Input.{IsOfType, IsRowOf}
+use Rattle.odata_types.specs.Input.{IsOfType, IsRowOf}
 use Rattle.row_eval.specs.Row.{cell, decimal_in, integer_in}
-use Rattle.query_meaning.specs.Apply.{computed_value, computed_values, values_in}
+use Rattle.query_meaning.specs.Apply.{computed_value, computed_values, present_values}
 use Rattle.query_plan.specs.Fitting.{AggregateFits}
 use Rattle.query_meaning.specs.Fitting.{AreSummable}
 use Rattle.query_meaning.specs.Meaning.{ResultOf}
@@ -94,8 +94,8 @@ module _ (inputs : List InputOf) (place : ℕ) (name : List ℕ) where
 
     method_good : (m : AggregationMethod) → Told (IsGood inputs) (method_typing m place type)
     method_good method.Sum = sum_good type is
-    method_good method.Min = record { value = λ rows all few. least_fits type (values_in place rows) (values_fit type inputs place name is rows all); fits = there }
-    method_good method.Max = record { value = λ rows all few. greatest_fits type (values_in place rows) (values_fit type inputs place name is rows all); fits = there }
+    method_good method.Min = record { value = λ rows all few. least_fits type (present_values place rows) (values_fit type inputs place name is rows all); fits = there }
+    method_good method.Max = record { value = λ rows all few. greatest_fits type (present_values place rows) (values_fit type inputs place name is rows all); fits = there }
     method_good method.CountDistinct = record { value = λ rows all few. omega (arith, distinct_few place rows); fits = there }
 
 method_at_good : (inputs : List InputOf) (m : AggregationMethod) (place : ℕ) (o : Option InputOf) → slice_get inputs place ≡ o → Told (IsGood inputs) (method_at m place o)

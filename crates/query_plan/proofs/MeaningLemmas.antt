@@ -8,14 +8,14 @@ use Rattle.std.proofs.lemmas.List.{length-map, map-id}
 use Rattle.std.proofs.lemmas.Bool.{cases_Bool}
 use Rattle.cell_types.specs.Value.{CellValue}
 use Rattle.csvw_meta.specs.Schema.{SchemaOf}
-use Rattle.odata_types.specs.TypedTree.{TruthExprOf}
+use Rattle.typed_trees.specs.TypedTree.{TruthExprOf}
 use Rattle.odata_query.specs.Aggregate.{TypedTransformationOf, filter_rows, aggregate_rows, group_rows}
 use Rattle.odata_query.specs.Query.{TypedOf}
 use Rattle.query_meaning.specs.Apply.{applied, applied_names, transformed, transformed_names, values_at}
 use Rattle.query_meaning.specs.Filter.{passing}
-use Rattle.query_meaning.specs.Meaning.{ResultOf, asked_count, first_rows, keyed_meaning, kept_rows, number, piece, result, rows_meaning, selected_names, selected_values, table_names}
+use Rattle.query_meaning.specs.Meaning.{ResultOf, asked_count, first_rows, keyed_meaning, filtered_rows, number, skipped_and_topped, result, rows_meaning, selected_names, selected_values, table_names}
 use Rattle.query_meaning.specs.Order.{Item, order_faults, ordered, placed, rows_cmp, sorted}
-use Rattle.query_plan.specs.Plan.{Means, NodeOf, PlanOf, answer_of, apply_nodes, asked_slice, count_nodes, filter_nodes, naive_plan, node_result, nodes_result, order_nodes, leading, piece_nodes, select_nodes, slice_nodes, table_result, transformation_node}
+use Rattle.query_plan.specs.Plan.{MeansQuery, NodeOf, PlanOf, answer_of, apply_nodes, asked_slice, count_nodes, filter_nodes, naive_plan, node_result, nodes_result, order_nodes, leading, piece_nodes, select_nodes, slice_nodes, table_result, transformation_node}
 use Rattle.query_meaning.specs.Query.{filtered}
 use Rattle.query_plan.specs.Scan.{ScanOf}
 use Rattle.query_plan.proofs.ListLemmas.{some_if}
@@ -65,7 +65,7 @@ filter_after f names count (Some rows) = filter_result f names count rows
 
 pub kept_result : (schema : SchemaOf) (q : TypedOf) (rows : List (List CellValue))
     → nodes_result (apply_nodes q.apply ++ filter_nodes q.filter) (table_result schema rows)
-    ≡ option_map (under (applied_names q.apply (table_names schema)) None) (kept_rows q rows)
+    ≡ option_map (under (applied_names q.apply (table_names schema)) None) (filtered_rows q rows)
 kept_result schema q rows =
     turn (apply_nodes q.apply) (filter_nodes q.filter) (table_result schema rows)
     ∙ ap (option_and_then (nodes_result (filter_nodes q.filter))) (apply_result q.apply (table_names schema) None rows)
@@ -131,7 +131,7 @@ ordered_length items rows given e =
 
 -- what a query makes of the rows that are kept, once they are in order
 abbrev shown : TypedOf → List (List ℕ) → List (List CellValue) → List (List CellValue) → ResultOf
-shown q names rows given = under (selected_names q.select names) (asked_count q.count rows) (map (selected_values q.select) (piece q given))
+shown q names rows given = under (selected_names q.select names) (asked_count q.count rows) (map (selected_values q.select) (skipped_and_topped q given))
 
 shown_after : (q : TypedOf) (names : List (List ℕ)) (rows : List (List CellValue)) (o : Option (List (List CellValue)))
     → ((given : List (List CellValue)) → o ≡ Some given → length given ≡ length rows)
@@ -140,8 +140,8 @@ shown_after : (q : TypedOf) (names : List (List ℕ)) (rows : List (List CellVal
 shown_after q names rows None each = refl
 shown_after q names rows (Some given) each =
     ap (option_and_then (nodes_result (select_nodes q.select))) (piece_result q.skip q.top q.count names given)
-    ∙ select_result q.select names (asked_count q.count given) (piece q given)
-    ∙ ap (λ (n : Option ℕ). Some (under (selected_names q.select names) n (map (selected_values q.select) (piece q given))))
+    ∙ select_result q.select names (asked_count q.count given) (skipped_and_topped q given)
+    ∙ ap (λ (n : Option ℕ). Some (under (selected_names q.select names) n (map (selected_values q.select) (skipped_and_topped q given))))
     (asked_length q.count given rows (each given refl))
 
 rest_result : (q : TypedOf) (names : List (List ℕ)) (rows : List (List CellValue))
@@ -170,10 +170,10 @@ result_after q names None = refl
 result_after q names (Some kept) = ap (option_map result) (rest_result q names kept)
 
 module _ (schema : SchemaOf) (q : TypedOf) (rows : List (List CellValue)) where
-  answers_after : (b : Bool) → option_map (answer_of b) (option_and_then (nodes_result (last_nodes b q)) (option_map (under (applied_names q.apply (table_names schema)) None) (kept_rows q rows)))
+  answers_after : (b : Bool) → option_map (answer_of b) (option_and_then (nodes_result (last_nodes b q)) (option_map (under (applied_names q.apply (table_names schema)) None) (filtered_rows q rows)))
       ≡ rows_meaning b schema q rows
-  answers_after true = counted_after (applied_names q.apply (table_names schema)) (kept_rows q rows)
-  answers_after false = result_after q (applied_names q.apply (table_names schema)) (kept_rows q rows)
+  answers_after true = counted_after (applied_names q.apply (table_names schema)) (filtered_rows q rows)
+  answers_after false = result_after q (applied_names q.apply (table_names schema)) (filtered_rows q rows)
 
   answers : (b : Bool) → option_map (answer_of b) (nodes_result (apply_nodes q.apply ++ filter_nodes q.filter ++ last_nodes b q) (table_result schema rows)) ≡ rows_meaning b schema q rows
   answers b =
@@ -181,7 +181,7 @@ module _ (schema : SchemaOf) (q : TypedOf) (rows : List (List CellValue)) where
       ∙ ap (option_and_then (nodes_result (last_nodes b q))) (kept_result schema q rows))
       ∙ answers_after b
 
-pub means : (q : TypedOf) → q.key ≡ None → Means (naive_plan q) q
+pub means : (q : TypedOf) → q.key ≡ None → MeansQuery (naive_plan q) q
 means q e schema rows =
     ap (λ (read : List (List CellValue)). option_map (answer_of q.counting) (nodes_result (naive_plan q).nodes (table_result schema read))) (bare_rows (leading (naive_plan q).nodes) rows)
     ∙ answers schema q rows q.counting ∙ ap (λ (key : Option (List CellValue)). keyed_meaning key schema q rows) (sym e)

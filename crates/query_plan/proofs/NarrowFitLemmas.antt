@@ -5,8 +5,8 @@ use Rattle.std.specs.List.{All, AllByRecursion, cons_option, filter_map, list_al
 use Rattle.std.proofs.lemmas.List.{length-map, take-append-drop}
 use Rattle.std.proofs.lemmas.List.Elements.{All-from_recursion, recursion_from_All}
 use Rattle.cell_types.specs.Value.{CellValue}
-use Rattle.odata_types.specs.TypedTree as typed
-use Rattle.odata_types.specs.TypedTree.{TypedExprOf}
+use Rattle.typed_trees.specs.TypedTree as typed
+use Rattle.typed_trees.specs.TypedTree.{TypedExprOf}
 use Rattle.odata_query.specs.declared.aggregate.Aggregate.{Aggregate}
 use Rattle.odata_query.specs.declared.aggregate.Aggregate.TheVariants.{Count, SumOfIntegers, SumOfDecimals, Min, Max, CountDistinct}
 use Rattle.odata_query.specs.Aggregate.{NamedAggregateOf}

@@ -10,13 +10,13 @@ use Rattle.std.proofs.lemmas.List.FromFn.{length-range_with_len}
 use Rattle.std.proofs.lemmas.List.Sums.{count_by-le-length, length-filter}
 use Rattle.block_summary.specs.Blocks.{block_at, block_count}
 use Rattle.cell_types.specs.Value.{CellValue}
-use Rattle.odata_types.specs.CanFault.{truth_can_fault}
-use Rattle.odata_types.specs.TypedTree.{TruthExprOf}
+use Rattle.typed_trees.specs.CanFault.{truth_can_fault}
+use Rattle.typed_trees.specs.TypedTree.{TruthExprOf}
 use Rattle.odata_query.specs.Aggregate.{TypedTransformationOf, aggregate_rows, filter_rows, group_rows}
 use Rattle.odata_query.specs.Query.{TypedOf}
 use Rattle.query_plan.specs.Laws.{NeededBlocksAreRead, PlansNeedBlocks}
 use Rattle.query_plan.specs.Narrow.{narrowed_nodes}
-use Rattle.query_plan.specs.Needed.{conditions_can_fault, conditions_of, gives_first_rows, is_filter, last_row, row_conditions}
+use Rattle.query_plan.specs.Needed.{conditions_can_fault, conditions_before, gives_first_rows, is_filter, last_row, row_conditions}
 use Rattle.query_meaning.specs.Order.{Item}
 use Rattle.query_plan.specs.Plan.{NodeOf, PlanOf, apply_nodes, asked_slice, count_nodes, filter_nodes, leading, naive_plan, needed, order_nodes, select_nodes, slice_nodes}
 use Rattle.query_plan.specs.Push.{conjuncts, early_stop, pushed, pushed_down, rewritten, room_of, split_nodes}
@@ -148,7 +148,7 @@ stop_of_steps (aggregate_rows aggregates ∷ ts) filter ns = refl
 stop_of_steps (group_rows places aggregates ∷ ts) filter ns = refl
 
 leading_steps : (ts : List TypedTransformationOf) (filter : Option TruthExprOf) (ns : List NodeOf) → leading ns ≡ []
-    → leading (apply_nodes ts ++ filter_nodes filter ++ ns) ≡ conditions_of ts filter
+    → leading (apply_nodes ts ++ filter_nodes filter ++ ns) ≡ conditions_before ts filter
 leading_steps [] None ns e = e
 leading_steps [] (Some f) ns e = ap (λ (es : List TruthExprOf). f ∷ es) e
 leading_steps (filter_rows f ∷ ts) filter ns e = ap (λ (es : List TruthExprOf). f ∷ es) (leading_steps ts filter ns e)

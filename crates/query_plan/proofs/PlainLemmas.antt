@@ -7,9 +7,9 @@ use Rattle.odata_parse.specs.declared.tree.UnaryOperator.{UnaryOperator}
 use Rattle.odata_parse.specs.declared.tree.UnaryOperator.TheVariants.{Negate, Not}
 use Rattle.odata_parse.specs.declared.tree.LogicOperator.{LogicOperator}
 use Rattle.odata_parse.specs.declared.tree.LogicOperator.TheVariants.{And, Or}
-use Rattle.odata_parse.specs.declared.tree.ComparisonOperator.{ComparisonOperator}
-use Rattle.odata_parse.specs.declared.tree.ArithmeticOperator.{ArithmeticOperator}
-use Rattle.odata_parse.specs.declared.tree.ArithmeticOperator.TheVariants.{Add, Sub}
+use Rattle.typed_trees.specs.declared.operator.ComparisonOperator.{ComparisonOperator}
+use Rattle.typed_trees.specs.declared.operator.ArithmeticOperator.{ArithmeticOperator}
+use Rattle.typed_trees.specs.declared.operator.ArithmeticOperator.TheVariants.{Add, Sub}
 use Rattle.odata_parse.specs.declared.tree.BinaryOperator.{BinaryOperator}
 use Rattle.odata_parse.specs.declared.tree.BinaryOperator.TheVariants as operator
 use Rattle.odata_parse.specs.declared.tree.UnaryFunction.{UnaryFunction}
@@ -24,12 +24,12 @@ use Rattle.odata_types.specs.declared.types.ColumnType.TheVariants as column
 use Rattle.odata_types.specs.declared.types.ExprType.{ExprType}
 use Rattle.odata_types.specs.declared.types.ExprType.TheVariants as kind
 use Rattle.odata_types.specs.declared.types.TheConstants.{FUNCTION_SIZE}
-use Rattle.odata_types.specs.declared.tree.DatePart.{DatePart}
-use Rattle.odata_types.specs.declared.tree.DatePart.TheVariants as part
+use Rattle.typed_trees.specs.declared.tree.DatePart.{DatePart}
+use Rattle.typed_trees.specs.declared.tree.DatePart.TheVariants as part
 use Rattle.odata_types.specs.Columns.{InputOf}
 use Rattle.odata_types.specs.Result.{◌>>=◌}
-use Rattle.odata_types.specs.TypedTree.{TypedExprOf, DecimalExprOf, IntegerExprOf, TextExprOf, TruthExprOf, compare_dates, compare_decimals, compare_integers, compare_texts, compare_truths, date, date_in, decimal, decimal_in, decimal_literal, decimal_sum, decimal_difference, arithmetic, integer, integer_in, integer_literal, length_of, negation, nothing, part_of, text, text_in, truth, truth_in}
-use Rattle.odata_types.specs.Typing.{Typing, arithmetic_as, as_date, as_decimal, as_integer, as_text, as_truth, binary_call_typing, binary_typing, column_at, column_expr, common_type, comparison_as, date_item, decimal_items, decimals_typing, computed_size, fits, in_typing, integer_item, integers_typing, is_small, list_as, list_in_type, list_type, literal_type, literal_typing, logic_expr, part_typing, place_of, text_call, text_item, truth_item, type_of, typing, unary_call_typing, unary_typing, within}
+use Rattle.typed_trees.specs.TypedTree.{TypedExprOf, DecimalExprOf, IntegerExprOf, TextExprOf, TruthExprOf, compare_dates, compare_decimals, compare_integers, compare_texts, compare_truths, date, date_in, decimal, decimal_in, decimal_literal, decimal_sum, decimal_difference, arithmetic, integer, integer_in, integer_literal, length_of, negation, nothing, part_of, text, text_in, truth, truth_in}
+use Rattle.odata_types.specs.Typing.{Typing, arithmetic_as, as_date, as_decimal, as_integer, as_text, as_truth, binary_call_typing, binary_typing, column_at, column_expr, common_type, comparison_as, date_item, decimal_items, decimals_typing, computed_size, type_fits, in_typing, integer_item, integers_typing, is_small, list_as, list_in_type, list_type, literal_type, literal_typing, logic_expr, part_typing, place_of, text_call, text_item, truth_item, type_of, typing, unary_call_typing, unary_typing, within}
 use Rattle.query_meaning.specs.Order.{plain_column}
 use Rattle.query_plan.proofs.AggregateLemmas.{place_below}
 use Rattle.query_plan.proofs.TypingLemmas.{Told, told_any, told_then, told_within}
@@ -141,7 +141,7 @@ module _ (inputs : List InputOf) where
   list_there kind.Null a vs = in_truths_there a vs
 
   typed_list_there : (type : ExprType) (a : TypedExprOf) (vs : List LiteralOf) → Told IsThere (list_in_type type a vs)
-  typed_list_there type a vs = elim (cases_Bool (list_all (λ v. fits type (literal_type v)) vs)) [
+  typed_list_there type a vs = elim (cases_Bool (list_all (λ v. type_fits type (literal_type v)) vs)) [
     | inl e ↦ rw e (truth_there (list_as type a vs) (list_there type a vs))
     | inr e ↦ rw e tt
   ]

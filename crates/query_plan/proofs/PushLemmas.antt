@@ -5,8 +5,8 @@ use Rattle.std.specs.List.{flat_map, list_any}
 use Rattle.std.proofs.lemmas.Bool.{false≢true, or_parts}
 use Rattle.std.proofs.lemmas.List.Folds.{list_any-append}
 use Rattle.cell_types.specs.Value.{CellValue}
-use Rattle.odata_types.specs.CanFault.{truth_can_fault}
-use Rattle.odata_types.specs.TypedTree.{TruthExprOf, conjunction}
+use Rattle.typed_trees.specs.CanFault.{truth_can_fault}
+use Rattle.typed_trees.specs.TypedTree.{TruthExprOf, conjunction}
 use Rattle.row_eval.specs.declared.truth.Truth.{Truth}
 use Rattle.row_eval.specs.declared.truth.Truth.TheVariants.{False, Null, True}
 use Rattle.row_eval.specs.Laws.{FaultsAreForeseen}

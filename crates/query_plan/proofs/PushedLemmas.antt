@@ -6,10 +6,11 @@ use Rattle.std.proofs.lemmas.Bool.{and_parts, not-true, true≢false}
 use Rattle.std.proofs.lemmas.List.Elements.{filter_agree, recursion_from_All}
 use Rattle.cell_types.specs.Value.{CellValue}
 use Rattle.csvw_meta.specs.Schema.{SchemaOf}
-use Rattle.odata_types.specs.CanFault.{truth_can_fault}
-use Rattle.odata_types.specs.TypedTree.{TruthExprOf}
+use Rattle.typed_trees.specs.CanFault.{truth_can_fault}
+use Rattle.typed_trees.specs.TypedTree.{TruthExprOf}
 use Rattle.odata_types.specs.Schema.{inputs_of}
-use Rattle.row_eval.specs.Laws.{FaultsAreForeseen, TablesAreInputs}
+use Rattle.odata_types.specs.Laws.{TablesAreInputs}
+use Rattle.row_eval.specs.Laws.{FaultsAreForeseen}
 use Rattle.query_plan.specs.Laws.{UnadmittedBlocksPassNone}
 use Rattle.query_plan.specs.Tests.{test_of}
 use Rattle.query_plan.specs.Types.{IsTruthOver, IsTypedPlan}

@@ -14,7 +14,7 @@ use Rattle.odata_parse.specs.Tree.{ExprOf, OrderItemOf, SelectItemOf, Transforma
 use Rattle.odata_types.specs.Columns.{InputOf}
 use Rattle.odata_types.specs.Result.{◌>>=◌}
 use Rattle.odata_types.specs.Schema.{input_of, inputs_of}
-use Rattle.odata_types.specs.TypedTree.{TruthExprOf, TypedExprOf}
+use Rattle.typed_trees.specs.TypedTree.{TruthExprOf, TypedExprOf}
 use Rattle.odata_types.specs.Typing.{filter_typing, typing}
 use Rattle.odata_query.specs.declared.aggregate.TheConstants.{MOST_ROWS}
 use Rattle.odata_query.specs.Aggregate.{TypedTransformationOf}
@@ -23,8 +23,9 @@ use Rattle.odata_query.specs.Key.{optional_key_typing}
 use Rattle.odata_query.specs.Query.{QueryOf, TypedOf, item_typing, optional_typing, order_typing, query_typing}
 use Rattle.odata_query.specs.Selection.{is_known, optional_selection_typing, selected_from, selects}
 use Rattle.row_eval.specs.Bounds.{NumbersFit, TruthFits}
-use Rattle.row_eval.specs.Input.{IsInput, IsQueried, IsQueriedItem, IsQueriedTransformation, IsRowOf, IsTableRow}
-use Rattle.row_eval.specs.Laws.{BoundsHold, TablesAreInputs}
+use Rattle.odata_types.specs.Input.{IsInput, IsQueried, IsQueriedItem, IsQueriedTransformation, IsRowOf, IsTableRow}
+use Rattle.odata_types.specs.Laws.{TablesAreInputs}
+use Rattle.query_meaning.specs.Laws.{BoundsHold}
 use Rattle.query_meaning.specs.Apply.{applied, applied_names}
 use Rattle.query_plan.specs.Fitting.{AreFitItems, NodesFit}
 use Rattle.query_meaning.specs.Fitting.{AreQueried, AreRowsOf, AreTableRows}

@@ -7,16 +7,16 @@ use Rattle.std.specs.declared.cmp.Ordering.{Ordering}
 use Rattle.std.proofs.lemmas.Bool.{cases_Bool, eqb-true}
 use Rattle.std.proofs.lemmas.List.{length-map}
 use Rattle.cell_types.specs.Value.{CellValue, null, integer, boolean, decimal, text}
-use Rattle.odata_types.specs.TypedTree as typed
-use Rattle.odata_types.specs.TypedTree.{TypedExprOf}
+use Rattle.typed_trees.specs.TypedTree as typed
+use Rattle.typed_trees.specs.TypedTree.{TypedExprOf}
 use Rattle.odata_query.specs.declared.aggregate.Aggregate.{Aggregate}
 use Rattle.odata_query.specs.declared.aggregate.Aggregate.TheVariants.{Count, SumOfIntegers, SumOfDecimals, Min, Max, CountDistinct}
 use Rattle.odata_query.specs.Aggregate.{NamedAggregateOf}
 use Rattle.odata_query.specs.FirstSeen.{first_seen}
 use Rattle.row_eval.specs.Logic.{option_of_truth, truth_of_option}
-use Rattle.row_eval.specs.Outcome.{cell_of, day_value, outcome}
+use Rattle.row_eval.specs.Outcome.{or_null, day_value, outcome}
 use Rattle.row_eval.specs.Row.{cell, boolean_in, day_in, decimal_in, integer_in, text_in}
-use Rattle.query_meaning.specs.Apply.{computed_value, computed_values, greatest_value, group_values, is_value, least_value, names_at, rows_of_group, same_values, sum_value, value_at, values_at, values_in}
+use Rattle.query_meaning.specs.Apply.{computed_value, computed_values, greatest_value, group_values, is_value, least_value, names_at, rows_of_group, same_values, sum_value, value_at, values_at, present_values}
 use Rattle.query_plan.specs.Narrow.{aggregate_column, aggregate_columns, moved_to, place_in, renumbered_aggregate, renumbered_expression, renumbered_item, renumbered_named}
 use Rattle.query_meaning.specs.Order.{Item, order_faults, ordered, placed, plain_column, rows_cmp, sorted}
 
@@ -130,7 +130,7 @@ module _ (named : List ℕ) where
       → filter_map (λ row. cell read row (place_in named place)) (map narrow_row rows) ≡ filter_map (λ row. cell read row place) rows
   same_cells read none place h rows = filter_map_after narrow_row (λ row. cell read row (place_in named place)) (λ row. cell read row place) rows (same_cell read none place h)
 
-  same_values_in : (place : ℕ) → IsNamed named place → (rows : List (List CellValue)) → values_in (place_in named place) (map narrow_row rows) ≡ values_in place rows
+  same_values_in : (place : ℕ) → IsNamed named place → (rows : List (List CellValue)) → present_values (place_in named place) (map narrow_row rows) ≡ present_values place rows
   same_values_in place h rows =
       ap (filter is_value) (map_after narrow_row (λ row. value_at row (place_in named place)) (λ row. value_at row place) rows (same_value place h))
 
@@ -201,12 +201,12 @@ module _ (named : List ℕ) where
       ap (λ o. Some (made o)) (same_cell read none place h row ∙ ap (cell read row) same)
 
   plain_same : (e : TypedExprOf) (place : ℕ) → plain_column e ≡ Some place → IsNamed named place → (row : List CellValue) → Same (moved_to e (Some (place_in named place))) e row
-  plain_same (typed.integer (typed.integer_column q) bound) place is h row = (read_same integer_in (cell_of integer) refl place q is h row, refl)
-  plain_same (typed.text (typed.text_column q)) place is h row = (read_same text_in (cell_of text) refl place q is h row, refl)
+  plain_same (typed.integer (typed.integer_column q) bound) place is h row = (read_same integer_in (or_null integer) refl place q is h row, refl)
+  plain_same (typed.text (typed.text_column q)) place is h row = (read_same text_in (or_null text) refl place q is h row, refl)
   plain_same (typed.truth (typed.truth_column q)) place is h row =
-      (read_same boolean_in (λ o. cell_of boolean (option_of_truth (truth_of_option o))) refl place q is h row, refl)
-  plain_same (typed.date (typed.date_column q)) place is h row = (read_same day_in (cell_of day_value) refl place q is h row, refl)
-  plain_same (typed.decimal (typed.decimal_column q) bound) place is h row = (read_same decimal_in (cell_of decimal) refl place q is h row, refl)
+      (read_same boolean_in (λ o. or_null boolean (option_of_truth (truth_of_option o))) refl place q is h row, refl)
+  plain_same (typed.date (typed.date_column q)) place is h row = (read_same day_in (or_null day_value) refl place q is h row, refl)
+  plain_same (typed.decimal (typed.decimal_column q) bound) place is h row = (read_same decimal_in (or_null decimal) refl place q is h row, refl)
   plain_same e place is h row = absurd (cc)
 
   item_same : (item : Item) → IsPlain item → (row : List CellValue) → Same (renumbered_expression named item.0) item.0 row

@@ -11,14 +11,14 @@ use Rattle.odata_types.specs.declared.types.ColumnType.TheVariants as column
 use Rattle.odata_types.specs.declared.types.TheConstants.{MOST_SIZE}
 use Rattle.odata_types.specs.Columns.{InputOf}
 use Rattle.odata_types.specs.Result.{◌>>=◌}
-use Rattle.odata_types.specs.TypedTree.{TruthExprOf}
+use Rattle.typed_trees.specs.TypedTree.{TruthExprOf}
 use Rattle.odata_types.specs.Typing.{filter_typing, place_of}
 use Rattle.odata_query.specs.declared.aggregate.Aggregate.{Aggregate}
 use Rattle.odata_query.specs.declared.aggregate.TheConstants.{COUNT_SIZE, MOST_ROWS}
 use Rattle.odata_query.specs.Aggregate.{ItemOf, TypedTransformationOf, filter_rows, aggregate_rows, group_rows}
 use Rattle.odata_query.specs.Apply.{apply_typing, columns_at, computed_typing, free_typing, grouped_places, has_alias, item_column, item_typing, items_typing, method_at, method_typing, named_of, optional_items, sum_typing, transformation_typing}
 use Rattle.odata_query.specs.Selection.{has_name}
-use Rattle.row_eval.specs.Input.{IsBounded, IsInput}
+use Rattle.odata_types.specs.Input.{IsBounded, IsInput}
 use Rattle.query_plan.proofs.TypingLemmas.{Told, told_any, told_then, told_within}
 
 -- ---- items

@@ -2,7 +2,7 @@
 use Rattle.std.proofs.Common.{◌≡◌, ℕ, suc, ◌+◌, Option, Some, None, List, [], ◌∷◌, ◌++◌, take, drop, refl, ap, ◌∙◌, arith}
 use Rattle.cell_types.specs.Value.{CellValue}
 use Rattle.csvw_meta.specs.Schema.{SchemaOf}
-use Rattle.odata_types.specs.TypedTree.{TruthExprOf}
+use Rattle.typed_trees.specs.TypedTree.{TruthExprOf}
 use Rattle.query_meaning.specs.Order.{Item}
 use Rattle.query_plan.specs.Narrow.{leading_filters, narrowed, narrowed_nodes, selected_first, wanted_columns}
 use Rattle.query_plan.specs.Plan.{NodeOf, PlanOf, aggregating, choosing, filtering, grouping, projecting, slicing, leading, needed, nodes_result, sorting, table_result}

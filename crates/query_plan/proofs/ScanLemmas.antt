@@ -12,8 +12,8 @@ use Rattle.block_summary.specs.Laws.{OneRange, SkipsNothing}
 use Rattle.block_summary.specs.Ranges.{column_of, range_of}
 use Rattle.block_summary.specs.Tests.{admits}
 use Rattle.cell_types.specs.Value.{CellValue, null}
-use Rattle.odata_types.specs.TypedTree.{TruthExprOf}
-use Rattle.row_eval.specs.Input.{IsTableRow}
+use Rattle.typed_trees.specs.TypedTree.{TruthExprOf}
+use Rattle.odata_types.specs.Input.{IsTableRow}
 use Rattle.query_plan.specs.Laws.{BareScansReadAll, ScansReadTableRows, UnadmittedBlocksPassNone}
 use Rattle.query_plan.specs.Scan.{TestOf, admits_all, admitted_blocks, bare, block_numbers, passes_test, passes_tests, reached, read_blocks, rows_of_blocks, up_to}
 use Rattle.query_meaning.specs.Filter.{passes_each}

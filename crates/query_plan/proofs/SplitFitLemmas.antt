@@ -5,8 +5,8 @@ use Rattle.std.specs.List.{All, list_any}
 use Rattle.std.proofs.lemmas.Bool.{or_parts}
 use Rattle.std.proofs.lemmas.List.{map-append}
 use Rattle.std.proofs.lemmas.List.Elements.{All-filter, All-weaker, filter_agree}
-use Rattle.odata_types.specs.CanFault.{truth_can_fault}
-use Rattle.odata_types.specs.TypedTree.{TruthExprOf, conjunction}
+use Rattle.typed_trees.specs.CanFault.{truth_can_fault}
+use Rattle.typed_trees.specs.TypedTree.{TruthExprOf, conjunction}
 use Rattle.row_eval.specs.Bounds.{TruthFits}
 use Rattle.row_eval.specs.Laws.{FaultsAreForeseen}
 use Rattle.query_meaning.specs.Filter.{faults, passes, passes_each}

@@ -9,14 +9,14 @@ use Rattle.cell_types.specs.Value.{CellValue}
 use Rattle.odata_parse.specs.Tree.{AggregateItemOf, ExprOf, TransformationOf, filter_by, aggregate, group_by}
 use Rattle.odata_types.specs.Columns.{InputOf}
 use Rattle.odata_types.specs.Result.{◌>>=◌}
-use Rattle.odata_types.specs.TypedTree.{TruthExprOf}
+use Rattle.typed_trees.specs.TypedTree.{TruthExprOf}
 use Rattle.odata_types.specs.Typing.{filter_typing, place_of}
 use Rattle.odata_query.specs.declared.aggregate.TheConstants.{MOST_ROWS}
 use Rattle.odata_query.specs.Aggregate.{ItemOf, TypedTransformationOf, filter_rows, aggregate_rows, group_rows}
 use Rattle.odata_query.specs.Apply.{apply_typing, columns_at, grouped_places, item_column, items_typing, named_of, optional_items, place_at, place_typing, places_typing, transformation_typing}
 use Rattle.odata_query.specs.FirstSeen.{first_seen}
-use Rattle.row_eval.specs.Input.{IsInput, IsQueriedTransformation, IsRowOf}
-use Rattle.row_eval.specs.Laws.{BoundsHold}
+use Rattle.odata_types.specs.Input.{IsInput, IsQueriedTransformation, IsRowOf}
+use Rattle.query_meaning.specs.Laws.{BoundsHold}
 use Rattle.query_meaning.specs.Apply.{computed_values, group_values, names_at, rows_of_group, same_values, value_at, values_at}
 use Rattle.query_meaning.specs.Filter.{faults, passes}
 use Rattle.row_eval.specs.Bounds.{TruthFits}

@@ -7,7 +7,7 @@ use Rattle.std.proofs.lemmas.List.Elements.{filter-append}
 use Rattle.std.proofs.lemmas.List.Sums.{length-filter}
 use Rattle.block_summary.specs.Blocks.{block_at}
 use Rattle.cell_types.specs.Value.{CellValue}
-use Rattle.odata_types.specs.TypedTree.{TruthExprOf}
+use Rattle.typed_trees.specs.TypedTree.{TruthExprOf}
 use Rattle.query_meaning.specs.Meaning.{first_rows}
 use Rattle.query_plan.specs.Plan.{NodeOf, filtering, nodes_result, slicing}
 use Rattle.query_plan.specs.Push.{early_stop, room_of}

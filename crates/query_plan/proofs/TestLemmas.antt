@@ -7,28 +7,29 @@ use Rattle.std.specs.declared.cmp.Ordering.{Ordering}
 use Rattle.std.specs.declared.cmp.Ordering.TheVariants.{Less, Equal, Greater}
 use Rattle.std.proofs.lemmas.Bool.{false≢true}
 use Rattle.block_summary.specs.Ranges.{is_null}
-use Rattle.block_summary.specs.Tests.{passes as passes_comparison}
+use Rattle.block_summary.specs.Tests.{test_passes as passes_comparison}
 use Rattle.cell_types.specs.Value.{CellValue, boolean, date, decimal, integer, null, text, value_cmp}
-use Rattle.odata_parse.specs.declared.tree.ComparisonOperator.{ComparisonOperator}
-use Rattle.odata_parse.specs.declared.tree.ComparisonOperator.TheVariants as op
+use Rattle.typed_trees.specs.declared.operator.ComparisonOperator.{ComparisonOperator}
+use Rattle.typed_trees.specs.declared.operator.ComparisonOperator.TheVariants as op
 use Rattle.odata_types.specs.declared.types.ColumnType.{ColumnType}
 use Rattle.odata_types.specs.declared.types.ColumnType.TheVariants as column
 use Rattle.odata_types.specs.declared.types.ExprType.{ExprType}
 use Rattle.odata_types.specs.declared.types.ExprType.TheVariants as kind
-use Rattle.odata_types.specs.declared.types.TheConstants.{MILLIONTHS, MOST_SIZE}
+use Rattle.typed_trees.specs.declared.tree.TheConstants.{MILLIONTHS}
+use Rattle.odata_types.specs.declared.types.TheConstants.{MOST_SIZE}
 use Rattle.odata_types.specs.Columns.{InputOf}
-use Rattle.odata_types.specs.TypedTree as typed
-use Rattle.odata_types.specs.TypedTree.{DateExprOf, DecimalExprOf, IntegerExprOf, TextExprOf, TruthExprOf}
+use Rattle.typed_trees.specs.TypedTree as typed
+use Rattle.typed_trees.specs.TypedTree.{DateExprOf, DecimalExprOf, IntegerExprOf, TextExprOf, TruthExprOf}
 use Rattle.odata_types.specs.Typing.{column_expr, type_of}
 use Rattle.row_eval.specs.declared.truth.Truth.{Truth}
 use Rattle.row_eval.specs.Comparison.{compared, day_cmp, holds}
-use Rattle.row_eval.specs.Input.{IsOfType, IsRowOf}
+use Rattle.odata_types.specs.Input.{IsOfType, IsRowOf}
 use Rattle.row_eval.specs.Logic.{option_of_truth, truth_of, truth_of_option}
-use Rattle.row_eval.specs.Outcome.{both, cell_of, date_outcome, day_value, decimal_outcome, integer_outcome, text_outcome, truth_outcome}
+use Rattle.row_eval.specs.Outcome.{both, or_null, date_outcome, day_value, decimal_outcome, integer_outcome, text_outcome, truth_outcome}
 use Rattle.row_eval.specs.Row.{boolean_in, cell, day_in, decimal_in, integer_in, text_in}
 use Rattle.query_meaning.specs.Filter.{is_true, passes}
 use Rattle.query_plan.specs.Scan.{TestOf, passes_test}
-use Rattle.query_plan.specs.Tests.{comparison_of, compared_with, date_value, decimal_value, integer_value, scaled_number, test_of, text_value, truth_value}
+use Rattle.query_plan.specs.Tests.{test_comparison, compared_with, date_literal_value, decimal_value, integer_value, scaled_number, test_of, text_value, truth_value}
 use Rattle.query_plan.specs.Types.{IsTruthOver, column_kind}
 use Rattle.query_plan.proofs.ValueLemmas.{OfColumn, value_fits}
 
@@ -36,7 +37,7 @@ use Rattle.query_plan.proofs.ValueLemmas.{OfColumn, value_fits}
 
 -- two values that are no null, by their order
 values_pass : (o : ComparisonOperator) (v w : CellValue) (r : Ordering) → is_null v ≡ false → is_null w ≡ false → value_cmp v w ≡ r → holds o (Some r) ≡ true
-    → passes_comparison (comparison_of o) v w ≡ true
+    → passes_comparison (test_comparison o) v w ≡ true
 values_pass op.Equal v w Equal nv nw e h = rw e refl
 values_pass op.NotEqual v w Less nv nw e h = rw e refl
 values_pass op.NotEqual v w Greater nv nw e h = rw e refl
@@ -48,7 +49,7 @@ values_pass op.LessOrEqual v w Less nv nw e h = rw nv (rw nw (rw e refl))
 values_pass op.LessOrEqual v w Equal nv nw e h = rw nv (rw nw (rw e refl))
 values_pass o v w r nv nw e h = absurd (false≢true h)
 
-nulls_pass : (o : ComparisonOperator) → holds o (Some Equal) ≡ true → passes_comparison (comparison_of o) null null ≡ true
+nulls_pass : (o : ComparisonOperator) → holds o (Some Equal) ≡ true → passes_comparison (test_comparison o) null null ≡ true
 unfolding value_cmp
 nulls_pass op.Equal h = refl
 nulls_pass op.GreaterOrEqual h = refl
@@ -56,7 +57,7 @@ nulls_pass op.LessOrEqual h = refl
 nulls_pass o h = absurd (false≢true h)
 
 -- a null beside a value
-one_passes : (o : ComparisonOperator) (v w : CellValue) → is_eq (value_cmp v w) ≡ false → holds o None ≡ true → passes_comparison (comparison_of o) v w ≡ true
+one_passes : (o : ComparisonOperator) (v w : CellValue) → is_eq (value_cmp v w) ≡ false → holds o None ≡ true → passes_comparison (test_comparison o) v w ≡ true
 one_passes op.NotEqual v w e h = rw e refl
 one_passes o v w e h = absurd (false≢true h)
 
@@ -68,7 +69,7 @@ record IsKindOf {X : Type 0} (make : X → CellValue) (cmp : X → X → Orderin
   pub behind : (x : X) → is_eq (value_cmp (make x) null) ≡ false
 
 kind_passes : {X : Type 0} (make : X → CellValue) (cmp : X → X → Ordering) → IsKindOf make cmp → (o : ComparisonOperator) (a b : Option X)
-    → holds o (compared cmp a b) ≡ true → passes_comparison (comparison_of o) (cell_of make a) (cell_of make b) ≡ true
+    → holds o (compared cmp a b) ≡ true → passes_comparison (test_comparison o) (or_null make a) (or_null make b) ≡ true
 kind_passes make cmp is o None None h = nulls_pass o h
 kind_passes make cmp is o None (Some y) h = one_passes o null (make y) (is.before y) h
 kind_passes make cmp is o (Some x) None h = one_passes o (make x) null (is.behind x) h
@@ -114,40 +115,40 @@ cell_at read e (v ∷ vs) (suc place) = cell_at read e vs place
 -- a value of a column of a type is null or a value of the type
 record Reads {X : Type 0} (make : X → CellValue) (read : CellValue → Option X) (wanted : ExprType) : Type 0 where
   pub null_is : read null ≡ None
-  pub each : (place : ℕ) (type : ColumnType) (v : CellValue) → type_of (column_expr place type) ≡ wanted → IsOfType type v → v ≡ cell_of make (read v)
+  pub each : (place : ℕ) (type : ColumnType) (v : CellValue) → type_of (column_expr place type) ≡ wanted → IsOfType type v → v ≡ or_null make (read v)
 
-integer_cells : (place : ℕ) (type : ColumnType) (v : CellValue) → type_of (column_expr place type) ≡ kind.Integer → IsOfType type v → v ≡ cell_of integer (integer_in v)
+integer_cells : (place : ℕ) (type : ColumnType) (v : CellValue) → type_of (column_expr place type) ≡ kind.Integer → IsOfType type v → v ≡ or_null integer (integer_in v)
 integer_cells place (column.Integer bound) null e h = refl
 integer_cells place (column.Integer bound) (integer n) e h = refl
 integer_cells place (column.Integer bound) v e h = absurd h
 integer_cells place type v e h = absurd (cc)
 
-decimal_cells : (place : ℕ) (type : ColumnType) (v : CellValue) → type_of (column_expr place type) ≡ kind.Decimal → IsOfType type v → v ≡ cell_of decimal (decimal_in v)
+decimal_cells : (place : ℕ) (type : ColumnType) (v : CellValue) → type_of (column_expr place type) ≡ kind.Decimal → IsOfType type v → v ≡ or_null decimal (decimal_in v)
 decimal_cells place (column.Decimal bound) null e h = refl
 decimal_cells place (column.Decimal bound) (decimal n) e h = refl
 decimal_cells place (column.Decimal bound) v e h = absurd h
 decimal_cells place type v e h = absurd (cc)
 
-text_cells : (place : ℕ) (type : ColumnType) (v : CellValue) → type_of (column_expr place type) ≡ kind.Text → IsOfType type v → v ≡ cell_of text (text_in v)
+text_cells : (place : ℕ) (type : ColumnType) (v : CellValue) → type_of (column_expr place type) ≡ kind.Text → IsOfType type v → v ≡ or_null text (text_in v)
 text_cells place column.Text null e h = refl
 text_cells place column.Text (text t) e h = refl
 text_cells place column.Text v e h = absurd h
 text_cells place type v e h = absurd (cc)
 
-boolean_cells : (place : ℕ) (type : ColumnType) (v : CellValue) → type_of (column_expr place type) ≡ kind.Boolean → IsOfType type v → v ≡ cell_of boolean (boolean_in v)
+boolean_cells : (place : ℕ) (type : ColumnType) (v : CellValue) → type_of (column_expr place type) ≡ kind.Boolean → IsOfType type v → v ≡ or_null boolean (boolean_in v)
 boolean_cells place column.Boolean null e h = refl
 boolean_cells place column.Boolean (boolean b) e h = refl
 boolean_cells place column.Boolean v e h = absurd h
 boolean_cells place type v e h = absurd (cc)
 
-day_cells : (place : ℕ) (type : ColumnType) (v : CellValue) → type_of (column_expr place type) ≡ kind.Date → IsOfType type v → v ≡ cell_of day_value (day_in v)
+day_cells : (place : ℕ) (type : ColumnType) (v : CellValue) → type_of (column_expr place type) ≡ kind.Date → IsOfType type v → v ≡ or_null day_value (day_in v)
 day_cells place column.Date null e h = refl
 day_cells place column.Date (date y m d) e h = refl
 day_cells place column.Date v e h = absurd h
 day_cells place type v e h = absurd (cc)
 
 column_cell : {X : Type 0} (make : X → CellValue) (read : CellValue → Option X) (wanted : ExprType) → Reads make read wanted → (place : ℕ) (c : Option InputOf) (v : CellValue)
-    → option_map (λ c. type_of (column_expr place c.column_type)) c ≡ Some wanted → OfColumn c v → v ≡ cell_of make (read v)
+    → option_map (λ c. type_of (column_expr place c.column_type)) c ≡ Some wanted → OfColumn c v → v ≡ or_null make (read v)
 column_cell make read wanted reads place None v e h = absurd (cc)
 column_cell make read wanted reads place (Some c) v e h = let same : type_of (column_expr place c.column_type) ≡ wanted = cc in reads.each place c.column_type v same h
 
@@ -162,7 +163,7 @@ scaled_is true z w e = sized_is decimal (nat_le (unsigned_abs z * MILLIONTHS) MO
 scaled_is false z w e = absurd (cc)
 
 abbrev Literal : {X : Type 0} → (X → CellValue) → Option (Option X) → CellValue → Type 0
-Literal {X} make outcome w = (y : Option X) × (outcome ≡ Some y) × (w ≡ cell_of make y)
+Literal {X} make outcome w = (y : Option X) × (outcome ≡ Some y) × (w ≡ or_null make y)
 
 integer_is : (row : List CellValue) (b : IntegerExprOf) (w : CellValue) → integer_value b ≡ Some w → Literal integer (integer_outcome b row) w
 integer_is row typed.null_integer w e = (None, refl, cc)
@@ -184,7 +185,7 @@ text_is row typed.null_text w e = (None, refl, cc)
 text_is row (typed.text_literal t) w e = (Some t, refl, cc)
 text_is row b w e = absurd (cc)
 
-date_is : (row : List CellValue) (b : DateExprOf) (w : CellValue) → date_value b ≡ Some w → Literal day_value (Some (date_outcome b row)) w
+date_is : (row : List CellValue) (b : DateExprOf) (w : CellValue) → date_literal_value b ≡ Some w → Literal day_value (Some (date_outcome b row)) w
 date_is row typed.null_date w e = (None, refl, cc)
 date_is row (typed.date_literal d) w e = (Some d, refl, cc)
 date_is row b w e = absurd (cc)
@@ -210,21 +211,21 @@ module _ {X : Type 0} (make : X → CellValue) (cmp : X → X → Ordering) (rea
   comparison_passes : (inputs : List InputOf) (row : List CellValue) → IsRowOf inputs row → (place : ℕ) → column_kind inputs place ≡ Some wanted
       → (o : ComparisonOperator) (outcome : Option (Option X)) (w : CellValue) → Literal make outcome w
       → is_true (both (λ x y. truth_of (holds o (compared cmp x y))) (Some (cell read row place)) outcome) ≡ true
-      → passes_comparison (comparison_of o) (get_or row place null) w ≡ true
+      → passes_comparison (test_comparison o) (get_or row place null) w ≡ true
   comparison_passes inputs row are place kinds o outcome w literal h =
       let v = get_or row place null in
       let y = literal.0 in
       let f = λ (x : Option X) (z : Option X). truth_of (holds o (compared cmp x z)) in
-      let cells : v ≡ cell_of make (read v) = column_cell make read wanted reads place (slice_get inputs place) v kinds (value_fits inputs row place are) in
+      let cells : v ≡ or_null make (read v) = column_cell make read wanted reads place (slice_get inputs place) v kinds (value_fits inputs row place are) in
       let at : is_true (both f (Some (read v)) (Some y)) ≡ true =
       sym (ap (λ (x : Option X). is_true (both f (Some x) (Some y))) (cell_at read reads.null_is row place))
       ∙ sym (ap (λ (z : Option (Option X)). is_true (both f (Some (cell read row place)) z)) literal.1) ∙ h in
-      ap (λ (a : CellValue). passes_comparison (comparison_of o) a w) cells
-      ∙ ap (λ (a : CellValue). passes_comparison (comparison_of o) (cell_of make (read v)) a) literal.2
+      ap (λ (a : CellValue). passes_comparison (test_comparison o) a w) cells
+      ∙ ap (λ (a : CellValue). passes_comparison (test_comparison o) (or_null make (read v)) a) literal.2
       ∙ kind_passes make cmp is o (read v) y (holds_is (holds o (compared cmp (read v) y)) at)
 
 compared_is : (place : ℕ) (o : ComparisonOperator) (literal : Option CellValue) (t : TestOf) → compared_with place o literal ≡ Some t
-    → (w : CellValue) × (literal ≡ Some w) × (record { column = place; op = comparison_of o; literal = w } ≡ t)
+    → (w : CellValue) × (literal ≡ Some w) × (record { column = place; op = test_comparison o; literal = w } ≡ t)
 compared_is place o None t e = absurd (cc)
 compared_is place o (Some w) t e = (w, refl, cc)
 
@@ -250,7 +251,7 @@ test_passed inputs row are (typed.compare_texts o (typed.text_column place) b) t
     subst (λ (x : TestOf). passes_test row x ≡ true) found.2
     (comparison_passes text (slice_cmp nat_cmp) text_in kind.Text texts (record { null_is = refl; each = text_cells }) inputs row are place over.0 o (Some (text_outcome b row)) found.0 (text_is row b found.0 found.1) h)
 test_passed inputs row are (typed.compare_dates o (typed.date_column place) b) t over is h =
-    let found = compared_is place o (date_value b) t is in
+    let found = compared_is place o (date_literal_value b) t is in
     subst (λ (x : TestOf). passes_test row x ≡ true) found.2
     (comparison_passes day_value day_cmp day_in kind.Date days (record { null_is = refl; each = day_cells }) inputs row are place over.0 o (Some (date_outcome b row)) found.0 (date_is row b found.0 found.1) h)
 test_passed inputs row are (typed.compare_truths o (typed.truth_column place) b) t over is h =

@@ -9,9 +9,9 @@ use Rattle.block_summary.specs.Blocks.{block_at}
 use Rattle.csvw_meta.specs.Schema.{SchemaOf}
 use Rattle.odata_types.specs.Columns.{InputOf}
 use Rattle.odata_types.specs.Schema.{inputs_of}
-use Rattle.odata_types.specs.TypedTree.{TruthExprOf, conjunction}
-use Rattle.row_eval.specs.Input.{IsRowOf, IsTableRow}
-use Rattle.row_eval.specs.Laws.{TablesAreInputs}
+use Rattle.typed_trees.specs.TypedTree.{TruthExprOf, conjunction}
+use Rattle.odata_types.specs.Input.{IsRowOf, IsTableRow}
+use Rattle.odata_types.specs.Laws.{TablesAreInputs}
 use Rattle.query_meaning.specs.Filter.{passes, passes_each}
 use Rattle.query_meaning.specs.Fitting.{AreTableRows}
 use Rattle.query_plan.specs.Laws.{UnadmittedBlocksPassNone}

@@ -3,15 +3,15 @@ use Rattle.std.proofs.Common.{◌≡◌, inl, inr, ℕ, Result, Ok, Option, Some
 use Rattle.std.specs.Prelude.{◌+◌, ◌*◌, option_map, slice_get, unsigned_abs}
 use Rattle.std.specs.List.{list_all}
 use Rattle.std.proofs.lemmas.Bool.{cases_Bool}
-use Rattle.odata_parse.specs.declared.tree.ArithmeticOperator.{ArithmeticOperator}
-use Rattle.odata_parse.specs.declared.tree.ArithmeticOperator.TheVariants as arithmetic
+use Rattle.typed_trees.specs.declared.operator.ArithmeticOperator.{ArithmeticOperator}
+use Rattle.typed_trees.specs.declared.operator.ArithmeticOperator.TheVariants as arithmetic
 use Rattle.odata_parse.specs.declared.tree.BinaryFunction.{BinaryFunction}
 use Rattle.odata_parse.specs.declared.tree.BinaryFunction.TheVariants as function
 use Rattle.odata_parse.specs.declared.tree.BinaryOperator.{BinaryOperator}
 use Rattle.odata_parse.specs.declared.tree.BinaryOperator.TheVariants as operator
 use Rattle.odata_parse.specs.declared.tree.LogicOperator.{LogicOperator}
 use Rattle.odata_parse.specs.declared.tree.LogicOperator.TheVariants.{And, Or}
-use Rattle.odata_parse.specs.declared.tree.ComparisonOperator.{ComparisonOperator}
+use Rattle.typed_trees.specs.declared.operator.ComparisonOperator.{ComparisonOperator}
 use Rattle.odata_parse.specs.declared.tree.UnaryFunction.{UnaryFunction}
 use Rattle.odata_parse.specs.declared.tree.UnaryFunction.TheVariants as unary
 use Rattle.odata_parse.specs.declared.tree.UnaryOperator.{UnaryOperator}
@@ -23,14 +23,15 @@ use Rattle.odata_types.specs.declared.types.ColumnType.{ColumnType}
 use Rattle.odata_types.specs.declared.types.ColumnType.TheVariants as column
 use Rattle.odata_types.specs.declared.types.ExprType.{ExprType}
 use Rattle.odata_types.specs.declared.types.ExprType.TheVariants as kind
-use Rattle.odata_types.specs.declared.tree.DatePart.{DatePart}
-use Rattle.odata_types.specs.declared.tree.DatePart.TheVariants as part
+use Rattle.typed_trees.specs.declared.tree.DatePart.{DatePart}
+use Rattle.typed_trees.specs.declared.tree.DatePart.TheVariants as part
 use Rattle.odata_types.specs.Columns.{InputOf}
 use Rattle.odata_types.specs.Result.{◌>>=◌}
-use Rattle.odata_types.specs.TypedTree as typed
-use Rattle.odata_types.specs.TypedTree.{DecimalExprOf, TextExprOf, TruthExprOf, TypedExprOf}
-use Rattle.odata_types.specs.declared.types.TheConstants.{FUNCTION_SIZE, MILLIONTHS}
-use Rattle.odata_types.specs.Typing.{arithmetic_as, as_date, as_decimal, as_integer, as_text, as_truth, binary_call_typing, binary_typing, column_at, column_expr, common_type, comparison_as, comparison_typing, computed_size, decimal_items, decimals_typing, filter_typing, fits, in_typing, integers_typing, is_small, list_as, list_in_type, list_type, literal_type, literal_typing, logic_expr, logic_typing, part_typing, place_of, text_call, type_of, typing, unary_call_typing, unary_typing}
+use Rattle.typed_trees.specs.TypedTree as typed
+use Rattle.typed_trees.specs.TypedTree.{DecimalExprOf, TextExprOf, TruthExprOf, TypedExprOf}
+use Rattle.typed_trees.specs.declared.tree.TheConstants.{MILLIONTHS}
+use Rattle.odata_types.specs.declared.types.TheConstants.{FUNCTION_SIZE}
+use Rattle.odata_types.specs.Typing.{arithmetic_as, as_date, as_decimal, as_integer, as_text, as_truth, binary_call_typing, binary_typing, column_at, column_expr, common_type, comparison_as, comparison_typing, computed_size, decimal_items, decimals_typing, filter_typing, type_fits, in_typing, integers_typing, is_small, list_as, list_in_type, list_type, literal_type, literal_typing, logic_expr, logic_typing, part_typing, place_of, text_call, type_of, typing, unary_call_typing, unary_typing}
 use Rattle.query_plan.specs.Types.{IsDateOver, IsDecimalOver, IsIntegerOver, IsTextOver, IsTruthOver, column_kind}
 use Rattle.query_plan.proofs.TypingLemmas.{Told, told_any, told_then, told_within}
 
@@ -172,7 +173,7 @@ module _ (inputs : List InputOf) where
   list_over kind.Boolean a vs = told_then (λ x. Unit {0}) (IsTruthOver inputs) (as_truth a) _ (told_any (as_truth a)) (λ x h. tt)
 
   list_type_over : (type : ExprType) (a : TypedExprOf) (vs : List LiteralOf) → Told (IsOver inputs) (list_in_type type a vs)
-  list_type_over type a vs = elim (cases_Bool (list_all (λ v. fits type (literal_type v)) vs)) [
+  list_type_over type a vs = elim (cases_Bool (list_all (λ v. type_fits type (literal_type v)) vs)) [
     | inl e ↦ rw e (told_then (IsTruthOver inputs) (IsOver inputs) (list_as type a vs) (λ e. Ok (typed.truth e)) (list_over type a vs) (λ e over. over))
     | inr e ↦ rw e tt
   ]

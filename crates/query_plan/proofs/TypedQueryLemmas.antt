@@ -6,7 +6,7 @@ use Rattle.std.proofs.lemmas.List.Elements.{All-from_recursion}
 use Rattle.odata_parse.specs.Tree.{ExprOf}
 use Rattle.odata_types.specs.Columns.{InputOf}
 use Rattle.odata_types.specs.Result.{◌>>=◌}
-use Rattle.odata_types.specs.TypedTree.{TruthExprOf}
+use Rattle.typed_trees.specs.TypedTree.{TruthExprOf}
 use Rattle.odata_types.specs.Typing.{filter_typing}
 use Rattle.cell_types.specs.Value.{CellValue}
 use Rattle.csvw_meta.specs.Schema.{SchemaOf}

@@ -8,7 +8,7 @@ use Rattle.std.proofs.lemmas.List.Elements.{All-contains, All-from_recursion}
 use Rattle.std.proofs.lemmas.List.Sums.{sum_by-append}
 use Rattle.block_summary.specs.Blocks.{block_at, block_count}
 use Rattle.cell_types.specs.Value.{CellValue}
-use Rattle.odata_types.specs.TypedTree.{TruthExprOf}
+use Rattle.typed_trees.specs.TypedTree.{TruthExprOf}
 use Rattle.query_plan.specs.Scan.{ScanOf, TestOf, admits_all, admitted_blocks, reached, read_blocks, rows_of_blocks, up_to}
 use Rattle.query_meaning.specs.Filter.{passes_each}
 use Rattle.query_plan.proofs.ListLemmas.{here, later}

@@ -14,9 +14,9 @@ use Rattle.cell_types.specs.Value.{CellValue, null, integer, text, boolean, date
 use Rattle.odata_types.specs.declared.types.ColumnType.{ColumnType}
 use Rattle.odata_types.specs.declared.types.ColumnType.TheVariants as column
 use Rattle.odata_types.specs.Columns.{InputOf}
-use Rattle.row_eval.specs.Input.{IsOfType, IsRowOf}
+use Rattle.odata_types.specs.Input.{IsOfType, IsRowOf}
 use Rattle.row_eval.specs.Row.{cell, decimal_in, integer_in}
-use Rattle.query_meaning.specs.Apply.{greatest_value, integer_sum, is_value, least_value, sum_value, value_at, values_in}
+use Rattle.query_meaning.specs.Apply.{greatest_value, integer_sum, is_value, least_value, sum_value, value_at, present_values}
 
 -- ---- values of a row
 
@@ -121,10 +121,10 @@ module _ (type : ColumnType) where
   kept_fits false v vs h all = all
 
   pub values_fit : (inputs : List InputOf) (place : ℕ) (name : List ℕ) → slice_get inputs place ≡ Some (record { name = name; column_type = type })
-      → (rows : List (List CellValue)) → AllByRecursion (IsRowOf inputs) rows → AllByRecursion (IsOfType type) (values_in place rows)
+      → (rows : List (List CellValue)) → AllByRecursion (IsRowOf inputs) rows → AllByRecursion (IsOfType type) (present_values place rows)
   values_fit inputs place name is [] all = tt
   values_fit inputs place name is (row ∷ rows) all =
-      kept_fits (is_value (value_at row place)) (value_at row place) (values_in place rows)
+      kept_fits (is_value (value_at row place)) (value_at row place) (present_values place rows)
       (subst (λ (c : Option InputOf). OfColumn c (value_at row place)) is (value_fits inputs row place all.0)) (values_fit inputs place name is rows all.1)
 
   null_fits : IsOfType type null
@@ -145,9 +145,9 @@ module _ (type : ColumnType) where
 pub filter_length : {X : Type 0} (p : X → Bool) (xs : List X) → length (filter p xs) ≤ length xs
 filter_length p xs = omega (arith, length-filter p xs, count_by-le-length p xs)
 
-pub distinct_few : (place : ℕ) (rows : List (List CellValue)) → distinct_count value_eq (values_in place rows) ≤ length rows
+pub distinct_few : (place : ℕ) (rows : List (List CellValue)) → distinct_count value_eq (present_values place rows) ≤ length rows
 distinct_few place rows =
-    let few : distinct_count value_eq (values_in place rows) ≤ length (values_in place rows) = distinct_count-le value_eq (values_in place rows) in
-    let values : length (values_in place rows) ≤ length (map (λ row. value_at row place) rows) = filter_length is_value (map (λ row. value_at row place) rows) in
+    let few : distinct_count value_eq (present_values place rows) ≤ length (present_values place rows) = distinct_count-le value_eq (present_values place rows) in
+    let values : length (present_values place rows) ≤ length (map (λ row. value_at row place) rows) = filter_length is_value (map (λ row. value_at row place) rows) in
     let mapped : length (map (λ row. value_at row place) rows) ≡ length rows = length-map rows (λ row. value_at row place) in
     omega arith

@@ -6,13 +6,13 @@ use Rattle.cell_types.specs.Value.{CellValue}
 use Rattle.csvw_meta.specs.Schema.{SchemaOf}
 use Rattle.odata_parse.specs.Tree.{TransformationOf}
 use Rattle.odata_types.specs.Columns.{InputOf}
-use Rattle.odata_types.specs.TypedTree.{TruthExprOf}
+use Rattle.typed_trees.specs.TypedTree.{TruthExprOf}
 use Rattle.row_eval.specs.declared.truth.Truth.TheVariants.{True}
 use Rattle.odata_query.specs.Aggregate.{TypedTransformationOf}
 use Rattle.odata_query.specs.Query.{TypedOf}
 use Rattle.odata_query.specs.Apply.{apply_typing}
 use Rattle.odata_types.specs.Schema.{inputs_of}
-use Rattle.row_eval.specs.Input.{IsInput, IsTableRow}
+use Rattle.odata_types.specs.Input.{IsInput, IsTableRow}
 use Rattle.row_eval.specs.Outcome.{truth_outcome}
 use Rattle.query_meaning.specs.Apply.{applied}
 use Rattle.query_plan.specs.Fitting.{IsFitFor, NodesFit}

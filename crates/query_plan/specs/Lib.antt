@@ -1,8 +1,8 @@
 pub use Rattle.odata_types.specs.Columns
 pub use Rattle.odata_query.specs.Query as Queries
-pub use Rattle.odata_types.specs.TypedTree
+pub use Rattle.typed_trees.specs.TypedTree
 pub use Rattle.row_eval.specs.Bounds
-pub use Rattle.row_eval.specs.Input
+pub use Rattle.odata_types.specs.Input
 pub use Rattle.query_meaning.specs.Filter
 pub use Rattle.query_meaning.specs.Order
 pub use Rattle.query_meaning.specs.Apply

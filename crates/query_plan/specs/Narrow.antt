@@ -1,8 +1,8 @@
 -- Plans that keep only the columns that their steps name.
 use Rattle.std.specs.Prelude.{ℕ, Bool, true, false, List, [], ◌∷◌, ◌++◌, Option, Some, None, drop, map, nat_eq, option_and_then, option_map, take, if◌then◌else◌}
 use Rattle.std.specs.List.{filter_map, list_any, position_or_len, prefix_len}
-use Rattle.odata_types.specs.TypedTree as typed
-use Rattle.odata_types.specs.TypedTree.{TypedExprOf}
+use Rattle.typed_trees.specs.TypedTree as typed
+use Rattle.typed_trees.specs.TypedTree.{TypedExprOf}
 use Rattle.odata_query.specs.declared.aggregate.Aggregate.{Aggregate}
 use Rattle.odata_query.specs.declared.aggregate.Aggregate.TheVariants.{Count, SumOfIntegers, SumOfDecimals, Min, Max, CountDistinct}
 use Rattle.odata_query.specs.Aggregate.{NamedAggregateOf}

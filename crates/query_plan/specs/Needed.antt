@@ -2,8 +2,8 @@
 use Rattle.std.specs.Prelude.{ℕ, ◌+◌, ◌==◌, ◌&&◌, not, Bool, true, false, List, [], ◌∷◌, Option, Some, None, if◌then◌else◌, length, option_map}
 use Rattle.std.specs.List.{filter_map, flat_map, list_all, list_any}
 use Rattle.cell_types.specs.Value.{CellValue}
-use Rattle.odata_types.specs.CanFault.{truth_can_fault}
-use Rattle.odata_types.specs.TypedTree.{TruthExprOf}
+use Rattle.typed_trees.specs.CanFault.{truth_can_fault}
+use Rattle.typed_trees.specs.TypedTree.{TruthExprOf}
 use Rattle.odata_query.specs.Aggregate.{TypedTransformationOf, filter_rows}
 use Rattle.odata_query.specs.Query.{TypedOf}
 use Rattle.query_plan.specs.Push.{conjuncts}
@@ -11,14 +11,14 @@ use Rattle.query_plan.specs.Scan.{TestOf, admitted_blocks, up_to}
 use Rattle.query_plan.specs.Tests.{test_of}
 
 -- the conditions on rows of the table: those of `$apply` before any `groupby` or `aggregate`, and that of `$filter` where `$apply` has neither
-abbrev pub conditions_of : List TypedTransformationOf → Option TruthExprOf → List TruthExprOf
-conditions_of [] None = []
-conditions_of [] (Some e) = e ∷ []
-conditions_of (filter_rows e ∷ ts) filter = e ∷ conditions_of ts filter
-conditions_of (t ∷ ts) filter = []
+abbrev pub conditions_before : List TypedTransformationOf → Option TruthExprOf → List TruthExprOf
+conditions_before [] None = []
+conditions_before [] (Some e) = e ∷ []
+conditions_before (filter_rows e ∷ ts) filter = e ∷ conditions_before ts filter
+conditions_before (t ∷ ts) filter = []
 
 abbrev pub row_conditions : TypedOf → List TruthExprOf
-row_conditions q = conditions_of q.apply q.filter
+row_conditions q = conditions_before q.apply q.filter
 
 -- some of them may divide by zero
 abbrev pub conditions_can_fault : TypedOf → Bool

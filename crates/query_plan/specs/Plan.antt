@@ -3,7 +3,7 @@ use Rattle.std.specs.Prelude.{◌≡◌, ℕ, Bool, true, false, List, [], ◌�
 use Rattle.std.specs.Option.{unwrap_or}
 use Rattle.cell_types.specs.Value.{CellValue}
 use Rattle.csvw_meta.specs.Schema.{SchemaOf}
-use Rattle.odata_types.specs.TypedTree.{TruthExprOf, boxed_truth}
+use Rattle.typed_trees.specs.TypedTree.{TruthExprOf, boxed_truth}
 use Rattle.odata_query.specs.Aggregate.{NamedAggregateOf, aggregates_view, TypedTransformationOf, filter_rows, aggregate_rows, group_rows}
 use Rattle.odata_query.specs.Query.{TypedOf, order_view}
 use Rattle.query_plan.specs.declared.plan.Node.{Node}
@@ -162,6 +162,6 @@ answer_of true r = number (unwrap_or r.count 0)
 answer_of false r = result r
 
 -- on the rows of any table the plan answers what the query means
-abbrev pub Means : PlanOf → TypedOf → Type 0
-Means plan q = (schema : SchemaOf) (rows : List (List CellValue))
+abbrev pub MeansQuery : PlanOf → TypedOf → Type 0
+MeansQuery plan q = (schema : SchemaOf) (rows : List (List CellValue))
     → option_map (answer_of q.counting) (plan_result schema plan rows) ≡ query_meaning schema q rows

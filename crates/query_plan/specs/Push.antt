@@ -1,8 +1,8 @@
 -- What the filters that a plan begins with say of the blocks that it needs.
 use Rattle.std.specs.Prelude.{ℕ, ◌&&◌, not, Bool, List, [], ◌∷◌, ◌++◌, Option, None, if◌then◌else◌, map}
 use Rattle.std.specs.List.{filter_map, list_any}
-use Rattle.odata_types.specs.CanFault.{truth_can_fault}
-use Rattle.odata_types.specs.TypedTree.{TruthExprOf, conjunction}
+use Rattle.typed_trees.specs.CanFault.{truth_can_fault}
+use Rattle.typed_trees.specs.TypedTree.{TruthExprOf, conjunction}
 use Rattle.query_plan.specs.Plan.{NodeOf, PlanOf, filtering, leading, slicing}
 use Rattle.query_plan.specs.Rewrite.{narrowed_plan}
 pub use Rattle.query_plan.specs.Rewrite.{room_of}

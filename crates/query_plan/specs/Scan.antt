@@ -5,8 +5,8 @@ use Rattle.cell_types.specs.Value.{CellValue, null, value_view}
 use Rattle.block_summary.specs.declared.test.Comparison.{Comparison}
 use Rattle.block_summary.specs.Blocks.{block_at, block_count}
 use Rattle.block_summary.specs.Ranges.{column_of, range_of}
-use Rattle.block_summary.specs.Tests.{admits, passes as passes_comparison}
-use Rattle.odata_types.specs.TypedTree.{TruthExprOf}
+use Rattle.block_summary.specs.Tests.{admits, test_passes as passes_comparison}
+use Rattle.typed_trees.specs.TypedTree.{TruthExprOf}
 use Rattle.query_plan.specs.declared.scan.ColumnTest.{ColumnTest}
 use Rattle.query_plan.specs.declared.scan.Scan.{Scan}
 use Rattle.query_meaning.specs.Filter.{passes_each}

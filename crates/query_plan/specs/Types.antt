@@ -4,7 +4,7 @@ use Rattle.std.specs.List.{All}
 use Rattle.csvw_meta.specs.Schema.{SchemaOf}
 use Rattle.odata_types.specs.Columns.{InputOf}
 use Rattle.odata_types.specs.Schema.{inputs_of}
-use Rattle.odata_types.specs.TypedTree.{DateExprOf, DecimalExprOf, IntegerExprOf, TextExprOf, TruthExprOf, compare_dates, compare_decimals, compare_integers, compare_texts, compare_truths, conjunction, date_column, decimal_column, integer_column, text_column, truth_column}
+use Rattle.typed_trees.specs.TypedTree.{DateExprOf, DecimalExprOf, IntegerExprOf, TextExprOf, TruthExprOf, compare_dates, compare_decimals, compare_integers, compare_texts, compare_truths, conjunction, date_column, decimal_column, integer_column, text_column, truth_column}
 use Rattle.odata_types.specs.Typing.{column_expr, type_of}
 use Rattle.odata_types.specs.declared.types.ExprType.{ExprType}
 use Rattle.odata_types.specs.declared.types.ExprType.TheVariants as kind

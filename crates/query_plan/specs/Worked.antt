@@ -5,15 +5,15 @@ use Rattle.block_summary.specs.declared.test.Comparison.TheVariants as compariso
 use Rattle.block_summary.specs.Blocks.{block_at}
 use Rattle.block_summary.specs.Ranges.{column_of, range_of}
 use Rattle.cell_types.specs.Value.{CellValue, null, integer, text, boolean, date, decimal}
-use Rattle.odata_parse.specs.declared.tree.ComparisonOperator.{ComparisonOperator}
-use Rattle.odata_parse.specs.declared.tree.ComparisonOperator.TheVariants.{Equal, NotEqual, GreaterThan, GreaterOrEqual, LessThan, LessOrEqual}
-use Rattle.odata_types.specs.TypedTree as typed
-use Rattle.odata_types.specs.TypedTree.{DecimalExprOf, IntegerExprOf, TruthExprOf}
+use Rattle.typed_trees.specs.declared.operator.ComparisonOperator.{ComparisonOperator}
+use Rattle.typed_trees.specs.declared.operator.ComparisonOperator.TheVariants.{Equal, NotEqual, GreaterThan, GreaterOrEqual, LessThan, LessOrEqual}
+use Rattle.typed_trees.specs.TypedTree as typed
+use Rattle.typed_trees.specs.TypedTree.{DecimalExprOf, IntegerExprOf, TruthExprOf}
 use Rattle.odata_query.specs.Aggregate.{filter_rows, group_rows}
 use Rattle.odata_query.specs.Query.{TypedOf}
 use Rattle.query_plan.specs.Needed.{needed_blocks, pushed_tests}
 use Rattle.query_plan.specs.Scan.{TestOf}
-use Rattle.query_meaning.specs.Worked.{cities, every, pop, beyond, populous, uncounted, divided}
+use Rattle.query_meaning.specs.Worked.{cities, every, pop, beyond, populous, never_counted, divided}
 
 -- a comparison of `Pop` and one of `Price` with a literal
 abbrev pub pop_is : ComparisonOperator → IntegerExprOf → TruthExprOf
@@ -47,7 +47,7 @@ pub record WorkedTests : Type 0 where
   pub at_most : Pushes (pop_is LessOrEqual five) (test 2 comparisons.LessOrEqual (integer (pos 5)) ∷ [])
   -- `Pop gt -5` and `Pop eq null`
   pub below_zero : Pushes (pop_is GreaterThan (typed.negated five)) (test 2 comparisons.GreaterThan (integer (neg_ℤ (pos 5))) ∷ [])
-  pub of_null : Pushes uncounted (test 2 comparisons.Equal null ∷ [])
+  pub of_null : Pushes never_counted (test 2 comparisons.Equal null ∷ [])
   -- `Name eq 'Oslo'`, `Open eq true`, `Since lt 2024-02-29`
   pub of_text : Pushes in_oslo (test 1 comparisons.Equal (text (codes "Oslo")) ∷ [])
   pub of_truth : Pushes (typed.compare_truths Equal (typed.truth_column 3) (typed.truth_literal true)) (test 3 comparisons.Equal (boolean true) ∷ [])
@@ -96,5 +96,5 @@ pub record WorkedBlocks : Type 0 where
   -- of the three cities: `Id gt 9`, `Pop gt 5`, `Pop eq null`, and `Id gt 9 and 10 div (Id sub 1) gt 0`
   pub ruled_out : needed_blocks (record every { filter = Some beyond }) cities ≡ []
   pub greater : needed_blocks (record every { filter = Some populous }) cities ≡ 0 ∷ []
-  pub unknown : needed_blocks (record every { filter = Some uncounted }) cities ≡ 0 ∷ []
+  pub unknown : needed_blocks (record every { filter = Some never_counted }) cities ≡ 0 ∷ []
   pub divided : needed_blocks (record every { filter = Some (typed.conjunction beyond divided) }) cities ≡ 0 ∷ []

@@ -3,7 +3,8 @@
 ghost use Rattle.query_plan.specs.Laws.{BareScansReadAll, BlocksUpToTheStop, NeededBlocksAreRead, NodesInTurn, PlansNeedBlocks, QueriesAreTyped, QueriesFit, ResultsAreInputs, ResultsAreRows, ScansReadTableRows, TestsArePassed, UnadmittedBlocksPassNone};
 ghost use Rattle.query_plan.specs.Worked.{WorkedBlocks, WorkedTests};
 
-use row_eval::{bounds_hold, tables_are_inputs};
+use odata_types::tables_are_inputs;
+use query_meaning::bounds_hold;
 
 /// A bare scan reads every block, and gives all rows.
 pub fn bare_scans_read_all()

@@ -1,7 +1,7 @@
 //! The columns that the steps of a plan name.
 ghost use Rattle.std.specs.Prelude.{◌≡◌, ◌++◌, [], IfOk, OnOk, map, nat_eq};
 ghost use Rattle.std.specs.List.{filter_map, list_any};
-ghost use Rattle.odata_types.specs.TypedTree.{typed_view};
+ghost use Rattle.typed_trees.specs.TypedTree.{typed_view};
 ghost use Rattle.odata_query.specs.Aggregate.{named_view};
 ghost use Rattle.odata_query.specs.Query.{optional_numbers, order_view};
 ghost use Rattle.query_plan.specs.Narrow.{aggregate_column, aggregate_columns, item_columns, keeps_columns, named_columns, node_columns, wanted_columns, with_columns};
@@ -10,8 +10,8 @@ ghost use Rattle.query_plan.specs.Plan.{node_view};
 
 use crate::plan::Node;
 use odata_query::{Aggregate, NamedAggregate, OrderBy};
-use odata_types::{DateExpr, DecimalExpr, IntegerExpr, TextExpr, TruthExpr, TypedExpr};
 use std::alloc::{AllocError, Global};
+use typed_trees::{DateExpr, DecimalExpr, IntegerExpr, TextExpr, TruthExpr, TypedExpr};
 
 /// The column that an expression is, where it is one.
 pub(crate) fn plain_column(expression: &TypedExpr) -> Option<usize>

@@ -1,20 +1,20 @@
 //! Plans, and the plan of a query.
 ghost use Rattle.std.specs.Prelude.{◌≡◌, None, IfOk, OnOk, map, option_map};
 ghost use Rattle.csvw_meta.specs.Schema.{SchemaOf};
-ghost use Rattle.odata_types.specs.TypedTree.{boxed_truth};
-ghost use Rattle.odata_query.specs.Aggregate.{transformation_view, transformations_view};
+ghost use Rattle.typed_trees.specs.TypedTree.{boxed_truth};
+ghost use Rattle.odata_query.specs.Aggregate.{typed_transformation_view, transformations_view};
 ghost use Rattle.odata_query.specs.Query.{optional_numbers, order_view, query_typed_view};
 ghost use Rattle.query_plan.specs.Fitting.{IsFitFor};
 ghost use Rattle.query_meaning.specs.Fitting.{IsTypedFor};
 ghost use Rattle.query_plan.specs.Types.{IsTypedPlan};
-ghost use Rattle.query_plan.specs.Plan.{apply_nodes, filter_nodes, naive_plan, node_view, order_nodes, plan_view, select_nodes, slice_nodes, slice_view, transformation_node, Adds, Means};
+ghost use Rattle.query_plan.specs.Plan.{apply_nodes, filter_nodes, naive_plan, node_view, order_nodes, plan_view, select_nodes, slice_nodes, slice_view, transformation_node, Adds, MeansQuery};
 ghost use Rattle.query_plan.specs.Rewrite.{room_of};
 
 use crate::law::{queries_are_typed, queries_fit};
 use crate::scan::Scan;
 use odata_query::{NamedAggregate, OrderBy, Typed, TypedTransformation};
-use odata_types::TruthExpr;
 use std::alloc::{AllocError, Global};
+use typed_trees::TruthExpr;
 
 /// A piece of the rows: all but the first `skip`, and of these the first `top`, or all of them.
 #[derive(Clone, Copy)]
@@ -70,7 +70,7 @@ pub struct Plan {
 
 /// The step that a transformation of `$apply` is.
 fn node_of(transformation: TypedTransformation) -> Node
-    ensures { node_view result ≡ transformation_node (transformation_view transformation) }
+    ensures { node_view result ≡ transformation_node (typed_transformation_view transformation) }
 {
     match transformation {
         TypedTransformation::Filter(condition) => Node::Filter(condition),
@@ -176,7 +176,7 @@ fn steps_of(alloc: Global, query: Typed) -> Result<Vec<Node>, AllocError>
 pub fn naive(alloc: Global, query: Typed) -> Result<Plan, AllocError>
     requires { (query_typed_view query).key ≡ None }
     ensures plan { IfOk result (λ plan. plan_view plan ≡ naive_plan (query_typed_view query)) }
-    ensures means { IfOk result (λ plan. Means (plan_view plan) (query_typed_view query)) }
+    ensures means { IfOk result (λ plan. MeansQuery (plan_view plan) (query_typed_view query)) }
     ensures fits { IfOk result (λ plan. (schema : SchemaOf)
         → IsTypedFor schema (query_typed_view query) → IsFitFor schema (plan_view plan)) }
     ensures typed { IfOk result (λ plan. (schema : SchemaOf)

@@ -1,8 +1,8 @@
 //! Plans that read only the blocks that the filters which they begin with ask for.
 ghost use Rattle.std.specs.Prelude.{◌≡◌, IfOk, OnOk, map};
 ghost use Rattle.std.specs.List.{filter_map, list_any};
-ghost use Rattle.odata_types.specs.CanFault.{truth_can_fault as truth_can_fault_of};
-ghost use Rattle.odata_types.specs.TypedTree.{truth_view};
+ghost use Rattle.typed_trees.specs.CanFault.{truth_can_fault as truth_can_fault_of};
+ghost use Rattle.typed_trees.specs.TypedTree.{truth_view};
 ghost use Rattle.query_plan.specs.Plan.{filtering, leading, node_view, plan_view, Adds};
 ghost use Rattle.query_plan.specs.Scan.{test_view};
 ghost use Rattle.query_plan.specs.Tests.{test_of as test_of_condition};
@@ -11,8 +11,8 @@ ghost use Rattle.query_plan.specs.Push.{conjuncts, early_stop as early_stop_of, 
 use crate::plan::{Node, Plan};
 use crate::scan::{ColumnTest, Scan};
 use crate::test::test_of;
-use odata_types::{TruthExpr, truth_can_fault};
 use std::alloc::{AllocError, Global};
+use typed_trees::{TruthExpr, truth_can_fault};
 
 /// Whether a filter that comes first may divide by zero.
 fn filters_can_fault(nodes: &[Node]) -> bool

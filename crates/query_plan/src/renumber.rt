@@ -1,6 +1,6 @@
 //! Steps behind a selection of columns.
 ghost use Rattle.std.specs.Prelude.{◌≡◌, IfOk, map};
-ghost use Rattle.odata_types.specs.TypedTree.{typed_view};
+ghost use Rattle.typed_trees.specs.TypedTree.{typed_view};
 ghost use Rattle.odata_query.specs.Aggregate.{aggregates_view};
 ghost use Rattle.odata_query.specs.Query.{order_view};
 ghost use Rattle.query_plan.specs.Narrow.{narrowed, place_in, renumbered, renumbered_aggregate, renumbered_expression, renumbered_item, renumbered_named, renumbered_node};
@@ -9,8 +9,8 @@ ghost use Rattle.query_plan.specs.Plan.{node_view};
 use crate::narrow::{keeps_columns, plain_column, wanted_columns, with_columns};
 use crate::plan::Node;
 use odata_query::{Aggregate, NamedAggregate, OrderBy};
-use odata_types::{DateExpr, DecimalExpr, IntegerExpr, TextExpr, TruthExpr, TypedExpr};
 use std::alloc::{AllocError, Global};
+use typed_trees::{DateExpr, DecimalExpr, IntegerExpr, TextExpr, TruthExpr, TypedExpr};
 
 /// The number that a column has in a selection.
 fn place_in(named: &[usize], place: usize) -> usize

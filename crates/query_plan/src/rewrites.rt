@@ -12,7 +12,8 @@ use crate::law::unadmitted_blocks_pass_none;
 use crate::plan::{Node, Plan};
 use crate::push::pushed;
 use crate::renumber::narrowed;
-use row_eval::{faults_are_foreseen, tables_are_inputs};
+use odata_types::tables_are_inputs;
+use row_eval::faults_are_foreseen;
 use std::alloc::{AllocError, Global};
 
 /// Of how many first rows a step has a use: None, where it is of all.

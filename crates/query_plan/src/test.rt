@@ -1,19 +1,19 @@
 //! Conditions that compare a column with a literal.
 ghost use Rattle.std.specs.Prelude.{◌≡◌, IfOk, neg_ℤ, option_map, unsigned_abs};
 ghost use Rattle.cell_types.specs.Value.{value_view};
-ghost use Rattle.odata_types.specs.TypedTree.{compare_dates, compare_decimals, compare_integers, compare_texts, compare_truths, date_view, decimal_negated, decimal_view, integer_view, negated, scaled as scaled_expr, text_view, truth_view};
+ghost use Rattle.typed_trees.specs.TypedTree.{compare_dates, compare_decimals, compare_integers, compare_texts, compare_truths, date_view, decimal_negated, decimal_view, integer_view, negated, scaled as scaled_expr, text_view, truth_view};
 ghost use Rattle.query_plan.specs.Scan.{test_view};
-ghost use Rattle.query_plan.specs.Tests.{comparison_of as comparison_of_operator, compared_with, date_value as date_value_of, decimal_value as decimal_value_of, integer_value as integer_value_of, millionths_of as millionths_of_expr, number_of as number_of_expr, scaled_number as scaled_number_of, sized, test_of as test_of_condition, text_value as text_value_of, truth_value as truth_value_of};
+ghost use Rattle.query_plan.specs.Tests.{test_comparison as comparison_of_operator, compared_with, date_literal_value as date_value_of, decimal_value as decimal_value_of, integer_value as integer_value_of, literal_millionths as millionths_of_expr, literal_number as number_of_expr, scaled_number as scaled_number_of, sized, test_of as test_of_condition, text_value as text_value_of, truth_value as truth_value_of};
 
 use crate::scan::ColumnTest;
 use block_summary::{Comparison, Test};
 use cell_types::Value;
-use odata_parse::tree::ComparisonOperator;
-use odata_types::{
-    DateExpr, DecimalExpr, IntegerExpr, MILLIONTHS, MOST_SIZE, TextExpr, TruthExpr, scaled,
-};
+use odata_types::{MOST_SIZE, scaled};
 use std::alloc::{AllocError, Global};
 use std::borrow::CowStr;
+use typed_trees::{
+    ComparisonOperator, DateExpr, DecimalExpr, IntegerExpr, MILLIONTHS, TextExpr, TruthExpr,
+};
 
 fn comparison_of(operator: ComparisonOperator) -> Comparison
     ensures { result ≡ comparison_of_operator operator }

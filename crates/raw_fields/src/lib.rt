@@ -1,12 +1,15 @@
 //! Fields as they stand in a file (RFC 4180, section 2). A [`Raw`] is the bytes of a field without its enclosing double quotes, and whether it has
-//! them; [`Raw::text`] is what the field says.
+//! them; [`Raw::text`] is what the field says, and [`cell_value`] the value that it has in a column (Model for Tabular Data and Metadata on the Web,
+//! section 6.4), or why it has none.
 #![tactic(auto)]
 
 ghost use Rattle.raw_fields.specs.Laws.{FieldsStandSo};
 
 mod raw;
+mod value;
 
 pub use raw::Raw;
+pub use value::{cell_value, field_value};
 
 /// What stands as a field does is that field.
 #[inline(always)]

@@ -2,7 +2,7 @@
 use Rattle.std.proofs.Common.{◌≡◌, ◌<◌, ℕ, List, [], ◌++◌, Vec, append_assoc, codes, get_or, length, subst, sym, ap, ◌∙◌}
 use Rattle.std.proofs.lemmas.List.{get_or-map}
 use Rattle.cell_types.specs.Value.{CellValue}
-use Rattle.reply_text.specs.Json.{comma, json_member, json_text, json_value, member_head, AreHeads}
+use Rattle.reply_text.specs.Json.{comma_before, json_member, json_text, json_value, member_head, AreHeads}
 
 pub head_there : {A : Type 0} (names : List (List ℕ)) (heads : List (Vec ℕ A)) (col : ℕ) (head : Vec ℕ A) → AreHeads names heads → col < length names → head ≡ get_or heads col head
     → head.items ≡ member_head col (get_or names col [])
@@ -14,6 +14,6 @@ joined b c t k v =
     append_assoc b (c ++ t ++ k) v ∙ ap (λ l. b ++ l) (ap (λ l. l ++ v) (append_assoc c t k) ∙ append_assoc c (t ++ k) v) ∙ sym (append_assoc b c (t ++ k ++ v))
 
 pub member_behind : (col : ℕ) (name : List ℕ) (value : CellValue) (before mid after : List ℕ) → mid ≡ before ++ member_head col name → after ≡ mid ++ json_value value
-    → after ≡ (before ++ comma col) ++ json_member (name, value)
+    → after ≡ (before ++ comma_before col) ++ json_member (name, value)
 member_behind col name value before mid after head is =
-    is ∙ ap (λ l. l ++ json_value value) head ∙ joined before (comma col) (json_text name) (codes ":") (json_value value)
+    is ∙ ap (λ l. l ++ json_value value) head ∙ joined before (comma_before col) (json_text name) (codes ":") (json_value value)

@@ -4,7 +4,7 @@ use Rattle.std.specs.Prelude.{option_and_then, slice_get}
 use Rattle.std.specs.List.{AllByRecursion, join_with_byte, zip}
 use Rattle.std.proofs.lemmas.Option.{get_or_from_slice_get, slice_get-get_or}
 use Rattle.cell_types.specs.Value.{CellValue}
-use Rattle.reply_text.specs.Json.{comma, json_member}
+use Rattle.reply_text.specs.Json.{comma_before, json_member}
 use Rattle.reply_text.proofs.CsvLemmas.{piece_at_more}
 
 -- the row with a number is as wide as all
@@ -41,7 +41,7 @@ length_zip (name ∷ names) (value ∷ values) e = ap suc (length_zip names valu
 pub member_more : (names : List (List ℕ)) (values : List CellValue) (col : ℕ) (name : List ℕ) (value : CellValue) (start before between after : List ℕ)
     → col < length names → length values ≡ length names → name ≡ get_or names col name → get_or values col value ≡ value
     → before ≡ start ++ join_with_byte 44 (map json_member (take col (zip names values)))
-    → between ≡ before ++ comma col → after ≡ between ++ json_member (name, value)
+    → between ≡ before ++ comma_before col → after ≡ between ++ json_member (name, value)
     → after ≡ start ++ join_with_byte 44 (map json_member (take (col + 1) (zip names values)))
 member_more names values col name value start before between after h e name_is value_is so_far comma_is item_is =
     let at = zip_at names values col name value h e in

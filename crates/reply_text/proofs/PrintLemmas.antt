@@ -8,7 +8,7 @@ use Rattle.json.specs.Print.{escape, escape_byte, print, print_from, quoted}
 use Rattle.json.specs.Json as json
 use Rattle.json.specs.Tree.{json_tokens, items_tokens, members_tokens}
 use Rattle.json.proofs.Printed.Strings.{escape_byte_plain}
-use Rattle.reply_text.specs.Json.{escaped, json_text}
+use Rattle.reply_text.specs.Json.{json_escaped, json_text}
 
 -- ---- texts in quotes
 
@@ -26,7 +26,7 @@ each_below P (suc n) h x lt = go (each_below P n h.1 x) (cases_eq x n)
     go below (inr other) = below (omega arith)
 
 abbrev SameEscape : ℕ → Type 0
-SameEscape x = escaped x ≡ escape_byte x
+SameEscape x = json_escaped x ≡ escape_byte x
 
 same_controls : Each SameEscape 32
 unfolding escape_byte
@@ -90,7 +90,7 @@ same_backslash = refl
 
 same_plain : (x : ℕ) → (x ≡ 34 → ⊥) → (x ≡ 92 → ⊥) → 32 ≤ x → SameEscape x
 same_plain x q b l =
-    let plain : escaped x ≡ x ∷ [] =
+    let plain : json_escaped x ≡ x ∷ [] =
     rw (
       ne_eqb x 34 q,
       ne_eqb x 92 b,
@@ -112,7 +112,7 @@ same_escape x = go (cases_eq x 34) (cases_eq x 92) (cases_lt x 32)
     go (inr q) (inr b) (inl c) = each_below SameEscape 32 same_controls x c
     go (inr q) (inr b) (inr l) = same_plain x q b l
 
-same_escapes : (s : List ℕ) → flat_map escaped s ≡ escape s
+same_escapes : (s : List ℕ) → flat_map json_escaped s ≡ escape s
 same_escapes [] = refl
 same_escapes (x ∷ s) = ap₂ (λ a b. a ++ b) (same_escape x) (same_escapes s)
 

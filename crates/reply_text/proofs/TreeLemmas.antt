@@ -15,7 +15,7 @@ use Rattle.cell_types.specs.Value as cell
 use Rattle.cell_types.specs.Value.{CellValue, null, integer, text, boolean, date}
 use Rattle.reply_text.specs.Value.{day_text}
 use Rattle.reply_text.specs.Json.{json_count, json_member, json_row, json_text, json_value}
-use Rattle.reply_text.specs.JsonTree.{array_of, body_of, with_count, items_of, json_of, members_of, object_of, CountFits, FitJson, FitsJson}
+use Rattle.reply_text.specs.JsonTree.{array_of_rows, body_of, with_count, items_of, json_of, members_of, object_of, CountFits, FitJson, FitsJson}
 use Rattle.reply_text.proofs.NumberLemmas.{count_is_number, decimal_is_number, integer_is_number}
 use Rattle.reply_text.proofs.PrintLemmas.{items_text, members_text, print_tree, text_is_quoted, tree_text}
 
@@ -96,7 +96,7 @@ rows_are names (row ∷ next ∷ rows) rest fit =
     ∙ sym (append_assoc (tree_text (object_of names row)) (44 ∷ items_text false (items_of names (next ∷ rows))) rest)
 
 value_is : (names : List (List ℕ)) (rows : List (List CellValue)) → FitJson rows
-    → json_text (codes "value") ++ 58 ∷ 91 ∷ (join_with_byte 44 (map (json_row names) rows) ++ 93 ∷ 125 ∷ []) ≡ members_text false (json.member (codes "value") (array_of names rows) json.no_members)
+    → json_text (codes "value") ++ 58 ∷ 91 ∷ (join_with_byte 44 (map (json_row names) rows) ++ 93 ∷ 125 ∷ []) ≡ members_text false (json.member (codes "value") (array_of_rows names rows) json.no_members)
 value_is names rows fit = ap₂ (λ name items. name ++ 58 ∷ 91 ∷ items) (text_is_quoted (codes "value")) (rows_are names rows (125 ∷ []) fit)
 
 regroup_count : (a b c d e f : List ℕ) → ((((a ++ b) ++ c) ++ d) ++ e) ++ f ≡ a ++ (b ++ (c ++ (d ++ (e ++ f))))
@@ -154,12 +154,12 @@ items_flat names (row ∷ rows) = max-le (row_flat names row) (items_flat names 
 body_flat : (names : List (List ℕ)) (rows : List (List CellValue)) (count : Option ℕ) → depth (body_of names rows count) ≤ 128
 body_flat names rows None =
     let flat = items_flat names rows in
-    let one : members_depth (json.member (codes "value") (array_of names rows) json.no_members) ≤ 2 = max-le (omega (arith, flat)) (omega arith) in
+    let one : members_depth (json.member (codes "value") (array_of_rows names rows) json.no_members) ≤ 2 = max-le (omega (arith, flat)) (omega arith) in
     omega (arith, one)
 body_flat names rows (Some n) =
     let flat = items_flat names rows in
-    let one : members_depth (json.member (codes "value") (array_of names rows) json.no_members) ≤ 2 = max-le (omega (arith, flat)) (omega arith) in
-    let two : members_depth (with_count (Some n) (json.member (codes "value") (array_of names rows) json.no_members)) ≤ 2 = max-le (omega arith) one in
+    let one : members_depth (json.member (codes "value") (array_of_rows names rows) json.no_members) ≤ 2 = max-le (omega (arith, flat)) (omega arith) in
+    let two : members_depth (with_count (Some n) (json.member (codes "value") (array_of_rows names rows) json.no_members)) ≤ 2 = max-le (omega arith) one in
     omega (arith, two)
 
 -- a text that is that of a tree is read as it

@@ -5,7 +5,7 @@ use Rattle.table_store.specs.Table.{TableOf}
 use Rattle.query_rows.specs.Rows.{RowsOf}
 use Rattle.reply_codes.specs.declared.code.Code.{Code}
 use Rattle.reply_codes.specs.Code.{code_name, message_of}
-use Rattle.reply_text.specs.Json.{json_text, json_row, json_count, text_member}
+use Rattle.reply_text.specs.Json.{json_text, json_row, json_count, json_text_member}
 
 -- rows: an object whose member `value` has an object for each
 abbrev pub rows_text : RowsOf → List ℕ
@@ -19,11 +19,11 @@ row_text rows = json_row rows.names (get_or rows.rows 0 [])
 
 -- a table is an entity set of that name
 abbrev pub named_text : List ℕ → List ℕ
-named_text name = text_member (codes "name") name ++ codes "," ++ text_member (codes "kind") (codes "EntitySet")
+named_text name = json_text_member (codes "name") name ++ codes "," ++ json_text_member (codes "kind") (codes "EntitySet")
 
 -- a table in the service document, whose url is its name
 abbrev pub entry_text : List ℕ → List ℕ
-entry_text name = codes "{" ++ named_text name ++ codes "," ++ text_member (codes "url") name ++ codes "}"
+entry_text name = codes "{" ++ named_text name ++ codes "," ++ json_text_member (codes "url") name ++ codes "}"
 
 -- the service document: an entry for each table, in order
 abbrev pub service_text : List TableOf → List ℕ
@@ -34,5 +34,5 @@ service_text tables =
 -- an error: its code and its message
 abbrev pub error_text : Code → List ℕ
 error_text code =
-    codes "{" ++ json_text (codes "error") ++ codes ":{" ++ text_member (codes "code") (code_name code)
-    ++ codes "," ++ text_member (codes "message") (message_of code) ++ codes "}}"
+    codes "{" ++ json_text (codes "error") ++ codes ":{" ++ json_text_member (codes "code") (code_name code)
+    ++ codes "," ++ json_text_member (codes "message") (message_of code) ++ codes "}}"

@@ -18,8 +18,8 @@ abbrev pub hex_digit : ℕ → ℕ
 hex_digit n = if nat_lt n 10 then 48 + n else 87 + n
 
 -- a byte in a text: a quote, a backslash and a control character are escaped (RFC 8259, section 7)
-abbrev pub escaped : ℕ → List ℕ
-escaped b =
+abbrev pub json_escaped : ℕ → List ℕ
+json_escaped b =
     if b == quote then backslash ∷ quote ∷ []
     else (if b == backslash then backslash ∷ backslash ∷ []
     else (if b == 8 then backslash ∷ codes "b"
@@ -36,11 +36,11 @@ needs_escape b = (b == quote) || (b == backslash) || nat_lt b 32
 
 -- a text in quotes
 abbrev pub json_text : List ℕ → List ℕ
-json_text bytes = quote ∷ flat_map escaped bytes ++ quote ∷ []
+json_text bytes = quote ∷ flat_map json_escaped bytes ++ quote ∷ []
 
 -- a member whose value is a text
-abbrev pub text_member : List ℕ → List ℕ → List ℕ
-text_member name bytes = json_text name ++ codes ":" ++ json_text bytes
+abbrev pub json_text_member : List ℕ → List ℕ → List ℕ
+json_text_member name bytes = json_text name ++ codes ":" ++ json_text bytes
 
 -- a value
 abbrev pub json_value : CellValue → List ℕ
@@ -56,12 +56,12 @@ abbrev pub json_member : List ℕ × CellValue → List ℕ
 json_member member = json_text member.0 ++ codes ":" ++ json_value member.1
 
 -- what stands before an item of a list, by its place
-abbrev pub comma : ℕ → List ℕ
-comma place = if place == 0 then [] else codes ","
+abbrev pub comma_before : ℕ → List ℕ
+comma_before place = if place == 0 then [] else codes ","
 
 -- what stands before the value of a member with that place
 abbrev pub member_head : ℕ → List ℕ → List ℕ
-member_head place name = comma place ++ json_text name ++ codes ":"
+member_head place name = comma_before place ++ json_text name ++ codes ":"
 
 -- what stands before the value of each member of a row
 pub record AreHeads {A : Type 0} (names : List (List ℕ)) (heads : List (Vec ℕ A)) : Type 0 where

@@ -30,8 +30,8 @@ items_of names [] = json.no_items
 items_of names (row ∷ rows) = json.item (object_of names row) (items_of names rows)
 
 -- rows are an array of objects
-abbrev pub array_of : List (List ℕ) → List (List CellValue) → json.Json
-array_of names rows = json.array (items_of names rows)
+abbrev pub array_of_rows : List (List ℕ) → List (List CellValue) → json.Json
+array_of_rows names rows = json.array (items_of names rows)
 
 -- before other members the number of rows, where it was asked for
 abbrev pub with_count : Option ℕ → json.Members → json.Members
@@ -40,7 +40,7 @@ with_count (Some n) members = json.member (codes "@odata.count") (json.number (d
 
 -- the body of rows
 abbrev pub body_of : List (List ℕ) → List (List CellValue) → Option ℕ → json.Json
-body_of names rows count = json.object (with_count count (json.member (codes "value") (array_of names rows) json.no_members))
+body_of names rows count = json.object (with_count count (json.member (codes "value") (array_of_rows names rows) json.no_members))
 
 -- numbers of no more than 64 digits, as all of 128 bits are, and days whose numbers have their places
 abbrev pub FitsJson : CellValue → Type 0

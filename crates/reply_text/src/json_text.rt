@@ -4,7 +4,7 @@ ghost use Rattle.std.specs.Prelude.{◌≡◌, ◌++◌, ◌∷◌, [], ◌<◌,
 ghost use Rattle.std.specs.List.{flat_map, join_with_byte, zip};
 ghost use Rattle.std.specs.Fmt.{decimal};
 ghost use Rattle.cell_types.specs.Value.{value_view};
-ghost use Rattle.reply_text.specs.Json.{comma, escaped, hex_digit, json_count, json_member, json_row, json_text, json_value, member_head, needs_escape, quote, text_member, AreHeads};
+ghost use Rattle.reply_text.specs.Json.{comma_before, json_escaped, hex_digit, json_count, json_member, json_row, json_text, json_value, member_head, needs_escape, quote, json_text_member, AreHeads};
 
 use crate::decimal::push_decimal;
 use crate::lanes::unescaped_in;
@@ -25,7 +25,7 @@ fn hex_digit(n: u8) -> u8
 
 /// Appends what stands for a byte in a text.
 fn push_escaped(out: &mut Vec<u8>, byte: u8) -> Result<(), AllocError>
-    ensures { OnOk result (out.new.items ≡ out.old.items ++ escaped byte) }
+    ensures { OnOk result (out.new.items ≡ out.old.items ++ json_escaped byte) }
 {
     match byte {
         b'"' => out.extend_from_slice(b"\\\""),
@@ -92,7 +92,7 @@ fn run_len(text: &[u8]) -> usize
 
 /// Appends the inside of a text, whole runs at a time.
 fn push_inside(out: &mut Vec<u8>, text: &[u8]) -> Result<(), AllocError>
-    ensures { OnOk result (out.new.items ≡ out.old.items ++ flat_map escaped text.now) }
+    ensures { OnOk result (out.new.items ≡ out.old.items ++ flat_map json_escaped text.now) }
 {
     let mut rest = text;
     loop {
@@ -117,7 +117,7 @@ pub fn push_text(out: &mut Vec<u8>, text: &[u8]) -> Result<(), AllocError>
 
 /// Appends a member whose value is a text.
 pub fn push_text_member(out: &mut Vec<u8>, name: &[u8], text: &[u8]) -> Result<(), AllocError>
-    ensures { OnOk result (out.new.items ≡ out.old.items ++ text_member name.now text.now) }
+    ensures { OnOk result (out.new.items ≡ out.old.items ++ json_text_member name.now text.now) }
 {
     push_text(out, name)?;
     out.extend_from_slice(b":")?;
@@ -150,7 +150,7 @@ fn push_value(out: &mut Vec<u8>, value: &Value<'_>) -> Result<(), AllocError>
 
 /// Appends a comma before every item but the first.
 pub fn push_comma(out: &mut Vec<u8>, place: usize) -> Result<(), AllocError>
-    ensures { OnOk result (out.new.items ≡ out.old.items ++ comma place) }
+    ensures { OnOk result (out.new.items ≡ out.old.items ++ comma_before place) }
 {
     if place == 0 {
         Ok(())

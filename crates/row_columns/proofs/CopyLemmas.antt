@@ -7,8 +7,8 @@ use Rattle.std.proofs.lemmas.Simd.{map-map}
 use Rattle.std.proofs.Math.ListN.{get_or-map}
 use Rattle.cell_types.specs.Value.{CellValue, null, text}
 use Rattle.row_columns.specs.declared.texts.Place.{Place}
-use Rattle.row_columns.specs.Cells.{value_or_null, IsPlaceOrNull}
-use Rattle.row_columns.specs.Text.{text_in}
+use Rattle.row_columns.specs.Cells.{null_or, IsPlaceOrNull}
+use Rattle.row_columns.specs.Text.{text_of_cell}
 
 each_same : {X Y : Type 0} (f g : X → Y) → ((x : X) → f x ≡ g x) → (xs : List X) → map f xs ≡ map g xs
 each_same f g e [] = refl
@@ -33,18 +33,18 @@ places_copied buffer places [] all = tt
 places_copied buffer places (n ∷ numbers) all = (place_at buffer places n all, places_copied buffer places numbers all)
 
 -- a column of values that are no texts has no text
-pub no_text : {X : Type 0} (f : X → CellValue) → ((x : X) → text_in (f x) ≡ None) → (values : List (Option X)) (n : ℕ)
-    → None ≡ text_in (get_or (map (value_or_null f) values) n null)
+pub no_text : {X : Type 0} (f : X → CellValue) → ((x : X) → text_of_cell (f x) ≡ None) → (values : List (Option X)) (n : ℕ)
+    → None ≡ text_of_cell (get_or (map (null_or f) values) n null)
 no_text f none [] n = refl
 no_text f none (None ∷ values) zero = refl
 no_text f none (Some x ∷ values) zero = sym (none x)
 no_text f none (v ∷ values) (suc n) = no_text f none values n
 
 -- and a column of texts has its own
-pub text_found : (texts : List (Option (List ℕ))) (n : ℕ) (t : Option (List ℕ)) → slice_get texts n ≡ Some t → t ≡ text_in (get_or (map (value_or_null text) texts) n null)
+pub text_found : (texts : List (Option (List ℕ))) (n : ℕ) (t : Option (List ℕ)) → slice_get texts n ≡ Some t → t ≡ text_of_cell (get_or (map (null_or text) texts) n null)
 text_found texts n t is =
-    back t ∙ sym (ap text_in (get_or-map (value_or_null text) texts n None ∙ ap (value_or_null text) (get_or_from_slice_get texts n t None is)))
+    back t ∙ sym (ap text_of_cell (get_or-map (null_or text) texts n None ∙ ap (null_or text) (get_or_from_slice_get texts n t None is)))
   where
-    back : (t : Option (List ℕ)) → t ≡ text_in (value_or_null text t)
+    back : (t : Option (List ℕ)) → t ≡ text_of_cell (null_or text t)
     back None = refl
     back (Some bytes) = refl

@@ -7,7 +7,7 @@ use Rattle.std.proofs.lemmas.Option.{get_or_from_slice_get}
 use Rattle.std.proofs.Math.ListN.{get_or-map as get_or-map_default}
 use Rattle.cell_types.specs.Value.{CellValue, null}
 use Rattle.row_columns.specs.declared.cells.Cells.{Cells}
-use Rattle.row_columns.specs.Cells.{cells_view, kind_of, values_numbered, IsPushed, IsWhole}
+use Rattle.row_columns.specs.Cells.{cells_view, kind_of, values_numbered, IsPushed, HasWholeTexts}
 use Rattle.row_columns.specs.Kept.{row_at, rows_of, IsColumn}
 use Rattle.row_columns.specs.Kinds.{any}
 use Rattle.row_columns.specs.Picked.{kinds_at, numbered, values_at}
@@ -19,7 +19,7 @@ use Rattle.row_columns.proofs.KeptLemmas.{length-rows_of, row_in}
 pub record ArePickedCells (from now : Cells) (numbers : List ℕ) : Type 0 where
   pub values : cells_view now ≡ values_numbered numbers (cells_view from)
   pub kind : kind_of now ≡ kind_of from
-  pub whole : IsWhole now
+  pub whole : HasWholeTexts now
 
 pub one_picked : (from now next : Cells) (numbers : List ℕ) (i : ℕ) (value : CellValue) → i < length numbers
     → slice_get (cells_view from) (get_or numbers i 0) ≡ Some value → IsPushed now value next → ArePickedCells from now (take i numbers)

@@ -11,7 +11,7 @@ use Rattle.cell_types.specs.Value.{CellValue, null}
 use Rattle.table_store.specs.Fits.{HasTableRows}
 use Rattle.table_store.specs.Table.{TableOf}
 use Rattle.row_columns.specs.declared.cells.Cells.{Cells}
-use Rattle.row_columns.specs.Cells.{cells_view, kind_of, IsWhole}
+use Rattle.row_columns.specs.Cells.{cells_view, kind_of, HasWholeTexts}
 use Rattle.row_columns.specs.Kept.{IsColumn}
 use Rattle.row_columns.specs.Kinds.{any, kind_of_datatype, kinds_of, AreOfKinds, IsOfKind, KindOf}
 use Rattle.row_columns.specs.Picked.{kinds_at, values_at}
@@ -35,7 +35,7 @@ kind_more kinds now y places i h is so_far =
     ∙ ap (λ k. kinds_at (take i places) kinds ++ k ∷ []) is
     ∙ sym (map_more (λ place. get_or kinds place any) places i 0 h)
 
-pub empty_push : (now : List Cells) (y : Cells) → AllByRecursion (IsColumn 0) now → cells_view y ≡ [] → IsWhole y → AllByRecursion (IsColumn 0) (now ++ y ∷ [])
+pub empty_push : (now : List Cells) (y : Cells) → AllByRecursion (IsColumn 0) now → cells_view y ≡ [] → HasWholeTexts y → AllByRecursion (IsColumn 0) (now ++ y ∷ [])
 empty_push now y all none whole = column_push 0 now y all (record { count = ap length none; whole = whole })
 
 kind_here : (kinds : List KindOf) (values : List CellValue) (p : ℕ) (v : CellValue) → AreOfKinds kinds values → p < length values

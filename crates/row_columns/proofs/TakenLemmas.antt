@@ -4,7 +4,7 @@ use Rattle.std.specs.Prelude.{option_map, option_and_then}
 use Rattle.std.specs.List.{All}
 use Rattle.std.proofs.lemmas.List.{get_or-map, length-map, map-append, map_more}
 use Rattle.std.proofs.Math.ListN.{get_or-map as get_or-map_default}
-use Rattle.block_summary.specs.Cells.{cell, AreUnpacked}
+use Rattle.block_summary.specs.Cells.{number_or_null, AreUnpacked}
 use Rattle.block_summary.specs.declared.number.PackedType.{PackedType}
 use Rattle.block_summary.specs.Ranges.{column_of, is_null}
 use Rattle.block_summary.specs.Reading.{packed_type_of}
@@ -14,14 +14,14 @@ use Rattle.cell_types.specs.Value.{CellValue, null, integer, text, boolean, date
 use Rattle.table_store.specs.Block.{packed_cells}
 use Rattle.table_store.specs.Table.{TableOf}
 use Rattle.row_columns.specs.declared.cells.Cells.TheVariants as variants
-use Rattle.row_columns.specs.Cells.{value_or_null, IsExtended}
+use Rattle.row_columns.specs.Cells.{null_or, IsExtended}
 use Rattle.row_columns.specs.Kinds.{decimals, integers, IsOfKind, KindOf}
 use Rattle.row_columns.specs.Numbers.{IsNoText}
 use Rattle.row_columns.specs.Picked.{numbered}
 
 -- ---- one number
 
-number_is : (v : CellValue) (z : ℤ) → IsNoText v → ((n : ℤ) → number_of v ≡ Some n → z ≡ n) → cell (is_null v) z ≡ number_of v
+number_is : (v : CellValue) (z : ℤ) → IsNoText v → ((n : ℤ) → number_of v ≡ Some n → z ≡ n) → number_or_null (is_null v) z ≡ number_of v
 number_is null z h same = refl
 number_is (integer n) z h same = ap (λ k. Some k) (same n refl)
 number_is (text t) z h same = absurd h
@@ -31,7 +31,7 @@ number_is (decimal n) z h same = ap (λ k. Some k) (same n refl)
 
 -- the number in a place of a column, by the numbers and the marks of nulls
 pub number_read : (cells : List CellValue) (numbers : List ℤ) (nulls : List Bool) (place : ℕ) → All IsNoText cells → AreUnpacked (numbers_of cells) numbers
-    → nulls ≡ map is_null cells → place < length cells → cell (get_or nulls place false) (get_or numbers place (pos 0)) ≡ number_of (get_or cells place null)
+    → nulls ≡ map is_null cells → place < length cells → number_or_null (get_or nulls place false) (get_or numbers place (pos 0)) ≡ number_of (get_or cells place null)
 number_read cells numbers nulls place all unpacked marks h =
     let v = get_or cells place null in
     let mark : get_or nulls place false ≡ is_null v = ap (λ ns. get_or ns place false) marks ∙ get_or-map is_null cells place null false h in
@@ -62,7 +62,7 @@ packed_is block col cells e = column_is _ (column_of block.rows col) cells e
 
 -- ---- the values of a kind
 
-pub integer_back : (v : CellValue) → IsOfKind integers v → value_or_null integer (number_of v) ≡ v
+pub integer_back : (v : CellValue) → IsOfKind integers v → null_or integer (number_of v) ≡ v
 integer_back null h = refl
 integer_back (integer n) h = refl
 integer_back (text t) h = absurd h
@@ -70,7 +70,7 @@ integer_back (boolean b) h = absurd h
 integer_back (date y m d) h = absurd h
 integer_back (decimal n) h = absurd h
 
-pub decimal_back : (v : CellValue) → IsOfKind decimals v → value_or_null decimal (number_of v) ≡ v
+pub decimal_back : (v : CellValue) → IsOfKind decimals v → null_or decimal (number_of v) ≡ v
 decimal_back null h = refl
 decimal_back (decimal n) h = refl
 decimal_back (text t) h = absurd h
@@ -94,25 +94,25 @@ decimal_no_text (boolean b) h = absurd h
 decimal_no_text (date y m d) h = absurd h
 decimal_no_text (integer n) h = absurd h
 
-module _ (kind : KindOf) (view : ℤ → CellValue) (back : (v : CellValue) → IsOfKind kind v → value_or_null view (number_of v) ≡ v) (rows : List (List CellValue)) (col : ℕ) (all : All (IsOfKind kind) (column_of rows col)) where
+module _ (kind : KindOf) (view : ℤ → CellValue) (back : (v : CellValue) → IsOfKind kind v → null_or view (number_of v) ≡ v) (rows : List (List CellValue)) (col : ℕ) (all : All (IsOfKind kind) (column_of rows col)) where
   numbers_back : (numbers : List ℕ) → All (λ n. n < length rows) numbers
-      → map (value_or_null view) (map (λ n. number_of (get_or (column_of rows col) n null)) numbers) ≡ column_of (numbered numbers rows) col
+      → map (null_or view) (map (λ n. number_of (get_or (column_of rows col) n null)) numbers) ≡ column_of (numbered numbers rows) col
   numbers_back [] within = refl
   numbers_back (n ∷ numbers) within =
       let value : List CellValue → CellValue = λ values. get_or values col null in
       let here : n < length rows = within 0 n (omega arith) in
       let at : get_or (column_of rows col) n null ≡ value (get_or rows n []) = get_or-map_default value rows n [] in
       let is : IsOfKind kind (get_or (column_of rows col) n null) = all n null (omega (arith, here, length-map rows value)) in
-      let first : value_or_null view (number_of (get_or (column_of rows col) n null)) ≡ get_or (get_or rows n []) col null = back _ is ∙ at in
+      let first : null_or view (number_of (get_or (column_of rows col) n null)) ≡ get_or (get_or rows n []) col null = back _ is ∙ at in
       rw (first, numbers_back numbers (λ k d h. within (suc k) d (omega arith))) refl
 
   -- numbers that come behind others are the values of the rows
   pub numbers_behind : (cells : List CellValue) (old new : List (Option ℤ)) (numbers : List ℕ) → cells ≡ column_of rows col → All (λ n. n < length rows) numbers
-      → new ≡ old ++ map (λ n. number_of (get_or cells n null)) numbers → map (value_or_null view) new ≡ map (value_or_null view) old ++ column_of (numbered numbers rows) col
+      → new ≡ old ++ map (λ n. number_of (get_or cells n null)) numbers → map (null_or view) new ≡ map (null_or view) old ++ column_of (numbered numbers rows) col
   numbers_behind cells old new numbers is within more =
-      ap (map (value_or_null view)) (more ∙ ap (λ cs. old ++ map (λ n. number_of (get_or cs n null)) numbers) is)
-      ∙ map-append (value_or_null view) old (map (λ n. number_of (get_or (column_of rows col) n null)) numbers)
-      ∙ ap (λ vs. map (value_or_null view) old ++ vs) (numbers_back numbers within)
+      ap (map (null_or view)) (more ∙ ap (λ cs. old ++ map (λ n. number_of (get_or cs n null)) numbers) is)
+      ∙ map-append (null_or view) old (map (λ n. number_of (get_or (column_of rows col) n null)) numbers)
+      ∙ ap (λ vs. map (null_or view) old ++ vs) (numbers_back numbers within)
 
 -- ---- the cells that are taken
 

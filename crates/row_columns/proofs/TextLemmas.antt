@@ -8,7 +8,7 @@ use Rattle.std.proofs.lemmas.List.{drop-append-le, get_or_append_left, length-ap
 use Rattle.std.proofs.Math.Seq.{drop-append_seam}
 use Rattle.std.proofs.lemmas.Str.{IsCharBoundary-at_seam, IsCharBoundary-end}
 use Rattle.row_columns.specs.declared.texts.Place.{Place}
-use Rattle.row_columns.specs.Cells.{place_text, IsPlace, IsPlaceOrNull}
+use Rattle.row_columns.specs.Cells.{placed_text, IsPlace, IsPlaceOrNull}
 
 -- ---- a place in a longer buffer
 
@@ -31,7 +31,7 @@ place_more buffer text place utf8 is = record {
   end = boundary_more buffer text place.end utf8 is.end;
 }
 
-pub text_stays : (buffer text : List ℕ) (place : Place) → IsPlace buffer place → place_text (buffer ++ text) place ≡ place_text buffer place
+pub text_stays : (buffer text : List ℕ) (place : Place) → IsPlace buffer place → placed_text (buffer ++ text) place ≡ placed_text buffer place
 text_stays buffer text place is =
     let low = is.end.0 in
     let order = is.order in
@@ -62,13 +62,13 @@ optional_more : (buffer text : List ℕ) (place : Option Place) → IsUtf8 text 
 optional_more buffer text None utf8 is = tt
 optional_more buffer text (Some place) utf8 is = place_more buffer text place utf8 is
 
-optional_stays : (buffer text : List ℕ) (place : Option Place) → IsPlaceOrNull buffer place → option_map (place_text (buffer ++ text)) place ≡ option_map (place_text buffer) place
+optional_stays : (buffer text : List ℕ) (place : Option Place) → IsPlaceOrNull buffer place → option_map (placed_text (buffer ++ text)) place ≡ option_map (placed_text buffer) place
 optional_stays buffer text None is = refl
 optional_stays buffer text (Some place) is = ap (λ t. Some t) (text_stays buffer text place is)
 
 pub texts_more : (buffer text : List ℕ) (places : List (Option Place)) → AllByRecursion (IsPlaceOrNull buffer) places
-    → map (option_map (place_text (buffer ++ text))) (places ++ Some (record { start = length buffer; end = length (buffer ++ text) }) ∷ [])
-    ≡ map (option_map (place_text buffer)) places ++ Some text ∷ []
+    → map (option_map (placed_text (buffer ++ text))) (places ++ Some (record { start = length buffer; end = length (buffer ++ text) }) ∷ [])
+    ≡ map (option_map (placed_text buffer)) places ++ Some text ∷ []
 texts_more buffer text [] all = ap (λ t. Some t ∷ []) (new_text buffer text)
 texts_more buffer text (place ∷ places) all = rw (optional_stays buffer text place all.0, texts_more buffer text places all.1) refl
 

@@ -13,11 +13,11 @@ use Rattle.row_columns.specs.Kinds.{KindOf}
 
 -- ---- texts in one buffer
 
-abbrev pub place_text : List ℕ → Place → List ℕ
-place_text buffer place = slice_range buffer place.start place.end
+abbrev pub placed_text : List ℕ → Place → List ℕ
+placed_text buffer place = slice_range buffer place.start place.end
 
 abbrev pub texts_view : Texts → List (Option (List ℕ))
-texts_view texts = map (option_map (place_text (string_bytes texts.buffer))) texts.places.items
+texts_view texts = map (option_map (placed_text (string_bytes texts.buffer))) texts.places.items
 
 -- characters begin where a text begins, and where what follows it does
 pub record IsPlace (buffer : List ℕ) (place : Place) : Type 0 where
@@ -35,24 +35,24 @@ AreWhole texts = AllByRecursion (IsPlaceOrNull (string_bytes texts.buffer)) text
 -- ---- values of any one kind
 
 -- a value where there is one, and else null
-abbrev pub value_or_null : {X : Type 0} → (X → CellValue) → Option X → CellValue
-value_or_null f None = null
-value_or_null f (Some x) = f x
+abbrev pub null_or : {X : Type 0} → (X → CellValue) → Option X → CellValue
+null_or f None = null
+null_or f (Some x) = f x
 
 abbrev pub date_value : Date → CellValue
 date_value d = date d.year d.month d.day
 
 abbrev pub cells_view : Cells → List CellValue
-cells_view (cells.Integers values) = map (value_or_null integer) values.items
-cells_view (cells.Texts texts) = map (value_or_null text) (texts_view texts)
-cells_view (cells.Truths values) = map (value_or_null boolean) values.items
-cells_view (cells.Dates values) = map (value_or_null date_value) values.items
-cells_view (cells.Decimals values) = map (value_or_null decimal) values.items
+cells_view (cells.Integers values) = map (null_or integer) values.items
+cells_view (cells.Texts texts) = map (null_or text) (texts_view texts)
+cells_view (cells.Truths values) = map (null_or boolean) values.items
+cells_view (cells.Dates values) = map (null_or date_value) values.items
+cells_view (cells.Decimals values) = map (null_or decimal) values.items
 cells_view (cells.Any values) = map value_view values.items
 
-abbrev pub IsWhole : Cells → Type 0
-IsWhole (cells.Texts texts) = AreWhole texts
-IsWhole _ = Unit {0}
+abbrev pub HasWholeTexts : Cells → Type 0
+HasWholeTexts (cells.Texts texts) = AreWhole texts
+HasWholeTexts _ = Unit {0}
 
 abbrev pub kind_of : Cells → KindOf
 kind_of (cells.Integers values) = kinds.integers
@@ -66,13 +66,13 @@ kind_of (cells.Any values) = kinds.any
 pub record IsPushed (old : Cells) (value : CellValue) (new : Cells) : Type 0 where
   pub values : cells_view new ≡ cells_view old ++ value ∷ []
   pub kind : kind_of new ≡ kind_of old
-  pub whole : IsWhole new
+  pub whole : HasWholeTexts new
 
 -- values came behind the others
 pub record IsExtended (old : Cells) (values : List CellValue) (new : Cells) : Type 0 where
   pub values_are : cells_view new ≡ cells_view old ++ values
   pub kind : kind_of new ≡ kind_of old
-  pub whole : IsWhole new
+  pub whole : HasWholeTexts new
 
 -- the values with these numbers
 abbrev pub values_numbered : List ℕ → List CellValue → List CellValue

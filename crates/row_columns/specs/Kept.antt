@@ -4,7 +4,7 @@ use Rattle.std.specs.List.{AllByRecursion}
 use Rattle.cell_types.specs.Value.{CellValue, null}
 use Rattle.row_columns.specs.declared.cells.Cells.{Cells}
 use Rattle.row_columns.specs.declared.kept.Kept.{Kept}
-use Rattle.row_columns.specs.Cells.{cells_view, kind_of, IsWhole}
+use Rattle.row_columns.specs.Cells.{cells_view, kind_of, HasWholeTexts}
 use Rattle.row_columns.specs.Kinds.{KindOf}
 
 -- the values with a number, one of each column
@@ -25,7 +25,7 @@ kinds kept = map kind_of kept.columns.items
 -- so many values are there, and whole
 pub record IsColumn (len : ℕ) (cells : Cells) : Type 0 where
   pub count : length (cells_view cells) ≡ len
-  pub whole : IsWhole cells
+  pub whole : HasWholeTexts cells
 
 -- each column has a value for each row
 abbrev pub AreAligned : Kept → Type 0

@@ -3,6 +3,6 @@ use Rattle.std.specs.Prelude.{ℕ, List, Option, Some, None}
 use Rattle.cell_types.specs.Value.{CellValue, text}
 
 -- the text, where the value is one
-abbrev pub text_in : CellValue → Option (List ℕ)
-text_in (text t) = Some t
-text_in _ = None
+abbrev pub text_of_cell : CellValue → Option (List ℕ)
+text_of_cell (text t) = Some t
+text_of_cell _ = None

@@ -4,9 +4,9 @@ ghost use Rattle.cell_types.specs.Datatype.{datatype_view};
 ghost use Rattle.cell_types.specs.Value.{value_view, decimal, integer, null};
 ghost use Rattle.std.specs.List.{All};
 ghost use Rattle.block_summary.specs.Ranges.{column_of};
-ghost use Rattle.row_columns.specs.Cells.{cells_view, kind_of, values_numbered, value_or_null, IsExtended, IsPushed, IsWhole};
+ghost use Rattle.row_columns.specs.Cells.{cells_view, kind_of, values_numbered, null_or, IsExtended, IsPushed, HasWholeTexts};
 ghost use Rattle.row_columns.specs.Kinds.{decimals, integers, kind_of_datatype, IsOfKind};
-ghost use Rattle.row_columns.specs.Text.{text_in};
+ghost use Rattle.row_columns.specs.Text.{text_of_cell};
 ghost use Rattle.row_columns.specs.Picked.{numbered};
 
 use crate::copies::copies;
@@ -40,7 +40,7 @@ impl Cells {
     pub(crate) fn new(alloc: Global, datatype: &Datatype) -> Cells
         ensures none { cells_view result ≡ [] }
         ensures kind { kind_of result ≡ kind_of_datatype (datatype_view datatype.now) }
-        ensures whole { IsWhole result }
+        ensures whole { HasWholeTexts result }
     {
         match datatype {
             Datatype::Integer => Cells::Integers(Vec::new(alloc)),
@@ -55,7 +55,7 @@ impl Cells {
     fn none(&self, alloc: Global) -> Cells
         ensures none { cells_view result ≡ [] }
         ensures kind { kind_of result ≡ kind_of self.now }
-        ensures whole { IsWhole result }
+        ensures whole { HasWholeTexts result }
     {
         match self {
             Cells::Integers(_) => Cells::Integers(Vec::new(alloc)),
@@ -69,7 +69,7 @@ impl Cells {
 
     /// Appends null.
     fn push_null(&mut self) -> Result<(), AllocError>
-        requires { IsWhole self.old }
+        requires { HasWholeTexts self.old }
         ensures { OnOk result (IsPushed self.old null self.new) }
     {
         match self {
@@ -85,7 +85,7 @@ impl Cells {
 
     /// Appends a value.
     pub(crate) fn push(&mut self, alloc: Global, value: &Value<'_>) -> Result<(), AllocError>
-        requires whole { IsWhole self.old }
+        requires whole { HasWholeTexts self.old }
         requires kind { IsOfKind (kind_of self.old) (value_view value.now) }
         ensures { OnOk result (IsPushed self.old (value_view value.now) self.new) }
     {
@@ -112,7 +112,7 @@ impl Cells {
         col: usize,
         numbers: &[usize],
     ) -> Result<(), AllocError>
-        requires whole { IsWhole self.old }
+        requires whole { HasWholeTexts self.old }
         requires col { col < length block.now.schema.columns }
         requires within { All (λ number. number < length block.now.rows) numbers.now }
         requires kind { All (IsOfKind (kind_of self.old)) (column_of block.now.rows col) }
@@ -137,7 +137,7 @@ impl Cells {
         col: usize,
         numbers: &[usize],
     ) -> Result<(), AllocError>
-        requires whole { IsWhole self.old }
+        requires whole { HasWholeTexts self.old }
         requires col { col < length block.now.schema.columns }
         requires within { All (λ number. number < length block.now.rows) numbers.now }
         requires kind { All (IsOfKind (kind_of self.old)) (column_of block.now.rows col) }
@@ -159,7 +159,7 @@ impl Cells {
         col: usize,
         numbers: &[usize],
     ) -> Result<(), AllocError>
-        requires whole { IsWhole self.old }
+        requires whole { HasWholeTexts self.old }
         requires col { col < length block.now.schema.columns }
         requires within { All (λ number. number < length block.now.rows) numbers.now }
         requires kind { All (IsOfKind (kind_of self.old)) (column_of block.now.rows col) }
@@ -175,7 +175,7 @@ impl Cells {
 
     /// The value with a number, counted from 0.
     pub(crate) fn get(&self, number: usize) -> Value<'_>
-        requires whole { IsWhole self.now }
+        requires whole { HasWholeTexts self.now }
         requires within { number < length (cells_view self.now) }
         ensures value { slice_get (cells_view self.now) number ≡ Some (value_view result) }
         ensures kind { IsOfKind (kind_of self.now) (value_view result) }
@@ -193,7 +193,7 @@ impl Cells {
     /// The integers, None for null; nothing where the values are of another kind.
     pub(crate) fn integers(&self) -> Option<&[Option<i64>]>
         ensures values { IfSome result
-            (λ numbers. map (value_or_null integer) numbers.now ≡ cells_view self.now) }
+            (λ numbers. map (null_or integer) numbers.now ≡ cells_view self.now) }
         ensures kind { IsSome result ↔ (kind_of self.now ≡ integers) }
     {
         match self {
@@ -205,7 +205,7 @@ impl Cells {
     /// The decimals in millionths, None for null; nothing where the values are of another kind.
     pub(crate) fn decimals(&self) -> Option<&[Option<i64>]>
         ensures values { IfSome result
-            (λ numbers. map (value_or_null decimal) numbers.now ≡ cells_view self.now) }
+            (λ numbers. map (null_or decimal) numbers.now ≡ cells_view self.now) }
         ensures kind { IsSome result ↔ (kind_of self.now ≡ decimals) }
     {
         match self {
@@ -216,10 +216,10 @@ impl Cells {
 
     /// The text with a number, counted from 0; nothing where the value is null, or no text.
     pub(crate) fn text(&self, number: usize) -> Option<&str>
-        requires whole { IsWhole self.now }
+        requires whole { HasWholeTexts self.now }
         requires within { number < length (cells_view self.now) }
         ensures { option_map (λ t. t.now) result
-            ≡ text_in (slice_index_or (cells_view self.now) number null) }
+            ≡ text_of_cell (slice_index_or (cells_view self.now) number null) }
     {
         match self {
             Cells::Integers(_) => None,
@@ -236,12 +236,12 @@ impl Cells {
 
     /// The values with these numbers.
     pub(crate) fn picked(&self, alloc: Global, numbers: &[usize]) -> Result<Cells, AllocError>
-        requires whole { IsWhole self.now }
+        requires whole { HasWholeTexts self.now }
         requires within { All (λ number. number < length (cells_view self.now)) numbers.now }
         ensures values { IfOk result
             (λ cells. cells_view cells ≡ values_numbered numbers.now (cells_view self.now)) }
         ensures kind { IfOk result (λ cells. kind_of cells ≡ kind_of self.now) }
-        ensures whole { IfOk result IsWhole }
+        ensures whole { IfOk result HasWholeTexts }
     {
         match self {
             Cells::Integers(values) => {
@@ -261,12 +261,12 @@ impl Cells {
 
     /// The same, one by one.
     fn picked_each(&self, alloc: Global, numbers: &[usize]) -> Result<Cells, AllocError>
-        requires whole { IsWhole self.now }
+        requires whole { HasWholeTexts self.now }
         requires within { All (λ number. number < length (cells_view self.now)) numbers.now }
         ensures values { IfOk result
             (λ cells. cells_view cells ≡ values_numbered numbers.now (cells_view self.now)) }
         ensures kind { IfOk result (λ cells. kind_of cells ≡ kind_of self.now) }
-        ensures whole { IfOk result IsWhole }
+        ensures whole { IfOk result HasWholeTexts }
     {
         let mut cells = self.none(alloc);
         for number in numbers {

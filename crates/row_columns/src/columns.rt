@@ -4,10 +4,10 @@ ghost use Rattle.std.specs.List.{All};
 ghost use Rattle.block_summary.specs.Ranges.{column_of};
 ghost use Rattle.cell_types.specs.Column.{column_view};
 ghost use Rattle.cell_types.specs.Value.{value_view, decimal, integer, null};
-ghost use Rattle.row_columns.specs.Cells.{value_or_null};
+ghost use Rattle.row_columns.specs.Cells.{null_or};
 ghost use Rattle.row_columns.specs.Columns.{columns_of_any, no_columns};
 ghost use Rattle.row_columns.specs.Kinds.{any, decimals, integers, kinds_of, AreOfKinds};
-ghost use Rattle.row_columns.specs.Text.{text_in};
+ghost use Rattle.row_columns.specs.Text.{text_of_cell};
 ghost use Rattle.row_columns.specs.Picked.{kinds_at, numbered, values_at};
 
 use crate::kept::Kept;
@@ -172,7 +172,7 @@ impl Columns {
         requires row { row < length self.now.rows }
         requires col { col < length self.now.kinds }
         ensures { option_map (λ t. t.now) result
-            ≡ text_in (slice_index_or (slice_index_or self.now.rows row []) col null) }
+            ≡ text_of_cell (slice_index_or (slice_index_or self.now.rows row []) col null) }
     {
         self.kept.column(col).text(row)
     }
@@ -181,7 +181,7 @@ impl Columns {
     pub fn integers(&self, col: usize) -> Option<&[Option<i64>]>
         requires { col < length self.now.kinds }
         ensures values { IfSome result
-            (λ numbers. map (value_or_null integer) numbers.now ≡ column_of self.now.rows col) }
+            (λ numbers. map (null_or integer) numbers.now ≡ column_of self.now.rows col) }
         ensures kind { IsSome result ↔ (slice_index_or self.now.kinds col any ≡ integers) }
     {
         self.kept.column(col).integers()
@@ -191,7 +191,7 @@ impl Columns {
     pub fn decimals(&self, col: usize) -> Option<&[Option<i64>]>
         requires { col < length self.now.kinds }
         ensures values { IfSome result
-            (λ numbers. map (value_or_null decimal) numbers.now ≡ column_of self.now.rows col) }
+            (λ numbers. map (null_or decimal) numbers.now ≡ column_of self.now.rows col) }
         ensures kind { IsSome result ↔ (slice_index_or self.now.kinds col any ≡ decimals) }
     {
         self.kept.column(col).decimals()

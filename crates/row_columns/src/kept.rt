@@ -4,7 +4,7 @@ ghost use Rattle.cell_types.specs.Column.{column_view};
 ghost use Rattle.cell_types.specs.Value.{value_view};
 ghost use Rattle.std.specs.List.{All};
 ghost use Rattle.block_summary.specs.Ranges.{column_of};
-ghost use Rattle.row_columns.specs.Cells.{cells_view, kind_of, IsWhole};
+ghost use Rattle.row_columns.specs.Cells.{cells_view, kind_of, HasWholeTexts};
 ghost use Rattle.row_columns.specs.Kept.{kept_rows, kinds, AreAligned};
 ghost use Rattle.row_columns.specs.Kinds.{any, kinds_of, AreOfKinds};
 ghost use Rattle.row_columns.specs.Picked.{kinds_at, numbered, values_at};
@@ -221,7 +221,7 @@ impl Kept {
         requires col { col < length (kinds self.now) }
         ensures values { cells_view result.now ≡ column_of (kept_rows self.now) col }
         ensures kind { kind_of result.now ≡ slice_index_or (kinds self.now) col any }
-        ensures whole { IsWhole result.now }
+        ensures whole { HasWholeTexts result.now }
     {
         &self.columns[col]
     }

@@ -1,7 +1,7 @@
 //! The numbers that some rows of a block have in a column, all of which are unpacked at once.
 ghost use Rattle.std.specs.Prelude.{◌≡◌, ◌++◌, ◌<◌, false, pos, IfOk, OnOk, length, map, slice_index_or};
 ghost use Rattle.std.specs.List.{All};
-ghost use Rattle.block_summary.specs.Cells.{cell, AreUnpacked};
+ghost use Rattle.block_summary.specs.Cells.{number_or_null, AreUnpacked};
 ghost use Rattle.block_summary.specs.Ranges.{is_null};
 ghost use Rattle.block_summary.specs.Types.{number_of, numbers_of};
 ghost use Rattle.cell_types.specs.Value.{null};
@@ -53,7 +53,7 @@ fn marks(alloc: Global, column: &PackedColumn) -> Result<Vec<bool>, AllocError>
 fn number_at(numbers: &[i64], nulls: &[bool], place: usize) -> Option<i64>
     requires numbers { place < length numbers.now }
     requires nulls { place < length nulls.now }
-    ensures { result ≡ cell (slice_index_or nulls.now place false)
+    ensures { result ≡ number_or_null (slice_index_or nulls.now place false)
         (slice_index_or numbers.now place (pos 0)) }
 {
     if nulls[place] {

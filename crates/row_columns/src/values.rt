@@ -1,7 +1,7 @@
 //! Values that are kept.
 ghost use Rattle.std.specs.Prelude.{◌≡◌, IfOk, option_map};
 ghost use Rattle.cell_types.specs.Value.{value_view, integer, decimal, text as text_cell, boolean};
-ghost use Rattle.row_columns.specs.Cells.{date_value as date_cell, value_or_null};
+ghost use Rattle.row_columns.specs.Cells.{date_value as date_cell, null_or};
 ghost use Rattle.row_columns.specs.Kinds.{integers, texts, truths, dates, decimals, IsOfKind};
 
 use cell_types::Value;
@@ -10,7 +10,7 @@ use std::alloc::{AllocError, Global};
 use std::borrow::CowStr;
 
 pub(crate) fn integer_value<'a>(number: Option<i64>) -> Value<'a>
-    ensures value { value_view result ≡ value_or_null integer number }
+    ensures value { value_view result ≡ null_or integer number }
     ensures kind { IsOfKind integers (value_view result) }
 {
     match number {
@@ -20,7 +20,7 @@ pub(crate) fn integer_value<'a>(number: Option<i64>) -> Value<'a>
 }
 
 pub(crate) fn text_value(text: Option<&str>) -> Value<'_>
-    ensures value { value_view result ≡ value_or_null text_cell (option_map (λ t. t.now) text.entry) }
+    ensures value { value_view result ≡ null_or text_cell (option_map (λ t. t.now) text.entry) }
     ensures kind { IsOfKind texts (value_view result) }
 {
     match text {
@@ -30,7 +30,7 @@ pub(crate) fn text_value(text: Option<&str>) -> Value<'_>
 }
 
 pub(crate) fn truth_value<'a>(truth: Option<bool>) -> Value<'a>
-    ensures value { value_view result ≡ value_or_null boolean truth }
+    ensures value { value_view result ≡ null_or boolean truth }
     ensures kind { IsOfKind truths (value_view result) }
 {
     match truth {
@@ -40,7 +40,7 @@ pub(crate) fn truth_value<'a>(truth: Option<bool>) -> Value<'a>
 }
 
 pub(crate) fn date_value<'a>(date: Option<Date>) -> Value<'a>
-    ensures value { value_view result ≡ value_or_null date_cell date }
+    ensures value { value_view result ≡ null_or date_cell date }
     ensures kind { IsOfKind dates (value_view result) }
 {
     match date {
@@ -50,7 +50,7 @@ pub(crate) fn date_value<'a>(date: Option<Date>) -> Value<'a>
 }
 
 pub(crate) fn decimal_value<'a>(number: Option<i64>) -> Value<'a>
-    ensures value { value_view result ≡ value_or_null decimal number }
+    ensures value { value_view result ≡ null_or decimal number }
     ensures kind { IsOfKind decimals (value_view result) }
 {
     match number {

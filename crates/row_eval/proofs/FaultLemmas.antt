@@ -6,11 +6,11 @@ use Rattle.std.proofs.Common.{arith}
 use Rattle.std.proofs.lemmas.Int.{ints}
 use Rattle.std.proofs.lemmas.Bool.{false≢true, not-false, not-true, or_parts}
 use Rattle.cell_types.specs.Value.{CellValue}
-use Rattle.odata_parse.specs.declared.tree.ArithmeticOperator.{ArithmeticOperator}
-use Rattle.odata_parse.specs.declared.tree.ArithmeticOperator.TheVariants.{Add, Sub, Mul, Div, Mod}
-use Rattle.odata_types.specs.CanFault.{can_fault, decimal_can_fault, divides, integer_can_fault, is_nonzero, is_safe_divisor, truth_can_fault}
-use Rattle.odata_types.specs.TypedTree as typed
-use Rattle.odata_types.specs.TypedTree.{IntegerExprOf, DecimalExprOf, TruthExprOf, TypedExprOf}
+use Rattle.typed_trees.specs.declared.operator.ArithmeticOperator.{ArithmeticOperator}
+use Rattle.typed_trees.specs.declared.operator.ArithmeticOperator.TheVariants.{Add, Sub, Mul, Div, Mod}
+use Rattle.typed_trees.specs.CanFault.{can_fault, decimal_can_fault, divides, integer_can_fault, is_nonzero, is_safe_divisor, truth_can_fault}
+use Rattle.typed_trees.specs.TypedTree as typed
+use Rattle.typed_trees.specs.TypedTree.{IntegerExprOf, DecimalExprOf, TruthExprOf, TypedExprOf}
 use Rattle.row_eval.specs.declared.truth.Truth.{Truth}
 use Rattle.row_eval.specs.declared.truth.Truth.TheVariants as truths
 use Rattle.row_eval.specs.Logic.{and_then, or_then}

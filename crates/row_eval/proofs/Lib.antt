@@ -1,10 +1,3 @@
 mod CharPlaces
 mod PartLemmas
 mod FaultLemmas
-mod SizeLemmas
-mod SoundLemmas
-mod OperatorLemmas
-mod BoundLemmas
-mod RowLemmas
-mod QueryLemmas
-mod OptionLemmas

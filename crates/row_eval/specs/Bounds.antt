@@ -2,8 +2,8 @@
 use Rattle.std.specs.Prelude.{ℕ, ℤ, ◌≤◌, List, Option, IfSome, FitsSigned, unsigned_abs}
 use Rattle.std.specs.Int.{w128}
 use Rattle.cell_types.specs.Value.{CellValue}
-use Rattle.odata_types.specs.TypedTree as typed
-use Rattle.odata_types.specs.TypedTree.{IntegerExprOf, DecimalExprOf, TruthExprOf, TypedExprOf}
+use Rattle.typed_trees.specs.TypedTree as typed
+use Rattle.typed_trees.specs.TypedTree.{IntegerExprOf, DecimalExprOf, TruthExprOf, TypedExprOf}
 use Rattle.row_eval.specs.Outcome.{decimal_outcome, integer_outcome}
 
 -- the number, if there is one, fits 128 bits

@@ -4,10 +4,10 @@ use Rattle.std.specs.declared.cmp.Ordering.{Ordering}
 use Rattle.std.specs.declared.cmp.Ordering.TheVariants.{Less, Equal, Greater}
 use Rattle.std.specs.List.{list_any}
 use Rattle.std.specs.Ordering.{int_cmp, nat_cmp, ordering_then}
-use Rattle.odata_parse.specs.declared.tree.ComparisonOperator.{ComparisonOperator}
-use Rattle.odata_parse.specs.declared.tree.ComparisonOperator.TheVariants.{NotEqual, GreaterThan, GreaterOrEqual, LessThan, LessOrEqual}
-use Rattle.odata_parse.specs.declared.tree.ComparisonOperator.TheVariants as operators
-use Rattle.odata_types.specs.TypedTree.{DayOf}
+use Rattle.typed_trees.specs.declared.operator.ComparisonOperator.{ComparisonOperator}
+use Rattle.typed_trees.specs.declared.operator.ComparisonOperator.TheVariants.{NotEqual, GreaterThan, GreaterOrEqual, LessThan, LessOrEqual}
+use Rattle.typed_trees.specs.declared.operator.ComparisonOperator.TheVariants as operators
+use Rattle.typed_trees.specs.TypedTree.{DayOf}
 
 -- null equals null, and has no order beside a value
 abbrev pub compared : {X : Type 0} → (X → X → Ordering) → Option X → Option X → Option Ordering

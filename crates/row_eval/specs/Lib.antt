@@ -6,7 +6,6 @@ pub mod Outcome
 pub mod Bounds
 pub mod Memory
 pub mod Result
-pub mod Input
 pub mod Laws
 pub mod Worked
 pub mod WorkedLogic

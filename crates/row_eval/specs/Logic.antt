@@ -4,18 +4,18 @@ use Rattle.row_eval.specs.declared.truth.Truth.{Truth}
 use Rattle.row_eval.specs.declared.truth.Truth.TheVariants.{False, Null, True}
 
 -- the order false, null, true
-abbrev pub rank : Truth → ℕ
-rank False = 0
-rank Null = 1
-rank True = 2
+abbrev pub truth_rank : Truth → ℕ
+truth_rank False = 0
+truth_rank Null = 1
+truth_rank True = 2
 
 -- `and`
 abbrev pub least : Truth → Truth → Truth
-least a b = if nat_lt (rank a) (rank b) then a else b
+least a b = if nat_lt (truth_rank a) (truth_rank b) then a else b
 
 -- `or`
 abbrev pub greatest : Truth → Truth → Truth
-greatest a b = if nat_lt (rank a) (rank b) then b else a
+greatest a b = if nat_lt (truth_rank a) (truth_rank b) then b else a
 
 -- `not`
 abbrev pub opposite : Truth → Truth

@@ -1,7 +1,7 @@
 -- Where an evaluation may take memory: for `concat` alone.
 use Rattle.std.specs.Prelude.{Bool, true, false, ◌||◌}
-use Rattle.odata_types.specs.TypedTree as typed
-use Rattle.odata_types.specs.TypedTree.{TextExprOf, IntegerExprOf, DecimalExprOf, TruthExprOf, TypedExprOf}
+use Rattle.typed_trees.specs.TypedTree as typed
+use Rattle.typed_trees.specs.TypedTree.{TextExprOf, IntegerExprOf, DecimalExprOf, TruthExprOf, TypedExprOf}
 
 abbrev pub text_concatenates : TextExprOf → Bool
 text_concatenates (typed.concat a b) = true

@@ -5,13 +5,13 @@ use Rattle.std.specs.Cmp.Lexicographic.{slice_cmp}
 use Rattle.std.specs.Ordering.{int_eq, int_cmp, nat_cmp, bool_cmp}
 use Rattle.cell_types.specs.Value as value
 use Rattle.cell_types.specs.Value.{CellValue}
-use Rattle.odata_parse.specs.declared.tree.ArithmeticOperator.{ArithmeticOperator}
-use Rattle.odata_parse.specs.declared.tree.ArithmeticOperator.TheVariants.{Add, Sub, Mul, Div, Mod}
-use Rattle.odata_types.specs.declared.tree.DatePart.{DatePart}
-use Rattle.odata_types.specs.declared.tree.DatePart.TheVariants.{Year, Month, Day}
-use Rattle.odata_types.specs.declared.types.TheConstants.{MILLIONTHS}
-use Rattle.odata_types.specs.TypedTree as typed
-use Rattle.odata_types.specs.TypedTree.{DayOf, DateExprOf, TextExprOf, IntegerExprOf, DecimalExprOf, TruthExprOf, TypedExprOf}
+use Rattle.typed_trees.specs.declared.operator.ArithmeticOperator.{ArithmeticOperator}
+use Rattle.typed_trees.specs.declared.operator.ArithmeticOperator.TheVariants.{Add, Sub, Mul, Div, Mod}
+use Rattle.typed_trees.specs.declared.tree.DatePart.{DatePart}
+use Rattle.typed_trees.specs.declared.tree.DatePart.TheVariants.{Year, Month, Day}
+use Rattle.typed_trees.specs.declared.tree.TheConstants.{MILLIONTHS}
+use Rattle.typed_trees.specs.TypedTree as typed
+use Rattle.typed_trees.specs.TypedTree.{DayOf, DateExprOf, TextExprOf, IntegerExprOf, DecimalExprOf, TruthExprOf, TypedExprOf}
 use Rattle.row_eval.specs.declared.truth.Truth.{Truth}
 use Rattle.row_eval.specs.declared.truth.Truth.TheVariants as truths
 use Rattle.row_eval.specs.Row.{cell, boolean_in, day_in, decimal_in, integer_in, text_in}
@@ -104,17 +104,17 @@ truth_outcome (typed.test_text test t p) row = Some (truth_of_option (joined (te
 
 -- ---- expressions of any type
 
-abbrev pub cell_of : {X : Type 0} → (X → CellValue) → Option X → CellValue
-cell_of f None = value.null
-cell_of f (Some x) = f x
+abbrev pub or_null : {X : Type 0} → (X → CellValue) → Option X → CellValue
+or_null f None = value.null
+or_null f (Some x) = f x
 
 abbrev pub day_value : DayOf → CellValue
 day_value d = value.date d.year d.month d.day
 
 abbrev pub outcome : TypedExprOf → List CellValue → Option CellValue
 outcome typed.nothing row = Some value.null
-outcome (typed.integer e bound) row = option_map (cell_of value.integer) (integer_outcome e row)
-outcome (typed.text e) row = Some (cell_of value.text (text_outcome e row))
-outcome (typed.truth e) row = option_map (λ t. cell_of value.boolean (option_of_truth t)) (truth_outcome e row)
-outcome (typed.date e) row = Some (cell_of day_value (date_outcome e row))
-outcome (typed.decimal e bound) row = option_map (cell_of value.decimal) (decimal_outcome e row)
+outcome (typed.integer e bound) row = option_map (or_null value.integer) (integer_outcome e row)
+outcome (typed.text e) row = Some (or_null value.text (text_outcome e row))
+outcome (typed.truth e) row = option_map (λ t. or_null value.boolean (option_of_truth t)) (truth_outcome e row)
+outcome (typed.date e) row = Some (or_null day_value (date_outcome e row))
+outcome (typed.decimal e bound) row = option_map (or_null value.decimal) (decimal_outcome e row)

@@ -2,7 +2,7 @@
 use Rattle.std.specs.Prelude.{ℕ, ℤ, Bool, List, Option, Some, None, map, option_and_then, slice_get}
 use Rattle.cell_types.specs.declared.value.Value.{Value}
 use Rattle.cell_types.specs.Value.{CellValue, value_view, integer, text, boolean, date, decimal}
-use Rattle.odata_types.specs.TypedTree.{DayOf}
+use Rattle.typed_trees.specs.TypedTree.{DayOf}
 
 abbrev pub row_view : List Value → List CellValue
 row_view row = map value_view row

@@ -2,8 +2,8 @@
 use Rattle.std.specs.Prelude.{ℕ, ℤ, pos, negsuc, suc, Bool, List, [], ◌∷◌, Option, Some, None, option_map, nat_eq, is_some, length, if◌then◌else◌}
 use Rattle.std.specs.List.{starts_with, ends_with}
 use Rattle.std.specs.Str.{chars}
-use Rattle.odata_types.specs.declared.tree.TextTest.{TextTest}
-use Rattle.odata_types.specs.declared.tree.TextTest.TheVariants.{Contains, StartsWith, EndsWith}
+use Rattle.typed_trees.specs.declared.tree.TextTest.{TextTest}
+use Rattle.typed_trees.specs.declared.tree.TextTest.TheVariants.{Contains, StartsWith, EndsWith}
 
 -- how many elements stand before the first place where the part stands
 abbrev pub place_of_part : List ℕ → List ℕ → Option ℕ

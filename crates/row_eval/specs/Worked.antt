@@ -2,12 +2,12 @@
 use Rattle.std.specs.Prelude.{◌≡◌, ℕ, ℤ, pos, negsuc, true, false, List, [], ◌∷◌, codes, Option, Some, None}
 use Rattle.cell_types.specs.Value as value
 use Rattle.cell_types.specs.Value.{CellValue}
-use Rattle.odata_parse.specs.declared.tree.ArithmeticOperator.TheVariants.{Div}
-use Rattle.odata_parse.specs.declared.tree.ComparisonOperator.{ComparisonOperator}
-use Rattle.odata_parse.specs.declared.tree.ComparisonOperator.TheVariants.{Equal, NotEqual, GreaterThan, GreaterOrEqual, LessThan, LessOrEqual}
-use Rattle.odata_types.specs.declared.tree.DatePart.TheVariants.{Year, Month, Day}
-use Rattle.odata_types.specs.declared.tree.TextTest.TheVariants.{Contains, StartsWith, EndsWith}
-use Rattle.odata_types.specs.TypedTree.{DateExprOf, TextExprOf, IntegerExprOf, TruthExprOf, TypedExprOf, null_date, date_column, date_literal, null_text, text_column, text_literal, concat, null_integer, integer_column, integer_literal, arithmetic, length_of, index_of, part_of, null_decimal, decimal_column, decimal_literal, scaled, null_truth, truth_column, truth_literal, compare_integers, compare_decimals, compare_texts, compare_dates, compare_truths, test_text, nothing, integer, text, truth, date, decimal}
+use Rattle.typed_trees.specs.declared.operator.ArithmeticOperator.TheVariants.{Div}
+use Rattle.typed_trees.specs.declared.operator.ComparisonOperator.{ComparisonOperator}
+use Rattle.typed_trees.specs.declared.operator.ComparisonOperator.TheVariants.{Equal, NotEqual, GreaterThan, GreaterOrEqual, LessThan, LessOrEqual}
+use Rattle.typed_trees.specs.declared.tree.DatePart.TheVariants.{Year, Month, Day}
+use Rattle.typed_trees.specs.declared.tree.TextTest.TheVariants.{Contains, StartsWith, EndsWith}
+use Rattle.typed_trees.specs.TypedTree.{DateExprOf, TextExprOf, IntegerExprOf, TruthExprOf, TypedExprOf, null_date, date_column, date_literal, null_text, text_column, text_literal, concat, null_integer, integer_column, integer_literal, arithmetic, length_of, index_of, part_of, null_decimal, decimal_column, decimal_literal, scaled, null_truth, truth_column, truth_literal, compare_integers, compare_decimals, compare_texts, compare_dates, compare_truths, test_text, nothing, integer, text, truth, date, decimal}
 use Rattle.row_eval.specs.declared.truth.Truth.{Truth}
 use Rattle.row_eval.specs.declared.truth.Truth.TheVariants.{False, Null, True}
 use Rattle.row_eval.specs.Outcome.{integer_outcome, outcome, text_outcome, truth_outcome}
@@ -24,24 +24,24 @@ day y m d = date_literal (record { year = y; month = m; day = d })
 
 -- ---- columns: a row's value, or null where it has none of the type
 
-abbrev pub Gives : TypedExprOf → List CellValue → CellValue → Type 0
-Gives e row v = outcome e row ≡ Some v
+abbrev pub HasOutcome : TypedExprOf → List CellValue → CellValue → Type 0
+HasOutcome e row v = outcome e row ≡ Some v
 
 pub record WorkedColumns : Type 0 where
-  pub integers : Gives (integer (integer_column 0) 9) full (value.integer (pos 7))
-  pub texts : Gives (text (text_column 1)) full (value.text (codes "Oslo"))
-  pub truths : Gives (truth (truth_column 2)) full (value.boolean true)
-  pub dates : Gives (date (date_column 3)) full (value.date (pos 2024) 2 29)
-  pub decimals : Gives (decimal (decimal_column 4) 9) full (value.decimal (pos 2_500_000))
-  pub null_integer : Gives (integer (integer_column 0) 9) blank value.null
-  pub null_text : Gives (text (text_column 1)) blank value.null
-  pub null_truth : Gives (truth (truth_column 2)) blank value.null
-  pub null_date : Gives (date (date_column 3)) blank value.null
-  pub null_decimal : Gives (decimal (decimal_column 4) 9) blank value.null
-  pub null_literal : Gives nothing full value.null
-  pub false_literal : Gives (truth (truth_literal false)) blank (value.boolean false)
-  pub day_literal : Gives (date (day (pos 1999) 12 31)) blank (value.date (pos 1999) 12 31)
-  pub text_literal : Gives (text (text_literal (codes "a"))) blank (value.text (codes "a"))
+  pub integers : HasOutcome (integer (integer_column 0) 9) full (value.integer (pos 7))
+  pub texts : HasOutcome (text (text_column 1)) full (value.text (codes "Oslo"))
+  pub truths : HasOutcome (truth (truth_column 2)) full (value.boolean true)
+  pub dates : HasOutcome (date (date_column 3)) full (value.date (pos 2024) 2 29)
+  pub decimals : HasOutcome (decimal (decimal_column 4) 9) full (value.decimal (pos 2_500_000))
+  pub null_integer : HasOutcome (integer (integer_column 0) 9) blank value.null
+  pub null_text : HasOutcome (text (text_column 1)) blank value.null
+  pub null_truth : HasOutcome (truth (truth_column 2)) blank value.null
+  pub null_date : HasOutcome (date (date_column 3)) blank value.null
+  pub null_decimal : HasOutcome (decimal (decimal_column 4) 9) blank value.null
+  pub null_literal : HasOutcome nothing full value.null
+  pub false_literal : HasOutcome (truth (truth_literal false)) blank (value.boolean false)
+  pub day_literal : HasOutcome (date (day (pos 1999) 12 31)) blank (value.date (pos 1999) 12 31)
+  pub text_literal : HasOutcome (text (text_literal (codes "a"))) blank (value.text (codes "a"))
   -- `1 div 0`, and `1 div 0 eq 1`
   pub no_integer : outcome (integer (arithmetic Div (integer_literal (pos 1)) (integer_literal (pos 0))) 1) full ≡ None
   pub no_truth : outcome (truth (compare_integers Equal (arithmetic Div (integer_literal (pos 1)) (integer_literal (pos 0))) (integer_literal (pos 1)))) full ≡ None
@@ -73,8 +73,8 @@ IsLess compare row = Compare compare row False True False False True True
 abbrev pub AreApart : (ComparisonOperator → TruthExprOf) → List CellValue → Type 0
 AreApart compare row = Compare compare row False True False False False False
 
-abbrev pub letters : List ℕ → List ℕ → ComparisonOperator → TruthExprOf
-letters a b o = compare_texts o (text_literal a) (text_literal b)
+abbrev pub compared_letters : List ℕ → List ℕ → ComparisonOperator → TruthExprOf
+compared_letters a b o = compare_texts o (text_literal a) (text_literal b)
 
 pub record WorkedComparisons : Type 0 where
   -- integers: 7 and 7, 7 and 8, 7 and -8
@@ -90,8 +90,8 @@ pub record WorkedComparisons : Type 0 where
   pub prefix : IsGreater (λ o. compare_texts o (text_column 1) (text_literal (codes "Os"))) full
   pub longer : IsLess (λ o. compare_texts o (text_column 1) (text_literal (codes "Oslo!"))) full
   pub small_letter : IsLess (λ o. compare_texts o (text_column 1) (text_literal (codes "oslo"))) full
-  pub capital_first : IsLess (letters (codes "Z") (codes "a")) full
-  pub code_points : IsLess (letters (195 ∷ 169 ∷ []) (226 ∷ 130 ∷ 172 ∷ [])) full
+  pub capital_first : IsLess (compared_letters (codes "Z") (codes "a")) full
+  pub code_points : IsLess (compared_letters (195 ∷ 169 ∷ []) (226 ∷ 130 ∷ 172 ∷ [])) full
   -- dates by year, month, day: 2024-02-29 beside 2023-12-31, 2024-03-01, 2024-02-28 and itself
   pub same_dates : AreEqual (λ o. compare_dates o (date_column 3) (day (pos 2024) 2 29)) full
   pub year_first : IsGreater (λ o. compare_dates o (date_column 3) (day (pos 2023) 12 31)) full

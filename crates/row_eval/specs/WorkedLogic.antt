@@ -1,9 +1,9 @@
 -- Outcomes of three-valued logic, of `in` and of arithmetic, written by hand.
 use Rattle.std.specs.Prelude.{◌≡◌, ℤ, pos, negsuc, true, false, [], ◌∷◌, codes, Some, None}
-use Rattle.odata_parse.specs.declared.tree.ArithmeticOperator.{ArithmeticOperator}
-use Rattle.odata_parse.specs.declared.tree.ArithmeticOperator.TheVariants.{Add, Sub, Mul, Div, Mod}
-use Rattle.odata_parse.specs.declared.tree.ComparisonOperator.TheVariants.{Equal, NotEqual}
-use Rattle.odata_types.specs.TypedTree.{DecimalExprOf, IntegerExprOf, TruthExprOf, integer_column, integer_literal, null_integer, negated, arithmetic, decimal_column, decimal_literal, null_decimal, decimal_negated, decimal_sum, decimal_difference, scaled, text_column, date_column, truth_column, truth_literal, null_truth, negation, conjunction, disjunction, compare_decimals, compare_integers, compare_truths, integer_in, decimal_in, text_in, date_in, truth_in}
+use Rattle.typed_trees.specs.declared.operator.ArithmeticOperator.{ArithmeticOperator}
+use Rattle.typed_trees.specs.declared.operator.ArithmeticOperator.TheVariants.{Add, Sub, Mul, Div, Mod}
+use Rattle.typed_trees.specs.declared.operator.ComparisonOperator.TheVariants.{Equal, NotEqual}
+use Rattle.typed_trees.specs.TypedTree.{DecimalExprOf, IntegerExprOf, TruthExprOf, integer_column, integer_literal, null_integer, negated, arithmetic, decimal_column, decimal_literal, null_decimal, decimal_negated, decimal_sum, decimal_difference, scaled, text_column, date_column, truth_column, truth_literal, null_truth, negation, conjunction, disjunction, compare_decimals, compare_integers, compare_truths, integer_in, decimal_in, text_in, date_in, truth_in}
 use Rattle.row_eval.specs.declared.truth.Truth.TheVariants.{False, Null, True}
 use Rattle.row_eval.specs.Outcome.{decimal_outcome, integer_outcome, truth_outcome}
 use Rattle.row_eval.specs.Worked.{Is, blank, full}

@@ -3,12 +3,12 @@
 ghost use Rattle.std.specs.Prelude.{◌≡◌, map, option_map};
 ghost use Rattle.std.specs.Cmp.Lexicographic.{slice_cmp};
 ghost use Rattle.std.specs.Ordering.{bool_cmp, int_cmp, nat_cmp};
-ghost use Rattle.odata_types.specs.TypedTree.{day_view, optional_day, optional_text};
+ghost use Rattle.typed_trees.specs.TypedTree.{day_view, optional_day, optional_text};
 ghost use Rattle.row_eval.specs.Comparison.{compared, day_cmp, holds as holds_of, is_among, is_equal as is_equal_of};
 
 use jiff::civil::Date;
-use odata_parse::tree::ComparisonOperator;
 use std::cmp::Ordering;
+use typed_trees::ComparisonOperator;
 
 /// Whether a comparison holds of values in an order; none stands for a value beside null.
 pub fn holds(operator: ComparisonOperator, order: Option<Ordering>) -> bool

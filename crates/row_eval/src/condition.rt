@@ -3,7 +3,7 @@
 
 ghost use Rattle.std.specs.Prelude.{◌≡◌};
 ghost use Rattle.std.specs.Ordering.{bool_cmp};
-ghost use Rattle.odata_types.specs.TypedTree.{truth_view};
+ghost use Rattle.typed_trees.specs.TypedTree.{truth_view};
 ghost use Rattle.row_eval.specs.Bounds.{TruthFits};
 ghost use Rattle.row_eval.specs.Comparison.{compared, holds as holds_of};
 ghost use Rattle.row_eval.specs.Logic.{option_of_truth, truth_of as truth_of_bool};
@@ -20,9 +20,8 @@ use crate::relation::{
 };
 use crate::truth::{Truth, greatest, least, opposite, optional_truth, truth_of, truth_value};
 use cell_types::Value;
-use odata_parse::tree::ComparisonOperator;
-use odata_types::TruthExpr;
 use std::alloc::Global;
+use typed_trees::{ComparisonOperator, TruthExpr};
 
 /// The truth in a column.
 fn boolean_at(row: &[Value<'_>], place: usize) -> Option<bool>

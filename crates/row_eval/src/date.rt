@@ -1,13 +1,13 @@
 //! Dates on a row.
 
 ghost use Rattle.std.specs.Prelude.{◌≡◌};
-ghost use Rattle.odata_types.specs.TypedTree.{date_view, day_view, optional_day};
+ghost use Rattle.typed_trees.specs.TypedTree.{date_view, day_view, optional_day};
 ghost use Rattle.row_eval.specs.Outcome.{date_outcome, part_in as part_in_of};
 ghost use Rattle.row_eval.specs.Row.{row_view};
 
 use cell_types::Value;
 use jiff::civil::Date;
-use odata_types::{DateExpr, DatePart};
+use typed_trees::{DateExpr, DatePart};
 
 /// A date on a row; none for null.
 pub fn eval_date(expr: &DateExpr, row: &[Value<'_>]) -> Option<Date>

@@ -2,7 +2,7 @@
 
 ghost use Rattle.std.specs.Prelude.{◌≡◌, ◌+ℤ◌, ◌-ℤ◌, IfSome, FitsSigned};
 ghost use Rattle.std.specs.Int.{w128};
-ghost use Rattle.odata_types.specs.TypedTree.{decimal_view};
+ghost use Rattle.typed_trees.specs.TypedTree.{decimal_view};
 ghost use Rattle.row_eval.specs.Bounds.{DecimalsFit};
 ghost use Rattle.row_eval.specs.Memory.{decimal_concatenates};
 ghost use Rattle.row_eval.specs.Outcome.{decimal_outcome, joined};
@@ -12,8 +12,8 @@ ghost use Rattle.row_eval.specs.Row.{row_view};
 use crate::fault::EvalFault;
 use crate::integer::eval_integer;
 use cell_types::Value;
-use odata_types::{DecimalExpr, MILLIONTHS};
 use std::alloc::Global;
+use typed_trees::{DecimalExpr, MILLIONTHS};
 
 /// A sum; null beside a null.
 fn sum(left: Option<i128>, right: Option<i128>) -> Option<i128>

@@ -2,7 +2,7 @@
 
 ghost use Rattle.std.specs.Prelude.{◌≡◌, false, IfSome, FitsSigned};
 ghost use Rattle.std.specs.Int.{w128};
-ghost use Rattle.odata_types.specs.TypedTree.{integer_view};
+ghost use Rattle.typed_trees.specs.TypedTree.{integer_view};
 ghost use Rattle.row_eval.specs.Bounds.{Fits, IntegersFit};
 ghost use Rattle.row_eval.specs.Memory.{integer_concatenates};
 ghost use Rattle.row_eval.specs.Outcome.{computed as computed_of, integer_outcome, operation as operation_of};
@@ -13,9 +13,8 @@ use crate::date::{eval_date, part_in};
 use crate::fault::EvalFault;
 use crate::text::{eval_text, index_in, length_in};
 use cell_types::Value;
-use odata_parse::tree::ArithmeticOperator;
-use odata_types::IntegerExpr;
 use std::alloc::Global;
+use typed_trees::{ArithmeticOperator, IntegerExpr};
 
 /// Two numbers joined by an operator; none for a division by zero.
 fn operation(operator: ArithmeticOperator, left: i128, right: i128) -> Option<i128>

@@ -21,8 +21,7 @@ pub use decimal::eval_decimal;
 pub use fault::EvalFault;
 pub use integer::eval_integer;
 pub use law::{
-    bounds_hold, expressions_are_queried, faults_are_foreseen, filters_are_queried, sizes,
-    tables_are_inputs, worked_columns, worked_comparisons, worked_functions, worked_logic,
+    faults_are_foreseen, worked_columns, worked_comparisons, worked_functions, worked_logic,
     worked_numbers,
 };
 pub use text::{eval_text, has_part, index_in, text_passes};

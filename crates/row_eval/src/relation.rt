@@ -3,7 +3,7 @@
 
 ghost use Rattle.std.specs.Prelude.{◌≡◌, map, option_map};
 ghost use Rattle.std.specs.Cow.{cow_str_bytes};
-ghost use Rattle.odata_types.specs.TypedTree.{compare_dates, compare_decimals, compare_integers, compare_texts, date_in, date_view, decimal_in, decimal_view, integer_in, integer_view, optional_day, optional_text, test_text, text_in, text_view};
+ghost use Rattle.typed_trees.specs.TypedTree.{compare_dates, compare_decimals, compare_integers, compare_texts, date_in, date_view, decimal_in, decimal_view, integer_in, integer_view, optional_day, optional_text, test_text, text_in, text_view};
 ghost use Rattle.row_eval.specs.Bounds.{DecimalsFit, IntegersFit};
 ghost use Rattle.row_eval.specs.Outcome.{joined, truth_outcome};
 ghost use Rattle.row_eval.specs.Result.{Decides};
@@ -21,10 +21,9 @@ use crate::text::{eval_text, text_passes};
 use crate::truth::{Truth, optional_truth, truth_of};
 use cell_types::Value;
 use jiff::civil::Date;
-use odata_parse::tree::ComparisonOperator;
-use odata_types::{DateExpr, DecimalExpr, IntegerExpr, TextExpr, TextTest};
 use std::alloc::Global;
 use std::borrow::CowStr;
+use typed_trees::{ComparisonOperator, DateExpr, DecimalExpr, IntegerExpr, TextExpr, TextTest};
 
 /// The text, if there is one.
 fn borrowed<'t>(text: &'t Option<CowStr<'_>>) -> Option<&'t str>

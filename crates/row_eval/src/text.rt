@@ -4,7 +4,7 @@ ghost use Rattle.std.specs.Prelude.{◌≡◌, ◌++◌, true, IfOk, IsErr, opti
 ghost use Rattle.std.specs.Str.{chars};
 ghost use Rattle.std.specs.Cow.{cow_str_bytes};
 ghost use Rattle.std.specs.List.{starts_with as starts_with_of, ends_with as ends_with_of};
-ghost use Rattle.odata_types.specs.TypedTree.{text_view};
+ghost use Rattle.typed_trees.specs.TypedTree.{text_view};
 ghost use Rattle.row_eval.specs.Memory.{text_concatenates};
 ghost use Rattle.row_eval.specs.Outcome.{text_outcome};
 ghost use Rattle.row_eval.specs.Row.{row_view};
@@ -12,9 +12,9 @@ ghost use Rattle.row_eval.specs.Text.{has_part as has_part_of, index_in as index
 
 use cell_types::Value;
 use memchr::memmem;
-use odata_types::{TextExpr, TextTest};
 use std::alloc::{AllocError, Global};
 use std::borrow::CowStr;
+use typed_trees::{TextExpr, TextTest};
 
 /// Two texts, one behind the other.
 fn joined<'r>(alloc: Global, left: &str, right: &str) -> Result<CowStr<'r>, AllocError>

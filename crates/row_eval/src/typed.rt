@@ -3,10 +3,10 @@
 ghost use Rattle.std.specs.Prelude.{◌≡◌, option_map};
 ghost use Rattle.cell_types.specs.Value.{value_view, integer, decimal, text as text_cell, boolean};
 ghost use Rattle.std.specs.Cow.{cow_str_bytes};
-ghost use Rattle.odata_types.specs.TypedTree.{optional_day, typed_view};
+ghost use Rattle.typed_trees.specs.TypedTree.{optional_day, typed_view};
 ghost use Rattle.row_eval.specs.Bounds.{NumbersFit};
 ghost use Rattle.row_eval.specs.Memory.{concatenates};
-ghost use Rattle.row_eval.specs.Outcome.{cell_of, day_value, outcome};
+ghost use Rattle.row_eval.specs.Outcome.{or_null, day_value, outcome};
 ghost use Rattle.row_eval.specs.Result.{Evaluates};
 ghost use Rattle.row_eval.specs.Row.{row_view};
 
@@ -19,12 +19,12 @@ use crate::text::eval_text;
 use crate::truth::truth_value;
 use cell_types::Value;
 use jiff::civil::Date;
-use odata_types::TypedExpr;
 use std::alloc::Global;
 use std::borrow::CowStr;
+use typed_trees::TypedExpr;
 
 fn integer_value<'a>(number: Option<i128>) -> Value<'a>
-    ensures { value_view result ≡ cell_of integer number }
+    ensures { value_view result ≡ or_null integer number }
 {
     match number {
         Some(number) => Value::Int(number),
@@ -33,7 +33,7 @@ fn integer_value<'a>(number: Option<i128>) -> Value<'a>
 }
 
 fn decimal_value<'a>(number: Option<i128>) -> Value<'a>
-    ensures { value_view result ≡ cell_of decimal number }
+    ensures { value_view result ≡ or_null decimal number }
 {
     match number {
         Some(number) => Value::Decimal(number),
@@ -42,7 +42,7 @@ fn decimal_value<'a>(number: Option<i128>) -> Value<'a>
 }
 
 fn text_value<'a>(text: Option<CowStr<'a>>) -> Value<'a>
-    ensures { value_view result ≡ cell_of text_cell (option_map cow_str_bytes text.entry) }
+    ensures { value_view result ≡ or_null text_cell (option_map cow_str_bytes text.entry) }
 {
     match text {
         Some(text) => Value::Text(text),
@@ -51,7 +51,7 @@ fn text_value<'a>(text: Option<CowStr<'a>>) -> Value<'a>
 }
 
 fn boolean_value<'a>(truth: Option<bool>) -> Value<'a>
-    ensures { value_view result ≡ cell_of boolean truth }
+    ensures { value_view result ≡ or_null boolean truth }
 {
     match truth {
         Some(truth) => Value::Bool(truth),
@@ -60,7 +60,7 @@ fn boolean_value<'a>(truth: Option<bool>) -> Value<'a>
 }
 
 fn date_value<'a>(date: Option<Date>) -> Value<'a>
-    ensures { value_view result ≡ cell_of day_value (optional_day date) }
+    ensures { value_view result ≡ or_null day_value (optional_day date) }
 {
     match date {
         Some(date) => Value::Date(date),

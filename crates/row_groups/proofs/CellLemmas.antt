@@ -7,7 +7,7 @@ use Rattle.cell_types.specs.Value.{CellValue, null}
 use Rattle.row_eval.specs.Row.{cell}
 use Rattle.query_meaning.specs.Apply.{value_at}
 use Rattle.query_meaning.specs.Fitting.{AreSummable}
-use Rattle.row_columns.specs.Cells.{value_or_null}
+use Rattle.row_columns.specs.Cells.{null_or}
 use Rattle.row_columns.specs.Picked.{numbered}
 use Rattle.row_groups.specs.declared.sums.Summed.{Summed}
 use Rattle.row_groups.specs.declared.sums.Summed.TheVariants.{Integers, Decimals}
@@ -17,7 +17,7 @@ read_null : (summed : Summed) → read_of summed null ≡ None
 read_null Integers = refl
 read_null Decimals = refl
 
-read_back : (summed : Summed) (number : Option ℤ) → read_of summed (value_or_null (number_value summed) number) ≡ number
+read_back : (summed : Summed) (number : Option ℤ) → read_of summed (null_or (number_value summed) number) ≡ number
 read_back Integers None = refl
 read_back Integers (Some n) = refl
 read_back Decimals None = refl
@@ -28,12 +28,12 @@ cell_is read e [] place = sym e
 cell_is read e (v ∷ row) zero = refl
 cell_is read e (v ∷ row) (suc place) = cell_is read e row place
 
-module _ (summed : Summed) (rows : List (List CellValue)) (cells : List (Option ℤ)) (place : ℕ) (are : map (value_or_null (number_value summed)) cells ≡ map (λ row. value_at row place) rows) where
+module _ (summed : Summed) (rows : List (List CellValue)) (cells : List (Option ℤ)) (place : ℕ) (are : map (null_or (number_value summed)) cells ≡ map (λ row. value_at row place) rows) where
   number_is : (n : ℕ) → get_or cells n None ≡ cell (read_of summed) (get_or rows n []) place
   number_is n =
       sym (read_back summed (get_or cells n None))
       ∙ ap (read_of summed)
-      (sym (get_or-map_default (value_or_null (number_value summed)) cells n None)
+      (sym (get_or-map_default (null_or (number_value summed)) cells n None)
       ∙ ap (λ vs. get_or vs n null) are
       ∙ get_or-map_default (λ row. value_at row place) rows n [])
       ∙ sym (cell_is (read_of summed) (read_null summed) (get_or rows n []) place)
@@ -45,7 +45,7 @@ module _ (summed : Summed) (rows : List (List CellValue)) (cells : List (Option 
   pub cells_within : (numbers : List ℕ) → All (λ n. n < length rows) numbers → All (λ n. n < length cells) numbers
   cells_within numbers within =
       let long : length cells ≡ length rows =
-      sym (length-map cells (value_or_null (number_value summed))) ∙ ap length are ∙ length-map rows (λ row. value_at row place) in
+      sym (length-map cells (null_or (number_value summed))) ∙ ap length are ∙ length-map rows (λ row. value_at row place) in
       subst (λ k. All (λ n. n < k) numbers) (sym long) within
 
   pub cells_fit : (numbers : List ℕ) → AreSummable (numbers_in summed place (numbered numbers rows)) (length numbers)

@@ -12,13 +12,13 @@ use Rattle.odata_query.specs.declared.aggregate.Aggregate.{Aggregate}
 use Rattle.odata_query.specs.Aggregate.{NamedAggregateOf}
 use Rattle.odata_query.specs.FirstSeen.{first_seen}
 use Rattle.odata_query.specs.Query.{optional_numbers}
-use Rattle.query_meaning.specs.Apply.{computed_value, computed_values, group_values, rows_of_group, is_value, same_values, value_at, values_at, values_in}
+use Rattle.query_meaning.specs.Apply.{computed_value, computed_values, group_values, rows_of_group, is_value, same_values, value_at, values_at, present_values}
 use Rattle.row_columns.specs.Kinds.{AreOfKinds, KindOf, any}
 use Rattle.row_columns.specs.Picked.{numbered}
 use Rattle.row_groups.specs.declared.gathering.Gathering.{Gathering}
 use Rattle.row_groups.specs.declared.groups.Groups.{Groups}
 use Rattle.row_groups.specs.declared.tally.Tally.{Tally}
-use Rattle.row_groups.specs.Gathered.{gathered_rows, key_width, keys_of, part_of, rows_gathered, HasGroups, Joins, JoinsGroups, MayJoin, MayJoinGroups}
+use Rattle.row_groups.specs.Gathered.{gathered_rows, key_width, group_keys, part_of, rows_gathered, HasGroups, Adjoins, JoinsGroups, MayJoin, MayJoinGroups}
 use Rattle.row_groups.specs.Tallies.{AreTallies, FitsAll, MayTallyEach}
 use Rattle.row_groups.proofs.FitLemmas.{all_fit_front, all_fit_kept, of_any}
 use Rattle.row_groups.proofs.GroupLemmas.{found_zip, joins, new_values, new_zip, old_values, same_is, same_self}
@@ -116,11 +116,11 @@ one_row_more before rows numbers i h =
 -- the values of these in a column
 pub values_more : (place : ℕ) (before rows : List (List CellValue)) (numbers : List ℕ) (i : ℕ) (value : CellValue) → i < length numbers
     → value_at (slice_index_or rows (get_or numbers i 0) []) place ≡ value
-    → values_in place (before ++ numbered (take (i + 1) numbers) rows) ≡ values_in place (before ++ numbered (take i numbers) rows) ++ filter is_value (value ∷ [])
+    → present_values place (before ++ numbered (take (i + 1) numbers) rows) ≡ present_values place (before ++ numbered (take i numbers) rows) ++ filter is_value (value ∷ [])
 values_more place before rows numbers i value h at =
-    ap (values_in place) (one_row_more before rows numbers i h)
+    ap (present_values place) (one_row_more before rows numbers i h)
     ∙ values_append place (before ++ numbered (take i numbers) rows) (slice_index_or rows (get_or numbers i 0) [] ∷ [])
-    ∙ ap (λ v. values_in place (before ++ numbered (take i numbers) rows) ++ filter is_value (v ∷ [])) at
+    ∙ ap (λ v. present_values place (before ++ numbered (take i numbers) rows) ++ filter is_value (v ∷ [])) at
 
 -- the first rows of those that join
 pub rows_front : (before rows : List (List CellValue)) (numbers : List ℕ) (k : ℕ)
@@ -156,7 +156,7 @@ rows_wide : (places : List ℕ) (rows : List (List CellValue)) → AllByRecursio
 rows_wide places [] = tt
 rows_wide places (row ∷ rows) = (length-map places (value_at row), rows_wide places rows)
 
-pub keys_wide : (places : Option (List ℕ)) (rows : List (List CellValue)) → AllByRecursion (λ v. length v ≡ key_width places) (keys_of places rows)
+pub keys_wide : (places : Option (List ℕ)) (rows : List (List CellValue)) → AllByRecursion (λ v. length v ≡ key_width places) (group_keys places rows)
 keys_wide None rows = (refl, tt)
 keys_wide (Some places) rows = seen_wide (length places) (map (values_at places) rows) (rows_wide places rows)
 
@@ -177,46 +177,46 @@ plain_rows (Some places) aggregates rows = each_row aggregates (rows_of_group pl
 
 -- as many tallies as keys
 module _ (places : Option (List ℕ)) (aggregates : List Aggregate) (groups : Groups) (rows : List (List CellValue)) (has : HasGroups places aggregates groups rows) where
-  pub as_many : length groups.tallies.items ≡ length (keys_of places rows)
+  pub as_many : length groups.tallies.items ≡ length (group_keys places rows)
   as_many =
-      sym (zip_long (OfPart aggregates) (map (part_of places rows) (keys_of places rows)) groups.tallies.items has.tallies_are)
-      ∙ length-map (keys_of places rows) (part_of places rows)
+      sym (zip_long (OfPart aggregates) (map (part_of places rows) (group_keys places rows)) groups.tallies.items has.tallies_are)
+      ∙ length-map (group_keys places rows) (part_of places rows)
 
   pub as_many_keys : length groups.tallies.items ≡ length groups.keys.keys
   as_many_keys = as_many ∙ sym (ap length has.keys_are) ∙ length-map groups.keys.keys (λ key. map value_view key.items)
 
   pub tallies_at : (i : ℕ) (d : Vec Tally Global) → i < length groups.tallies.items
-      → AreTallies aggregates (part_of places rows (get_or (keys_of places rows) i [])) (get_or groups.tallies.items i d).items
+      → AreTallies aggregates (part_of places rows (get_or (group_keys places rows) i [])) (get_or groups.tallies.items i d).items
   tallies_at i d h =
       let many = as_many in
-      subst (λ p. OfPart aggregates p (get_or groups.tallies.items i d)) (get_or-map (part_of places rows) (keys_of places rows) i [] [] (omega arith))
-      (zip_at (OfPart aggregates) (map (part_of places rows) (keys_of places rows)) groups.tallies.items i [] d has.tallies_are h)
+      subst (λ p. OfPart aggregates p (get_or groups.tallies.items i d)) (get_or-map (part_of places rows) (group_keys places rows) i [] [] (omega arith))
+      (zip_at (OfPart aggregates) (map (part_of places rows) (group_keys places rows)) groups.tallies.items i [] d has.tallies_are h)
 
-  pub key_at : (i : ℕ) (d : Vec Value Global) → i < length groups.tallies.items → map value_view (get_or groups.keys.keys i d).items ≡ get_or (keys_of places rows) i []
+  pub key_at : (i : ℕ) (d : Vec Value Global) → i < length groups.tallies.items → map value_view (get_or groups.keys.keys i d).items ≡ get_or (group_keys places rows) i []
   key_at i d h =
       let many = as_many_keys in
       sym (get_or-map (λ key. map value_view key.items) groups.keys.keys i d [] (omega arith)) ∙ ap (λ ks. get_or ks i []) has.keys_are
 
   pub row_more : (i : ℕ) (row : List CellValue) → i < length groups.tallies.items
-      → row ≡ get_or (keys_of places rows) i [] ++ map (computed_value (part_of places rows (get_or (keys_of places rows) i []))) aggregates
+      → row ≡ get_or (group_keys places rows) i [] ++ map (computed_value (part_of places rows (get_or (group_keys places rows) i []))) aggregates
       → take (i + 1) (rows_gathered places aggregates rows) ≡ take i (rows_gathered places aggregates rows) ++ row ∷ []
   row_more i row h is =
       let many = as_many in
-      let long = length-map (keys_of places rows) (λ key. key ++ map (computed_value (part_of places rows key)) aggregates) in
+      let long = length-map (group_keys places rows) (λ key. key ++ map (computed_value (part_of places rows key)) aggregates) in
       take_more (rows_gathered places aggregates rows) i [] (omega arith)
       ∙ ap (λ r. take i (rows_gathered places aggregates rows) ++ r ∷ [])
-      (get_or-map (λ key. key ++ map (computed_value (part_of places rows key)) aggregates) (keys_of places rows) i [] [] (omega arith) ∙ sym is)
+      (get_or-map (λ key. key ++ map (computed_value (part_of places rows key)) aggregates) (group_keys places rows) i [] [] (omega arith) ∙ sym is)
 
   pub row_kinds : (i width : ℕ) (kinds : List KindOf) (row : List CellValue) → i < length groups.tallies.items → key_width places ≡ width
       → kinds ≡ replicate (width + length aggregates) any
-      → row ≡ get_or (keys_of places rows) i [] ++ map (computed_value (part_of places rows (get_or (keys_of places rows) i []))) aggregates → AreOfKinds kinds row
+      → row ≡ get_or (group_keys places rows) i [] ++ map (computed_value (part_of places rows (get_or (group_keys places rows) i []))) aggregates → AreOfKinds kinds row
   row_kinds i width kinds row h wide kinds_are is =
       let many = as_many in
-      let key = get_or (keys_of places rows) i [] in
+      let key = get_or (group_keys places rows) i [] in
       let computed = map (computed_value (part_of places rows key)) aggregates in
       let long : length row ≡ width + length aggregates =
       ap length is ∙ length-append key computed
-      ∙ ap (λ n. n + length computed) (all_at (λ v. length v ≡ key_width places) (keys_of places rows) i [] (keys_wide places rows) (omega arith) ∙ wide)
+      ∙ ap (λ n. n + length computed) (all_at (λ v. length v ≡ key_width places) (group_keys places rows) i [] (keys_wide places rows) (omega arith) ∙ wide)
       ∙ ap (λ n. width + n) (length-map aggregates (computed_value (part_of places rows key))) in
       subst (λ ks. AreOfKinds ks row) (sym kinds_are) (subst (λ n. AreOfKinds (replicate n any) row) long (of_any row))
 
@@ -240,7 +240,7 @@ groups_may_join gathering width more may places aggregates places_are aggregates
 
 pub groups_join : (old new : Gathering) (more : List (List CellValue)) (places : Option (List ℕ)) (aggregates : List Aggregate) → new.places ≡ old.places
     → new.aggregates ≡ old.aggregates → optional_numbers old.places ≡ places → aggregates ≡ old.aggregates.items → JoinsGroups places aggregates old.groups new.groups more
-    → Joins old new more
+    → Adjoins old new more
 groups_join old new more places aggregates same_places same_aggregates places_are aggregates_are joins = λ wanted named rows g.
     let is : places ≡ wanted = sym places_are ∙ g.places_are in
     let plain : aggregates ≡ new.aggregates.items = aggregates_are ∙ sym (ap (λ (v : Vec Aggregate Global). v.items) same_aggregates) in

@@ -10,7 +10,7 @@ use Rattle.std.proofs.lemmas.List.Elements.{filter-append}
 use Rattle.std.proofs.lemmas.List.Folds.{list_any-append}
 use Rattle.cell_types.specs.Value.{CellValue, value_cmp, value_eq}
 use Rattle.odata_query.specs.declared.aggregate.Aggregate.TheVariants.{Max, Min}
-use Rattle.query_meaning.specs.Apply.{computed_value, is_value, least_value, greatest_value, value_at, values_in}
+use Rattle.query_meaning.specs.Apply.{computed_value, is_value, least_value, greatest_value, value_at, present_values}
 use Rattle.row_groups.specs.Computed.{greater_value, lesser_value}
 use Rattle.row_groups.specs.Tallies.{HasDistinct}
 use Rattle.row_groups.proofs.ExtremeLemmas.{below_trans, not_below, pick, picked}
@@ -92,7 +92,7 @@ module _ (wins : CellValue → CellValue → Bool) (trans : (u v w : CellValue) 
     ]
   ]
 
-pub values_append : (place : ℕ) (rows more : List (List CellValue)) → values_in place (rows ++ more) ≡ values_in place rows ++ values_in place more
+pub values_append : (place : ℕ) (rows more : List (List CellValue)) → present_values place (rows ++ more) ≡ present_values place rows ++ present_values place more
 values_append place rows more =
     ap (filter is_value) (map-append (λ row. value_at row place) rows more)
     ∙ filter-append is_value (map (λ row. value_at row place) rows) (map (λ row. value_at row place) more)
@@ -123,13 +123,13 @@ module _ (total : IsTotalOrder value_cmp) where
   pub least_joined : (place : ℕ) (rows more : List (List CellValue))
       → computed_value (rows ++ more) (Min place) ≡ lesser_value (computed_value rows (Min place)) (computed_value more (Min place))
   least_joined place rows more =
-      ap least_value (values_append place rows more) ∙ least_append (values_in place rows) (values_in place more) (all_values (map (λ row. value_at row place) rows))
+      ap least_value (values_append place rows more) ∙ least_append (present_values place rows) (present_values place more) (all_values (map (λ row. value_at row place) rows))
       (all_values (map (λ row. value_at row place) more))
 
   pub greatest_joined : (place : ℕ) (rows more : List (List CellValue))
       → computed_value (rows ++ more) (Max place) ≡ greater_value (computed_value rows (Max place)) (computed_value more (Max place))
   greatest_joined place rows more =
-      ap greatest_value (values_append place rows more) ∙ greatest_append (values_in place rows) (values_in place more) (all_values (map (λ row. value_at row place) rows))
+      ap greatest_value (values_append place rows more) ∙ greatest_append (present_values place rows) (present_values place more) (all_values (map (λ row. value_at row place) rows))
       (all_values (map (λ row. value_at row place) more))
 
 -- ---- different values

@@ -23,9 +23,9 @@ gathered_width None aggregates = length aggregates
 gathered_width (Some places) aggregates = length places + length aggregates
 
 -- the values of each group, and the rows of one: all rows are one group of no values
-abbrev pub keys_of : Option (List ℕ) → List (List CellValue) → List (List CellValue)
-keys_of None rows = [] ∷ []
-keys_of (Some places) rows = group_values places rows
+abbrev pub group_keys : Option (List ℕ) → List (List CellValue) → List (List CellValue)
+group_keys None rows = [] ∷ []
+group_keys (Some places) rows = group_values places rows
 
 abbrev pub part_of : Option (List ℕ) → List (List CellValue) → List CellValue → List (List CellValue)
 part_of None rows key = rows
@@ -33,8 +33,8 @@ part_of (Some places) rows key = rows_of_group places rows key
 
 -- those are the groups of the rows: their values, and what is kept of the rows of each
 pub record HasGroups (places : Option (List ℕ)) (aggregates : List Aggregate) (groups : Groups) (rows : List (List CellValue)) : Type 0 where
-  pub keys_are : map (λ key. map value_view key.items) groups.keys.keys ≡ keys_of places rows
-  pub tallies_are : AllZip (λ part tallies. AreTallies aggregates part tallies.items) (map (part_of places rows) (keys_of places rows)) groups.tallies.items
+  pub keys_are : map (λ key. map value_view key.items) groups.keys.keys ≡ group_keys places rows
+  pub tallies_are : AllZip (λ part tallies. AreTallies aggregates part tallies.items) (map (part_of places rows) (group_keys places rows)) groups.tallies.items
 
 -- The rows joined, one after another: for these aggregates, of all of them or of the groups by their values in some columns.
 pub record Gathers (gathering : Gathering) (places : Option (List ℕ)) (aggregates : List NamedAggregateOf) (rows : List (List CellValue)) : Type 0 where
@@ -52,8 +52,8 @@ pub record MayJoin (gathering : Gathering) (width : ℕ) (more : List (List Cell
   pub fits : All (λ a. FitsAll width (rows ++ more) a.aggregate) aggregates
 
 -- these joined behind those that did
-abbrev pub Joins : Gathering → Gathering → List (List CellValue) → Type 0
-Joins old new more = (places : Option (List ℕ)) (aggregates : List NamedAggregateOf) (rows : List (List CellValue)) → Gathers old places aggregates rows
+abbrev pub Adjoins : Gathering → Gathering → List (List CellValue) → Type 0
+Adjoins old new more = (places : Option (List ℕ)) (aggregates : List NamedAggregateOf) (rows : List (List CellValue)) → Gathers old places aggregates rows
     → Gathers new places aggregates (rows ++ more)
 
 -- that many columns, and these rows, are what is gathered of all rows that joined
@@ -97,7 +97,7 @@ key_width None = 0
 key_width (Some places) = length places
 
 abbrev pub rows_gathered : Option (List ℕ) → List Aggregate → List (List CellValue) → List (List CellValue)
-rows_gathered places aggregates rows = map (λ key. key ++ map (computed_value (part_of places rows key)) aggregates) (keys_of places rows)
+rows_gathered places aggregates rows = map (λ key. key ++ map (computed_value (part_of places rows key)) aggregates) (group_keys places rows)
 
 -- those rows are made of the groups of any rows
 abbrev pub MakesRows : Groups → List Aggregate → List (List CellValue) → Type 0

@@ -5,7 +5,7 @@ use Rattle.std.specs.Set.{distinct_count}
 use Rattle.cell_types.specs.Value.{CellValue, value_eq, value_view}
 use Rattle.odata_query.specs.declared.aggregate.Aggregate.{Aggregate}
 use Rattle.odata_query.specs.declared.aggregate.Aggregate.TheVariants.{Count, SumOfIntegers, SumOfDecimals, Min, Max, CountDistinct}
-use Rattle.query_meaning.specs.Apply.{computed_value, values_in}
+use Rattle.query_meaning.specs.Apply.{computed_value, present_values}
 use Rattle.query_meaning.specs.Fitting.{AreSummable}
 use Rattle.row_groups.specs.declared.tally.Tally.{Tally}
 use Rattle.row_groups.specs.declared.tally.Tally.TheVariants as tally
@@ -24,7 +24,7 @@ IsTally (SumOfIntegers place) rows (tally.Sum sum) = sum ≡ sum_of (integers_in
 IsTally (SumOfDecimals place) rows (tally.Sum sum) = sum ≡ sum_of (decimals_in place rows)
 IsTally (Min place) rows (tally.Extreme value) = value_view value ≡ computed_value rows (Min place)
 IsTally (Max place) rows (tally.Extreme value) = value_view value ≡ computed_value rows (Max place)
-IsTally (CountDistinct place) rows (tally.Distinct values) = HasDistinct (map value_view values.keys) (values_in place rows)
+IsTally (CountDistinct place) rows (tally.Distinct values) = HasDistinct (map value_view values.keys) (present_values place rows)
 IsTally _ _ _ = ⊥
 
 -- of each aggregate
@@ -60,7 +60,7 @@ JoinsDistinct old new more = (seen : List CellValue) → HasDistinct old seen �
 
 -- so of the values of rows in a column
 abbrev pub JoinsValues : ℕ → List CellValue → List CellValue → List (List CellValue) → Type 0
-JoinsValues place old new more = (rows : List (List CellValue)) → HasDistinct old (values_in place rows) → HasDistinct new (values_in place (rows ++ more))
+JoinsValues place old new more = (rows : List (List CellValue)) → HasDistinct old (present_values place rows) → HasDistinct new (present_values place (rows ++ more))
 
 -- the same of each aggregate
 pub record MayTallyEach (aggregates : List Aggregate) (width : ℕ) (old : List Tally) (more : List (List CellValue)) : Type 0 where

@@ -5,7 +5,7 @@ ghost use Rattle.std.specs.List.{All};
 ghost use Rattle.cell_types.specs.Value.{CellValue};
 ghost use Rattle.odata_query.specs.Aggregate.{named_view, NamedAggregateOf};
 ghost use Rattle.row_columns.specs.Picked.{numbered};
-ghost use Rattle.row_groups.specs.Gathered.{gathered_rows, gathered_width, lent_places, Gathers, HasGatheredRows, HasGatheredWidth, Joins, MayJoin};
+ghost use Rattle.row_groups.specs.Gathered.{gathered_rows, gathered_width, lent_places, Gathers, HasGatheredRows, HasGatheredWidth, Adjoins, MayJoin};
 ghost use Rattle.row_groups.specs.Tallies.{FitsAll};
 
 use crate::groups::Groups;
@@ -60,7 +60,7 @@ impl Gathering {
         requires within { All (λ number. number < length columns.now.rows) numbers.now }
         requires joins { MayJoin self.old (length columns.now.kinds)
             (numbered numbers.now columns.now.rows) }
-        ensures { OnOk result (Joins self.old self.new (numbered numbers.now columns.now.rows)) }
+        ensures { OnOk result (Adjoins self.old self.new (numbered numbers.now columns.now.rows)) }
     {
         match &self.places {
             None => self

@@ -3,7 +3,7 @@ ghost use Rattle.std.specs.Prelude.{◌≡◌, ◌<◌, [], None, IfSome, length
 ghost use Rattle.std.specs.List.{All, filter_map};
 ghost use Rattle.query_meaning.specs.Apply.{value_at};
 ghost use Rattle.query_meaning.specs.Fitting.{AreSummable};
-ghost use Rattle.row_columns.specs.Cells.{value_or_null};
+ghost use Rattle.row_columns.specs.Cells.{null_or};
 ghost use Rattle.row_columns.specs.Picked.{numbered};
 ghost use Rattle.row_eval.specs.Row.{cell, decimal_in, integer_in};
 ghost use Rattle.row_groups.specs.Sums.{number_value, numbers_in, read_of, sum_of};
@@ -42,7 +42,7 @@ pub(crate) fn sum_of(
 fn cells_of(columns: &Columns, place: usize, summed: Summed) -> Option<&[Option<i64>]>
     requires { place < length columns.now.kinds }
     ensures { IfSome result (λ cells.
-        map (value_or_null (number_value summed)) cells.now
+        map (null_or (number_value summed)) cells.now
         ≡ map (λ row. value_at row place) columns.now.rows) }
 {
     match summed {

@@ -17,9 +17,9 @@ use Rattle.cell_types.specs.Laws.{IsOfColumn, IsOfDatatype, ValuesFitColumns}
 use Rattle.row_keys.specs.declared.keys.ReadKeys.{ReadKeys}
 use Rattle.row_keys.specs.declared.values.ValueReader.{ValueReader}
 use Rattle.row_keys.specs.declared.keys.KeyReader.{KeyReader}
-use Rattle.typed_columns.specs.Values.{value_or_null, values_in}
+use Rattle.raw_fields.specs.Values.{value_or_null, values_in}
 use Rattle.row_keys.specs.Key.{row_key, key_eq, has_null, repeated_row}
-use Rattle.row_keys.specs.Keys.{HasRead, HaveRead, IsInteger}
+use Rattle.row_keys.specs.Keys.{HasRead, WereRead, IsInteger}
 use Rattle.row_keys.specs.Values.{HasReadValues}
 use Rattle.row_keys.proofs.KeyLemmas.{null_row-more, repeated_row-more}
 
@@ -106,7 +106,7 @@ module _ (reader : KeyReader) (keys : List (List CellValue)) (key : List CellVal
   }
 
   -- a row with none
-  pub HasRead-whole : (new : ReadKeys) → has_null key ≡ false → HaveRead new (keys ++ key ∷ []) → HasRead (record { keys = new; null = reader.null }) (keys ++ key ∷ [])
+  pub HasRead-whole : (new : ReadKeys) → has_null key ≡ false → WereRead new (keys ++ key ∷ []) → HasRead (record { keys = new; null = reader.null }) (keys ++ key ∷ [])
   HasRead-whole new lacks more = record {
     null = none ∙ sym (null_row-more keys key ∙ ap (λ n. option_or n (cond (has_null key) (Some (length keys)) None)) (sym read.null ∙ none)
         ∙ ap (λ b. cond b (Some (length keys)) None) lacks);

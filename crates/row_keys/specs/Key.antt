@@ -1,13 +1,13 @@
 -- Keys of rows (Model for Tabular Data and Metadata on the Web, sections 4.4 and 6.6; Metadata Vocabulary for Tabular Data, section 5.5,
 -- `primaryKey`).
 use Rattle.std.specs.Prelude.{ℕ, Bool, List, [], get_or, length, map, take, Option, position, find}
-use Rattle.std.specs.Cmp.Lexicographic.{pointwise}
 use Rattle.std.specs.List.{list_any, range_with_len}
+use Rattle.cell_types.specs.Rows.{values_at, same_values}
 use Rattle.cell_types.specs.Value.{CellValue, null, value_eq}
 
 -- the key of a row: its values in the columns of the key, in the order of the key
 abbrev pub row_key : List ℕ → List CellValue → List CellValue
-row_key places values = map (λ place. get_or values place null) places
+row_key places values = values_at places values
 
 -- the keys of the rows of a table, in order; none, where the table has no key
 abbrev pub row_keys : List ℕ → List (List CellValue) → List (List CellValue)
@@ -16,7 +16,7 @@ row_keys places rows = map (row_key places) rows
 
 -- two keys are one where they have the same values
 abbrev pub key_eq : List CellValue → List CellValue → Bool
-key_eq a b = pointwise value_eq a b
+key_eq a b = same_values a b
 
 -- whether a part of a key is null
 abbrev pub has_null : List CellValue → Bool

@@ -57,15 +57,15 @@ pub record AreKeysOf (keys : Keys) (of : List (List CellValue)) : Type 0 where
   pub distinct : repeated_row of ≡ None
 
 -- those keys were read; of integers all, and of lists of values those before the first that stands twice, which is known
-abbrev pub HaveRead : ReadKeys → List (List CellValue) → Type 0
-HaveRead read.Absent keys = keys ≡ []
-HaveRead (read.Numbers numbers) keys = map integer_key numbers.numbers ≡ keys
-HaveRead (read.Values values) keys = HasReadValues values keys
+abbrev pub WereRead : ReadKeys → List (List CellValue) → Type 0
+WereRead read.Absent keys = keys ≡ []
+WereRead (read.Numbers numbers) keys = map integer_key numbers.numbers ≡ keys
+WereRead (read.Values values) keys = HasReadValues values keys
 
 -- those keys were read: the first with a null is known, and all where there is none
 pub record HasRead (reader : KeyReader) (keys : List (List CellValue)) : Type 0 where
   pub null : reader.null ≡ null_row keys
-  pub read : reader.null ≡ None → HaveRead reader.keys keys
+  pub read : reader.null ≡ None → WereRead reader.keys keys
 
 -- this is the first thing wrong with the keys
 abbrev pub HasKeyFault : List (List CellValue) → KeyFault → Type 0

@@ -7,26 +7,26 @@ abbrev pub integer_key : ℤ → List CellValue
 integer_key number = integer number ∷ []
 
 -- the number of a row
-abbrev pub number_of : List ℤ → ℕ → ℤ
-number_of numbers row = slice_index_or numbers row (pos 0)
+abbrev pub key_number : List ℤ → ℕ → ℤ
+key_number numbers row = slice_index_or numbers row (pos 0)
 
 -- the row at a place of an order; past its end the row of that number
-abbrev pub row_at : List ℕ → ℕ → ℕ
-row_at order place = slice_index_or order place place
+abbrev pub ordered_row : List ℕ → ℕ → ℕ
+ordered_row order place = slice_index_or order place place
 
 -- the numbers of the first so many rows of an order rise
 abbrev pub RisesAlong : List ℕ → List ℤ → ℕ → Type 0
-RisesAlong order numbers count = (a b : ℕ) → a < b → b < count → number_of numbers (row_at order a) <ℤ number_of numbers (row_at order b)
+RisesAlong order numbers count = (a b : ℕ) → a < b → b < count → key_number numbers (ordered_row order a) <ℤ key_number numbers (ordered_row order b)
 
 -- the numbers rise along the order, which has each row
 pub record IsOrderOf (order : List ℕ) (numbers : List ℤ) : Type 0 where
-  pub within : (place : ℕ) → place < length numbers → row_at order place < length numbers
+  pub within : (place : ℕ) → place < length numbers → ordered_row order place < length numbers
   pub rises : RisesAlong order numbers (length numbers)
-  pub each : (row : ℕ) → row < length numbers → (place : ℕ) × (place < length numbers) × (row_at order place ≡ row)
+  pub each : (row : ℕ) → row < length numbers → (place : ℕ) × (place < length numbers) × (ordered_row order place ≡ row)
 
 -- a number is above the last of others, if there are some
 abbrev pub Above : List ℤ → ℤ → Type 0
-Above numbers number = 0 < length numbers → number_of numbers (length numbers - 1) <ℤ number
+Above numbers number = 0 < length numbers → key_number numbers (length numbers - 1) <ℤ number
 
 -- the numbers that were read, and how many there is room for
 pub record NumbersOf : Type 0 where

@@ -7,8 +7,8 @@ ghost use Rattle.raw_fields.specs.Raw.{RawField};
 ghost use Rattle.csvw_meta.specs.Schema.{schema_view};
 ghost use Rattle.row_keys.specs.Key.{row_key, row_keys, has_null as has_null_in, repeated_row, row_of};
 ghost use Rattle.row_keys.specs.Numbers.{integer_key};
-ghost use Rattle.typed_columns.specs.Values.{values_in};
-ghost use Rattle.row_keys.specs.Keys.{keys_view, AreColumns, AreKeysOf, HasKeyFault, HasRead, HasRoomFor, HaveRead, Suits, TakesKey};
+ghost use Rattle.raw_fields.specs.Values.{values_in};
+ghost use Rattle.row_keys.specs.Keys.{keys_view, AreColumns, AreKeysOf, HasKeyFault, HasRead, HasRoomFor, WereRead, Suits, TakesKey};
 
 use crate::numbers::{NumberKeys, NumberReader, order_of, set_of};
 use crate::values::ValueReader;
@@ -136,8 +136,8 @@ impl ReadKeys {
         requires suits { Suits self.old (row_key places.now (map value_view values.now)) }
         requires whole { has_null_in (row_key places.now (map value_view values.now)) ≡ false }
         ensures read { OnOk result ((keys : List (List CellValue)) → row ≡ length keys
-            → HaveRead self.old keys
-            → HaveRead self.new (keys ++ row_key places.now (map value_view values.now) ∷ [])) }
+            → WereRead self.old keys
+            → WereRead self.new (keys ++ row_key places.now (map value_view values.now) ∷ [])) }
         ensures suits { (key : List CellValue) → Suits self.old key → Suits self.new key }
     {
         match self {
@@ -153,11 +153,11 @@ impl ReadKeys {
     /// The keys that were read, or the first row whose key is that of an earlier row.
     fn finish(self, alloc: Global) -> Result<Result<Keys, usize>, AllocError>
         ensures keys { IfOk result (λ found. IfOk found
-            (λ keys. (of : List (List CellValue)) → HaveRead self of → keys_view keys ≡ of)) }
+            (λ keys. (of : List (List CellValue)) → WereRead self of → keys_view keys ≡ of)) }
         ensures distinct { IfOk result (λ found. IfOk found
-            (λ keys. (of : List (List CellValue)) → HaveRead self of → repeated_row of ≡ None)) }
+            (λ keys. (of : List (List CellValue)) → WereRead self of → repeated_row of ≡ None)) }
         ensures repeated { IfOk result (λ found. IfErr found
-            (λ row. (of : List (List CellValue)) → HaveRead self of → repeated_row of ≡ Some row)) }
+            (λ row. (of : List (List CellValue)) → WereRead self of → repeated_row of ≡ Some row)) }
     {
         match self {
             ReadKeys::Absent => Ok(Ok(Keys::Absent)),

@@ -3,7 +3,7 @@ ghost use Rattle.std.specs.Prelude.{◌≡◌, ◌≤◌, ◌+◌, true, None, S
 ghost use Rattle.std.specs.List.{range_with_len};
 ghost use Rattle.std.specs.Ordering.{int_eq};
 ghost use Rattle.row_keys.specs.Key.{repeated_row};
-ghost use Rattle.row_keys.specs.Numbers.{integer_key, number_of, Above, IsOrderOf, RisesAlong};
+ghost use Rattle.row_keys.specs.Numbers.{integer_key, key_number, Above, IsOrderOf, RisesAlong};
 
 use indexmap::IndexSet;
 use std::alloc::{AllocError, Global};
@@ -123,7 +123,7 @@ fn row_at(order: &[u32], place: usize) -> usize
 
 /// The number of a row.
 fn number_at(numbers: &[i64], row: u32) -> i64
-    ensures { result ≡ number_of numbers.now row }
+    ensures { result ≡ key_number numbers.now row }
 {
     let row = row as usize;
     if row < numbers.len() { numbers[row] } else { 0 }

@@ -8,23 +8,23 @@ use Rattle.block_summary.specs.declared.number.PackedType.{PackedType}
 use Rattle.block_summary.specs.declared.number.PackedType.TheVariants.{Integer, Decimal}
 use Rattle.cell_types.specs.Value.{CellValue, decimal, integer, null, value_cmp}
 use Rattle.block_summary.specs.Ranges.{column_of}
-use Rattle.odata_types.specs.TypedTree.{TypedExprOf}
+use Rattle.typed_trees.specs.TypedTree.{TypedExprOf}
 use Rattle.odata_query.specs.Query.{order_view}
 use Rattle.odata_query.specs.declared.query.OrderBy.{OrderBy}
 use Rattle.row_eval.specs.Outcome as outcome
 use Rattle.row_eval.specs.Row.{decimal_in, integer_in}
-use Rattle.row_columns.specs.Cells.{value_or_null}
-use Rattle.row_order.specs.InTime.{HaveKeys, IsKeyColumn, IsKeyOf}
-use Rattle.row_order.specs.Plain.{IsColumn}
+use Rattle.row_columns.specs.Cells.{null_or}
+use Rattle.row_order.specs.InTime.{HaveKeys, IsKeyColumn, IsItemOfKeys}
+use Rattle.row_order.specs.Plain.{IsPlainColumn}
 use Rattle.row_order.specs.declared.plain.PlainColumn.TheVariants as plain
 
-pub integer_key : (e : TypedExprOf) (place : ℕ) (descending : Bool) → IsColumn e (plain.Integer place) → IsKeyOf (e, descending) place Integer
+pub integer_key : (e : TypedExprOf) (place : ℕ) (descending : Bool) → IsPlainColumn e (plain.Integer place) → IsItemOfKeys (e, descending) place Integer
 integer_key e place descending is = record {
-  value = λ row key at. ap (λ o. unwrap_or o null) (is.value row) ∙ ap (λ v. outcome.cell_of integer (integer_in v)) at ∙ back key;
+  value = λ row key at. ap (λ o. unwrap_or o null) (is.value row) ∙ ap (λ v. outcome.or_null integer (integer_in v)) at ∙ back key;
   ordered = λ a b. refl;
 }
   where
-    back : (key : Option ℤ) → outcome.cell_of integer (integer_in (cell_of Integer key)) ≡ cell_of Integer key
+    back : (key : Option ℤ) → outcome.or_null integer (integer_in (cell_of Integer key)) ≡ cell_of Integer key
     back None = refl
     back (Some n) = refl
 
@@ -35,33 +35,33 @@ decimals_alike None (Some b) = refl
 decimals_alike (Some a) None = refl
 decimals_alike (Some a) (Some b) = refl
 
-pub decimal_key : (e : TypedExprOf) (place : ℕ) (descending : Bool) → IsColumn e (plain.Decimal place) → IsKeyOf (e, descending) place Decimal
+pub decimal_key : (e : TypedExprOf) (place : ℕ) (descending : Bool) → IsPlainColumn e (plain.Decimal place) → IsItemOfKeys (e, descending) place Decimal
 decimal_key e place descending is = record {
-  value = λ row key at. ap (λ o. unwrap_or o null) (is.value row) ∙ ap (λ v. outcome.cell_of decimal (decimal_in v)) at ∙ back key;
+  value = λ row key at. ap (λ o. unwrap_or o null) (is.value row) ∙ ap (λ v. outcome.or_null decimal (decimal_in v)) at ∙ back key;
   ordered = decimals_alike;
 }
   where
-    back : (key : Option ℤ) → outcome.cell_of decimal (decimal_in (cell_of Decimal key)) ≡ cell_of Decimal key
+    back : (key : Option ℤ) → outcome.or_null decimal (decimal_in (cell_of Decimal key)) ≡ cell_of Decimal key
     back None = refl
     back (Some n) = refl
 
 -- the first item is such a column
-pub first_key : (os : List OrderBy) (o : OrderBy) (place : ℕ) (type : PackedType) → slice_get os 0 ≡ Some o → IsKeyOf (order_view o) place type → IsKeyColumn (map order_view os) place type
+pub first_key : (os : List OrderBy) (o : OrderBy) (place : ℕ) (type : PackedType) → slice_get os 0 ≡ Some o → IsItemOfKeys (order_view o) place type → IsKeyColumn (map order_view os) place type
 first_key [] o place type at is = absurd (cc)
-first_key (x ∷ os) o place type at is = let same : o ≡ x = cc in subst (λ y. IsKeyOf (order_view y) place type) same is
+first_key (x ∷ os) o place type at is = let same : o ≡ x = cc in subst (λ y. IsItemOfKeys (order_view y) place type) same is
 
 -- the values of a column are those of its numbers
-pub column_keys : (f : ℤ → CellValue) (type : PackedType) (place : ℕ) (keys : List (Option ℤ)) (rows : List (List CellValue)) → ((key : Option ℤ) → value_or_null f key ≡ cell_of type key)
-    → map (value_or_null f) keys ≡ column_of rows place → HaveKeys place type (λ n. get_or keys n None) rows
+pub column_keys : (f : ℤ → CellValue) (type : PackedType) (place : ℕ) (keys : List (Option ℤ)) (rows : List (List CellValue)) → ((key : Option ℤ) → null_or f key ≡ cell_of type key)
+    → map (null_or f) keys ≡ column_of rows place → HaveKeys place type (λ n. get_or keys n None) rows
 column_keys f type place keys rows as_cells are n inside =
-    let long : length keys ≡ length rows = sym (length-map keys (value_or_null f)) ∙ ap length are ∙ length-map rows (λ row. get_or row place null) in
+    let long : length keys ≡ length rows = sym (length-map keys (null_or f)) ∙ ap length are ∙ length-map rows (λ row. get_or row place null) in
     sym (get_or-map (λ row. get_or row place null) rows n [] null inside) ∙ ap (λ vs. get_or vs n null) (sym are)
-    ∙ get_or-map (value_or_null f) keys n None null (omega (arith, inside, long)) ∙ as_cells (get_or keys n None)
+    ∙ get_or-map (null_or f) keys n None null (omega (arith, inside, long)) ∙ as_cells (get_or keys n None)
 
-pub as_integers : (key : Option ℤ) → value_or_null integer key ≡ cell_of Integer key
+pub as_integers : (key : Option ℤ) → null_or integer key ≡ cell_of Integer key
 as_integers None = refl
 as_integers (Some n) = refl
 
-pub as_decimals : (key : Option ℤ) → value_or_null decimal key ≡ cell_of Decimal key
+pub as_decimals : (key : Option ℤ) → null_or decimal key ≡ cell_of Decimal key
 as_decimals None = refl
 as_decimals (Some n) = refl

@@ -3,7 +3,7 @@
 use Rattle.std.specs.Prelude.{◌≡◌, ◌<◌, ◌++◌, ℕ, ℤ, pos, Bool, true, false, not, List, [], ◌∷◌, Option, Some, get_or, length, slice_index_or}
 use Rattle.std.specs.List.{All}
 use Rattle.std.specs.Ordering.{is_lt}
-use Rattle.block_summary.specs.Cells.{cell}
+use Rattle.block_summary.specs.Cells.{number_or_null}
 use Rattle.block_summary.specs.Types.{cell_of}
 use Rattle.block_summary.specs.declared.number.PackedType.{PackedType}
 use Rattle.block_summary.specs.declared.number.PackedType.TheVariants.{Integer}
@@ -26,7 +26,7 @@ is_within descending false bound key = is_before descending key bound
 
 -- the key of a row, among numbers and marks of nulls
 abbrev pub key_at : List ℤ → List Bool → ℕ → Option ℤ
-key_at numbers nulls row = cell (slice_index_or nulls row true) (slice_index_or numbers row (pos 0))
+key_at numbers nulls row = number_or_null (slice_index_or nulls row true) (slice_index_or numbers row (pos 0))
 
 -- on each row the cell in a place is what the key of its number stands for
 abbrev pub HaveKeys : ℕ → PackedType → (ℕ → Option ℤ) → List (List CellValue) → Type 0
@@ -35,14 +35,14 @@ HaveKeys place type key rows = (n : ℕ) → n < length rows → get_or (slice_i
 -- ---- items that are columns of numbers
 
 -- an item has the value of the cell in a place, where that is of the type, and values of the type are in the order of their numbers
-pub record IsKeyOf (item : Item) (place : ℕ) (type : PackedType) : Type 0 where
+pub record IsItemOfKeys (item : Item) (place : ℕ) (type : PackedType) : Type 0 where
   pub value : (row : List CellValue) (key : Option ℤ) → get_or row place null ≡ cell_of type key → item_value item row ≡ cell_of type key
   pub ordered : (a b : Option ℤ) → value_cmp (cell_of type a) (cell_of type b) ≡ value_cmp (cell_of Integer a) (cell_of Integer b)
 
 -- so it is with the first item
 abbrev pub IsKeyColumn : List Item → ℕ → PackedType → Type 0
 IsKeyColumn [] place type = ⊥
-IsKeyColumn (item ∷ items) place type = IsKeyOf item place type
+IsKeyColumn (item ∷ items) place type = IsItemOfKeys item place type
 
 -- no item divides by zero on any row
 abbrev pub NeverFault : List Item → Type 0

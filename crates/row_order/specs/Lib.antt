@@ -1,5 +1,5 @@
 pub use Rattle.odata_query.specs.Query as Queries
-pub use Rattle.odata_types.specs.TypedTree
+pub use Rattle.typed_trees.specs.TypedTree
 pub use Rattle.row_eval.specs.Bounds
 pub use Rattle.query_meaning.specs.Filter
 pub use Rattle.query_meaning.specs.Order

@@ -1,19 +1,19 @@
 //! The rows that pass a filter (OData 4.01 URL Conventions, section 5.1.2).
 ghost use Rattle.std.specs.Prelude.{◌<◌, [], true, length, slice_index_or};
 ghost use Rattle.std.specs.List.{All};
-ghost use Rattle.odata_types.specs.TypedTree.{truth_view};
+ghost use Rattle.typed_trees.specs.TypedTree.{truth_view};
 ghost use Rattle.row_eval.specs.Bounds.{TruthFits};
 ghost use Rattle.query_meaning.specs.Filter.{passing};
 ghost use Rattle.row_eval.specs.Outcome.{truth_outcome};
 ghost use Rattle.row_eval.specs.Result.{Evaluates};
 ghost use Rattle.row_columns.specs.Picked.{numbered};
-ghost use Rattle.row_order.specs.Numbers.{GivesNumbers};
+ghost use Rattle.row_order.specs.Numbers.{GivesOrder};
 
-use odata_types::TruthExpr;
 use query_meaning::true_rows_pass;
 use row_columns::Columns;
 use row_eval::{EvalFault, Truth, eval_truth};
 use std::alloc::{AllocError, Global};
+use typed_trees::TruthExpr;
 
 /// Whether a condition is true on a row.
 fn truth_on(
@@ -42,7 +42,7 @@ pub fn passing_numbers(
     requires within { All (λ n. n < length columns.now.rows) numbers.now }
     requires fits { All (TruthFits (truth_view condition.now))
         (numbered numbers.now columns.now.rows) }
-    ensures { GivesNumbers (passing (truth_view condition.now)) columns.now.rows numbers.now result }
+    ensures { GivesOrder (passing (truth_view condition.now)) columns.now.rows numbers.now result }
 {
     true_rows_pass();
     let mut passing = Vec::new(alloc);

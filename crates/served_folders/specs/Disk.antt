@@ -34,7 +34,7 @@ abbrev pub AreTaken : List ℕ → List FileOf → Type 0
 AreTaken meta files = (length meta ≤ MOST_FILE_BYTES + 1) × AreFilesIn (schemas_of greatest_limits meta) files
 
 -- the names of the files that some metadata names, of at most one byte above the limit of a file
-pub record AreNamed (names : List (List ℕ)) : Type 0 where
+pub record AreFileNames (names : List (List ℕ)) : Type 0 where
   pub meta : List ℕ
   pub most : length meta ≤ MOST_FILE_BYTES + 1
   pub names_are : names ≡ file_names meta

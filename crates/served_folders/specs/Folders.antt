@@ -10,8 +10,8 @@ use Rattle.served_folders.specs.declared.folders.FolderFault.{FolderFault}
 use Rattle.served_folders.specs.declared.folders.FolderFault.TheVariants.{NoMetadata, Load, Device, NoMemory}
 
 -- one more was counted, where the count is not full
-abbrev pub Counts : ℕ → ℕ → Type 0
-Counts old new = old < 2 ^ 64 - 1 → new ≡ old + 1
+abbrev pub CountsUp : ℕ → ℕ → Type 0
+CountsUp old new = old < 2 ^ 64 - 1 → new ≡ old + 1
 
 -- what the last load under a name took, where that is told; how many loads there were, how many of them answered `NoMetadata`, and how many
 -- `Device`
@@ -59,12 +59,12 @@ abbrev pub KeepsCounts : FoldersOf → FoldersOf → Type 0
 KeepsCounts old new = (new.no_metadata ≡ old.no_metadata) × (new.device ≡ old.device)
 
 -- each answer of these two is counted, and no other
-abbrev pub CountsFault : {X : Type 0} → FoldersOf → FoldersOf → Result X FolderFault → Type 0
-CountsFault old new (Ok x) = KeepsCounts old new
-CountsFault old new (Err NoMetadata) = Counts old.no_metadata new.no_metadata × (new.device ≡ old.device)
-CountsFault old new (Err (Load fault)) = KeepsCounts old new
-CountsFault old new (Err Device) = (new.no_metadata ≡ old.no_metadata) × Counts old.device new.device
-CountsFault old new (Err NoMemory) = KeepsCounts old new
+abbrev pub CountsFolderFault : {X : Type 0} → FoldersOf → FoldersOf → Result X FolderFault → Type 0
+CountsFolderFault old new (Ok x) = KeepsCounts old new
+CountsFolderFault old new (Err NoMetadata) = CountsUp old.no_metadata new.no_metadata × (new.device ≡ old.device)
+CountsFolderFault old new (Err (Load fault)) = KeepsCounts old new
+CountsFolderFault old new (Err Device) = (new.no_metadata ≡ old.no_metadata) × CountsUp old.device new.device
+CountsFolderFault old new (Err NoMemory) = KeepsCounts old new
 
 -- the folder `notes`
 abbrev pub notes_folder : FolderOf

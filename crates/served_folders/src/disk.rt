@@ -5,7 +5,7 @@ ghost use Rattle.std.specs.IoError.{error_kind};
 ghost use Rattle.csvw_meta.specs.Document.{schemas_of};
 ghost use Rattle.csvw_meta.specs.Schema.{schema_view};
 ghost use Rattle.table_store.specs.File.{file_view};
-ghost use Rattle.served_folders.specs.Disk.{AreFilesIn, AreFilesOf, AreNamed, AreTaken, IsFrontOfFile};
+ghost use Rattle.served_folders.specs.Disk.{AreFilesIn, AreFilesOf, AreFileNames, AreTaken, IsFrontOfFile};
 ghost use Rattle.served_folders.specs.Folders.{greatest_limits, unasked};
 
 use crate::folders::{FolderFault, Folders};
@@ -54,7 +54,7 @@ impl<'a, R: Files> Disk<'a, R> {
 
     /// The names of the files that the metadata of the folder at that path names; none where it is refused.
     pub fn names(&self, alloc: Global, folder: &str) -> Result<Vec<String>, FolderFault>
-        ensures { IfOk result (λ names. AreNamed (map string_bytes names.items)) }
+        ensures { IfOk result (λ names. AreFileNames (map string_bytes names.items)) }
     {
         match take_file(alloc, self.files, self.follows, folder, METADATA) {
             Ok(Some(meta)) => match names_of(alloc, meta.as_slice()) {

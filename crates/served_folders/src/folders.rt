@@ -3,7 +3,7 @@ ghost use Rattle.std.specs.Prelude.{◌≡◌, IfErr, IfOk, IfSome, Some, string
 ghost use Rattle.table_store.specs.Catalog.{IsRefused, Means};
 ghost use Rattle.table_store.specs.Fault.{load_cause};
 ghost use Rattle.served_folders.specs.Laws.{HasNotes};
-ghost use Rattle.served_folders.specs.Folders.{Counts, CountsFault, FoldersOf, IsRefusalOf, MeansTaken, built_in, notes_folder, unasked};
+ghost use Rattle.served_folders.specs.Folders.{CountsUp, CountsFolderFault, FoldersOf, IsRefusalOf, MeansTaken, built_in, notes_folder, unasked};
 
 use csvw_meta::Limits;
 use std::alloc::{AllocError, Global};
@@ -31,8 +31,8 @@ pub trait Folders {
     fn load(&mut self, alloc: Global, name: &str) -> Result<Catalog, FolderFault>
         ensures tables { IfOk result (MeansTaken ((folders self.new).took name.now)) }
         ensures fault { IfErr result (IsRefusalOf ((folders self.new).took name.now)) }
-        ensures load { Counts (folders self.old).loads (folders self.new).loads }
-        ensures counts { CountsFault (folders self.old) (folders self.new) result };
+        ensures load { CountsUp (folders self.old).loads (folders self.new).loads }
+        ensures counts { CountsFolderFault (folders self.old) (folders self.new) result };
 }
 
 /// The name of the folder that is built in.

@@ -5,17 +5,17 @@ use Rattle.std.specs.Cmp.Lexicographic.{slice_cmp}
 use Rattle.std.specs.Ordering.{int_cmp, nat_cmp}
 use Rattle.cell_types.specs.Value.{CellValue, null, integer, decimal}
 use Rattle.block_summary.specs.Ranges.{RangeOf}
-use Rattle.odata_parse.specs.declared.tree.ComparisonOperator.{ComparisonOperator}
-use Rattle.odata_types.specs.TypedTree.{DateExprOf, IntegerExprOf, DecimalExprOf, TextExprOf, TruthExprOf, compare_dates, compare_decimals, compare_integers, compare_texts, conjunction, disjunction, negation}
-use Rattle.odata_types.specs.TypedTree as typed
+use Rattle.typed_trees.specs.declared.operator.ComparisonOperator.{ComparisonOperator}
+use Rattle.typed_trees.specs.TypedTree.{DateExprOf, IntegerExprOf, DecimalExprOf, TextExprOf, TruthExprOf, compare_dates, compare_decimals, compare_integers, compare_texts, conjunction, disjunction, negation}
+use Rattle.typed_trees.specs.TypedTree as typed
 use Rattle.row_eval.specs.declared.truth.Truth.{Truth}
 use Rattle.row_eval.specs.declared.truth.Truth.TheVariants.{False, Null, True}
 use Rattle.row_eval.specs.Comparison.{compared, day_cmp, holds}
 use Rattle.row_eval.specs.Logic.{and_then, greatest, least, opposite, or_then, truth_of, truth_of_option}
-use Rattle.row_eval.specs.Outcome.{both, cell_of, date_outcome, text_outcome, truth_outcome}
+use Rattle.row_eval.specs.Outcome.{both, or_null, date_outcome, text_outcome, truth_outcome}
 use Rattle.row_eval.specs.Row.{boolean_in, cell, day_in, decimal_in, integer_in, text_in}
 use Rattle.summary_eval.specs.declared.kinds.Kind.TheVariants.{Date, Decimal, Integer, Text}
-use Rattle.summary_eval.specs.Known.{cell_at_place, AreAll, HasTruth, IsConstantDate, IsConstantDecimal, IsConstantInteger, IsConstantText, IsKnown}
+use Rattle.summary_eval.specs.Known.{cell_at_place, HaveCellAlone, HasTruth, IsConstantDate, IsConstantDecimal, IsConstantInteger, IsConstantText, IsKnown}
 
 -- what is read of the cell at a place; of null, which stands where there is none, nothing
 cell-at : {X : Type 0} (read : CellValue → Option X) → read null ≡ None → (cells : List CellValue) (place : ℕ) → cell read cells place ≡ read (cell_at_place cells place)
@@ -23,18 +23,18 @@ cell-at read none [] place = sym none
 cell-at read none (c ∷ cs) zero = refl
 cell-at read none (c ∷ cs) (suc place) = cell-at read none cs place
 
-number-back : (number : Option ℤ) → integer_in (cell_of integer number) ≡ number
+number-back : (number : Option ℤ) → integer_in (or_null integer number) ≡ number
 number-back None = refl
 number-back (Some n) = refl
 
-millionths-back : (number : Option ℤ) → decimal_in (cell_of decimal number) ≡ number
+millionths-back : (number : Option ℤ) → decimal_in (or_null decimal number) ≡ number
 millionths-back None = refl
 millionths-back (Some n) = refl
 
 -- ---- comparisons
 
 integers-known : (o : ComparisonOperator) (place : ℕ) (right : IntegerExprOf) (number : Option ℤ) (ranges : List RangeOf) (truth : Truth) → IsConstantInteger right number
-    → HasTruth Integer o ranges place (cell_of integer number) truth → IsKnown (compare_integers o (typed.integer_column place) right) ranges truth
+    → HasTruth Integer o ranges place (or_null integer number) truth → IsKnown (compare_integers o (typed.integer_column place) right) ranges truth
 integers-known o place right number ranges truth constant has cells is =
     ap (both (λ x y. truth_of (holds o (compared int_cmp x y))) (Some (cell integer_in cells place))) (constant cells)
     ∙ ap (λ x. Some (truth_of (holds o (compared int_cmp x number)))) (cell-at integer_in refl cells place)
@@ -42,7 +42,7 @@ integers-known o place right number ranges truth constant has cells is =
     ∙ ap (λ t. Some t) (has cells is)
 
 decimals-known : (o : ComparisonOperator) (place : ℕ) (right : DecimalExprOf) (number : Option ℤ) (ranges : List RangeOf) (truth : Truth) → IsConstantDecimal right number
-    → HasTruth Decimal o ranges place (cell_of decimal number) truth → IsKnown (compare_decimals o (typed.decimal_column place) right) ranges truth
+    → HasTruth Decimal o ranges place (or_null decimal number) truth → IsKnown (compare_decimals o (typed.decimal_column place) right) ranges truth
 decimals-known o place right number ranges truth constant has cells is =
     ap (both (λ x y. truth_of (holds o (compared int_cmp x y))) (Some (cell decimal_in cells place))) (constant cells)
     ∙ ap (λ x. Some (truth_of (holds o (compared int_cmp x number)))) (cell-at decimal_in refl cells place)
@@ -64,13 +64,13 @@ dates-known o place right literal ranges truth constant has cells is =
     ∙ ap (λ t. Some t) (has cells is)
 
 pub integers-tell : (known : Option Truth) (o : ComparisonOperator) (place : ℕ) (left right : IntegerExprOf) (number : Option ℤ) (literal : CellValue) (ranges : List RangeOf) → left ≡ typed.integer_column place
-    → IsConstantInteger right number → literal ≡ cell_of integer number → IfSome known (HasTruth Integer o ranges place literal) → IfSome known (IsKnown (compare_integers o left right) ranges)
+    → IsConstantInteger right number → literal ≡ or_null integer number → IfSome known (HasTruth Integer o ranges place literal) → IfSome known (IsKnown (compare_integers o left right) ranges)
 integers-tell None o place left right number literal ranges e constant is has = tt
 integers-tell (Some truth) o place left right number literal ranges e constant is has =
     subst (λ l. IsKnown (compare_integers o l right) ranges truth) (sym e) (integers-known o place right number ranges truth constant (subst (λ v. HasTruth Integer o ranges place v truth) is has))
 
 pub decimals-tell : (known : Option Truth) (o : ComparisonOperator) (place : ℕ) (left right : DecimalExprOf) (number : Option ℤ) (literal : CellValue) (ranges : List RangeOf) → left ≡ typed.decimal_column place
-    → IsConstantDecimal right number → literal ≡ cell_of decimal number → IfSome known (HasTruth Decimal o ranges place literal) → IfSome known (IsKnown (compare_decimals o left right) ranges)
+    → IsConstantDecimal right number → literal ≡ or_null decimal number → IfSome known (HasTruth Decimal o ranges place literal) → IfSome known (IsKnown (compare_decimals o left right) ranges)
 decimals-tell None o place left right number literal ranges e constant is has = tt
 decimals-tell (Some truth) o place left right number literal ranges e constant is has =
     subst (λ l. IsKnown (compare_decimals o l right) ranges truth) (sym e) (decimals-known o place right number ranges truth constant (subst (λ v. HasTruth Decimal o ranges place v truth) is has))
@@ -103,7 +103,7 @@ either_known True True = refl
 either_known Null b = refl
 either_known False b = refl
 
-pub column-known : (place : ℕ) (value : CellValue) (ranges : List RangeOf) (truth : Truth) → truth_of_option (boolean_in value) ≡ truth → AreAll value ranges place
+pub column-known : (place : ℕ) (value : CellValue) (ranges : List RangeOf) (truth : Truth) → truth_of_option (boolean_in value) ≡ truth → HaveCellAlone value ranges place
     → IsKnown (typed.truth_column place) ranges truth
 column-known place value ranges truth e all cells is =
     ap (λ x. Some (truth_of_option x)) (cell-at boolean_in refl cells place ∙ ap boolean_in (all cells is)) ∙ ap (λ t. Some t) e

@@ -10,27 +10,27 @@ use Rattle.cell_types.specs.Laws.{ValuesAreOrdered}
 use Rattle.cell_types.specs.Value.{CellValue, null, integer, text, boolean, date, decimal, value_cmp, value_view}
 use Rattle.block_summary.specs.Laws.{SkipsNoRow}
 use Rattle.block_summary.specs.Ranges.{RangeOf, is_null, no_range}
-use Rattle.block_summary.specs.Tests.{admits, equals, passes}
+use Rattle.block_summary.specs.Tests.{admits, equals, test_passes}
 use Rattle.block_summary.specs.declared.test.Comparison.{Comparison}
 use Rattle.block_summary.specs.declared.test.Comparison.TheVariants as tests
 use Rattle.block_summary.specs.declared.test.Test.{Test}
-use Rattle.odata_parse.specs.declared.tree.ComparisonOperator.{ComparisonOperator}
-use Rattle.odata_parse.specs.declared.tree.ComparisonOperator.TheVariants as operators
+use Rattle.typed_trees.specs.declared.operator.ComparisonOperator.{ComparisonOperator}
+use Rattle.typed_trees.specs.declared.operator.ComparisonOperator.TheVariants as operators
 use Rattle.row_eval.specs.declared.truth.Truth.{Truth}
 use Rattle.row_eval.specs.Comparison.{holds}
 use Rattle.row_eval.specs.Logic.{truth_of}
 use Rattle.summary_eval.specs.declared.kinds.Kind.{Kind}
 use Rattle.summary_eval.specs.declared.kinds.Kind.TheVariants.{Date, Decimal, Integer, Text}
-use Rattle.summary_eval.specs.Known.{cell_at_place, comparison_of, holds_between, is_of_kind, opposite_of, passes_test, Says}
+use Rattle.summary_eval.specs.Known.{cell_at_place, comparison_of, holds_between, is_of_kind, opposite_of, cell_passes, Says}
 
 -- ---- what a range does not admit
 
 pub fails-each : SkipsNoRow → (ranges : List RangeOf) (place : ℕ) (test : Test) → place < length ranges → admits test.op (slice_index_or ranges place no_range) (value_view test.literal) ≡ false
     → Says ranges place test false
 fails-each law ranges place test inside none cells is =
-    subst (λ cs. passes_test test (cell_at_place cs place) ≡ false) (sym is.cells_are) (law test.op ranges is.rows place (value_view test.literal) is.are_ranges inside none is.row is.within)
+    subst (λ cs. cell_passes test (cell_at_place cs place) ≡ false) (sym is.cells_are) (law test.op ranges is.rows place (value_view test.literal) is.are_ranges inside none is.row is.within)
 
-pub no-null : (cell : CellValue) → passes tests.Equal cell null ≡ false → is_null cell ≡ false
+pub no-null : (cell : CellValue) → test_passes tests.Equal cell null ≡ false → is_null cell ≡ false
 unfolding value_cmp
 no-null null h = absurd (true≢false h)
 no-null (integer z) h = refl
@@ -39,12 +39,12 @@ no-null (boolean b) h = refl
 no-null (date year month day) h = refl
 no-null (decimal z) h = refl
 
-same_of : (a b : CellValue) (r : Ordering) → value_cmp a b ≡ r → passes tests.NotEqual a b ≡ false → value_cmp a b ≡ order.Equal
+same_of : (a b : CellValue) (r : Ordering) → value_cmp a b ≡ r → test_passes tests.NotEqual a b ≡ false → value_cmp a b ≡ order.Equal
 same_of a b order.Less e h = absurd (cc)
 same_of a b order.Equal e h = e
 same_of a b order.Greater e h = absurd (cc)
 
-pub no-other : ValuesAreOrdered → (cell value : CellValue) → passes tests.NotEqual cell value ≡ false → cell ≡ value
+pub no-other : ValuesAreOrdered → (cell value : CellValue) → test_passes tests.NotEqual cell value ≡ false → cell ≡ value
 no-other law cell value h = law.same cell value (same_of cell value (value_cmp cell value) refl h)
 
 -- ---- the opposite of a test
@@ -53,7 +53,7 @@ not_not : (b : Bool) → b ≡ not (not b)
 not_not true = refl
 not_not false = refl
 
-order_opposed : (op : Comparison) (a b : CellValue) (r : Ordering) → is_null a ≡ false → is_null b ≡ false → value_cmp a b ≡ r → passes (opposite_of op) a b ≡ not (passes op a b)
+order_opposed : (op : Comparison) (a b : CellValue) (r : Ordering) → is_null a ≡ false → is_null b ≡ false → value_cmp a b ≡ r → test_passes (opposite_of op) a b ≡ not (test_passes op a b)
 order_opposed tests.Equal a b r e f is = refl
 order_opposed tests.NotEqual a b r e f is = not_not (equals a b)
 order_opposed tests.GreaterThan a b order.Less e f is = rw (e, f, is) refl
@@ -69,21 +69,21 @@ order_opposed tests.LessOrEqual a b order.Less e f is = rw (e, f, is) refl
 order_opposed tests.LessOrEqual a b order.Equal e f is = rw (e, f, is) refl
 order_opposed tests.LessOrEqual a b order.Greater e f is = rw (e, f, is) refl
 
-pub is-opposed : (op : Comparison) (a b : CellValue) → op ≡ tests.Equal → passes (opposite_of op) a b ≡ not (passes op a b)
+pub is-opposed : (op : Comparison) (a b : CellValue) → op ≡ tests.Equal → test_passes (opposite_of op) a b ≡ not (test_passes op a b)
 is-opposed op a b e = rw e refl
 
-pub is_not-opposed : (op : Comparison) (a b : CellValue) → op ≡ tests.NotEqual → passes (opposite_of op) a b ≡ not (passes op a b)
+pub is_not-opposed : (op : Comparison) (a b : CellValue) → op ≡ tests.NotEqual → test_passes (opposite_of op) a b ≡ not (test_passes op a b)
 is_not-opposed op a b e = rw e (not_not (equals a b))
 
-pub values-opposed : (op : Comparison) (a b : CellValue) → is_null a ≡ false → is_null b ≡ false → passes (opposite_of op) a b ≡ not (passes op a b)
+pub values-opposed : (op : Comparison) (a b : CellValue) → is_null a ≡ false → is_null b ≡ false → test_passes (opposite_of op) a b ≡ not (test_passes op a b)
 values-opposed op a b e f = order_opposed op a b (value_cmp a b) e f refl
 
 -- ---- the kinds of values
 
-pub as-test : (test : Test) (op : Comparison) (literal cell : CellValue) → test.op ≡ op → value_view test.literal ≡ literal → passes_test test cell ≡ false → passes op cell literal ≡ false
-as-test test op literal cell e f h = ap (λ o. passes o cell literal) (sym e) ∙ ap (passes test.op cell) (sym f) ∙ h
+pub as-test : (test : Test) (op : Comparison) (literal cell : CellValue) → test.op ≡ op → value_view test.literal ≡ literal → cell_passes test cell ≡ false → test_passes op cell literal ≡ false
+as-test test op literal cell e f h = ap (λ o. test_passes o cell literal) (sym e) ∙ ap (test_passes test.op cell) (sym f) ∙ h
 
-pub integers-around : (cell : CellValue) → passes tests.GreaterOrEqual cell (text []) ≡ false → is_of_kind Integer cell ≡ true
+pub integers-around : (cell : CellValue) → test_passes tests.GreaterOrEqual cell (text []) ≡ false → is_of_kind Integer cell ≡ true
 unfolding value_cmp
 integers-around null h = refl
 integers-around (integer z) h = refl
@@ -93,7 +93,7 @@ integers-around (boolean b) h = absurd (true≢false h)
 integers-around (date year month day) h = absurd (true≢false h)
 integers-around (decimal z) h = absurd (true≢false h)
 
-pub texts-around : (cell : CellValue) → passes tests.LessThan cell (text []) ≡ false → passes tests.GreaterOrEqual cell (boolean false) ≡ false → is_of_kind Text cell ≡ true
+pub texts-around : (cell : CellValue) → test_passes tests.LessThan cell (text []) ≡ false → test_passes tests.GreaterOrEqual cell (boolean false) ≡ false → is_of_kind Text cell ≡ true
 unfolding value_cmp
 texts-around null h g = refl
 texts-around (integer z) h g = absurd (true≢false h)
@@ -103,7 +103,7 @@ texts-around (boolean false) h g = absurd (true≢false g)
 texts-around (date year month day) h g = absurd (true≢false g)
 texts-around (decimal z) h g = absurd (true≢false g)
 
-pub dates-around : (year : ℤ) (month day : ℕ) (cell : CellValue) → passes tests.LessOrEqual cell (boolean true) ≡ false → passes tests.GreaterThan cell (date year month day) ≡ false
+pub dates-around : (year : ℤ) (month day : ℕ) (cell : CellValue) → test_passes tests.LessOrEqual cell (boolean true) ≡ false → test_passes tests.GreaterThan cell (date year month day) ≡ false
     → is_of_kind Date cell ≡ true
 unfolding value_cmp
 dates-around year month day null h g = refl
@@ -114,7 +114,7 @@ dates-around year month day (boolean false) h g = absurd (true≢false h)
 dates-around year month day (date y m d) h g = refl
 dates-around year month day (decimal z) h g = absurd (true≢false g)
 
-pub decimals-around : (least : ℤ) (cell : CellValue) → passes tests.LessThan cell (decimal least) ≡ false → is_of_kind Decimal cell ≡ true
+pub decimals-around : (least : ℤ) (cell : CellValue) → test_passes tests.LessThan cell (decimal least) ≡ false → is_of_kind Decimal cell ≡ true
 unfolding value_cmp
 decimals-around least null h = refl
 decimals-around least (integer z) h = absurd (true≢false h)
@@ -125,7 +125,7 @@ decimals-around least (decimal z) h = refl
 
 -- ---- comparisons of cells of a kind are tests
 
-null_null : (o : ComparisonOperator) → holds o (Some order.Equal) ≡ passes (comparison_of o) null null
+null_null : (o : ComparisonOperator) → holds o (Some order.Equal) ≡ test_passes (comparison_of o) null null
 unfolding value_cmp
 null_null operators.Equal = refl
 null_null operators.NotEqual = refl
@@ -134,7 +134,7 @@ null_null operators.GreaterOrEqual = refl
 null_null operators.LessThan = refl
 null_null operators.LessOrEqual = refl
 
-null_value : (o : ComparisonOperator) (b : CellValue) → value_cmp null b ≡ order.Less → holds o None ≡ passes (comparison_of o) null b
+null_value : (o : ComparisonOperator) (b : CellValue) → value_cmp null b ≡ order.Less → holds o None ≡ test_passes (comparison_of o) null b
 null_value operators.Equal b less = rw less refl
 null_value operators.NotEqual b less = rw less refl
 null_value operators.GreaterThan b less = refl
@@ -142,7 +142,7 @@ null_value operators.GreaterOrEqual b less = rw less refl
 null_value operators.LessThan b less = refl
 null_value operators.LessOrEqual b less = rw less refl
 
-value_null : (o : ComparisonOperator) (a : CellValue) → is_null a ≡ false → value_cmp a null ≡ order.Greater → holds o None ≡ passes (comparison_of o) a null
+value_null : (o : ComparisonOperator) (a : CellValue) → is_null a ≡ false → value_cmp a null ≡ order.Greater → holds o None ≡ test_passes (comparison_of o) a null
 value_null operators.Equal a e more = rw more refl
 value_null operators.NotEqual a e more = rw more refl
 value_null operators.GreaterThan a e more = rw e refl
@@ -150,7 +150,7 @@ value_null operators.GreaterOrEqual a e more = rw (e, more) refl
 value_null operators.LessThan a e more = rw e refl
 value_null operators.LessOrEqual a e more = rw (e, more) refl
 
-two_values : (o : ComparisonOperator) (a b : CellValue) (r : Ordering) → is_null a ≡ false → is_null b ≡ false → value_cmp a b ≡ r → holds o (Some r) ≡ passes (comparison_of o) a b
+two_values : (o : ComparisonOperator) (a b : CellValue) (r : Ordering) → is_null a ≡ false → is_null b ≡ false → value_cmp a b ≡ r → holds o (Some r) ≡ test_passes (comparison_of o) a b
 two_values operators.Equal a b order.Less e f is = rw is refl
 two_values operators.Equal a b order.Equal e f is = rw is refl
 two_values operators.Equal a b order.Greater e f is = rw is refl
@@ -175,7 +175,7 @@ in_turn order.Less b c = refl
 in_turn order.Equal b c = refl
 in_turn order.Greater b c = refl
 
-pub tests-alike : (kind : Kind) (o : ComparisonOperator) (a b : CellValue) → is_of_kind kind a ≡ true → is_of_kind kind b ≡ true → holds_between kind o a b ≡ passes (comparison_of o) a b
+pub tests-alike : (kind : Kind) (o : ComparisonOperator) (a b : CellValue) → is_of_kind kind a ≡ true → is_of_kind kind b ≡ true → holds_between kind o a b ≡ test_passes (comparison_of o) a b
 unfolding value_cmp
 tests-alike Integer o null null h g = null_null o
 tests-alike Integer o null (integer y) h g = null_value o (integer y) refl
@@ -209,5 +209,5 @@ tests-alike Decimal o _ _ h g = absurd (false≢true h)
 -- ---- where a test is known
 
 pub comparison-known : (kind : Kind) (o : ComparisonOperator) (op : Comparison) (a b : CellValue) (holds : Bool) (truth : Truth) → op ≡ comparison_of o → is_of_kind kind a ≡ true → is_of_kind kind b ≡ true
-    → passes op a b ≡ holds → truth ≡ truth_of holds → truth_of (holds_between kind o a b) ≡ truth
-comparison-known kind o op a b holds truth e f g is t = ap truth_of (tests-alike kind o a b f g ∙ ap (λ x. passes x a b) (sym e) ∙ is) ∙ sym t
+    → test_passes op a b ≡ holds → truth ≡ truth_of holds → truth_of (holds_between kind o a b) ≡ truth
+comparison-known kind o op a b holds truth e f g is t = ap truth_of (tests-alike kind o a b f g ∙ ap (λ x. test_passes x a b) (sym e) ∙ is) ∙ sym t

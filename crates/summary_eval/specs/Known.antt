@@ -4,13 +4,13 @@ use Rattle.std.specs.Cmp.Lexicographic.{slice_cmp}
 use Rattle.std.specs.Ordering.{int_cmp, nat_cmp}
 use Rattle.cell_types.specs.Value.{CellValue, null, integer, text, date, decimal, value_view}
 use Rattle.block_summary.specs.Ranges.{RangeOf, AreRangesOf}
-use Rattle.block_summary.specs.Tests.{passes}
+use Rattle.block_summary.specs.Tests.{test_passes}
 use Rattle.block_summary.specs.declared.test.Comparison.{Comparison}
 use Rattle.block_summary.specs.declared.test.Comparison.TheVariants as tests
 use Rattle.block_summary.specs.declared.test.Test.{Test}
-use Rattle.odata_parse.specs.declared.tree.ComparisonOperator.{ComparisonOperator}
-use Rattle.odata_parse.specs.declared.tree.ComparisonOperator.TheVariants as operators
-use Rattle.odata_types.specs.TypedTree.{DateExprOf, DecimalExprOf, IntegerExprOf, TextExprOf, TruthExprOf}
+use Rattle.typed_trees.specs.declared.operator.ComparisonOperator.{ComparisonOperator}
+use Rattle.typed_trees.specs.declared.operator.ComparisonOperator.TheVariants as operators
+use Rattle.typed_trees.specs.TypedTree.{DateExprOf, DecimalExprOf, IntegerExprOf, TextExprOf, TruthExprOf}
 use Rattle.row_eval.specs.declared.truth.Truth.{Truth}
 use Rattle.row_eval.specs.Comparison.{compared, day_cmp, holds}
 use Rattle.row_eval.specs.Logic.{truth_of}
@@ -37,16 +37,16 @@ IsKnown e ranges truth = (cells : List CellValue) → IsRowWithin ranges cells �
 abbrev pub cell_at_place : List CellValue → ℕ → CellValue
 cell_at_place cells place = slice_index_or cells place null
 
-abbrev pub passes_test : Test → CellValue → Bool
-passes_test test cell = passes test.op cell (value_view test.literal)
+abbrev pub cell_passes : Test → CellValue → Bool
+cell_passes test cell = test_passes test.op cell (value_view test.literal)
 
 -- a test says this of the cell at a place, on each such row
 abbrev pub Says : List RangeOf → ℕ → Test → Bool → Type 0
-Says ranges place test b = (cells : List CellValue) → IsRowWithin ranges cells → passes_test test (cell_at_place cells place) ≡ b
+Says ranges place test b = (cells : List CellValue) → IsRowWithin ranges cells → cell_passes test (cell_at_place cells place) ≡ b
 
 -- the cell at a place is this one, on each such row
-abbrev pub AreAll : CellValue → List RangeOf → ℕ → Type 0
-AreAll cell ranges place = (cells : List CellValue) → IsRowWithin ranges cells → cell_at_place cells place ≡ cell
+abbrev pub HaveCellAlone : CellValue → List RangeOf → ℕ → Type 0
+HaveCellAlone cell ranges place = (cells : List CellValue) → IsRowWithin ranges cells → cell_at_place cells place ≡ cell
 
 abbrev pub comparison_of : ComparisonOperator → Comparison
 comparison_of operators.Equal = tests.Equal
@@ -68,7 +68,7 @@ opposite_of tests.LessOrEqual = tests.GreaterThan
 -- the opposite of a test holds where the test does not, on each such row
 abbrev pub HasOpposite : List RangeOf → ℕ → Test → Type 0
 HasOpposite ranges place test = (cells : List CellValue) → IsRowWithin ranges cells
-    → passes (opposite_of test.op) (cell_at_place cells place) (value_view test.literal) ≡ not (passes_test test (cell_at_place cells place))
+    → test_passes (opposite_of test.op) (cell_at_place cells place) (value_view test.literal) ≡ not (cell_passes test (cell_at_place cells place))
 
 -- ---- kinds of values
 
@@ -83,7 +83,7 @@ is_of_kind kind cell = false
 
 -- what passes neither of two tests is null, or a value of the kind
 abbrev pub Encloses : Kind → Test → Test → Type 0
-Encloses kind before behind = (cell : CellValue) → passes_test before cell ≡ false → passes_test behind cell ≡ false → is_of_kind kind cell ≡ true
+Encloses kind before behind = (cell : CellValue) → cell_passes before cell ≡ false → cell_passes behind cell ≡ false → is_of_kind kind cell ≡ true
 
 -- the cell at a place is null, or a value of the kind, on each such row
 abbrev pub AreOfKind : Kind → List RangeOf → ℕ → Type 0

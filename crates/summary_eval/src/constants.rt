@@ -3,13 +3,13 @@
 
 ghost use Rattle.std.specs.Prelude.{◌≡◌, ◌*ℤ◌, neg_ℤ, pos, IfSome, option_map};
 ghost use Rattle.cell_types.specs.Value.{decimal, integer, value_view};
-ghost use Rattle.odata_types.specs.TypedTree.{date_view, decimal_view, integer_view, text_view};
-ghost use Rattle.row_eval.specs.Outcome.{cell_of};
+ghost use Rattle.typed_trees.specs.TypedTree.{date_view, decimal_view, integer_view, text_view};
+ghost use Rattle.row_eval.specs.Outcome.{or_null};
 ghost use Rattle.summary_eval.specs.Known.{IsConstantDate, IsConstantDecimal, IsConstantInteger, IsConstantText};
 
 use cell_types::Value;
-use odata_types::{DateExpr, DecimalExpr, IntegerExpr, MILLIONTHS, TextExpr};
 use std::borrow::CowStr;
+use typed_trees::{DateExpr, DecimalExpr, IntegerExpr, MILLIONTHS, TextExpr};
 
 /// A number with the other sign, where it fits.
 fn opposite_number(number: Option<i128>) -> Option<Option<i128>>
@@ -58,7 +58,7 @@ pub fn constant_decimal(expr: &DecimalExpr) -> Option<Option<i128>>
 
 /// The value of an integer.
 pub fn integer_value(number: Option<i128>) -> Value<'static>
-    ensures { value_view result ≡ cell_of integer number }
+    ensures { value_view result ≡ or_null integer number }
 {
     match number {
         Some(number) => Value::Int(number),
@@ -68,7 +68,7 @@ pub fn integer_value(number: Option<i128>) -> Value<'static>
 
 /// The value of a decimal.
 pub fn decimal_value(millionths: Option<i128>) -> Value<'static>
-    ensures { value_view result ≡ cell_of decimal millionths }
+    ensures { value_view result ≡ or_null decimal millionths }
 {
     match millionths {
         Some(millionths) => Value::Decimal(millionths),

@@ -1,7 +1,7 @@
 //! Conditions whose truth the ranges of a block tell, without a look at its rows.
 
 ghost use Rattle.std.specs.Prelude.{IfSome};
-ghost use Rattle.odata_types.specs.TypedTree.{compare_dates, compare_decimals, compare_integers, compare_texts, date_view, decimal_view, integer_view, text_view, truth_column, truth_view};
+ghost use Rattle.typed_trees.specs.TypedTree.{compare_dates, compare_decimals, compare_integers, compare_texts, date_view, decimal_view, integer_view, text_view, truth_column, truth_view};
 ghost use Rattle.summary_eval.specs.Known.{IsKnown};
 
 use crate::constants::{
@@ -11,9 +11,8 @@ use crate::kinds::Kind;
 use crate::tests::{is_each, known_comparison};
 use block_summary::Summary;
 use cell_types::Value;
-use odata_parse::tree::ComparisonOperator;
-use odata_types::{DateExpr, DecimalExpr, IntegerExpr, TextExpr, TruthExpr};
 use row_eval::{Truth, greatest, least, opposite, truth_of};
+use typed_trees::{ComparisonOperator, DateExpr, DecimalExpr, IntegerExpr, TextExpr, TruthExpr};
 
 /// A column of integers, compared with a number.
 fn known_integers(

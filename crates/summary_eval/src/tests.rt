@@ -3,13 +3,13 @@
 ghost use Rattle.std.specs.Prelude.{◌≡◌, false, true, List, IfSome, IsTrue};
 ghost use Rattle.cell_types.specs.Value.{CellValue, value_view};
 ghost use Rattle.block_summary.specs.Ranges.{is_null};
-ghost use Rattle.summary_eval.specs.Known.{cell_at_place, comparison_of as comparison_of_operator, is_of_kind, opposite_of as opposite_of_comparison, AreAll, AreOfKind, HasOpposite, HasTruth, IsRowWithin, Says};
+ghost use Rattle.summary_eval.specs.Known.{cell_at_place, comparison_of as comparison_of_operator, is_of_kind, opposite_of as opposite_of_comparison, HaveCellAlone, AreOfKind, HasOpposite, HasTruth, IsRowWithin, Says};
 
 use crate::kinds::{Kind, tests_around};
 use block_summary::{Comparison, Summary, Test, admits, skips_no_row};
 use cell_types::{Value, values_are_ordered};
-use odata_parse::tree::ComparisonOperator;
 use row_eval::{Truth, truth_of};
+use typed_trees::ComparisonOperator;
 
 fn comparison_of(operator: ComparisonOperator) -> Comparison
     ensures { result ≡ comparison_of_operator operator }
@@ -47,7 +47,7 @@ fn fails_each(summary: &Summary, place: usize, test: &Test<'_>) -> bool
 
 /// Whether the range of a column tells that each cell is a value.
 pub fn is_each(summary: &Summary, place: usize, value: Value<'_>) -> bool
-    ensures { IsTrue result → AreAll (value_view value.entry) summary.now place }
+    ensures { IsTrue result → HaveCellAlone (value_view value.entry) summary.now place }
 {
     values_are_ordered();
     let test = Test {

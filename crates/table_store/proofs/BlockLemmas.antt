@@ -1,14 +1,17 @@
 -- Some of the rows of a table.
-use Rattle.std.proofs.Common.{◌≡◌, inl, inr, ℕ, zero, suc, [], ◌∷◌, Option, None, Some, option_map, option_and_then, get_or, refl, ◌+◌, ◌-◌, ◌<◌, ◌≤◌, min, List, length, take, drop, slice_get, ap, sym, ◌∙◌, arith}
+use Rattle.std.proofs.Common.{◌≡◌, inl, inr, Bool, true, false, cond, ℕ, Option, None, Some, option_map, option_and_then, get_or, refl, ◌+◌, ◌-◌, ◌<◌, ◌≤◌, min, List, length, take, drop, slice_get, ap, sym, ◌∙◌, arith}
 use Rattle.std.proofs.lemmas.Bool.{cases_order}
-use Rattle.std.proofs.lemmas.List.{length-take, length-drop, take_all, take-map, drop-map, length-map}
+use Rattle.std.proofs.lemmas.List.{length-take, length-drop, take_all, take-map, drop-map}
+use Rattle.block_summary.specs.declared.number.PackedType.{PackedType}
 use Rattle.block_summary.specs.Ranges.{column_of}
 use Rattle.block_summary.specs.Reading.{packed_type_of}
 use Rattle.cell_types.specs.Column.{ColumnOf}
+use Rattle.cell_types.specs.Datatype.{DatatypeOf, is_text, integer, text, boolean, date, decimal}
 use Rattle.cell_types.specs.Value.{CellValue, null}
 use Rattle.table_store.specs.Table.{TableOf}
-use Rattle.table_store.specs.Block.{packed_cells, part}
-use Rattle.typed_columns.specs.TypedColumn.{typed_cells, AreTyped}
+use Rattle.table_store.specs.Block.{packed_cells, part, text_cells}
+use Rattle.typed_columns.specs.TypedColumn.{cells_of_texts}
+use Rattle.table_store.proofs.ColumnLemmas.{there}
 use Rattle.table_store.proofs.PlaceLemmas.{slice_get-take, slice_get-drop}
 
 -- the first of a list, as many as are asked for or as there are
@@ -40,44 +43,67 @@ column_of-part rows first n col =
     let cell : List CellValue → CellValue = λ values. get_or values col null in
     sym (take-map cell n (drop first rows)) ∙ ap (take n) (sym (drop-map cell first rows))
 
-cells_of_type : {X : Type 0} (type : Option X) (f : List CellValue → List CellValue) (cells : List CellValue)
-    → option_map f (option_map (λ t. cells) type) ≡ option_map (λ t. f cells) type
-cells_of_type None f cells = refl
-cells_of_type (Some type) f cells = refl
+-- those that are packed
+pub packed_part : (table : TableOf) (column : ColumnOf) (first n col : ℕ) → slice_get table.schema.columns col ≡ Some column
+    → option_map (λ (type : PackedType). take n (drop first (column_of table.rows col))) (packed_type_of column.datatype) ≡ packed_cells (part table first n) col
+packed_part table column first n col at =
+    let some : ColumnOf → Option (List CellValue) = λ column. option_map (λ type. column_of (take n (drop first table.rows)) col) (packed_type_of column.datatype) in
+    ap (λ (cells : List CellValue). option_map (λ (type : PackedType). cells) (packed_type_of column.datatype)) (sym (column_of-part table.rows first n col))
+    ∙ ap (option_and_then some) (sym at)
 
-pub there : {X : Type 0} (xs : List X) (n : ℕ) → n < length xs → (x : X) × (slice_get xs n ≡ Some x)
-there [] n h = absurd (omega arith)
-there (x ∷ xs) zero h = (x, refl)
-there (x ∷ xs) (suc n) h = there xs n (omega arith)
+-- and those of texts
+texts_by : (datatype : DatatypeOf) (cells : List CellValue) → cells_of_texts (packed_type_of datatype) cells ≡ cond (is_text datatype) (Some cells) None
+texts_by integer cells = refl
+texts_by text cells = refl
+texts_by (boolean of_true of_false) cells = refl
+texts_by (date form) cells = refl
+texts_by decimal cells = refl
 
--- those of a part are a part of those that are kept
-pub packed_part : (table : TableOf) (typed : List (Option (List CellValue))) (first n col : ℕ) → AreTyped table.schema.columns table.rows typed → col < length table.schema.columns
-    → option_map (λ cells. take n (drop first cells)) (get_or typed col None) ≡ packed_cells (part table first n) col
-packed_part table typed first n col are within =
-    let here = there table.schema.columns col within in
-    let column = here.0 in
-    let cut : List CellValue → List CellValue = λ cells. take n (drop first cells) in
-    ap (option_map cut) (are col column here.1)
-    ∙ cells_of_type (packed_type_of column.datatype) cut (column_of table.rows col)
-    ∙ ap (typed_cells column) (sym (column_of-part table.rows first n col))
-    ∙ ap (option_and_then (λ (column : ColumnOf). typed_cells column (column_of (take n (drop first table.rows)) col))) (sym here.1)
+pub text_part : (table : TableOf) (column : ColumnOf) (first n col : ℕ) → slice_get table.schema.columns col ≡ Some column
+    → cells_of_texts (packed_type_of column.datatype) (take n (drop first (column_of table.rows col))) ≡ text_cells (part table first n) col
+text_part table column first n col at =
+    let some : ColumnOf → Option (List CellValue) = λ column. cond (is_text column.datatype) (Some (column_of (take n (drop first table.rows)) col)) None in
+    ap (cells_of_texts (packed_type_of column.datatype)) (sym (column_of-part table.rows first n col))
+    ∙ texts_by column.datatype (column_of (take n (drop first table.rows)) col) ∙ ap (option_and_then some) (sym at)
 
-pub typed_is : {X : Type 0} (type : Option X) (kept cells : List CellValue) → option_map (λ t. kept) type ≡ Some cells → kept ≡ cells
-typed_is None kept cells e = cc
-typed_is (Some type) kept cells e = cc
-
-packed_of : (column : Option ColumnOf) (kept cells : List CellValue) → option_and_then (λ (c : ColumnOf). typed_cells c kept) column ≡ Some cells → kept ≡ cells
+packed_of : (column : Option ColumnOf) (kept cells : List CellValue)
+    → option_and_then (λ (c : ColumnOf). option_map (λ (type : PackedType). kept) (packed_type_of c.datatype)) column ≡ Some cells → kept ≡ cells
 packed_of None kept cells e = cc
-packed_of (Some column) kept cells e = typed_is (packed_type_of column.datatype) kept cells e
+packed_of (Some column) kept cells e = typed (packed_type_of column.datatype) e
+  where
+    typed : (type : Option PackedType) → option_map (λ (t : PackedType). kept) type ≡ Some cells → kept ≡ cells
+    typed None f = cc
+    typed (Some t) f = cc
 
--- the cells of a block that are kept are those of the column
+-- the cells of a block that are packed are those of the column
 pub packed_is : (block : TableOf) (col : ℕ) (cells : List CellValue) → packed_cells block col ≡ Some cells → column_of block.rows col ≡ cells
 packed_is block col cells e = packed_of (slice_get block.schema.columns col) (column_of block.rows col) cells e
 
--- a column that is kept has a cell for each row
-pub typed_length : (table : TableOf) (typed : List (Option (List CellValue))) (col : ℕ) (cells : List CellValue) → AreTyped table.schema.columns table.rows typed
-    → col < length table.schema.columns → get_or typed col None ≡ Some cells → length cells ≡ length table.rows
-typed_length table typed col cells are within e =
-    let here = there table.schema.columns col within in
-    let same = typed_is (packed_type_of here.0.datatype) (column_of table.rows col) cells (sym (are col here.0 here.1) ∙ e) in
-    ap length (sym same) ∙ length-map table.rows (λ values. get_or values col null)
+text_of : (column : Option ColumnOf) (kept cells : List CellValue) → option_and_then (λ (c : ColumnOf). cond (is_text c.datatype) (Some kept) None) column ≡ Some cells → kept ≡ cells
+text_of None kept cells e = cc
+text_of (Some column) kept cells e = chosen (is_text column.datatype) e
+  where
+    chosen : (b : Bool) → cond b (Some kept) None ≡ Some cells → kept ≡ cells
+    chosen true f = cc
+    chosen false f = cc
+
+-- so are those that are texts
+pub text_is : (block : TableOf) (col : ℕ) (cells : List CellValue) → text_cells block col ≡ Some cells → column_of block.rows col ≡ cells
+text_is block col cells e = text_of (slice_get block.schema.columns col) (column_of block.rows col) cells e
+
+-- a column is packed or has texts
+packed_or_text : (datatype : DatatypeOf) (cells : List CellValue) → option_map (λ (type : PackedType). cells) (packed_type_of datatype) ≡ None
+    → cond (is_text datatype) (Some cells) None ≡ None → ⊥
+packed_or_text integer cells e f = cc
+packed_or_text text cells e f = cc
+packed_or_text (boolean of_true of_false) cells e f = cc
+packed_or_text (date form) cells e f = cc
+packed_or_text decimal cells e f = cc
+
+pub either_kept : (block : TableOf) (col : ℕ) → col < length block.schema.columns → packed_cells block col ≡ None → text_cells block col ≡ None → ⊥
+either_kept block col within e f =
+    let here = there block.schema.columns col within in
+    let cells = column_of block.rows col in
+    let packed : ColumnOf → Option (List CellValue) = λ column. option_map (λ type. cells) (packed_type_of column.datatype) in
+    let texts : ColumnOf → Option (List CellValue) = λ column. cond (is_text column.datatype) (Some cells) None in
+    packed_or_text here.0.datatype cells (ap (option_and_then packed) (sym here.1) ∙ e) (ap (option_and_then texts) (sym here.1) ∙ f)

@@ -8,7 +8,7 @@ use Rattle.cell_types.specs.Value.{CellValue}
 use Rattle.cell_types.specs.Column.{ColumnOf}
 use Rattle.cell_types.specs.Cell.{value_of}
 use Rattle.table_store.specs.Table.{row_then, rows_from, value_then, values_from}
-use Rattle.table_store.specs.Laws.{AreValuesOf, FirstBadCellIsFirst, IsFirstBadCell, reading_at, readings_of}
+use Rattle.table_store.specs.Laws.{AreReadingsOf, FirstBadCellIsFirst, IsFirstBadCell, reading_at, readings_of}
 use Rattle.table_store.proofs.RowLemmas.{row_then-ok}
 
 abbrev Reading : Type 0
@@ -106,7 +106,7 @@ rows_ok row (Err found) rest first rows e = cc
 
 -- each cell has a value
 all_rows : (row : ℕ) (columns : List ColumnOf) (records : List (List Field)) (rows : List (List CellValue)) → rows_from row columns records ≡ Ok rows
-    → AllZip (AreValuesOf columns) records rows
+    → AllZip (AreReadingsOf columns) records rows
 all_rows row columns [] [] e = tt
 all_rows row columns [] (values ∷ rows) e = cc
 all_rows row columns (fields ∷ records) [] e = absurd (some_row row (values_from 0 columns fields) (rows_from (row + 1) columns records) e)
@@ -114,7 +114,7 @@ all_rows row columns (fields ∷ records) (values ∷ rows) e =
     let parts = rows_ok row (values_from 0 columns fields) (rows_from (row + 1) columns records) values rows e in
     (all_values 0 (readings_of columns fields) values (sym (of_readings 0 columns fields) ∙ parts.0), all_rows (row + 1) columns records rows parts.1)
 
-rows_all : (row : ℕ) (columns : List ColumnOf) (records : List (List Field)) (rows : List (List CellValue)) → AllZip (AreValuesOf columns) records rows
+rows_all : (row : ℕ) (columns : List ColumnOf) (records : List (List Field)) (rows : List (List CellValue)) → AllZip (AreReadingsOf columns) records rows
     → rows_from row columns records ≡ Ok rows
 rows_all row columns [] [] all = refl
 rows_all row columns [] (values ∷ rows) all = absurd all
@@ -123,7 +123,7 @@ rows_all row columns (fields ∷ records) (values ∷ rows) all =
     let first : values_from 0 columns fields ≡ Ok values = of_readings 0 columns fields ∙ ap (values_then 0) all.0 ∙ of_values 0 values in
     row_then-ok row (values_from 0 columns fields) (rows_from (row + 1) columns records) values rows first (rows_all (row + 1) columns records rows all.1)
 
-none_bad : (columns : List ColumnOf) (records : List (List Field)) (rows : List (List CellValue)) → AllZip (AreValuesOf columns) records rows
+none_bad : (columns : List ColumnOf) (records : List (List Field)) (rows : List (List CellValue)) → AllZip (AreReadingsOf columns) records rows
     → (row col : ℕ) (fault : CellFault) → reading_at columns records row col ≡ Some (Err fault) → ⊥
 none_bad columns [] rows all row col fault e = cc
 none_bad columns (fields ∷ records) [] all row col fault e = absurd all

@@ -4,7 +4,9 @@ pub mod RowLemmas
 pub mod FitLemmas
 pub mod HeaderLemmas
 pub mod InsideLemmas
+pub mod FieldLemmas
 pub mod CursorLemmas
+pub mod ColumnLemmas
 pub mod BlockLemmas
 pub mod LoadingLemmas
 pub mod FileLemmas

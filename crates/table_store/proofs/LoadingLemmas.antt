@@ -1,5 +1,5 @@
 -- What the steps of reading a file show of it, by its fields as they stand.
-use Rattle.std.proofs.Common.{◌≡◌, ℕ, List, [], ◌∷◌, ◌++◌, length, map, Option, Some, None, IfSome, option_map, Result, Ok, Err, refl, ap, sym, ◌∙◌, ◌⊎◌, inl, inr}
+use Rattle.std.proofs.Common.{◌≡◌, ℕ, List, [], ◌∷◌, ◌++◌, length, map, Option, Some, None, IfOk, IfSome, option_map, Result, Ok, Err, refl, ap, sym, subst, ◌∙◌, ◌⊎◌, inl, inr}
 use Rattle.std.specs.List.{AllByRecursion}
 use Rattle.std.specs.Result.{result_err}
 use Rattle.std.proofs.lemmas.List.{length-map, map-append}
@@ -19,10 +19,16 @@ use Rattle.table_store.specs.declared.loading.TableFault.{TableFault}
 use Rattle.table_store.specs.declared.loading.TableFault.TheVariants as refused
 use Rattle.table_store.specs.Table.{rows_from, HasCells, HasOtherHeader, HasBadCell}
 use Rattle.table_store.specs.Fault.{TableCause, file_missing, file_too_large, bad_text, bad_header, bad_cell, key_null, key_twice, cell_cause}
-use Rattle.typed_columns.specs.Values.{rows_in, FitsColumns}
+use Rattle.raw_fields.specs.Values.{rows_in, FitsColumns}
 use Rattle.row_keys.specs.Key.{row_key, row_keys}
-use Rattle.row_keys.specs.Keys.{HasKeyFault, HasRead}
-use Rattle.table_store.specs.Loading.{mismatch_of, key_cause, keys_at, bad_cell_of, table_cause, IsTableAt, HasRowsCause, HasFileCause, LacksKeys}
+use Rattle.row_keys.specs.Keys.{AreKeysOf, HasKeyFault, HasRead}
+use Rattle.typed_columns.specs.TypedColumn.{AreTyped, ColumnCells}
+use Rattle.table_store.specs.Loading.{mismatch_of, key_cause, keys_at, bad_cell_of, table_at, table_cause, ArePartsOf, IsTableAt, IsTableOf, HasRowsCause, HasFileCause, LacksKeys}
+use Rattle.table_store.specs.declared.loading.TableParts.{TableParts}
+use Rattle.table_store.specs.Catalog.{HasTable}
+use Rattle.table_store.specs.Inside.{table_of}
+use Rattle.table_store.proofs.ColumnLemmas.{typed-rows}
+use Rattle.table_store.proofs.InsideLemmas.{length-rows_in, rows-wide}
 use Rattle.table_store.proofs.RowLemmas.{rows_from-none}
 use Rattle.table_store.proofs.HeaderLemmas.{mismatch_from-length}
 
@@ -110,7 +116,7 @@ lacks_keys-memory reader (refused.Cell bad) lacks e = absurd lacks
 
 -- where each cell has a value, these are the cells
 pub table_cells : (schema : SchemaOf) (bytes : List ℕ) (file : RawTable) → IsTableAt schema.columns bytes file
-    → HasCells schema bytes (record { schema = schema; rows = rows_in schema.columns file.rows })
+    → HasCells schema bytes (table_at schema file)
 table_cells schema bytes file at = record {
   header = map field_of file.header;
   records = map (map field_of) file.rows;
@@ -129,12 +135,12 @@ rows_cause schema bytes file (bad_text fault) is e has = absurd has
 rows_cause schema bytes file (bad_header place) is e has = absurd has
 rows_cause schema bytes file (bad_cell row col fault) is e has = bad_cell_at schema bytes file row col fault is e has
 rows_cause schema bytes file (key_null row) is e has = record {
-  table = record { schema = schema; rows = rows_in schema.columns file.rows };
+  table = table_at schema file;
   cells = table_cells schema bytes file (is_table_at schema.columns bytes file is e has.0);
   first = has.1;
 }
 rows_cause schema bytes file (key_twice row) is e has = record {
-  table = record { schema = schema; rows = rows_in schema.columns file.rows };
+  table = table_at schema file;
   cells = table_cells schema bytes file (is_table_at schema.columns bytes file is e has.0);
   whole = has.1;
   first = has.2;
@@ -147,3 +153,31 @@ row_keys-last [] rows values row same = refl
 row_keys-last (place ∷ places) rows values row same =
     map-append (row_key (place ∷ places)) rows (values ∷ []) ∙ ap (λ key. map (row_key (place ∷ places)) rows ++ key ∷ []) same
     ∙ sym (map-append (row_key (place ∷ places)) rows (row ∷ []))
+
+-- ---- the parts that were read, and their table
+pub are_parts : (schema : SchemaOf) (rows : List (List RawField)) (typed : List ColumnCells) (reader : KeyReader) (count : ℕ) (found : Result TableParts TableFault)
+    → AreTyped schema.columns (rows_in schema.columns rows) typed → HasRead reader (keys_at schema rows) → count ≡ length rows
+    → IfOk found (λ parts. parts.rows ≡ count) → IfOk found (λ parts. parts.columns.items ≡ typed)
+    → IfOk found (λ parts. (of : List (List CellValue)) → HasRead reader of → AreKeysOf parts.keys of) → IfOk found (ArePartsOf schema rows)
+are_parts schema rows typed reader count (Ok parts) columns read size n items keys = record {
+  count = n ∙ size;
+  columns = subst (AreTyped schema.columns (rows_in schema.columns rows)) (sym items) columns;
+  keys = keys (keys_at schema rows) read;
+}
+are_parts schema rows typed reader count (Err e) columns read size n items keys = tt
+
+pub parts_table : (schema : SchemaOf) (bytes : List ℕ) (file : RawTable) (parts : TableParts) → IsTableAt schema.columns bytes file → ArePartsOf schema file.rows parts
+    → table_of schema parts.rows parts.columns.items ≡ table_at schema file
+parts_table schema bytes file parts at of =
+    let rows = rows_in schema.columns file.rows in
+    ap (λ rs. record { schema = schema; rows = rs })
+    (typed-rows schema.columns rows parts.columns.items parts.rows (of.count ∙ sym (length-rows_in schema.columns file.rows)) (rows-wide schema.columns file.rows at.fits.rows) of.columns)
+
+pub has_table : (limit : ℕ) (bytes : Option (List ℕ)) (schema : SchemaOf) (file : RawTable) (parts : TableParts) → IsTableOf limit bytes schema file → ArePartsOf schema file.rows parts
+    → HasTable limit bytes schema (table_of schema parts.rows parts.columns.items)
+has_table limit bytes schema file parts at of =
+    subst (HasTable limit bytes schema) (sym (parts_table schema at.0 file parts at.2 of)) (record {
+      bytes = at.0;
+      has_file = at.1;
+      is = record { cells = table_cells schema at.0 file at.2; whole = of.keys.whole; distinct = of.keys.distinct };
+    })

@@ -1,7 +1,7 @@
 -- Places in lists, and rows of fields one after another.
 use Rattle.std.proofs.Common.{◌≡◌, Bool, ◌||◌, map, ℕ, zero, suc, ◌+◌, ◌<◌, List, [], ◌∷◌, ◌++◌, length, take, drop, get_or, Some, slice_get, refl, ap, sym, ◌∙◌, arith}
 use Rattle.std.specs.List.{list_any}
-use Rattle.std.proofs.lemmas.List.{drop_more}
+use Rattle.std.proofs.lemmas.List.{drop_more, map_push, take_more}
 use Rattle.std.proofs.lemmas.Option.{slice_get-get_or, get_or_from_slice_get, slice_get_within}
 use Rattle.raw_fields.specs.Raw.{RawField}
 use Rattle.csv_index.specs.Index.{row_fields}
@@ -42,3 +42,11 @@ slice_get-take (suc n) (x ∷ xs) (suc i) h = slice_get-take n xs i (omega arith
 pub row_fields-at : (rows : List (List RawField)) (row : ℕ) → row < length rows
     → row_fields (drop row rows) ≡ get_or rows row [] ++ row_fields (drop (row + 1) rows)
 row_fields-at rows row h = ap row_fields (drop-from_slice_get rows row (get_or rows row []) (slice_get-get_or rows row [] h))
+
+-- one more of a list that is read in order
+pub read_more : {X Y : Type 0} (f : X → Y) (ys : List Y) (i : ℕ) (xs : List X) (x : X) → slice_get ys i ≡ Some (f x)
+    → map f xs ≡ take i ys → map f (xs ++ x ∷ []) ≡ take (i + 1) ys
+read_more f ys i xs x e so_far =
+    map_push f xs x ∙ ap (λ zs. zs ++ f x ∷ []) so_far
+    ∙ ap (λ z. take i ys ++ z ∷ []) (sym (get_or_from_slice_get ys i (f x) (f x) e))
+    ∙ sym (take_more ys i (f x) (slice_get_within ys i (f x) e))

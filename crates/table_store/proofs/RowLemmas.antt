@@ -1,19 +1,18 @@
 -- The values of rows of fields, one cell after another.
-use Rattle.std.proofs.Common.{set, ◌≡◌, ◌⊎◌, ◌<◌, ◌==◌, ◌||◌, Bool, true, false, get_or, inl, inr, sym, subst, ℕ, zero, suc, ◌+◌, ◌≤◌, List, [], ◌∷◌, length, take, drop, map, Option, Some, None, option_map, Result, Ok, Err, slice_get, refl, ap, ◌∙◌, arith}
-use Rattle.std.specs.List.{list_all, list_any}
-use Rattle.std.proofs.lemmas.Bool.{and_parts, cases_order, eq-eqb}
-use Rattle.std.proofs.lemmas.List.{drop_all, length-take, get_or_past, get_or-set_other, get_or-set_same}
+use Rattle.std.proofs.Common.{set, ◌≡◌, ◌⊎◌, ◌<◌, ◌==◌, ◌||◌, Bool, true, false, get_or, inl, inr, sym, subst, ℕ, zero, suc, ◌+◌, ◌≤◌, List, [], ◌∷◌, length, drop, map, Option, Some, None, option_map, Result, Ok, Err, slice_get, refl, ap, ◌∙◌, arith}
+use Rattle.std.specs.List.{list_any}
+use Rattle.std.proofs.lemmas.Bool.{cases_order, eq-eqb}
+use Rattle.std.proofs.lemmas.List.{drop_all, get_or_past, get_or-set_other, get_or-set_same}
 use Rattle.std.proofs.lemmas.Option.{get_or_from_slice_get, slice_get-map}
 use Rattle.std.specs.Result.{result_err}
 use Rattle.raw_fields.specs.Raw.{RawField, raw_content, field_of}
 use Rattle.cell_types.specs.Value.{CellValue, null}
 use Rattle.cell_types.specs.declared.fault.CellFault.{CellFault}
-use Rattle.cell_types.specs.Column.{ColumnOf, column_view, takes_all_texts}
+use Rattle.cell_types.specs.Column.{ColumnOf, column_view}
 use Rattle.cell_types.specs.Cell.{value_of}
-use Rattle.cell_types.specs.Laws.{StringsHaveValues}
 use Rattle.cell_types.specs.declared.column.Column.{Column}
 use Rattle.table_store.specs.Table.{values_from, value_then, rows_from, row_then}
-use Rattle.typed_columns.specs.Values.{value_or_null, values_in, HaveValues, AllHaveValues}
+use Rattle.raw_fields.specs.Values.{value_or_null, values_in, HaveValues, AllHaveValues}
 use Rattle.row_keys.specs.Key.{row_key}
 use Rattle.table_store.proofs.PlaceLemmas.{drop-from_slice_get}
 
@@ -28,32 +27,6 @@ slice_get-values_in (c ∷ columns) (r ∷ fields) zero column raw e f =
     let same_raw : r ≡ raw = cc in
     ap (λ x. Some (value_or_null (value_of x (raw_content r)))) same_column ∙ ap (λ x. Some (value_or_null (value_of column (raw_content x)))) same_raw
 slice_get-values_in (c ∷ columns) (r ∷ fields) (suc col) column raw e f = slice_get-values_in columns fields col column raw e f
-
--- which is there where the fields are read
-pub read_at : (columns : List ColumnOf) (fields : List RawField) (col : ℕ) (column : ColumnOf) (raw : RawField) → HaveValues columns fields
-    → slice_get columns col ≡ Some column → slice_get fields col ≡ Some raw
-    → value_of column (raw_content raw) ≡ Ok (value_or_null (value_of column (raw_content raw)))
-read_at [] fields col column raw read e f = cc
-read_at (c ∷ columns) [] col column raw read e f = cc
-read_at (c ∷ columns) (r ∷ fields) zero column raw read e f =
-    let same_column : c ≡ column = cc in
-    let same_raw : r ≡ raw = cc in
-    let P : ColumnOf → RawField → Type 0 = λ x y. value_of x (raw_content y) ≡ Ok (value_or_null (value_of x (raw_content y))) in
-    let here : P c r = read.0 in
-    let there : P column r = rw (← same_column) here in
-    rw (← same_raw) there
-read_at (c ∷ columns) (r ∷ fields) (suc col) column raw read e f = read_at columns fields col column raw read.1 e f
-
--- each row is read where all are
-pub row_read : (columns : List ColumnOf) (rows : List (List RawField)) (row : ℕ) (fields : List RawField) → AllHaveValues columns rows
-    → slice_get rows row ≡ Some fields → HaveValues columns fields
-row_read columns [] row fields read e = absurd (let f : None ≡ Some fields = e in cc)
-row_read columns (r ∷ rows) zero fields read e =
-    let same : r ≡ fields = cc in
-    let P : List RawField → Type 0 = HaveValues columns in
-    let here : P r = read.0 in
-    rw (← same) here
-row_read columns (r ∷ rows) (suc row) fields read e = row_read columns rows row fields read.1 e
 
 -- ---- one row
 pub value_then-none : (place : ℕ) (value : Result CellValue CellFault) (rest : Result (List CellValue) (ℕ × CellFault)) → result_err (value_then place value rest) ≡ None
@@ -131,27 +104,6 @@ value_put values row places col value size before there k within among =
       | inr (inr more) ↦ absurd (omega (arith, more, within))
     ]
 
--- one value less to ask for
-pub value_passed : (values row : List CellValue) (places : List ℕ) (col : ℕ)
-    → ((k : ℕ) → k < col → list_any (λ place. place == k) places ≡ true → get_or values k null ≡ get_or row k null) → list_any (λ place. place == col) places ≡ false
-    → (k : ℕ) → k < col + 1 → list_any (λ place. place == k) places ≡ true → get_or values k null ≡ get_or row k null
-value_passed values row places col before none k within among =
-    elim (cases_order k col) [
-      | inl here ↦ let both = sym (subst (λ n. list_any (λ place. place == n) places ≡ true) here among) ∙ none in absurd (cc)
-      | inr (inl less) ↦ before k less among
-      | inr (inr more) ↦ absurd (omega (arith, more, within))
-    ]
-
--- the field of a column is there where there are enough
-pub field_there : (columns : List Column) (fields : List RawField) (col : ℕ) → col < length columns → length columns ≤ length fields
-    → (raw : RawField) × (slice_get (take (length columns) fields) col ≡ Some raw)
-field_there columns fields col within enough = there (take (length columns) fields) col (omega (arith, within, enough, length-take (length columns) fields))
-  where
-    there : (xs : List RawField) (n : ℕ) → n < length xs → (raw : RawField) × (slice_get xs n ≡ Some raw)
-    there [] n h = absurd (omega arith)
-    there (x ∷ xs) zero h = (x, refl)
-    there (x ∷ xs) (suc n) h = there xs n (omega arith)
-
 -- past their end both lists say the same
 pub values_past : (values row : List CellValue) (k col : ℕ) → length values ≡ col → length row ≡ col → (k < col → get_or values k null ≡ get_or row k null)
     → get_or values k null ≡ get_or row k null
@@ -211,22 +163,6 @@ rows_from-none row columns (fields ∷ rows) e =
     let first = values_from-none 0 columns fields parts.0 in
     let later = rows_from-none (row + 1) columns rows parts.1 in
     ((first.0, later.0), row_then-ok row values rest (values_in columns fields) (map (values_in columns) rows) first.1 later.1)
-
--- nothing is wrong where each column takes all texts
-takes_all-row : StringsHaveValues → (place : ℕ) (columns : List Column) (fields : List RawField) → list_all (λ column. takes_all_texts (column_view column)) columns ≡ true
-    → result_err (values_from place (map column_view columns) (map field_of fields)) ≡ None
-takes_all-row law place [] fields all = refl
-takes_all-row law place (column ∷ columns) [] all = refl
-takes_all-row law place (column ∷ columns) (field ∷ fields) all =
-    let both = and_parts (takes_all_texts (column_view column)) (list_all (λ column. takes_all_texts (column_view column)) columns) all in
-    let value = law (column_view column) (raw_content field) both.0 in
-    value_then-past place (value_of (column_view column) (raw_content field)) _ (ap result_err value.1) ∙ takes_all-row law (place + 1) columns fields both.1
-
-pub takes_all-rows : StringsHaveValues → (row : ℕ) (columns : List Column) (rows : List (List RawField)) → list_all (λ column. takes_all_texts (column_view column)) columns ≡ true
-    → result_err (rows_from row (map column_view columns) (map (map field_of) rows)) ≡ None
-takes_all-rows law row columns [] all = refl
-takes_all-rows law row columns (fields ∷ rows) all =
-    row_then-past row (values_from 0 (map column_view columns) (map field_of fields)) _ (takes_all-row law 0 columns fields all) ∙ takes_all-rows law (row + 1) columns rows all
 
 -- what is wrong from a row on
 abbrev pub wrong_in_rows : ℕ → List ColumnOf → List (List RawField) → Option (ℕ × ℕ × CellFault)

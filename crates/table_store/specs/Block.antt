@@ -1,10 +1,11 @@
 -- Blocks of rows: the rows of a table in their order, so many at a time.
 pub use Rattle.block_summary.specs.Blocks.{block_count}
-use Rattle.std.specs.Prelude.{◌≡◌, ◌+◌, ◌*◌, ◌-◌, ◌/◌, ◌≤◌, ◌^◌, ◌<◌, ℕ, min, List, length, take, drop, Option, Some, option_and_then, slice_get}
+use Rattle.std.specs.Prelude.{◌≡◌, ◌+◌, ◌*◌, ◌-◌, ◌/◌, ◌≤◌, ◌^◌, ◌<◌, ℕ, min, if◌then◌else◌, List, length, take, drop, Option, Some, None, option_and_then, option_map, slice_get}
 use Rattle.block_summary.specs.Ranges.{column_of}
+use Rattle.block_summary.specs.Reading.{packed_type_of}
 use Rattle.cell_types.specs.Column.{ColumnOf}
+use Rattle.cell_types.specs.Datatype.{is_text}
 use Rattle.cell_types.specs.Value.{CellValue}
-use Rattle.typed_columns.specs.TypedColumn.{typed_cells}
 use Rattle.block_summary.specs.declared.block.TheConstants.{BLOCK_ROWS}
 use Rattle.table_store.specs.declared.block.Block.TheInside.{Inside}
 use Rattle.table_store.specs.Table.{TableOf}
@@ -21,7 +22,7 @@ abbrev pub block_view : Inside → TableOf
 block_view block = part block.table.now block.first block.rows
 
 -- they are rows of the table, by numbers that fit
-pub record IsWithin (block : Inside) : Type 0 where
+pub record IsPartOfTable (block : Inside) : Type 0 where
   pub within : block.first + block.rows ≤ length block.table.now.rows
   pub fits : block.first + block.rows < 2 ^ 64
   -- and those of a block
@@ -31,7 +32,13 @@ pub record IsWithin (block : Inside) : Type 0 where
 
 -- the cells of a column that is none of texts
 abbrev pub packed_cells : TableOf → ℕ → Option (List CellValue)
-packed_cells block col = option_and_then (λ (column : ColumnOf). typed_cells column (column_of block.rows col)) (slice_get block.schema.columns col)
+packed_cells block col =
+    option_and_then (λ (column : ColumnOf). option_map (λ type. column_of block.rows col) (packed_type_of column.datatype)) (slice_get block.schema.columns col)
+
+-- the cells of a column of texts
+abbrev pub text_cells : TableOf → ℕ → Option (List CellValue)
+text_cells block col =
+    option_and_then (λ (column : ColumnOf). if is_text column.datatype then Some (column_of block.rows col) else None) (slice_get block.schema.columns col)
 
 -- a column is none of texts
 abbrev pub HasNumbers : TableOf → ℕ → Type 0

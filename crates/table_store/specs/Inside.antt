@@ -1,26 +1,30 @@
--- What a table holds: a schema, the file as it stands, and keys. The values are those of the fields in the file.
-use Rattle.std.specs.Prelude.{◌≡◌}
-use Rattle.csvw_meta.specs.Schema.{schema_view}
+-- What a table holds: a schema, so many rows, the cells of each column, and keys.
+use Rattle.std.specs.Prelude.{◌≡◌, ℕ, zero, suc, List, [], ◌∷◌, map, drop, slice_index_or}
+use Rattle.cell_types.specs.Value.{CellValue, null}
+use Rattle.csvw_meta.specs.Schema.{SchemaOf, schema_view}
 use Rattle.table_store.specs.declared.table.Table.TheInside.{Inside}
 use Rattle.table_store.specs.Table.{TableOf, keys_of}
-use Rattle.typed_columns.specs.Values.{rows_in, AllHaveValues, FitsColumns}
-use Rattle.typed_columns.specs.TypedColumn.{AreTyped}
+use Rattle.typed_columns.specs.TypedColumn.{AreTyped, ColumnCells}
 use Rattle.row_keys.specs.Keys.{keys_view}
 use Rattle.table_store.specs.Fits.{HasTableRows}
-use Rattle.table_store.specs.Summaries.{AreSummariesOf}
+use Rattle.table_store.specs.Summaries.{cells_by_column, AreSummariesOf}
+
+-- so many rows of columns: the first cell of each column, and then the rows of the cells after it
+abbrev pub rows_of_columns : ℕ → List (List CellValue) → List (List CellValue)
+rows_of_columns zero columns = []
+rows_of_columns (suc rows) columns = map (λ cells. slice_index_or cells 0 null) columns ∷ rows_of_columns rows (map (drop 1) columns)
+
+-- the table of a schema and of so many rows of columns
+abbrev pub table_of : SchemaOf → ℕ → List ColumnCells → TableOf
+table_of schema rows columns = record { schema = schema; rows = rows_of_columns rows (cells_by_column columns) }
 
 abbrev pub table_view : Inside → TableOf
-table_view table = record {
-  schema = schema_view table.schema;
-  rows = rows_in (schema_view table.schema).columns table.file.rows;
-}
+table_view table = table_of (schema_view table.schema) table.count table.columns.items
 
--- the file has the schema's columns, each cell has a value, those that are no texts are kept, the keys are those of the rows, the
--- values fit their columns, and each block has its summary
+-- there is a column for each of the schema's, of its datatype, with a cell for each row, the keys are those of the rows, the values fit
+-- their columns, and each block has its summary
 pub record IsWhole (table : Inside) : Type 0 where
-  pub fits : FitsColumns (schema_view table.schema).columns table.file
-  pub values : AllHaveValues (schema_view table.schema).columns table.file.rows
-  pub typed : AreTyped (schema_view table.schema).columns (rows_in (schema_view table.schema).columns table.file.rows) table.columns.items
+  pub columns : AreTyped (schema_view table.schema).columns (table_view table).rows table.columns.items
   pub keys : keys_view table.keys ≡ keys_of (table_view table)
   pub fit : HasTableRows (table_view table)
   pub summaries : AreSummariesOf (table_view table) table.summaries.items

@@ -59,8 +59,8 @@ abbrev pub reading_at : List ColumnOf → List (List Field) → ℕ → ℕ → 
 reading_at columns records row col = option_and_then (λ (fields : List Field). slice_get (readings_of columns fields) col) (slice_get records row)
 
 -- each field of a record says a value, and these are the values
-abbrev pub AreValuesOf : List ColumnOf → List Field → List CellValue → Type 0
-AreValuesOf columns fields values = readings_of columns fields ≡ map Ok values
+abbrev pub AreReadingsOf : List ColumnOf → List Field → List CellValue → Type 0
+AreReadingsOf columns fields values = readings_of columns fields ≡ map Ok values
 
 -- a cell says no value, for that reason, and each cell before it, row by row, says one
 pub record IsFirstBadCell (columns : List ColumnOf) (records : List (List Field)) (row col : ℕ) (fault : CellFault) : Type 0 where
@@ -71,6 +71,6 @@ pub record IsFirstBadCell (columns : List ColumnOf) (records : List (List Field)
 -- records have rows just where each cell says the value of its place, and a cell is the bad one just where it is the first that says none
 pub record FirstBadCellIsFirst : Type 0 where
   pub values : (columns : List ColumnOf) (records : List (List Field)) (rows : List (List CellValue))
-      → (rows_from 0 columns records ≡ Ok rows) ↔ AllZip (AreValuesOf columns) records rows
+      → (rows_from 0 columns records ≡ Ok rows) ↔ AllZip (AreReadingsOf columns) records rows
   pub fault : (columns : List ColumnOf) (records : List (List Field)) (row col : ℕ) (fault : CellFault)
       → (rows_from 0 columns records ≡ Err (row, col, fault)) ↔ IsFirstBadCell columns records row col fault

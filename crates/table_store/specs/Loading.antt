@@ -15,17 +15,19 @@ use Rattle.cell_types.specs.Column.{ColumnOf}
 use Rattle.csvw_meta.specs.declared.schema.Schema.{Schema}
 use Rattle.csvw_meta.specs.Schema.{SchemaOf, schema_view}
 use Rattle.table_store.specs.declared.loading.TableFault.{TableFault}
+use Rattle.table_store.specs.declared.loading.TableParts.{TableParts}
 use Rattle.table_store.specs.declared.loading.TableFault.TheVariants.{FileMissing, FileTooLarge, Text, Header, Cell, Key, NoMemory}
-use Rattle.table_store.specs.Table.{mismatch_from, values_from, rows_from, HasOtherHeader, HasBadCell, HasNullKey, HasKeyTwice}
+use Rattle.table_store.specs.Table.{TableOf, mismatch_from, values_from, rows_from, HasOtherHeader, HasBadCell, HasNullKey, HasKeyTwice}
 use Rattle.table_store.specs.Fault.{TableCause, file_missing, file_too_large, bad_text, bad_header, bad_cell, key_null, key_twice, cell_cause, LoadCause, no_metadata, bad_meta, bad_table}
 use Rattle.table_store.specs.File.{FileOf}
 use Rattle.row_keys.specs.Key.{row_key, row_keys, null_row, repeated_row}
-use Rattle.row_keys.specs.Keys.{AreColumns, HasKeyFault, HasRead}
+use Rattle.row_keys.specs.Keys.{AreColumns, AreKeysOf, HasKeyFault, HasRead}
 use Rattle.row_keys.specs.declared.keys.KeyFault.{KeyFault}
 use Rattle.row_keys.specs.declared.keys.KeyFault.TheVariants.{Null, Twice}
 use Rattle.row_keys.specs.declared.keys.KeyReader.{KeyReader}
+use Rattle.typed_columns.specs.TypedColumn.{AreTyped}
 use Rattle.table_store.specs.Catalog.{HasFile, HasTableCause, IsFirstBadTable}
-use Rattle.typed_columns.specs.Values.{rows_in, AllHaveValues, FitsColumns}
+use Rattle.raw_fields.specs.Values.{rows_in, AllHaveValues, FitsColumns}
 
 -- the first header cell that does not match, or lacks its column, or is lacked by one
 abbrev pub mismatch_of : List ColumnOf → List RawField → Option ℕ
@@ -34,6 +36,10 @@ mismatch_of columns header = mismatch_from 0 columns (map field_of header)
 -- the values of a row of fields, or the first of them that has none
 abbrev pub values_of : List ColumnOf → List RawField → Result (List CellValue) (ℕ × CellFault)
 values_of columns fields = values_from 0 columns (map field_of fields)
+
+-- the table of a schema and the fields of its file
+abbrev pub table_at : SchemaOf → RawTable → TableOf
+table_at schema file = record { schema = schema; rows = rows_in schema.columns file.rows }
 
 -- the file is a table whose header matches the columns and whose cells have values
 pub record IsTableAt (columns : List ColumnOf) (bytes : List ℕ) (file : RawTable) : Type 0 where
@@ -72,14 +78,20 @@ table_cause NoMemory = None
 abbrev pub keys_at : SchemaOf → List (List RawField) → List (List CellValue)
 keys_at schema rows = row_keys schema.key (rows_in schema.columns rows)
 
+-- so many rows of fields were read, with these columns and keys
+pub record ArePartsOf (schema : SchemaOf) (rows : List (List RawField)) (parts : TableParts) : Type 0 where
+  pub count : parts.rows ≡ length rows
+  pub columns : AreTyped schema.columns (rows_in schema.columns rows) parts.columns.items
+  pub keys : AreKeysOf parts.keys (keys_at schema rows)
+
 -- values stand for those of a row as far as a key asks for them: there are as many, and the key is the same
 pub record StandFor (places : List ℕ) (values row : List CellValue) : Type 0 where
   pub count : length values ≡ length row
   pub key : row_key places values ≡ row_key places row
 
 -- the values of a row of fields as far as a key of those places asks for them
-abbrev pub ReadsAs : List ColumnOf → List ℕ → List RawField → List CellValue → Type 0
-ReadsAs columns places fields values = (row : List CellValue) × (values_of columns fields ≡ Ok row) × StandFor places values row
+abbrev pub StandForFields : List ColumnOf → List ℕ → List RawField → List CellValue → Type 0
+StandForFields columns places fields values = (row : List CellValue) × (values_of columns fields ≡ Ok row) × StandFor places values row
 
 -- the first cell of a row of fields that has no value, or want of memory
 abbrev pub IsBadCell : List ColumnOf → List RawField → ℕ → CellFault → Type 0
@@ -101,8 +113,8 @@ HasRowsCause schema rows cause = ⊥
 abbrev pub HasKeyColumns : SchemaOf → Type 0
 HasKeyColumns schema = AreColumns schema.key schema.columns
 
-abbrev pub schemas_view : List Schema → List SchemaOf
-schemas_view schemas = map schema_view schemas
+abbrev pub schema_views : List Schema → List SchemaOf
+schema_views schemas = map schema_view schemas
 
 -- no two schemas have one url
 abbrev pub DifferInUrl : List SchemaOf → Type 0

@@ -6,11 +6,11 @@ ghost use Rattle.block_summary.specs.Ranges.{column_of, is_null};
 ghost use Rattle.block_summary.specs.Types.{numbers_of};
 ghost use Rattle.cell_types.specs.Value.{value_view};
 ghost use Rattle.csvw_meta.specs.Schema.{schema_view};
-ghost use Rattle.table_store.specs.Block.{block_count, block_of, packed_cells, HasNumbers};
+ghost use Rattle.table_store.specs.Block.{block_count, block_of, packed_cells, text_cells, HasNumbers};
 ghost use Rattle.table_store.specs.Fits.{HasTableRows};
 ghost use Rattle.table_store.specs.Summaries.{IsSummaryOf};
 
-use crate::column_values::packed_values;
+use crate::column_values::{packed_values, text_values};
 use crate::cursor::RowCursor;
 use crate::table::Table;
 use block_summary::{BLOCK_ROWS, PackedColumn, Summary};
@@ -18,6 +18,7 @@ use cell_types::Value;
 use csvw_meta::Schema;
 use std::alloc::{AllocError, Global};
 use std::marker::Model;
+use text_columns::TextColumn;
 
 /// The rows of one block of a table.
 #[derive(Drop)]
@@ -34,11 +35,11 @@ impl<'t> Model for Block<'t> {
 
     ghost Value = { TableOf };
 
-    ghost use Rattle.table_store.specs.Block.{block_view, IsWithin};
+    ghost use Rattle.table_store.specs.Block.{block_view, IsPartOfTable};
 
     ghost view = { block_view };
 
-    ghost invariant = { IsWithin };
+    ghost invariant = { IsPartOfTable };
 }
 
 impl Table {
@@ -91,16 +92,27 @@ impl<'t> Block<'t> {
         self.table.packed(self.first / BLOCK_ROWS, col)
     }
 
-    /// The values of a column, one for each row. Each text is found from the one before it, with no search.
+    /// The cells of a column of texts in the block; nothing for another column.
+    pub fn texts(&self, col: usize) -> Option<TextColumn<'t>>
+        requires { col < length self.now.schema.columns }
+        ensures { result ≡ text_cells self.now col }
+    {
+        self.table.texts(self.first / BLOCK_ROWS, col)
+    }
+
+    /// The values of a column, one for each row.
     pub fn values(&self, alloc: Global, col: usize) -> Result<Vec<Value<'t>>, AllocError>
         requires { col < length self.now.schema.columns }
         ensures { IfOk result
             (λ values. map value_view values.items ≡ column_of self.now.rows col) }
     {
-        match self.packed(col) {
-            Some(column) => packed_values(alloc, column),
-            None => self.table.column_from(alloc, col, self.first, self.rows),
+        if let Some(column) = self.packed(col) {
+            return packed_values(alloc, column);
         }
+        let Some(texts) = self.texts(col) else {
+            unreachable!();
+        };
+        text_values(alloc, &texts)
     }
 
     /// Writes the number of each row in a column that is none of texts, and marks the nulls. A decimal is written in millionths, a day by its

@@ -8,7 +8,7 @@ ghost use Rattle.csvw_meta.specs.Limits.{limits_view};
 ghost use Rattle.table_store.specs.File.{files_view};
 ghost use Rattle.table_store.specs.Fault.{load_cause};
 ghost use Rattle.table_store.specs.Catalog.{folder_view, HaveTables, Means, IsRefused};
-ghost use Rattle.table_store.specs.Loading.{schemas_view, DifferInUrl, HasKeyColumns, IsFirstRefused};
+ghost use Rattle.table_store.specs.Loading.{schema_views, DifferInUrl, HasKeyColumns, IsFirstRefused};
 
 use crate::fault::LoadFault;
 use crate::file::{NamedFile, take_bytes};
@@ -92,14 +92,14 @@ fn load_tables(
     schemas: Vec<Schema>,
     files: Vec<NamedFile>,
 ) -> Result<Vec<Table>, LoadFault>
-    requires urls { DifferInUrl (schemas_view schemas.items) }
-    requires keys { AllByRecursion HasKeyColumns (schemas_view schemas.items) }
+    requires urls { DifferInUrl (schema_views schemas.items) }
+    requires keys { AllByRecursion HasKeyColumns (schema_views schemas.items) }
     requires limit { limit ≤ 2 ^ 30 }
-    requires defaults { AllByRecursion HasShortDefaults (schemas_view schemas.items) }
+    requires defaults { AllByRecursion HasShortDefaults (schema_views schemas.items) }
     ensures tables { IfOk result (λ tables.
-        HaveTables limit (files_view files.items) (schemas_view schemas.items) tables.items) }
+        HaveTables limit (files_view files.items) (schema_views schemas.items) tables.items) }
     ensures fault { IfErr result (λ e. IfSome (load_cause e)
-        (IsFirstRefused limit (files_view files.items) (schemas_view schemas.items))) }
+        (IsFirstRefused limit (files_view files.items) (schema_views schemas.items))) }
     ensures memory { IfErr result (λ e. load_cause e ≡ None → e ≡ LoadFault.NoMemory) }
 {
     let mut files = files;

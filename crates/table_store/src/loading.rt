@@ -1,25 +1,22 @@
 //! Reading the rows of a table, cell by cell.
 ghost use Rattle.std.specs.Prelude.{◌≡◌, ◌≤◌, ◌⊎◌, ◌==◌, List, true, None, Some, Ok, Err, IfOk, IfErr, IfSome, OnOk, length, take, drop, map, option_map};
-ghost use Rattle.std.specs.List.{list_all, list_any};
+ghost use Rattle.std.specs.List.{list_any};
 ghost use Rattle.cell_types.specs.Value.{CellValue, value_view};
-ghost use Rattle.cell_types.specs.Column.{column_view, takes_all_texts};
+ghost use Rattle.cell_types.specs.Column.{column_view};
 ghost use Rattle.raw_fields.specs.Raw.{raw_view};
 ghost use Rattle.csvw_meta.specs.Schema.{schema_view};
 ghost use Rattle.table_store.specs.Fault.{bad_cell, cell_cause};
-ghost use Rattle.typed_columns.specs.ColumnReader.{cells_read, read_on, AreReadOn, HasReader, HaveReaders};
+ghost use Rattle.typed_columns.specs.ColumnReader.{cells_read, with_cell, AreReadOn, HasReader, HaveReaders};
 ghost use Rattle.row_keys.specs.Keys.{AreKeysOf, HasRead};
-ghost use Rattle.typed_columns.specs.TypedColumn.{AreTyped};
-ghost use Rattle.typed_columns.specs.Values.{rows_in, value_in, value_or_null, values_in, FitsColumns, HasValue};
-ghost use Rattle.table_store.specs.Loading.{keys_at, bad_cell_of, table_cause, HasKeyColumns, HasRowsCause, IsBadCell, LacksKeys, ReadsAs};
+ghost use Rattle.raw_fields.specs.Values.{value_in, value_or_null, values_in, FitsColumns, HasValue};
+ghost use Rattle.table_store.specs.Loading.{bad_cell_of, table_cause, ArePartsOf, HasKeyColumns, HasRowsCause, IsBadCell, LacksKeys, StandForFields};
 
 use cell_types::{CellFault, Column, Value};
 use csv_index::{Fields, IndexedText, Raw, TextFault};
 use csvw_meta::Schema;
 use row_keys::{KeyFault, KeyReader, Keys};
 use std::alloc::{AllocError, Global};
-use typed_columns::{
-    ColumnReader, TypedColumn, cell_value, column_readers, columns_read, number_value,
-};
+use typed_columns::{ColumnReader, TypedColumn, column_readers, columns_read};
 
 /// A cell that has no value. Rows and columns count from 0.
 #[derive(Clone, Copy)]
@@ -41,6 +38,14 @@ pub enum TableFault {
     NoMemory,
 }
 
+/// What was read of the rows of a table: how many there are, their columns, and their keys.
+#[derive(Drop)]
+pub struct TableParts {
+    pub rows: usize,
+    pub columns: Vec<TypedColumn>,
+    pub keys: Keys,
+}
+
 /// Whether a column is one of those places.
 fn is_among(places: &[usize], col: usize) -> bool
     ensures { result ≡ list_any (λ place. place == col) places.now }
@@ -59,11 +64,11 @@ fn nulls<'a>(alloc: Global, count: usize) -> Result<Vec<Value<'a>>, AllocError>
     Ok(values)
 }
 
-/// Reads a field of a row into the reader of its column, where there is one. The value is written where it is asked for.
+/// Reads a field of a row into the reader of its column. The value is written where it is asked for.
 fn read_field<'a>(
     alloc: Global,
-    column: &Column,
-    reader: &mut Option<ColumnReader>,
+    column: &'a Column,
+    reader: &mut ColumnReader,
     raw: Raw<'a>,
     asked: bool,
     value: &mut Value<'a>,
@@ -72,42 +77,34 @@ fn read_field<'a>(
     ensures has { OnOk result (HasValue (column_view column.now) (raw_view raw.entry)) }
     ensures value { OnOk result (asked ≡ true → value_view value.new
         ≡ value_or_null (value_in (column_view column.now, raw_view raw.entry))) }
-    ensures reader { OnOk result (reader.new ≡ read_on reader.old
+    ensures reader { OnOk result (reader.new ≡ with_cell reader.old
         (value_or_null (value_in (column_view column.now, raw_view raw.entry)))) }
     ensures fault { IfErr result (λ e. (e ≡ CellFault.NoMemory)
         ⊎ (value_in (column_view column.now, raw_view raw.entry) ≡ Err e)) }
 {
-    match reader {
-        Some(reader) => {
-            let number = reader.read(alloc, column, raw)?;
-            if asked {
-                *value = number_value(reader.packed_type(), number);
-            }
-            Ok(())
-        }
-        None => {
-            *value = cell_value(alloc, column, raw)?;
-            Ok(())
-        }
+    if !asked {
+        return reader.read(alloc, column, raw);
     }
+    *value = reader.read_value(alloc, column, raw)?;
+    Ok(())
 }
 
 /// Reads a row into the readers of its columns, or finds the first cell that has no value. The values are those that a key of those places
-/// asks for. The row's fields are the next of those that are left. A column that takes all texts is passed, where the key does not ask for it.
+/// asks for. The row's fields are the next of those that are left.
 fn read_row<'a>(
     alloc: Global,
-    columns: &[Column],
+    columns: &'a [Column],
     places: &[usize],
     fields: &mut Fields<'_, 'a>,
     row: usize,
-    readers: &mut Vec<Option<ColumnReader>>,
+    readers: &mut Vec<ColumnReader>,
     values: &mut Vec<Value<'a>>,
 ) -> Result<(), BadCell>
     requires width { length columns.now ≤ length fields.old }
     requires count { length values.old.items ≡ length columns.now }
     requires readers { HaveReaders (map column_view columns.now) readers.old.items }
     ensures passed { IfOk result (λ _. fields.new ≡ drop (length columns.now) fields.old) }
-    ensures values { IfOk result (λ _. ReadsAs (map column_view columns.now) places.now
+    ensures values { IfOk result (λ _. StandForFields (map column_view columns.now) places.now
         (take (length columns.now) fields.old) (map value_view values.new.items)) }
     ensures readers { IfOk result (λ _. AreReadOn readers.old.items (values_in
         (map column_view columns.now) (take (length columns.now) fields.old)) readers.new.items) }
@@ -116,13 +113,8 @@ fn read_row<'a>(
     ensures fault { IfErr result (λ bad. IsBadCell (map column_view columns.now)
         (take (length columns.now) fields.old) bad.col bad.fault) }
 {
-    cell_types::strings_have_values();
     for (col, column) in columns.iter().enumerate() {
         let asked = is_among(places, col);
-        if column.takes_all_texts() && !asked {
-            fields.pass();
-            continue;
-        }
         let Some(raw) = fields.next_field() else {
             unreachable!();
         };
@@ -141,22 +133,17 @@ fn read_row<'a>(
     Ok(())
 }
 
-/// Whether any text has a value in each of the columns.
-fn take_all_texts(columns: &[Column]) -> bool
-    ensures { result ≡ list_all (λ column. takes_all_texts (column_view column)) columns.now }
-{
-    columns.iter().all(|column| column.takes_all_texts())
-}
-
-/// The columns and the keys that were read; or why the rows have no keys.
+/// The columns and the keys of so many rows that were read; or why the rows have no keys.
 fn finish_rows(
     alloc: Global,
-    readers: Vec<Option<ColumnReader>>,
+    rows: usize,
+    readers: Vec<ColumnReader>,
     keys: KeyReader,
-) -> Result<(Vec<Option<TypedColumn>>, Keys), TableFault>
-    ensures columns { IfOk result (λ found. found.0.items ≡ map cells_read readers.items) }
-    ensures keys { IfOk result (λ found. (of : List (List CellValue))
-        → HasRead keys of → AreKeysOf found.1 of) }
+) -> Result<TableParts, TableFault>
+    ensures rows { IfOk result (λ parts. parts.rows ≡ rows) }
+    ensures columns { IfOk result (λ parts. parts.columns.items ≡ map cells_read readers.items) }
+    ensures keys { IfOk result (λ parts. (of : List (List CellValue))
+        → HasRead keys of → AreKeysOf parts.keys of) }
     ensures fault { IfErr result (LacksKeys keys) }
 {
     let keys = match keys.finish(alloc) {
@@ -165,25 +152,26 @@ fn finish_rows(
         Err(_) => return Err(TableFault::NoMemory),
     };
     match columns_read(alloc, readers) {
-        Ok(columns) => Ok((columns, keys)),
+        Ok(columns) => Ok(TableParts {
+            rows,
+            columns,
+            keys,
+        }),
         Err(_) => Err(TableFault::NoMemory),
     }
 }
 
-/// Reads each row: the columns that are none of texts and the keys of the rows, each of whose cells has a value; or the first cell, row by row,
-/// that has none, and else why the rows have no keys.
-fn read_each_row(
+/// The columns and the keys of the rows of a file, each of whose cells has a value; or the first cell, row by row, that has none, and else why
+/// the rows have no keys. Each cell is read once.
+pub fn read_rows<'t>(
     alloc: Global,
-    schema: &Schema,
-    file: &IndexedText,
-) -> Result<(Vec<Option<TypedColumn>>, Keys), TableFault>
+    schema: &'t Schema,
+    file: &'t IndexedText,
+) -> Result<TableParts, TableFault>
     requires fits { FitsColumns (schema_view schema.now).columns file.now }
     requires key { HasKeyColumns (schema_view schema.now) }
     ensures values { IfOk result (λ _. bad_cell_of (schema_view schema.now) file.now.rows ≡ None) }
-    ensures columns { IfOk result (λ found. AreTyped (schema_view schema.now).columns
-        (rows_in (schema_view schema.now).columns file.now.rows) found.0.items) }
-    ensures keys { IfOk result
-        (λ found. AreKeysOf found.1 (keys_at (schema_view schema.now) file.now.rows)) }
+    ensures parts { IfOk result (ArePartsOf (schema_view schema.now) file.now.rows) }
     ensures fault { IfErr result (λ e.
         IfSome (table_cause e) (HasRowsCause (schema_view schema.now) file.now.rows)) }
     ensures memory { IfErr result (λ e. table_cause e ≡ None → e ≡ TableFault.NoMemory) }
@@ -217,32 +205,7 @@ fn read_each_row(
             return Err(TableFault::NoMemory);
         };
     }
-    finish_rows(alloc, readers, keys)
-}
-
-/// The columns that are none of texts and the keys of the rows, each of whose cells has a value; or the first cell, row by row, that has none,
-/// and else why the rows have no keys. Each cell is read at most once, and none where no row can be wrong.
-pub fn read_rows(
-    alloc: Global,
-    schema: &Schema,
-    file: &IndexedText,
-) -> Result<(Vec<Option<TypedColumn>>, Keys), TableFault>
-    requires fits { FitsColumns (schema_view schema.now).columns file.now }
-    requires key { HasKeyColumns (schema_view schema.now) }
-    ensures values { IfOk result (λ _. bad_cell_of (schema_view schema.now) file.now.rows ≡ None) }
-    ensures columns { IfOk result (λ found. AreTyped (schema_view schema.now).columns
-        (rows_in (schema_view schema.now).columns file.now.rows) found.0.items) }
-    ensures keys { IfOk result
-        (λ found. AreKeysOf found.1 (keys_at (schema_view schema.now) file.now.rows)) }
-    ensures fault { IfErr result (λ e.
-        IfSome (table_cause e) (HasRowsCause (schema_view schema.now) file.now.rows)) }
-    ensures memory { IfErr result (λ e. table_cause e ≡ None → e ≡ TableFault.NoMemory) }
-{
-    cell_types::strings_have_values();
-    if schema.key.is_empty() && take_all_texts(schema.columns.as_slice()) {
-        return Ok((Vec::new(alloc), Keys::Absent));
-    }
-    read_each_row(alloc, schema, file)
+    finish_rows(alloc, file.rows(), readers, keys)
 }
 
 /// The fault of a table with that cell.

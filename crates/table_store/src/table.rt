@@ -1,8 +1,7 @@
 //! A table of a folder: its schema, the values of its cells, and its rows by their keys.
-ghost use Rattle.std.specs.Prelude.{◌≡◌, ◌+◌, ◌^◌, ◌<◌, ◌≤◌, Some, None, IfOk, IfErr, IfSome, length, map, slice_get, option_and_then, option_map, take, drop, string_bytes};
+ghost use Rattle.std.specs.Prelude.{◌≡◌, ◌+◌, ◌^◌, ◌<◌, ◌≤◌, [], Some, None, IfOk, IfErr, IfSome, length, map, slice_get, slice_index_or, option_and_then, option_map, take, drop, string_bytes};
 ghost use Rattle.std.specs.List.{AllByRecursion};
 ghost use Rattle.std.specs.Option.{option_copied};
-ghost use Rattle.block_summary.specs.Ranges.{column_of};
 ghost use Rattle.cell_types.specs.Value.{value_view};
 ghost use Rattle.csvw_meta.specs.Schema.{schema_view};
 ghost use Rattle.csvw_meta.specs.Laws.{HasShortDefaults};
@@ -15,7 +14,7 @@ ghost use Rattle.table_store.specs.Loading.{table_cause, HasKeyColumns, IsRefuse
 ghost use Rattle.table_store.specs.Summaries.{AreSummariesOf};
 ghost use Rattle.table_store.specs.Table.{keys_of};
 
-use crate::column_values::file_values;
+use crate::column_values::row_values;
 use crate::cursor::RowCursor;
 use crate::fault::LoadFault;
 use crate::loading::{BadCell, TableFault};
@@ -23,20 +22,20 @@ use crate::reading::read_table;
 use crate::summaries::summaries_of;
 use block_summary::{BLOCK_ROWS, PackedColumn, Summary};
 use cell_types::Value;
-use csv_index::IndexedText;
 use csvw_meta::Schema;
 use row_keys::{KeyFault, Keys};
 use std::alloc::{AllocError, Global};
 use std::marker::Model;
-use typed_columns::{TypedColumn, column_at, field_value};
+use text_columns::TextColumn;
+use typed_columns::TypedColumn;
 
-/// A table. Texts are read from the bytes of its file; the other values are kept by blocks.
+/// A table: the cells of each of its columns, by blocks of rows. Nothing of its file is kept beside them.
 #[derive(Drop)]
 pub struct Table {
     schema: Schema,
-    file: IndexedText,
-    /// The columns, but nothing for one of texts.
-    columns: Vec<Option<TypedColumn>>,
+    /// How many rows there are.
+    count: usize,
+    columns: Vec<TypedColumn>,
     keys: Keys,
     /// Of each block of rows.
     summaries: Vec<Summary>,
@@ -55,7 +54,7 @@ impl Model for Table {
 }
 
 impl Table {
-    ghost use Rattle.table_store.specs.Block.{block_count, block_of, packed_cells};
+    ghost use Rattle.table_store.specs.Block.{block_count, block_of, packed_cells, text_cells};
 
     /// The name that targets have.
     pub fn name(&self) -> &str
@@ -74,7 +73,7 @@ impl Table {
     pub fn rows(&self) -> usize
         ensures { result ≡ length self.now.rows }
     {
-        self.file.rows()
+        self.count
     }
 
     /// How many columns the table has, and values each row.
@@ -82,21 +81,27 @@ impl Table {
         ensures columns { result ≡ length self.now.schema.columns }
         ensures rows { AllByRecursion (λ values. length values ≡ result) self.now.rows }
     {
-        self.file.width()
+        self.columns.len()
     }
 
     /// The value of a row and a column, both counted from 0.
-    pub fn value(&self, alloc: Global, row: usize, col: usize) -> Result<Value<'_>, AllocError>
+    pub fn value(&self, _alloc: Global, row: usize, col: usize) -> Result<Value<'_>, AllocError>
         requires row { row < length self.now.rows }
         requires col { col < length self.now.schema.columns }
         ensures { IfOk result (λ value.
             option_and_then (λ values. slice_get values col) (slice_get self.now.rows row)
             ≡ Some (value_view value)) }
     {
-        match column_at(self.columns.as_slice(), col) {
-            Some(column) => Ok(column.value(row)),
-            None => field_value(alloc, &self.schema.columns[col], self.file.cell(row, col)),
-        }
+        Ok(self.columns[col].value(row))
+    }
+
+    /// The values of a row, one for each column.
+    pub(crate) fn row(&self, alloc: Global, row: usize) -> Result<Vec<Value<'_>>, AllocError>
+        requires { row < length self.now.rows }
+        ensures { IfOk result (λ values.
+            map value_view values.items ≡ slice_index_or self.now.rows row []) }
+    {
+        row_values(alloc, self.columns.as_slice(), row)
     }
 
     /// How many blocks the rows are, each of [`BLOCK_ROWS`] and the last perhaps of fewer.
@@ -119,10 +124,16 @@ impl Table {
         requires col { col < length self.now.schema.columns }
         ensures { option_copied result ≡ packed_cells (block_of self.now number) col }
     {
-        match column_at(self.columns.as_slice(), col) {
-            Some(column) => Some(column.block(number)),
-            None => None,
-        }
+        self.columns[col].packed(number)
+    }
+
+    /// The cells of a column in the block of a number; nothing for a column that is none of texts.
+    pub(crate) fn texts(&self, number: usize, col: usize) -> Option<TextColumn<'_>>
+        requires number { number < block_count (length self.now.rows) }
+        requires col { col < length self.now.schema.columns }
+        ensures { result ≡ text_cells (block_of self.now number) col }
+    {
+        self.columns[col].texts(number)
     }
 
     /// So many rows, from the one with that number on.
@@ -132,36 +143,10 @@ impl Table {
         ensures { result ≡ take rows (drop first self.now.rows) }
     {
         RowCursor {
-            columns: self.schema.columns.as_slice(),
-            typed: self.columns.as_slice(),
-            file: &self.file,
+            table: self,
             row: first,
             end: first + rows,
-            fields: self.file.fields(first),
         }
-    }
-
-    /// The values that so many rows have in a column, from the one with that number on, as they stand in the file.
-    pub(crate) fn column_from(
-        &self,
-        alloc: Global,
-        col: usize,
-        first: usize,
-        rows: usize,
-    ) -> Result<Vec<Value<'_>>, AllocError>
-        requires col { col < length self.now.schema.columns }
-        requires within { first + rows ≤ length self.now.rows }
-        ensures { IfOk result (λ values. map value_view values.items
-            ≡ column_of (take rows (drop first self.now.rows)) col) }
-    {
-        file_values(
-            alloc,
-            self.schema.columns.as_slice(),
-            &self.file,
-            col,
-            first,
-            rows,
-        )
     }
 
     /// Each value is one that its column may have, no text has more than 2 to the 30 bytes, and there are no more rows than that.
@@ -195,16 +180,16 @@ impl Table {
         ensures memory { IfErr result (λ e. load_cause e ≡ None → e ≡ LoadFault.NoMemory) }
     {
         cell_types::values_fit_columns();
-        let (file, columns, keys) = match read_table(alloc, limit, &schema, file) {
+        let parts = match read_table(alloc, limit, &schema, file) {
             Ok(parts) => parts,
             Err(fault) => return Err(fault_of(schema.url, fault)),
         };
-        match summaries_of(alloc, &schema, columns.as_slice(), &file) {
+        match summaries_of(alloc, parts.columns.as_slice(), parts.rows) {
             Ok(summaries) => Ok(Table {
                 schema,
-                file,
-                columns,
-                keys,
+                count: parts.rows,
+                columns: parts.columns,
+                keys: parts.keys,
                 summaries,
             }),
             Err(_) => Err(LoadFault::NoMemory),

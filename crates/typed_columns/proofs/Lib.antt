@@ -1,1 +1,3 @@
 pub mod TypedColumnLemmas
+mod RangeLemmas
+mod BlockLemmas

@@ -1,3 +1,3 @@
-pub mod Values
 pub mod TypedColumn
+pub mod Readers
 pub mod ColumnReader

@@ -1,12 +1,12 @@
-//! The columns of a table whose cells are none of texts, block by block, and the values of fields as they stand in a file (Model for Tabular Data and
-//! Metadata on the Web, section 6.4). A [`ColumnReader`] reads the cells of a column one after another into a [`TypedColumn`], which then gives
-//! the value of a row or the cells of a block; [`cell_value`] is the value of a field, or why it has none.
+//! The columns of a table, block by block (Model for Tabular Data and Metadata on the Web, section 6.4). A [`ColumnReader`] reads the cells of a column
+//! one after another into a [`TypedColumn`], of numbers as they are packed or of texts, which then gives the value of a row, the cells of a block,
+//! or the range of these.
 #![tactic(auto)]
 
 mod column_reader;
-mod field;
+mod number_reader;
+mod text_reader;
 mod typed_column;
 
-pub use column_reader::{ColumnReader, column_readers, columns_read, number_value};
-pub use field::{cell_value, field_value};
-pub use typed_column::{TypedColumn, column_at};
+pub use column_reader::{ColumnReader, column_readers, columns_read};
+pub use typed_column::TypedColumn;

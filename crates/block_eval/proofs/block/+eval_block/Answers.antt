@@ -1,7 +1,7 @@
 use Rattle.std.proofs.Common.{◌≡◌, List, length, sym, ap, subst, ◌∙◌}
 use Rattle.block_summary.specs.Ranges.{RangeOf}
 use Rattle.row_eval.specs.declared.truth.Truth.TheVariants.{False, True}
-use Rattle.odata_types.specs.TypedTree.{compare_truths, conjunction, disjunction, negation, truth_view}
+use Rattle.typed_trees.specs.TypedTree.{compare_truths, conjunction, disjunction, negation, truth_view}
 use Rattle.row_eval.specs.Outcome.{truth_outcome}
 use Rattle.block_eval.specs.Lanes.{truth_lane, AreAsked, AreOutcomesWithin, HasTruths}
 use Rattle.block_eval.specs.declared.columns.Column.{Column}

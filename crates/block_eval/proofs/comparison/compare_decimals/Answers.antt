@@ -1,4 +1,4 @@
-use Rattle.odata_types.specs.TypedTree.{decimal_view}
+use Rattle.typed_trees.specs.TypedTree.{decimal_view}
 use Rattle.row_eval.specs.Outcome.{decimal_outcome}
 use Rattle.block_eval.proofs.NumberLemmas.{compared-gives}
 use Rattle.block_eval.proofs.comparison.compare_decimals.Goals as goal

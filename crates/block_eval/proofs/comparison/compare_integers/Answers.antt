@@ -1,4 +1,4 @@
-use Rattle.odata_types.specs.TypedTree.{integer_view}
+use Rattle.typed_trees.specs.TypedTree.{integer_view}
 use Rattle.row_eval.specs.Outcome.{integer_outcome}
 use Rattle.block_eval.proofs.NumberLemmas.{compared-gives}
 use Rattle.block_eval.proofs.comparison.compare_integers.Goals as goal

@@ -1,4 +1,4 @@
-use Rattle.odata_types.specs.TypedTree.{date_view}
+use Rattle.typed_trees.specs.TypedTree.{date_view}
 use Rattle.row_eval.specs.Outcome.{date_outcome}
 use Rattle.block_eval.proofs.DateLemmas.{days-give}
 use Rattle.block_eval.proofs.dates.compare_dates.Goals as goal

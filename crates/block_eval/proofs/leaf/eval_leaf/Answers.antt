@@ -1,7 +1,7 @@
 use Rattle.std.proofs.Common.{refl, sym, ap}
 use Rattle.std.specs.Prelude.{Some}
 use Rattle.row_eval.specs.declared.truth.Truth.TheVariants.{Null}
-use Rattle.odata_types.specs.TypedTree.{null_truth, truth_literal, truth_view}
+use Rattle.typed_trees.specs.TypedTree.{null_truth, truth_literal, truth_view}
 use Rattle.block_eval.proofs.LogicLemmas.{same-gives}
 use Rattle.block_eval.proofs.leaf.eval_leaf.Goals as goal
 

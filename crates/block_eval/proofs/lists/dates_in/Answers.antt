@@ -1,6 +1,6 @@
 use Rattle.std.proofs.Common.{map, ap, ◌∙◌}
 use Rattle.std.specs.Prelude.{option_map}
-use Rattle.odata_types.specs.TypedTree.{date_view, optional_day}
+use Rattle.typed_trees.specs.TypedTree.{date_view, optional_day}
 use Rattle.row_eval.specs.Outcome.{date_outcome}
 use Rattle.block_eval.specs.Dates.{day_of}
 use Rattle.block_eval.proofs.ListLemmas.{days-among}

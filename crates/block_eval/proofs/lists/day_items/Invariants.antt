@@ -1,6 +1,6 @@
 use Rattle.std.proofs.Common.{◌≡◌, map, take}
 use Rattle.std.specs.Prelude.{option_map}
-use Rattle.odata_types.specs.TypedTree.{optional_day}
+use Rattle.typed_trees.specs.TypedTree.{optional_day}
 use Rattle.block_eval.specs.Dates.{day_of}
 use Rattle.block_eval.proofs.lists.day_items.Given as goal
 

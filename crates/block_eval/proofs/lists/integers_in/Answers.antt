@@ -1,5 +1,5 @@
 use Rattle.std.proofs.Common.{subst, ◌∙◌}
-use Rattle.odata_types.specs.TypedTree.{integer_in, integer_view}
+use Rattle.typed_trees.specs.TypedTree.{integer_in, integer_view}
 use Rattle.row_eval.specs.Outcome.{integer_outcome}
 use Rattle.block_eval.specs.Lanes.{AreOutcomes}
 use Rattle.block_eval.proofs.ListLemmas.{numbers-among}

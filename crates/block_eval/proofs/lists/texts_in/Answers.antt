@@ -1,5 +1,5 @@
 use Rattle.std.proofs.Common.{map}
-use Rattle.odata_types.specs.TypedTree.{optional_text, text_view}
+use Rattle.typed_trees.specs.TypedTree.{optional_text, text_view}
 use Rattle.row_eval.specs.Outcome.{text_outcome}
 use Rattle.block_eval.proofs.ListLemmas.{texts-among}
 use Rattle.block_eval.proofs.lists.texts_in.Goals as goal

@@ -2,7 +2,7 @@ use Rattle.std.proofs.Common.{Some, None, length, refl, rules, sym, ap, ◌∙�
 use Rattle.std.specs.Prelude.{FitsSigned}
 use Rattle.std.specs.Int.{w128}
 use Rattle.std.proofs.lemmas.Int.{to_z-of_z}
-use Rattle.odata_types.specs.TypedTree.{decimal_difference, decimal_literal, decimal_negated, decimal_sum, decimal_view, integer_view, null_decimal, scaled}
+use Rattle.typed_trees.specs.TypedTree.{decimal_difference, decimal_literal, decimal_negated, decimal_sum, decimal_view, integer_view, null_decimal, scaled}
 use Rattle.block_eval.proofs.ArithmeticLemmas.{decimal-negated, decimal-same, decimal-scaled, difference-is, sum-is}
 use Rattle.block_eval.proofs.numbers.+bounded_decimals.Goals as goal
 

@@ -2,7 +2,7 @@ use Rattle.std.proofs.Common.{Some, None, length, refl, rules, sym, ap, ◌∙�
 use Rattle.std.specs.Prelude.{FitsSigned}
 use Rattle.std.specs.Int.{w128}
 use Rattle.std.proofs.lemmas.Int.{to_z-of_z}
-use Rattle.odata_types.specs.TypedTree.{arithmetic, integer_literal, negated, null_integer, integer_view}
+use Rattle.typed_trees.specs.TypedTree.{arithmetic, integer_literal, negated, null_integer, integer_view}
 use Rattle.block_eval.proofs.ArithmeticLemmas.{arithmetic-is, integer-negated, integer-same}
 use Rattle.block_eval.proofs.numbers.+bounded_integers.Goals as goal
 

@@ -1,4 +1,4 @@
-use Rattle.odata_types.specs.TypedTree.{text_view}
+use Rattle.typed_trees.specs.TypedTree.{text_view}
 use Rattle.row_eval.specs.Outcome.{text_outcome}
 use Rattle.block_eval.specs.declared.relation.TextRelation.TheVariants.{Comparison}
 use Rattle.block_eval.proofs.TextLemmas.{related-gives}

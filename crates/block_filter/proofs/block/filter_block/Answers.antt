@@ -1,5 +1,5 @@
 use Rattle.std.proofs.Common.{◌∙◌, ap, length, map, refl, replicate, sym, true}
-use Rattle.odata_types.specs.TypedTree.{boxed_truth}
+use Rattle.typed_trees.specs.TypedTree.{boxed_truth}
 use Rattle.block_filter.proofs.FirstLemmas.{first_marked, first_of_all}
 use Rattle.block_filter.proofs.block.filter_block.Goals as goal
 

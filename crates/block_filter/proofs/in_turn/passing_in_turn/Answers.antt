@@ -1,5 +1,5 @@
 use Rattle.std.proofs.Common.{[], ◌+◌, map, subst, sym}
-use Rattle.odata_types.specs.TypedTree.{boxed_truth}
+use Rattle.typed_trees.specs.TypedTree.{boxed_truth}
 use Rattle.row_eval.specs.Row.{row_view}
 use Rattle.block_filter.specs.Conditions.{ConditionsFit}
 use Rattle.block_filter.proofs.InTurnLemmas.{none_found, one_left, row_faults, row_is, row_kept, row_left, AreFound}

@@ -1,5 +1,5 @@
 use Rattle.std.proofs.Common.{map}
-use Rattle.odata_types.specs.TypedTree.{boxed_truth}
+use Rattle.typed_trees.specs.TypedTree.{boxed_truth}
 use Rattle.block_filter.proofs.InTurnLemmas.{AreFound}
 use Rattle.block_filter.proofs.in_turn.passing_in_turn.Given as goal
 

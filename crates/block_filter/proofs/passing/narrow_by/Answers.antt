@@ -1,5 +1,5 @@
 use Rattle.std.proofs.Common.{subst, sym}
-use Rattle.odata_types.specs.TypedTree.{truth_view}
+use Rattle.typed_trees.specs.TypedTree.{truth_view}
 use Rattle.block_eval.specs.Lanes.{AreOutcomesWithin}
 use Rattle.block_filter.proofs.PassingLemmas.{filter_narrows}
 use Rattle.block_filter.proofs.passing.narrow_by.Goals as goal

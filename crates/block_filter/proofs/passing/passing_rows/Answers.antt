@@ -1,7 +1,7 @@
 use Rattle.std.proofs.Common.{◌≡◌, ◌∙◌, [], Some, ap, arith, drop, eqb-true, length, map, refl, replicate, subst, sym, true}
 use Rattle.std.specs.Prelude.{count_by}
-use Rattle.std.proofs.lemmas.List.{length-replicate, nil_from_length, with_items_is}
-use Rattle.odata_types.specs.TypedTree.{boxed_truth}
+use Rattle.std.proofs.lemmas.List.{length-replicate, nil_from_length}
+use Rattle.typed_trees.specs.TypedTree.{boxed_truth}
 use Rattle.block_filter.specs.Conditions.{passing_all}
 use Rattle.block_filter.specs.Lanes.{AreColumnsOf, AreTextsOf}
 use Rattle.block_filter.specs.Marks.{is_marked, marked}
@@ -24,7 +24,6 @@ loop-condition-init c =
       ap length all ∙ length-replicate (length rows) true,
       ap (passing_all (map boxed_truth c.args.conditions.now)) (sym (ap (λ marks. marked marks rows) all ∙ all_marked (length rows) rows refl)),
       c.forget.ensures rows,
-      c.in_ok-texts.ensures rows,
     )
 
 pub returns-then-count_of-eq0-clause-rows : goal.returns-then-count_of-eq0-clause-rows
@@ -38,8 +37,5 @@ returns-then-count_of-eq0-clause-rows c =
 pub narrow_by-requires-clause-columns : goal.narrow_by-requires-clause-columns
 narrow_by-requires-clause-columns c =
     let rows = c.args.block.now.rows in
-    let was = c.loop-condition.texts in
-    let now = c.read_named.new.texts in
-    let stay = with_items_is was now (omega (arith, c.read_named.auto.texts, c.as_mut_slice.ensures.len, was.ok.0)) in
-    let texts : AreTextsOf rows c.as_slice.result.now = subst (AreTextsOf rows) (sym (c.as_slice.ensures.value ∙ stay)) c.in_ok-read_named.ensures.texts in
-    subst (AreColumnsOf rows) (sym c.deref-in-loop-condition-3.ensures.value) (c.in_ok-columns.ensures rows c.in_ok-read_named.ensures.lanes texts)
+    let texts : AreTextsOf rows c.as_slice.result.now = subst (AreTextsOf rows) (sym c.as_slice.ensures.value) c.in_ok-texts.ensures in
+    subst (AreColumnsOf rows) (sym c.deref-in-loop-condition-3.ensures.value) (c.in_ok-columns.ensures rows c.in_ok-read_named.ensures texts)

@@ -1,7 +1,7 @@
 use Rattle.std.proofs.Common.{◌≡◌, drop, length, map}
-use Rattle.odata_types.specs.TypedTree.{boxed_truth}
+use Rattle.typed_trees.specs.TypedTree.{boxed_truth}
 use Rattle.block_filter.specs.Conditions.{passing_all}
-use Rattle.block_filter.specs.Lanes.{AreLanesOf, AreTextsOf}
+use Rattle.block_filter.specs.Lanes.{AreLanesOf}
 use Rattle.block_filter.specs.Marks.{marked}
 use Rattle.block_filter.proofs.passing.passing_rows.Given as goal
 
@@ -12,4 +12,3 @@ invariant-loop-condition l =
     × (passing_all (map boxed_truth l.conditions) l.block.rows
     ≡ passing_all (map boxed_truth (drop l.condition-index l.conditions)) (marked l.wanted.items l.block.rows))
     × AreLanesOf l.block.rows l.lanes.lanes.items
-    × AreTextsOf l.block.rows l.texts.items

@@ -2,14 +2,14 @@ use Rattle.std.proofs.Common.{codes, Option, subst}
 use Rattle.std.specs.Str.Parse.{ParsesUnsigned, ExplainsUnsignedError, HasUnsignedDigitsIfOk}
 use Rattle.clap.specs.Words.{Text, found_of, one_text}
 use Rattle.clap.proofs.WalkLemmas.{one_text-rows}
-use Rattle.command_words.specs.Words.{ReadsNumber}
+use Rattle.command_words.specs.Words.{ReadsNumberOfBits}
 use Rattle.command_words.proofs.Numbers.{reads_number}
 use Rattle.command_words.proofs.words.port.Goals as goal
 
 pub returns : goal.returns
 returns c =
     let f = found_of c.args.matches.now in
-    let Read : Option Text → Type 0 = λ o. ReadsNumber 16 o c.get_one.result in
+    let Read : Option Text → Type 0 = λ o. ReadsNumberOfBits 16 o c.get_one.result in
     subst Read (one_text-rows f (codes "port")) (reads_number 16
     (λ bs r. ParsesUnsigned 16 10 bs r × ExplainsUnsignedError 10 bs r × HasUnsignedDigitsIfOk bs r)
     (λ bs r g. g.0) (one_text f (codes "port")) c.get_one.result c.get_one.ensures.none c.get_one.ensures.value)

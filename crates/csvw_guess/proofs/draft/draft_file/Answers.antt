@@ -12,7 +12,7 @@ use Rattle.csvw_meta.specs.Schema.{schema_view}
 use Rattle.table_store.specs.File.{FileOf, file_view, files_view}
 use Rattle.csvw_guess.specs.Draft.{IsDraft, IsLeftOut, file_at, has_file_name}
 use Rattle.csvw_guess.specs.Fault.{draft_cause}
-use Rattle.csvw_guess.specs.Table.{schema_in}
+use Rattle.csvw_guess.specs.Table.{file_schema}
 use Rattle.csvw_guess.proofs.DraftLemmas.{bad-at, file-there, has-name, is-draft}
 use Rattle.csvw_guess.proofs.FolderLemmas.{some_header}
 use Rattle.csvw_guess.proofs.draft.draft_file.Goals as goal
@@ -71,5 +71,5 @@ returns-in-Ok-clause-outcome c =
     subst (λ (f : FileOf). (has_file_name (take number (files_view files)) f.name ≡ false) × IsDraft limits f (schema_view c.in-Ok.schema)) (sym there) (
       fresh,
       is-draft limits (file_view file) table (schema_view c.in-Ok.schema) url c.in_ok-table.ensures.size c.in_ok-table.ensures.table width
-          (c.in-Ok.ensures ∙ ap (λ u. schema_in u table) c.as_str-name.ensures.value),
+          (c.in-Ok.ensures ∙ ap (λ u. file_schema u table) c.as_str-name.ensures.value),
     )

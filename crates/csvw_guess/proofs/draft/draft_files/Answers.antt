@@ -5,8 +5,8 @@ use Rattle.std.proofs.lemmas.Result.{err_from_is_err_and}
 use Rattle.csvw_meta.specs.Limits.{limits_view}
 use Rattle.csvw_meta.specs.Schema.{SchemaOf}
 use Rattle.table_store.specs.File.{FileOf, file_view, files_view}
-use Rattle.table_store.specs.Loading.{schemas_view}
-use Rattle.csvw_guess.specs.Draft.{HaveDrafts, file_at, schemas_in}
+use Rattle.table_store.specs.Loading.{schema_views}
+use Rattle.csvw_guess.specs.Draft.{HaveDrafts, file_at, drafted_schemas}
 use Rattle.csvw_guess.specs.Fault.{draft_cause}
 use Rattle.csvw_guess.proofs.DraftLemmas.{have_more, no-draft}
 use Rattle.csvw_guess.proofs.draft.draft_files.Goals as goal
@@ -26,8 +26,8 @@ loop-number-preserved c =
     let limits = limits_view c.args.limits.now in
     let within : number < length files = omega (arith, length-map c.args.files.now file_view) in
     let none : FileOf = record { name = []; bytes = [] } in
-    let schemas = schemas_view c.loop-number.draft.schemas.items in
+    let schemas = schema_views c.loop-number.draft.schemas.items in
     let outcome = c.in_ok-outcome.outcome in
     let more = have_more limits (take number files) schemas (file_at files number) outcome c.loop-number.invariant c.in_ok-outcome.ensures.outcome in
     subst (HaveDrafts limits [] (take (number + 1) files)) (sym c.in-Ok-add.ensures)
-    (subst (λ (all : List FileOf). HaveDrafts limits [] all (schemas ++ schemas_in outcome)) (sym (take_more files number none within)) more)
+    (subst (λ (all : List FileOf). HaveDrafts limits [] all (schemas ++ drafted_schemas outcome)) (sym (take_more files number none within)) more)

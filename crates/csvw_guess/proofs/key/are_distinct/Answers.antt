@@ -8,10 +8,15 @@ use Rattle.cell_types.specs.Value.{CellValue, value_view}
 use Rattle.raw_fields.specs.Raw.{RawField, raw_content, raw_view}
 use Rattle.row_keys.specs.Key.{row_key}
 use Rattle.row_keys.specs.Keys.{HasRead, TakesKey}
-use Rattle.typed_columns.specs.Values.{value_or_null, values_in}
-use Rattle.csvw_guess.specs.Table.{are_whole, cells_in, keys_in}
-use Rattle.csvw_guess.proofs.PlaceLemmas.{cell-says, first-column, first-field, first-key, keys-more, keys-single, length-cells, whole-is}
+use Rattle.raw_fields.specs.Values.{value_or_null, values_in}
+use Rattle.csvw_guess.specs.Table.{are_whole, file_cells, keys_in}
+use Rattle.csvw_guess.proofs.PlaceLemmas.{first-column, first-key, keys-more, keys-single, length-cells, whole-is}
+use Rattle.csvw_guess.proofs.RowsLemmas.{first-says, row-at}
 use Rattle.csvw_guess.proofs.key.are_distinct.Goals as goal
+
+pub first_field-raw-requires-clause-enough : goal.first_field-raw-requires-clause-enough
+first_field-raw-requires-clause-enough c =
+    (row-at c.args.file.now c.width.result c.loop-row.fields c.loop-row.row (omega arith) c.width.ensures.rows c.loop-row.invariant.passed).enough
 
 pub read-requires-clause-suits : goal.read-requires-clause-suits
 read-requires-clause-suits c =
@@ -21,10 +26,12 @@ read-requires-clause-suits c =
     let column = column_view c.index-column.result.now in
     let some : 0 < length items = omega (arith, c.requires.columns, length-map items column_view) in
     let at_column = first-column items c.index-column.result.now some c.index-column.ensures in
-    let at_field = first-field rows c.loop-row.row (raw_view c.cell.result) c.cell.ensures in
+    let at = row-at c.args.file.now c.width.result c.loop-row.fields c.loop-row.row (omega arith) c.width.ensures.rows c.loop-row.invariant.passed in
+    let at_field : slice_get fields 0 ≡ Some (raw_view c.first_field-raw.result) =
+    at.same (omega (arith, c.width.ensures.header, c.requires.width)) ∙ c.first_field-raw.ensures.first in
     subst (TakesKey c.loop-row.keys)
     (ap (λ key. row_key key (values_in (map column_view items) fields)) c.requires.key
-    ∙ first-key (map column_view items) column fields (raw_view c.cell.result) at_column at_field
+    ∙ first-key (map column_view items) column fields (raw_view c.first_field-raw.result) at_column at_field
     ∙ ap (λ v. v ∷ []) (sym c.in_ok-value.ensures))
     (c.loop-row.invariant.suits fields)
 
@@ -32,14 +39,17 @@ pub loop-row-preserved : goal.loop-row-preserved
 loop-row-preserved c =
     let file = c.args.file.now in
     let row = c.loop-row.row in
-    let cells = cells_in 0 file in
+    let cells = file_cells 0 file in
     let column = column_view c.index-column.result.now in
-    let cell = raw_content (raw_view c.cell.result) in
+    let cell = raw_content (raw_view c.first_field-raw.result) in
+    let at = row-at file c.width.result c.loop-row.fields row (omega (arith, c.loop-row-test.true, c.rows-row-end.ensures)) c.width.ensures.rows c.loop-row.invariant.passed in
     let within : row < length cells = omega (arith, length-cells file 0, c.loop-row-test.true, c.rows-row-end.ensures) in
-    let says : get_or cells row [] ≡ cell = cell-says file row 0 _ c.cell.ensures in
+    let says : get_or cells row [] ≡ cell =
+    first-says file c.width.result c.loop-row.fields row (raw_view c.first_field-raw.result) (omega (arith, c.width.ensures.header, c.requires.width)) at c.first_field-raw.ensures.first in
     let so_far : List (List CellValue) = keys_in column (take row cells) in
     let count : row ≡ length so_far = sym (length-map (take row cells) (λ (c : List ℕ). value_or_null (value_of column c) ∷ []) ∙ length-take-le row cells (omega (arith, within))) in
     record {
+      passed = c.first_field-raw.ensures.passed ∙ at.behind;
       keys = subst (HasRead c.read.new.self)
           (keys-more column (take row cells) cell (value_view c.in_ok-value.value) c.in_ok-value.ensures
           ∙ ap (keys_in column) (ap (λ c. take row cells ++ c ∷ []) (sym says) ∙ sym (take_more cells row [] within)))
@@ -51,7 +61,7 @@ pub returns : goal.returns
 returns c = λ column e.
     let file = c.args.file.now in
     let items = c.args.schema.now.columns.items in
-    let cells = cells_in 0 file in
+    let cells = file_cells 0 file in
     let first = column_view c.index-column.result.now in
     let some : 0 < length items = omega (arith, c.requires.columns, length-map items column_view) in
     let at_column : slice_get (map column_view items) 0 ≡ Some first = first-column items c.index-column.result.now some c.index-column.ensures in

@@ -1,7 +1,7 @@
 use Rattle.std.proofs.Common.{◌∷◌, ◌++◌, ◌==◌, ◌∙◌, ap, map, length, codes, string_bytes, Some}
 use Rattle.json.specs.Json.{string}
 use Rattle.cell_types.specs.Column.{column_view}
-use Rattle.csvw_writer.specs.Members.{Field, field_tokens, texts_json, unless}
+use Rattle.csvw_writer.specs.Members.{JsonMember, field_tokens, texts_json, unless}
 use Rattle.csvw_writer.specs.Column.{inherited_fields}
 use Rattle.csvw_writer.proofs.TokenLemmas.{object_written, one_more, same_field}
 use Rattle.csvw_writer.proofs.column.write_column.Goals as goal
@@ -9,7 +9,7 @@ use Rattle.csvw_writer.proofs.column.write_column.Goals as goal
 pub returns : goal.returns
 returns c =
     let column = column_view c.args.column.now in
-    let own : Field = (codes "titles", unless (length column.titles == 0) (texts_json column.titles)) in
+    let own : JsonMember = (codes "titles", unless (length column.titles == 0) (texts_json column.titles)) in
     let none = c.is_none.ensures ∙ ap (λ texts. length (map string_bytes texts) == 0) c.deref-2.ensures.value in
     let first = c.in_ok-write_text.ensures ∙ ap (λ text. c.token.new.self ++ field_tokens (codes "name", Some (string text))) c.deref.ensures in
     let second = c.in_ok-write_texts_unless.ensures ∙ same_field c.write_text.new.out (codes "titles") none (ap (λ texts. texts_json (map string_bytes texts)) c.deref-3.ensures.value) in

@@ -1,4 +1,4 @@
-use Rattle.odata_hub.specs.Connections.{Done, answer_of}
+use Rattle.odata_hub.specs.Connections.{Done, call_answer}
 use Rattle.odata_listen.proofs.ServingLemmas.{on_given, on_join, on_open}
 use Rattle.odata_listen.proofs.serving.seat.Goals as goal
 
@@ -10,4 +10,4 @@ returns-then-register g c = on_open _ _ c.open.result c.open.ensures.step c.open
 
 pub returns : goal.returns
 returns g c = on_join _ c.open.new.self _ (on_open _ _ c.open.result c.open.ensures.step c.open.ensures.seats c.open.ensures.kept)
-    (on_given c.in-Ok.field-0.0 (answer_of (λ _. Done) c.free.result) c.open.new.self _ c.free.ensures.step c.free.ensures.seats)
+    (on_given c.in-Ok.field-0.0 (call_answer (λ _. Done) c.free.result) c.open.new.self _ c.free.ensures.step c.free.ensures.seats)

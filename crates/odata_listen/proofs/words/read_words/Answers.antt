@@ -2,7 +2,7 @@ use Rattle.std.proofs.Common.{List, ◌∙◌, inl, inr, subst, sym}
 use Rattle.clap.specs.Words.{Row, app_of, kind_of}
 use Rattle.command_words.specs.Words.{texts}
 use Rattle.odata_listen.specs.declared.words.Words.{Words}
-use Rattle.odata_listen.specs.Words.{Says}
+use Rattle.odata_listen.specs.Words.{AsksBy}
 use Rattle.odata_listen.proofs.WordLemmas.{fault_at, found_kind, free_at, matches_at, not_shown, shown_kind, shown_memory, simple_at}
 use Rattle.odata_listen.proofs.words.read_words.Goals as goal
 
@@ -11,7 +11,7 @@ returns-in-Some-clause-words c =
     let e = c.in_ok-command.ensures.app in
     let whole = app_of c.in_ok-command.command in
     let line = texts c.args.words.now in
-    let Read : List Row → Type 0 = λ rows. Says c.in-Some.read rows in (
+    let Read : List Row → Type 0 = λ rows. AsksBy c.in-Some.read rows in (
       sym (fault_at whole line e) ∙ c.in-Ok.ensures.kinds (free_at whole e),
       subst Read ((c.in-Ok.ensures.matches (simple_at whole e)).0 ∙ matches_at whole line e) c.in-Some.ensures.some,
     )
@@ -21,7 +21,7 @@ returns-in-Ok-clause-fault c =
     let e = c.in_ok-command.ensures.app in
     let whole = app_of c.in_ok-command.command in
     let line = texts c.args.words.now in
-    let Read : Words → List Row → Type 0 = λ asked rows. Says asked rows in
+    let Read : Words → List Row → Type 0 = λ asked rows. AsksBy asked rows in
     inr (
       sym (fault_at whole line e) ∙ c.in-Ok.ensures.kinds (free_at whole e),
       λ asked are. c.in-None.ensures.none asked (subst (Read asked) (sym ((c.in-Ok.ensures.matches (simple_at whole e)).0 ∙ matches_at whole line e)) are.1),

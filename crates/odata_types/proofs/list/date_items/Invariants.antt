@@ -1,6 +1,6 @@
 use Rattle.std.proofs.Common.{◌≡◌, map, take}
 use Rattle.odata_parse.specs.Tree.{literal_view}
-use Rattle.odata_types.specs.TypedTree.{optional_day}
+use Rattle.typed_trees.specs.TypedTree.{optional_day}
 use Rattle.odata_types.specs.Typing.{date_item}
 use Rattle.odata_types.proofs.list.date_items.Given as goal
 

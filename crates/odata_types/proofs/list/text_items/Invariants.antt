@@ -1,6 +1,6 @@
 use Rattle.std.proofs.Common.{◌≡◌, map, take}
 use Rattle.odata_parse.specs.Tree.{literal_view}
-use Rattle.odata_types.specs.TypedTree.{optional_text}
+use Rattle.typed_trees.specs.TypedTree.{optional_text}
 use Rattle.odata_types.specs.Typing.{text_item}
 use Rattle.odata_types.proofs.list.text_items.Given as goal
 

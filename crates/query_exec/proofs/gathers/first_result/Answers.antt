@@ -6,7 +6,7 @@ use Rattle.query_meaning.specs.Apply.{names_at}
 use Rattle.query_plan.specs.Fitting.{IsFitNode}
 use Rattle.query_plan.specs.Plan.{node_result, node_view}
 use Rattle.row_groups.specs.Gathered.{Gathers}
-use Rattle.query_exec.specs.Gathers.{uncounted, GathersFor, IsMade}
+use Rattle.query_exec.specs.Gathers.{without_count, GathersFor, IsMade}
 use Rattle.query_exec.specs.Underway.{Makes}
 use Rattle.query_exec.proofs.InTimeLemmas.{if_ok}
 use Rattle.query_exec.proofs.MadeLemmas.{aggregate_made, group_made, named_long}
@@ -24,7 +24,7 @@ pub picked_names-requires : goal.picked_names-requires
 picked_names-requires c =
     let names = c.args.names.now in
     let places = c.in-Group.places.items in
-    let fit = subst (λ n. IsFitNode n (uncounted (map string_bytes names) c.requires.gone)) (ap node_view c.in-Group.is) c.requires.fits in
+    let fit = subst (λ n. IsFitNode n (without_count (map string_bytes names) c.requires.gone)) (ap node_view c.in-Group.is) c.requires.fits in
     subst (All (λ place. place < length names)) (sym c.deref.ensures.value) (subst (λ n. All (λ place. place < n) places) (length-map names string_bytes) fit.0)
 
 pub under_aliases-requires-in-Group : goal.under_aliases-requires-in-Group
@@ -49,7 +49,7 @@ returns-in-Aggregate c =
     if_ok c.under_aliases.result _ _
     (λ made under rows at.
     let gathers : Gathers c.args.gathering None aggregates rows = subst (λ n. GathersFor (n ∷ []) (Some c.args.gathering) rows) is at in
-    subst (λ n. Makes (node_result n (uncounted names rows)) made) (sym is)
+    subst (λ n. Makes (node_result n (without_count names rows)) made) (sym is)
     (aggregate_made aggregates names rows columns.rows made (subst (λ ns. IsMade ns columns.rows made) named under) (c.in_ok-columns.ensures.rows None aggregates rows gathers)))
     c.under_aliases.ensures
 
@@ -68,6 +68,6 @@ returns-in_ok-names-in-Group c =
     if_ok c.under_aliases-in-Group.result _ _
     (λ made under rows at.
     let gathers : Gathers c.args.gathering (Some places) aggregates rows = subst (λ n. GathersFor (n ∷ []) (Some c.args.gathering) rows) is at in
-    subst (λ n. Makes (node_result n (uncounted names rows)) made) (sym is)
+    subst (λ n. Makes (node_result n (without_count names rows)) made) (sym is)
     (group_made places aggregates names rows columns.rows made (subst (λ ns. IsMade ns columns.rows made) named under) (c.in_ok-columns.ensures.rows (Some places) aggregates rows gathers)))
     c.under_aliases-in-Group.ensures

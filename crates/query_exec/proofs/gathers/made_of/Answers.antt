@@ -1,7 +1,7 @@
 use Rattle.std.proofs.Common.{◌≡◌, ◌-◌, ◌∷◌, ◌++◌, [], Some, ap, append-nil, drop, length, map, rules, string_bytes, subst, sym, take, ◌∙◌}
 use Rattle.query_plan.specs.Plan.{node_result, node_view}
 use Rattle.query_plan.specs.declared.plan.Node.{Node}
-use Rattle.query_exec.specs.Gathers.{uncounted, GathersFor}
+use Rattle.query_exec.specs.Gathers.{without_count, GathersFor}
 use Rattle.query_exec.specs.Underway.{GivesUnderway, Makes}
 use Rattle.query_exec.specs.Useful.{first_result, steps_result, StepsFit}
 use Rattle.query_exec.proofs.GatherLemmas.{same_result}
@@ -33,15 +33,15 @@ apply_all-requires-clause-fits c =
     subst (λ ss. GathersFor (map node_view ss) (Some c.in-Some.gathering) gone) parts
     (subst (λ g. GathersFor (map node_view steps) g gone) c.in-Some.is c.requires.fits.gathers) in
     let alone = only_first (node_view first) (map node_view others) c.in-Some.gathering gone at in
-    let makes : Makes (node_result (node_view first) (uncounted names gone)) made =
-    subst (λ ns. Makes (node_result (node_view first) (uncounted (map string_bytes ns) gone)) made) c.as_slice.ensures.value (c.in_ok-made-in-len1-up.ensures gone alone) in
-    let makes_first : Makes (first_result (node_view first) passed (uncounted names gone)) made =
-    subst (λ result. Makes result made) (same_result (node_view first) c.in-Some.gathering gone alone passed (uncounted names gone)) makes in
+    let makes : Makes (node_result (node_view first) (without_count names gone)) made =
+    subst (λ ns. Makes (node_result (node_view first) (without_count (map string_bytes ns) gone)) made) c.as_slice.ensures.value (c.in_ok-made-in-len1-up.ensures gone alone) in
+    let makes_first : Makes (first_result (node_view first) passed (without_count names gone)) made =
+    subst (λ result. Makes result made) (same_result (node_view first) c.in-Some.gathering gone alone passed (without_count names gone)) makes in
     let none : c.args.kept.rows ≡ [] = c.requires.none c.in-Some.gathering c.in-Some.is in
-    let fit : StepsFit (map node_view (first ∷ others)) passed (uncounted names gone) =
-    subst (λ ss. StepsFit (map node_view ss) passed (uncounted names gone)) parts
-    (subst (λ rows. StepsFit (map node_view steps) passed (uncounted names rows)) (ap (λ rows. gone ++ rows) none ∙ append-nil gone) c.requires.fits.fits) in
-    first_fits (node_view first) (map node_view others) passed (uncounted names gone) made fit makes_first
+    let fit : StepsFit (map node_view (first ∷ others)) passed (without_count names gone) =
+    subst (λ ss. StepsFit (map node_view ss) passed (without_count names gone)) parts
+    (subst (λ rows. StepsFit (map node_view steps) passed (without_count names rows)) (ap (λ rows. gone ++ rows) none ∙ append-nil gone) c.requires.fits.fits) in
+    first_fits (node_view first) (map node_view others) passed (without_count names gone) made fit makes_first
 
 pub returns : goal.returns
 returns c = λ gone gathers.
@@ -55,13 +55,13 @@ returns c = λ gone gathers.
     let at : GathersFor (map node_view (first ∷ others)) (Some c.in-Some.gathering) gone =
     subst (λ ss. GathersFor (map node_view ss) (Some c.in-Some.gathering) gone) parts (subst (λ g. GathersFor (map node_view steps) g gone) c.in-Some.is gathers) in
     let alone = only_first (node_view first) (map node_view others) c.in-Some.gathering gone at in
-    let makes : Makes (node_result (node_view first) (uncounted names gone)) made =
-    subst (λ ns. Makes (node_result (node_view first) (uncounted (map string_bytes ns) gone)) made) c.as_slice.ensures.value (c.in_ok-made-in-len1-up.ensures gone alone) in
-    let makes_first : Makes (first_result (node_view first) passed (uncounted names gone)) made =
-    subst (λ result. Makes result made) (same_result (node_view first) c.in-Some.gathering gone alone passed (uncounted names gone)) makes in
+    let makes : Makes (node_result (node_view first) (without_count names gone)) made =
+    subst (λ ns. Makes (node_result (node_view first) (without_count (map string_bytes ns) gone)) made) c.as_slice.ensures.value (c.in_ok-made-in-len1-up.ensures gone alone) in
+    let makes_first : Makes (first_result (node_view first) passed (without_count names gone)) made =
+    subst (λ result. Makes result made) (same_result (node_view first) c.in-Some.gathering gone alone passed (without_count names gone)) makes in
     let none : c.args.kept.rows ≡ [] = c.requires.none c.in-Some.gathering c.in-Some.is in
     subst (λ answer. GivesUnderway answer c.apply_all.result)
-    (first_gives (node_view first) (map node_view others) passed (uncounted names gone) made makes_first
-    ∙ ap (λ ss. steps_result (map node_view ss) passed (uncounted names gone)) (sym parts)
-    ∙ ap (λ rows. steps_result (map node_view steps) passed (uncounted names rows)) (sym (ap (λ rows. gone ++ rows) none ∙ append-nil gone)))
+    (first_gives (node_view first) (map node_view others) passed (without_count names gone) made makes_first
+    ∙ ap (λ ss. steps_result (map node_view ss) passed (without_count names gone)) (sym parts)
+    ∙ ap (λ rows. steps_result (map node_view steps) passed (without_count names rows)) (sym (ap (λ rows. gone ++ rows) none ∙ append-nil gone)))
     c.apply_all.ensures

@@ -1,7 +1,7 @@
 use Rattle.std.proofs.Common.{map, sym, ◌∙◌, ap}
 use Rattle.std.specs.Prelude.{◌==◌}
 use Rattle.odata_query.specs.Query.{optional_numbers}
-use Rattle.odata_types.specs.TypedTree.{boxed_truth}
+use Rattle.typed_trees.specs.TypedTree.{boxed_truth}
 use Rattle.query_plan.specs.Plan.{node_view}
 use Rattle.query_exec.proofs.PartsLemmas.{behind_places, behind_steps, pushed_behind}
 use Rattle.query_exec.proofs.parts.split.Goals as goal

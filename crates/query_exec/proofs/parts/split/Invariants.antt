@@ -1,6 +1,6 @@
 use Rattle.std.proofs.Common.{map}
 use Rattle.odata_query.specs.Query.{optional_numbers}
-use Rattle.odata_types.specs.TypedTree.{boxed_truth}
+use Rattle.typed_trees.specs.TypedTree.{boxed_truth}
 use Rattle.query_plan.specs.Plan.{node_view}
 use Rattle.query_exec.proofs.PartsLemmas.{ArePartsOf}
 use Rattle.query_exec.proofs.parts.split.Given as goal

@@ -1,6 +1,6 @@
 use Rattle.std.proofs.Common.{◌≡◌, drop, map}
 use Rattle.std.specs.List.{list_any}
-use Rattle.odata_types.specs.CanFault.{truth_can_fault}
+use Rattle.typed_trees.specs.CanFault.{truth_can_fault}
 use Rattle.query_plan.specs.Plan.{leading, node_view}
 use Rattle.query_plan.proofs.push.filters_can_fault.Given as goal
 

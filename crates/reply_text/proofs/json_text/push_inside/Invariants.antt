@@ -1,10 +1,10 @@
 use Rattle.std.proofs.Common.{◌≡◌, ◌++◌, length}
 use Rattle.std.specs.List.{flat_map}
-use Rattle.reply_text.specs.Json.{escaped}
+use Rattle.reply_text.specs.Json.{json_escaped}
 use Rattle.reply_text.proofs.json_text.push_inside.Given as goal
 
 abbrev pub invariant-loop-byte : goal.invariant-loop-byte
-invariant-loop-byte l = l.out.items ++ flat_map escaped l.rest ≡ l.initial.out.items ++ flat_map escaped l.text
+invariant-loop-byte l = l.out.items ++ flat_map json_escaped l.rest ≡ l.initial.out.items ++ flat_map json_escaped l.text
 
 abbrev pub decreases-loop-byte : goal.decreases-loop-byte
 decreases-loop-byte l = length l.rest

@@ -1,6 +1,6 @@
 -- The items left decide.
 use Rattle.std.proofs.Common.{◌≡◌, map, drop}
-use Rattle.odata_types.specs.TypedTree.{optional_day}
+use Rattle.typed_trees.specs.TypedTree.{optional_day}
 use Rattle.row_eval.specs.Comparison.{day_cmp, is_among}
 use Rattle.row_eval.proofs.comparison.date_among.Given as goal
 

@@ -3,7 +3,7 @@ use Rattle.std.proofs.Common.{◌≡◌, map, drop}
 use Rattle.std.specs.Prelude.{option_map}
 use Rattle.std.specs.Cmp.Lexicographic.{slice_cmp}
 use Rattle.std.specs.Ordering.{nat_cmp}
-use Rattle.odata_types.specs.TypedTree.{optional_text}
+use Rattle.typed_trees.specs.TypedTree.{optional_text}
 use Rattle.row_eval.specs.Comparison.{is_among}
 use Rattle.row_eval.proofs.comparison.text_among.Given as goal
 

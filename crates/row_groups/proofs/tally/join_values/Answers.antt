@@ -1,7 +1,7 @@
 use Rattle.std.proofs.Common.{◌++◌, get_or, map, sym, subst, take}
 use Rattle.std.proofs.lemmas.List.{take_all}
 use Rattle.cell_types.specs.Value.{value_view}
-use Rattle.query_meaning.specs.Apply.{values_in}
+use Rattle.query_meaning.specs.Apply.{present_values}
 use Rattle.row_columns.specs.Picked.{numbered}
 use Rattle.row_groups.specs.Tallies.{HasDistinct}
 use Rattle.row_groups.proofs.GatheredLemmas.{values_more}
@@ -17,9 +17,9 @@ loop-number-preserved c = λ rows is.
     let v = value_view c.value.result in
     subst (HasDistinct (map value_view c.join_value.new.values.keys))
     (sym (values_more place rows others numbers i v c.loop-number-test.true (value_there others (get_or numbers i 0) place v c.value.ensures)))
-    (c.in_ok-join_value.ensures (values_in place (rows ++ numbered (take i numbers) others)) (c.loop-number.invariant rows is))
+    (c.in_ok-join_value.ensures (present_values place (rows ++ numbered (take i numbers) others)) (c.loop-number.invariant rows is))
 
 pub returns : goal.returns
 returns c = λ rows is.
-    subst (λ ns. HasDistinct (map value_view c.loop-number.values.keys) (values_in c.args.place (rows ++ numbered ns c.args.columns.now.rows)))
+    subst (λ ns. HasDistinct (map value_view c.loop-number.values.keys) (present_values c.args.place (rows ++ numbered ns c.args.columns.now.rows)))
     (take_all c.loop-number.number-index c.args.numbers.now c.loop-number-test.false) (c.loop-number.invariant rows is)

@@ -1,11 +1,11 @@
 use Rattle.std.proofs.Common.{◌++◌, List, map, take}
 use Rattle.cell_types.specs.Value.{CellValue, value_view}
-use Rattle.query_meaning.specs.Apply.{values_in}
+use Rattle.query_meaning.specs.Apply.{present_values}
 use Rattle.row_columns.specs.Picked.{numbered}
 use Rattle.row_groups.specs.Tallies.{HasDistinct}
 use Rattle.row_groups.proofs.tally.join_values.Given as goal
 
 -- the values of the rows so far
 abbrev pub invariant-loop-number : goal.invariant-loop-number
-invariant-loop-number l = (rows : List (List CellValue)) → HasDistinct (map value_view l.initial.values.keys) (values_in l.place rows)
-    → HasDistinct (map value_view l.values.keys) (values_in l.place (rows ++ numbered (take l.number-index l.numbers) l.columns.rows))
+invariant-loop-number l = (rows : List (List CellValue)) → HasDistinct (map value_view l.initial.values.keys) (present_values l.place rows)
+    → HasDistinct (map value_view l.values.keys) (present_values l.place (rows ++ numbered (take l.number-index l.numbers) l.columns.rows))

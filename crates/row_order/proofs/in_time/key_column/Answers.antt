@@ -1,7 +1,7 @@
 use Rattle.std.proofs.Common.{◌≡◌, Some, rules}
 use Rattle.std.specs.Prelude.{slice_get}
 use Rattle.block_summary.specs.declared.number.PackedType.TheVariants.{Decimal}
-use Rattle.odata_types.specs.TypedTree.{typed_view}
+use Rattle.typed_trees.specs.TypedTree.{typed_view}
 use Rattle.row_order.proofs.KeyColumnLemmas.{decimal_key, first_key}
 use Rattle.row_order.proofs.in_time.key_column.Goals as goal
 

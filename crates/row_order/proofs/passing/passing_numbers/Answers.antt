@@ -1,5 +1,5 @@
 use Rattle.std.proofs.Common.{◌≡◌, ◌<◌, [], true, Some, length, get_or, rules, refl}
-use Rattle.odata_types.specs.TypedTree.{truth_view}
+use Rattle.typed_trees.specs.TypedTree.{truth_view}
 use Rattle.row_eval.specs.Bounds.{TruthFits}
 use Rattle.row_eval.specs.Outcome.{truth_outcome}
 use Rattle.row_eval.specs.declared.truth.Truth.TheVariants.{False, Null, True}

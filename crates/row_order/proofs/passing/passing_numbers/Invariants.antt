@@ -1,5 +1,5 @@
 use Rattle.std.proofs.Common.{take}
-use Rattle.odata_types.specs.TypedTree.{truth_view}
+use Rattle.typed_trees.specs.TypedTree.{truth_view}
 use Rattle.query_meaning.specs.Filter.{passing}
 use Rattle.row_order.specs.Numbers.{GivesRows}
 use Rattle.row_order.proofs.passing.passing_numbers.Given as goal

@@ -1,6 +1,6 @@
 use Rattle.std.proofs.Common.{◌≡◌, ◌∙◌, [], get_or, map, subst, sym, ap}
 use Rattle.cell_types.specs.Value.{value_view}
-use Rattle.odata_types.specs.TypedTree.{truth_view}
+use Rattle.typed_trees.specs.TypedTree.{truth_view}
 use Rattle.row_eval.specs.Bounds.{TruthFits}
 use Rattle.row_order.proofs.NumberLemmas.{row_there}
 use Rattle.row_order.proofs.passing.truth_on.Goals as goal

@@ -1,5 +1,5 @@
 use Rattle.std.proofs.Common.{rules}
-use Rattle.odata_types.specs.TypedTree.{typed_view}
+use Rattle.typed_trees.specs.TypedTree.{typed_view}
 use Rattle.row_order.proofs.PlainLemmas.{date_is, decimal_is, integer_is, text_is, truth_is}
 use Rattle.row_order.proofs.plain.plain_column.Goals as goal
 

@@ -1,6 +1,6 @@
 use Rattle.std.proofs.Common.{ap}
 use Rattle.cell_types.specs.Value.{value_view}
-use Rattle.odata_types.specs.TypedTree.{text_view}
+use Rattle.typed_trees.specs.TypedTree.{text_view}
 use Rattle.summary_eval.proofs.KnownLemmas.{texts-tell}
 use Rattle.summary_eval.proofs.known.known_texts.Goals as goal
 

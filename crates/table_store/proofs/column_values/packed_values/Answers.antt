@@ -2,7 +2,7 @@ use Rattle.std.proofs.Common.{Some, map, ap, sym, ◌∙◌, arith}
 use Rattle.std.proofs.lemmas.List.{take_all}
 use Rattle.std.proofs.lemmas.Option.{slice_get-get_or}
 use Rattle.cell_types.specs.Value.{null, value_view}
-use Rattle.table_store.proofs.CursorLemmas.{read_more}
+use Rattle.table_store.proofs.PlaceLemmas.{read_more}
 use Rattle.table_store.proofs.column_values.packed_values.Goals as goal
 
 pub loop-row-preserved : goal.loop-row-preserved

@@ -1,18 +1,17 @@
-use Rattle.std.proofs.Common.{◌≡◌, ◌+◌, ◌≤◌, false, ◌==◌, ◌<◌, get_or, List, [], Option, None, Some, option_map, length, map, take, drop, slice_get, ap, sym, subst, ◌∙◌, arith, inl, inr}
-use Rattle.std.proofs.lemmas.List.{drop-drop, get_or_read, get_or-set_other, length-drop, length-set, map-set, length-map, length-take}
+use Rattle.std.proofs.Common.{◌≡◌, ◌+◌, ◌≤◌, ◌<◌, get_or, List, [], Some, option_map, length, map, take, drop, slice_get, ap, sym, ◌∙◌, arith, inl, inr}
+use Rattle.std.proofs.lemmas.List.{length-drop, length-set, map-set, length-map, length-take}
 use Rattle.std.proofs.lemmas.Option.{slice_get-map}
-use Rattle.std.specs.List.{list_any}
 use Rattle.std.specs.Result.{result_err}
 use Rattle.cell_types.specs.Column.{column_view}
 use Rattle.cell_types.specs.Value.{null, value_view}
 use Rattle.raw_fields.specs.Raw.{raw_view, raw_content}
 use Rattle.cell_types.specs.Cell.{value_of}
-use Rattle.typed_columns.specs.ColumnReader.{ReaderOf, read_on, HasReader}
-use Rattle.typed_columns.specs.Values.{value_or_null, values_in}
-use Rattle.table_store.proofs.ReaderLemmas.{passed_reader, read_all, read_passed, read_put}
+use Rattle.typed_columns.specs.ColumnReader.{ReaderOf, with_cell}
+use Rattle.raw_fields.specs.Values.{value_or_null, values_in}
+use Rattle.table_store.proofs.ReaderLemmas.{read_all, read_put, slice_get-set_other}
 use Rattle.table_store.proofs.InsideLemmas.{length-values_in}
 use Rattle.table_store.proofs.PlaceLemmas.{drop-first, slice_get-from_read, slice_get-take}
-use Rattle.table_store.proofs.RowLemmas.{field_there, key_from, value_at, value_passed, value_put, values_from-none, values_past, wrong_from-here, wrong_from-past, wrong_from-end}
+use Rattle.table_store.proofs.RowLemmas.{key_from, value_at, value_put, values_from-none, values_past, wrong_from-here, wrong_from-past, wrong_from-end}
 use Rattle.table_store.proofs.loading.read_row.Goals.{In-Some}
 use Rattle.table_store.proofs.loading.read_row.Goals as goal
 
@@ -42,30 +41,6 @@ returns-in-Err-clause-fault c =
           ∙ wrong_from-here c.args.columns.now fields col c.index-columns-col.result (raw_view c.in-Some.raw) c.in-Err.fault at_column at_field e)
     ]
 
-pub loop-col-preserved-then-not-asked : goal.loop-col-preserved-then-not-asked
-loop-col-preserved-then-not-asked c =
-    let col = c.loop-col.col in
-    let columns = c.args.columns.now in
-    let column = c.index-columns-col.result in
-    let fields = take (length columns) c.args.fields.now in
-    let at_column = slice_get-from_read columns col column c.loop-col-test.true c.index-columns-col.is in
-    let next = field_there columns c.args.fields.now col c.loop-col-test.true c.requires.width in
-    let value = c.strings_have_values.ensures (column_view column) (raw_content next.0) (sym c.takes_all_texts.ensures ∙ c.if-takes_all_texts.true) in
-    let past : list_any (λ place. place == col) c.args.places.now ≡ false = sym c.is_among-asked.ensures ∙ c.if-not-asked.true in
-    record {
-      right = sym (wrong_from-past columns fields col column next.0 at_column next.1 (ap result_err value.1)) ∙ c.loop-col.invariant.right;
-      passed = c.pass.ensures ∙ ap (drop 1) c.loop-col.invariant.passed ∙ drop-drop 1 col c.args.fields.now;
-      count = c.loop-col.invariant.count;
-      reader_count = c.loop-col.invariant.reader_count;
-      read = read_passed c.args.readers.now.items c.loop-col.readers.items (values_in (map column_view columns) fields) col c.loop-col.invariant.read
-          (c.loop-col.invariant.unread col (omega arith)
-          ∙ passed_reader (column_view column) (get_or c.args.readers.now.items col None) (get_or (values_in (map column_view columns) fields) col null)
-          (c.requires.readers.each col (column_view column) (slice_get-map column_view columns col ∙ ap (option_map column_view) at_column))
-          (sym c.takes_all_texts.ensures ∙ c.if-takes_all_texts.true));
-      unread = λ k past. c.loop-col.invariant.unread k (omega (arith, past));
-      values = value_passed (map value_view c.loop-col.values.items) (values_in (map column_view columns) fields) c.args.places.now col c.loop-col.invariant.values past;
-    }
-
 pub index_mut-requires : goal.index_mut-requires
 index_mut-requires c =
     omega (arith, c.loop-col.invariant.reader_count, c.requires.readers.count, length-map c.args.columns.now column_view, c.loop-col-test.true, c.loop-col.readers.ok.0)
@@ -75,12 +50,13 @@ read_field-requires c =
     let col = c.loop-col.col in
     let columns = c.args.columns.now in
     let column = c.index-columns-col.result in
-    let readers : List (Option ReaderOf) = c.loop-col.readers.items in
+    let readers : List ReaderOf = c.loop-col.readers.items in
+    let reader : ReaderOf = c.index_mut.result.now in
     let at_column = slice_get-from_read columns col column c.loop-col-test.true c.index-columns-col.is in
     let within : col < length readers = omega (arith, c.loop-col.invariant.reader_count, c.requires.readers.count, length-map columns column_view, c.loop-col-test.true) in
-    let was = get_or_read readers col c.index_mut.result.now within c.index_mut.ensures.value None ∙ c.loop-col.invariant.unread col (omega arith) in
-    subst (HasReader (column_view column)) (sym was)
-    (c.requires.readers.each col (column_view column) (slice_get-map column_view columns col ∙ ap (option_map column_view) at_column))
+    let was : slice_get c.args.readers.now.items col ≡ Some reader =
+    sym (c.loop-col.invariant.unread col (omega arith)) ∙ slice_get-from_read readers col reader within c.index_mut.ensures.value in
+    c.requires.readers.each col (column_view column) reader (slice_get-map column_view columns col ∙ ap (option_map column_view) at_column) was
 
 pub loop-col-preserved : goal.loop-col-preserved
 loop-col-preserved c =
@@ -89,7 +65,8 @@ loop-col-preserved c =
     let column = c.index-columns-col.result in
     let new = c.read_field.new.value in
     let items = c.loop-col.values.items in
-    let readers : List (Option ReaderOf) = c.loop-col.readers.items in
+    let readers : List ReaderOf = c.loop-col.readers.items in
+    let reader : ReaderOf = c.index_mut.result.now in
     let fields = take (length columns) c.args.fields.now in
     let row = values_in (map column_view columns) fields in
     let value = value_or_null (value_of (column_view column) (raw_content (raw_view c.in-Some.raw))) in
@@ -98,7 +75,8 @@ loop-col-preserved c =
     let there = value_at columns fields col column (raw_view c.in-Some.raw) value at_column next.0 c.in-Ok.ensures.has in
     let size : col < length items = omega (arith, c.loop-col.invariant.count, c.loop-col-test.true) in
     let within : col < length readers = omega (arith, c.loop-col.invariant.reader_count, c.requires.readers.count, length-map columns column_view, c.loop-col-test.true) in
-    let was = get_or_read readers col c.index_mut.result.now within c.index_mut.ensures.value None ∙ c.loop-col.invariant.unread col (omega arith) in
+    let was : slice_get c.args.readers.now.items col ≡ Some reader =
+    sym (c.loop-col.invariant.unread col (omega arith)) ∙ slice_get-from_read readers col reader within c.index_mut.ensures.value in
     record {
       right = sym (wrong_from-past columns fields col column (raw_view c.in-Some.raw) at_column next.0 (ap result_err c.in-Ok.ensures.has))
           ∙ c.loop-col.invariant.right;
@@ -111,9 +89,10 @@ loop-col-preserved c =
           (λ here. there ∙ sym (c.in-Ok.ensures.value (c.is_among-asked.ensures ∙ here))) k within among;
       reader_count = length-set readers col c.read_field.new.reader ∙ c.loop-col.invariant.reader_count;
       read = read_put c.args.readers.now.items readers row col c.read_field.new.reader within c.loop-col.invariant.read
-          (c.in-Ok.ensures.reader ∙ ap (λ r. read_on r value) was ∙ ap (read_on (get_or c.args.readers.now.items col None)) (sym there));
+          (ap (λ r. Some r) c.in-Ok.ensures.reader ∙ ap (λ v. Some (with_cell reader v)) (sym there)
+          ∙ ap (option_map (λ (r : ReaderOf). with_cell r (get_or row col null))) (sym was));
       unread = λ k past.
-          get_or-set_other readers col k c.read_field.new.reader None (λ e. absurd (omega (arith, e, past)))
+          slice_get-set_other readers col k c.read_field.new.reader (λ e. absurd (omega (arith, e, past)))
           ∙ c.loop-col.invariant.unread k (omega (arith, past));
     }
 

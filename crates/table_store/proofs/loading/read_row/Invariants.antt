@@ -1,9 +1,9 @@
-use Rattle.std.proofs.Common.{◌≡◌, ◌<◌, ◌≤◌, ◌==◌, ℕ, None, true, get_or, length, take, drop, map}
+use Rattle.std.proofs.Common.{◌≡◌, ◌<◌, ◌≤◌, ◌==◌, ℕ, true, get_or, length, slice_get, take, drop, map}
 use Rattle.std.specs.List.{list_any}
 use Rattle.cell_types.specs.Column.{column_view}
 use Rattle.cell_types.specs.Value.{null, value_view}
-use Rattle.typed_columns.specs.ColumnReader.{read_on}
-use Rattle.typed_columns.specs.Values.{values_in}
+use Rattle.raw_fields.specs.Values.{values_in}
+use Rattle.table_store.proofs.ReaderLemmas.{read_cell}
 use Rattle.table_store.proofs.RowLemmas.{wrong_from}
 use Rattle.table_store.proofs.loading.read_row.Given as goal
 
@@ -19,7 +19,6 @@ invariant-loop-col l =
       values : (k : ℕ) → k < l.col → list_any (λ place. place == k) l.places ≡ true
           → get_or (map value_view l.values.items) k null ≡ get_or (values_in (map column_view l.columns) fields) k null;
       reader_count : length l.readers.items ≡ length l.fn.readers.items;
-      read : (k : ℕ) → k < l.col → get_or l.readers.items k None
-          ≡ read_on (get_or l.fn.readers.items k None) (get_or (values_in (map column_view l.columns) fields) k null);
-      unread : (k : ℕ) → l.col ≤ k → get_or l.readers.items k None ≡ get_or l.fn.readers.items k None;
+      read : (k : ℕ) → k < l.col → slice_get l.readers.items k ≡ read_cell l.fn.readers.items (values_in (map column_view l.columns) fields) k;
+      unread : (k : ℕ) → l.col ≤ k → slice_get l.readers.items k ≡ slice_get l.fn.readers.items k;
     }

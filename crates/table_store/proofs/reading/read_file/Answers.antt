@@ -1,9 +1,10 @@
 use Rattle.std.proofs.Common.{sym, map}
 use Rattle.std.proofs.lemmas.Option.{IfSome_then}
-use Rattle.std.proofs.lemmas.Result.{err_from_is_err_and}
+use Rattle.std.proofs.lemmas.Result.{IfErr-weaker}
 use Rattle.cell_types.specs.Column.{column_view}
 use Rattle.csvw_meta.specs.Schema.{schema_view}
 use Rattle.table_store.specs.Loading.{table_cause}
+use Rattle.table_store.proofs.InsideLemmas.{both_ok}
 use Rattle.table_store.proofs.LoadingLemmas.{other_header, header_fits, is_table_at, rows_cause}
 use Rattle.table_store.proofs.reading.read_file.Goals as goal
 
@@ -17,14 +18,16 @@ read_rows-requires-clause-fits c =
     let first = rw (c.in-Ok-None.field-0-is, c.as_slice.ensures.value) at c.in-Ok-None.ensures in
     header_fits (map column_view c.args.schema.now.columns.items) c.args.bytes.items c.in-Ok.file c.in-Ok.ensures.table (sym first)
 
-pub returns-in_err-columns-clause-fault : goal.returns-in_err-columns-clause-fault
-returns-in_err-columns-clause-fault c =
+pub returns-clause-fault : goal.returns-clause-fault
+returns-clause-fault c =
+    let schema = schema_view c.args.schema.now in
     let first = rw (c.in-Ok-None.field-0-is, c.as_slice.ensures.value) at c.in-Ok-None.ensures in
-    let p = err_from_is_err_and c.from_residual.result c.from_residual.ensures.1 in
-    rw (p.1, p.2) (IfSome_then (table_cause c.in_err-columns.field-0.0) c.in_err-columns.ensures.fault
-    (λ cause h. rows_cause (schema_view c.args.schema.now) c.args.bytes.items c.in-Ok.file cause c.in-Ok.ensures.table (sym first) h))
+    IfErr-weaker c.read_rows.result _ _ (λ fault has. IfSome_then (table_cause fault) has
+    (λ cause h. rows_cause schema c.args.bytes.items c.in-Ok.file cause c.in-Ok.ensures.table (sym first) h)) c.read_rows.ensures.fault
 
-pub returns-clause-read : goal.returns-clause-read
-returns-clause-read c =
+pub returns-clause-parts : goal.returns-clause-parts
+returns-clause-parts c =
+    let schema = schema_view c.args.schema.now in
     let first = rw (c.in-Ok-None.field-0-is, c.as_slice.ensures.value) at c.in-Ok-None.ensures in
-    is_table_at (map column_view c.args.schema.now.columns.items) c.args.bytes.items c.in-Ok.file c.in-Ok.ensures.table (sym first) c.in_ok-columns.ensures.values
+    both_ok c.read_rows.result c.read_rows.ensures.values c.read_rows.ensures.parts (λ parts none of.
+    (c.in-Ok.file, is_table_at schema.columns c.args.bytes.items c.in-Ok.file c.in-Ok.ensures.table (sym first) none, of))

@@ -1,34 +1,39 @@
-use Rattle.std.proofs.Common.{◌≡◌, ◌<◌, false, length, refl, ap, sym, subst, ◌∙◌, arith}
-use Rattle.std.specs.List.{list_any}
-use Rattle.std.proofs.lemmas.List.{length-map}
-use Rattle.cell_types.specs.Column.{column_view}
-use Rattle.cell_types.specs.Datatype.{is_text}
-use Rattle.csvw_meta.specs.Schema.{schema_view}
-use Rattle.table_store.specs.Block.{block_of}
-use Rattle.table_store.specs.Summaries.{table_at, IsSummaryOf}
-use Rattle.table_store.proofs.InsideLemmas.{length-rows_in}
-use Rattle.table_store.proofs.SummaryLemmas.{has_block, ranges_end, ranges_untexted}
+use Rattle.std.proofs.Common.{◌≡◌, ◌<◌, ◌*◌, ℕ, [], ◌∷◌, List, get_or, length, length-append, take, drop, ap, sym, subst, ◌∙◌, arith}
+use Rattle.block_summary.specs.declared.block.TheConstants.{BLOCK_ROWS}
+use Rattle.block_summary.specs.Ranges.{RangeOf, no_range, IsRangeOf}
+use Rattle.cell_types.specs.Value.{CellValue}
+use Rattle.typed_columns.specs.TypedColumn.{ColumnCells}
+use Rattle.table_store.specs.Summaries.{AreRangesAt}
+use Rattle.table_store.proofs.ColumnLemmas.{get_cells}
+use Rattle.table_store.proofs.SummaryLemmas.{block_cells, push_each}
 use Rattle.table_store.proofs.summaries.summary_at.Goals as goal
 
-pub column_ranges-requires : goal.column_ranges-requires
-column_ranges-requires c col within =
-    let schema = schema_view c.args.schema.now in
-    let table = table_at schema c.args.file.now in
-    let inside : col < length schema.columns =
-    omega (arith, within, c.in_ok-texts.ensures.count, ap length c.as_slice-columns.ensures.value, length-map c.args.schema.now.columns.items column_view) in
-    has_block table c.args.typed.now c.args.number col c.requires.cells.kept inside
-    (omega (arith, c.requires.number, length-rows_in schema.columns c.args.file.now.rows))
+pub range-requires : goal.range-requires
+range-requires c =
+    subst (λ (column : ColumnCells). c.args.number * BLOCK_ROWS < length column.cells) (sym c.column-item.is)
+    (c.requires c.loop-column.column-index c.column-item.result c.loop-column-test.true)
+
+pub loop-column-init : goal.loop-column-init
+loop-column-init c = record { count = ap length c.in_ok-ranges.ensures.items; each = λ col within. absurd (omega (arith, within)) }
+
+pub loop-column-preserved : goal.loop-column-preserved
+loop-column-preserved c =
+    let col = c.loop-column.column-index in
+    let old : List RangeOf = c.loop-column.ranges.items in
+    let range : RangeOf = c.in_ok-range.field-0 in
+    let number = c.args.number in
+    let Is : ℕ → RangeOf → Type 0 = λ k r. IsRangeOf r (block_cells c.args.columns.now number k) in
+    let cells = get_cells c.args.columns.now col c.column-item.result c.loop-column-test.true c.column-item.is in
+    let here : Is col range = subst (λ (cs : List CellValue). IsRangeOf range (take BLOCK_ROWS (drop (number * BLOCK_ROWS) cs))) (sym cells) c.in_ok-range.ensures in
+    record {
+      count = omega (arith, ap length c.in_ok-push.ensures.items, length-append old (range ∷ []), c.loop-column.invariant.count);
+      each = λ k within.
+          subst (λ (ranges : List RangeOf). Is k (get_or ranges k no_range)) (sym c.in_ok-push.ensures.items)
+          (push_each Is old range no_range col c.loop-column.invariant.count c.loop-column.invariant.each here k within);
+    }
 
 pub returns : goal.returns
 returns c =
-    let schema = schema_view c.args.schema.now in
-    let items = c.args.schema.now.columns.items in
-    let table = table_at schema c.args.file.now in
-    let block = block_of table c.args.number in
-    let texts = c.in_ok-texts.texts.items in
-    let none : list_any (λ column. is_text (column_view column).datatype) items ≡ false =
-    ap (list_any (λ column. is_text (column_view column).datatype)) (sym c.as_slice-columns.ensures.value) ∙ sym c.has_texts.ensures ∙ c.if-has_texts.false in
-    let wide = c.in_ok-texts.ensures.count ∙ ap length c.as_slice-columns.ensures.value ∙ sym (length-map items column_view) in
-    subst (IsSummaryOf block) (sym c.of_ranges.ensures)
-    (ranges_end (length block.rows) table c.args.typed.now c.args.number texts c.in_ok-ranges.ranges.items c.requires.cells.kept
-    (ranges_untexted items (length block.rows) block texts refl none wide c.in_ok-texts.ensures.empty) (omega arith) c.in_ok-ranges.ensures)
+    let all : c.loop-column.column-index ≡ length c.args.columns.now = omega arith in
+    subst (AreRangesAt c.args.number c.args.columns.now) (sym c.of_ranges.ensures)
+    (record { width = c.loop-column.invariant.count ∙ all; each = λ col within. c.loop-column.invariant.each col (omega (arith, within, all)) })

@@ -1,6 +1,6 @@
-use Rattle.std.proofs.Common.{◌≡◌, ◌+◌, ◌<◌, get_or, length, map, subst, sym}
+use Rattle.std.proofs.Common.{◌≡◌, ◌+◌, ◌<◌, List, get_or, length, subst, sym}
 use Rattle.std.specs.Prelude.{option_map}
-use Rattle.cell_types.specs.Value.{value_view}
+use Rattle.block_eval.specs.declared.columns.Column.{Column}
 use Rattle.block_filter.proofs.LaneLemmas.{columns_are, one_of_lanes, AreOfLanes}
 use Rattle.block_filter.proofs.lanes.Lanes.columns.Goals as goal
 
@@ -10,8 +10,8 @@ loop-place-preserved c =
     let texts = c.args.texts.now in
     let i = c.loop-place.place in
     let lane = c.lane-item.result in
-    subst (λ columns. AreOfLanes lanes texts columns (i + 1)) (sym c.in_ok-push.ensures.items)
-    (one_of_lanes lanes texts c.loop-place.columns.items i lane (option_map (λ vs. map value_view vs.now) c.texts_at.result) c.column.result
+    subst (λ columns. AreOfLanes lanes texts columns (i + 1)) (sym {A = List Column} c.in_ok-push.ensures.items)
+    (one_of_lanes lanes texts c.loop-place.columns.items i lane (option_map (λ texts. texts.now) c.texts_at.result) c.column.result
     (subst (λ ls. i < length ls) c.deref-lane-items.ensures.value c.loop-place-test.true) (subst (λ ls. lane ≡ get_or ls i lane) c.deref-lane-items.ensures.value c.lane-item.is)
     c.texts_at.ensures c.column.ensures c.loop-place.invariant)
 

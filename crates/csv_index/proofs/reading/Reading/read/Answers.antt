@@ -2,7 +2,7 @@
 use Rattle.std.proofs.Common.{◌≡◌, ◌-◌, ◌*◌, ◌==◌, ℕ, List, length, length-drop, drop, ap, ◌∙◌, subst, arith}
 use Rattle.lane_class.specs.Classes.{AreClasses}
 use Rattle.std.proofs.lemmas.Nat.Bits.{shr_and_one}
-use Rattle.csv_index.specs.Reading.{HasRead}
+use Rattle.csv_index.specs.Reading.{HasReadText}
 use Rattle.csv_index.proofs.Bits.{ends_within}
 use Rattle.csv_index.proofs.NextBlocks.{StepsTo, steps_to, lowest_within, read_fault}
 use Rattle.csv_index.proofs.ReadingLemmas.{has_read_more}
@@ -11,7 +11,7 @@ use Rattle.csv_index.proofs.reading.Reading.read.Goals as goal
 
 -- the masks are those of the text's next block
 next_step : (c : After-step-carry) (text : List ℕ) (n : ℕ) → c.args.rest.now ≡ drop (64 * n) text
-    → HasRead text n c.args.self.carry c.args.self.blocks.items c.args.self.widths c.args.self.unended → StepsTo text n c.args.len c.step-carry.result.0 c.step-carry.result.1
+    → HasReadText text n c.args.self.carry c.args.self.blocks.items c.args.self.widths c.args.self.unended → StepsTo text n c.args.len c.step-carry.result.0 c.step-carry.result.1
 next_step c text n is read =
     steps_to text c.args.rest.now n c.args.len c.classify.result c.step-carry.result.0 c.args.self.carry c.step-carry.result.1
     c.args.self.blocks.items c.args.self.widths c.args.self.unended read is c.requires.some c.requires.len

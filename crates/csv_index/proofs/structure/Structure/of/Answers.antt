@@ -3,13 +3,13 @@ use Rattle.std.proofs.Common.{◌≡◌, ◌+◌, ◌*◌, ◌<◌, ◌^◌, len
 use Rattle.std.specs.Bool.{then_some}
 use Rattle.std.proofs.lemmas.List.{take_all}
 use Rattle.csv_grammar.specs.Records.{AreRecords}
-use Rattle.csv_index.specs.Reading.{IsReading}
+use Rattle.csv_index.specs.Reading.{IsReadingToTheEnd}
 use Rattle.csv_index.proofs.ReadingLemmas.{AreCounts, read_counts}
 use Rattle.csv_index.proofs.StructureLemmas.{reads_as, reads_by, reading_is, tells_end}
 use Rattle.csv_index.proofs.structure.Structure.of.Goals.{In-Ok, then-unended, else-unended}
 use Rattle.csv_index.proofs.structure.Structure.of.Goals as goal
 
-read : (c : In-Ok) → IsReading (drop c.args.mark c.args.file.now) c.in-Ok.reading.carry c.in-Ok.reading.blocks.items c.in-Ok.reading.widths c.in-Ok.reading.unended
+read : (c : In-Ok) → IsReadingToTheEnd (drop c.args.mark c.args.file.now) c.in-Ok.reading.carry c.in-Ok.reading.blocks.items c.in-Ok.reading.widths c.in-Ok.reading.unended
 read c = reading_is c.args.file.now c.args.mark c.in-Ok.reading.carry c.in-Ok.reading.blocks.items c.in-Ok.reading.widths c.in-Ok.reading.unended c.in-Ok.ensures.read
 
 -- what is counted

@@ -4,7 +4,7 @@ use Rattle.odata_query.specs.Query.{order_view}
 use Rattle.query_meaning.specs.Order.{are_plain}
 use Rattle.query_plan.specs.Plan.{choosing, node_view}
 use Rattle.row_order.specs.InTime.{AreEnoughByKeys}
-use Rattle.block_filter.specs.Lanes.{AreKeysOf}
+use Rattle.block_filter.specs.Lanes.{AreKeysAt}
 use Rattle.query_exec.specs.Run.{places_of}
 use Rattle.query_exec.specs.Taking.{AreOfUse, IsSourceOf}
 use Rattle.query_exec.proofs.InTimeLemmas.{enough_of_use, if_ok, plain_never_faults}
@@ -33,7 +33,7 @@ returns-clause-of_use c =
     let plain : are_plain items ≡ true =
     ap (λ is. are_plain (map order_view is)) (sym c.deref-2.ensures.value) ∙ sym c.are_plain.ensures ∙ c.if-not-are_plain.false in
     let source : IsSourceOf (places_of run) column.place col = c.in-Some-source_of.ensures in
-    let are : AreKeysOf rows col column keys = rw c.in-Some-2.is at c.in_ok-keys.ensures.keys in
+    let are : AreKeysAt rows col column keys = rw c.in-Some-2.is at c.in_ok-keys.ensures.keys in
     if_ok c.rows_in_time.result (λ made. AreEnoughByKeys items most keys run.kept.rows numbers made.items) (λ made. AreOfUse run rows numbers made.items)
     (λ made enough. enough_of_use run rows numbers made.items node items most col column keys at is plain source are c.requires.within enough)
     (rw c.deref-4.ensures.value at c.rows_in_time.ensures)

@@ -7,7 +7,7 @@ use Rattle.cell_types.specs.Column.{column_view}
 use Rattle.cell_types.specs.declared.column.Column.{Column}
 use Rattle.csvw_meta.specs.Schema.{SchemaOf, schema_view}
 use Rattle.odata_query.specs.Query.{optional_numbers}
-use Rattle.odata_types.specs.TypedTree.{boxed_truth}
+use Rattle.typed_trees.specs.TypedTree.{boxed_truth}
 use Rattle.row_columns.specs.Kinds.{kinds_of}
 use Rattle.query_plan.specs.Fitting.{IsFitFor}
 use Rattle.query_meaning.specs.Meaning.{selected_names}

@@ -1,7 +1,7 @@
 use Rattle.std.proofs.Common.{◌≡◌, None, sym, ap, ◌∙◌, subst}
 use Rattle.table_store.specs.Table.{TableOf}
 use Rattle.query_exec.specs.declared.run.Run.{Run}
-use Rattle.query_exec.specs.Run.{wanted_block, GoesOn, IsReady}
+use Rattle.query_exec.specs.Run.{wanted_block, RunGoesOn, IsReady}
 use Rattle.query_exec.proofs.FitLemmas.{block_fits, block_may_be_taken}
 use Rattle.query_exec.proofs.NeededLemmas.{is_block}
 use Rattle.query_exec.proofs.RunLemmas.{after_block, after_none, block_may_be_counted, block_may_be_gathered, ready_behind_block, ready_behind_none}
@@ -48,8 +48,8 @@ returns-clause-steps c = λ plan table handed stands is.
     elim c.match-block.branch [
       | in-Some+in_ok-take_in w ↦
           after_block c.conditions_in_turn.ensures c.best_in_pieces.ensures old w.take_in.new.self new w.in-Some.block plan table handed c.go_on.result stands (sym w.in-Some.is ∙ is)
-          w.in_ok-take_in.ensures (subst (λ (r : Run). GoesOn r new c.go_on.result) w.self-is c.go_on.ensures)
+          w.in_ok-take_in.ensures (subst (λ (r : Run). RunGoesOn r new c.go_on.result) w.self-is c.go_on.ensures)
       | in_default w ↦
           after_none old new plan table handed c.go_on.result stands (sym w.in_default.is ∙ is)
-          (subst (λ (r : Run). GoesOn r new c.go_on.result) w.self-is c.go_on.ensures)
+          (subst (λ (r : Run). RunGoesOn r new c.go_on.result) w.self-is c.go_on.ensures)
     ]

@@ -1,5 +1,5 @@
 use Rattle.std.proofs.Common.{arith, map, refl, subst}
-use Rattle.odata_types.specs.TypedTree.{boxed_truth}
+use Rattle.typed_trees.specs.TypedTree.{boxed_truth}
 use Rattle.block_filter.specs.Passing.{ArePassing}
 use Rattle.query_exec.proofs.KeepingLemmas.{count_fits, kept_is_taken}
 use Rattle.query_exec.proofs.run.Run.take_block.Goals as goal

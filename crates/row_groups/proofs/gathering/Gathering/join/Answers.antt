@@ -1,7 +1,7 @@
 use Rattle.std.proofs.Common.{Some, None, length, refl, sym, ap, ◌∙◌}
 use Rattle.odata_query.specs.Query.{optional_numbers}
 use Rattle.row_columns.specs.Picked.{numbered}
-use Rattle.row_groups.specs.Gathered.{Joins, JoinsGroups}
+use Rattle.row_groups.specs.Gathered.{Adjoins, JoinsGroups}
 use Rattle.row_groups.proofs.GatheredLemmas.{groups_join, groups_may_join}
 use Rattle.row_groups.proofs.ListLemmas.{on_ok}
 use Rattle.row_groups.proofs.gathering.Gathering.join.Goals as goal
@@ -21,5 +21,5 @@ returns-in-None c =
     let old = c.args.self.now in
     let more = numbered c.args.numbers.now c.args.columns.now.rows in
     let new = record old { groups = c.join_whole.new.self } in
-    on_ok (JoinsGroups None c.deref.result.now old.groups c.join_whole.new.self more) (Joins old new more)
+    on_ok (JoinsGroups None c.deref.result.now old.groups c.join_whole.new.self more) (Adjoins old new more)
     (λ joins. groups_join old new more None c.deref.result.now refl refl (ap optional_numbers c.in-None.is) c.deref.ensures.value joins) c.join_whole.result c.join_whole.ensures

@@ -2,7 +2,7 @@ use Rattle.std.proofs.Common.{◌≡◌, ◌<◌, ◌++◌, ◌∷◌, [], Vec, 
 use Rattle.cell_types.specs.Value.{value_view}
 use Rattle.query_meaning.specs.Apply.{computed_value}
 use Rattle.row_groups.specs.declared.tally.Tally.{Tally}
-use Rattle.row_groups.specs.Gathered.{keys_of, part_of}
+use Rattle.row_groups.specs.Gathered.{group_keys, part_of}
 use Rattle.row_groups.specs.Tallies.{AreTallies}
 use Rattle.row_groups.proofs.GatheredLemmas.{as_many_keys, key_at, row_kinds, row_more, tallies_at}
 use Rattle.row_groups.proofs.groups.Groups.rows.Goals as goal
@@ -19,8 +19,8 @@ row_of-requires c =
     let aggregates = c.args.aggregates.now in
     let i = c.loop-i.i in
     let inside : i < length groups.tallies.items = omega (arith, c.loop-i-test.true, ap length c.as_slice-keys.ensures.keys, as_many_keys places aggregates groups rows c.requires.gathered.2) in (
-      part_of places rows (get_or (keys_of places rows) i []),
-      subst (λ (ts : Vec Tally Global). AreTallies aggregates (part_of places rows (get_or (keys_of places rows) i [])) ts.items) (sym c.index.ensures)
+      part_of places rows (get_or (group_keys places rows) i []),
+      subst (λ (ts : Vec Tally Global). AreTallies aggregates (part_of places rows (get_or (group_keys places rows) i [])) ts.items) (sym c.index.ensures)
           (tallies_at places aggregates groups rows c.requires.gathered.2 i c.index.result.now inside),
     )
 
@@ -31,11 +31,11 @@ push-requires c =
     let groups = c.args.self.now in
     let aggregates = c.args.aggregates.now in
     let i = c.loop-i.i in
-    let part = part_of places rows (get_or (keys_of places rows) i []) in
+    let part = part_of places rows (get_or (group_keys places rows) i []) in
     let inside : i < length groups.tallies.items = omega (arith, c.loop-i-test.true, ap length c.as_slice-keys.ensures.keys, as_many_keys places aggregates groups rows c.requires.gathered.2) in
     let tallies : AreTallies aggregates part c.index.result.now.items =
     subst (λ (ts : Vec Tally Global). AreTallies aggregates part ts.items) (sym c.index.ensures) (tallies_at places aggregates groups rows c.requires.gathered.2 i c.index.result.now inside) in
-    let key : map value_view c.as_slice.result.now ≡ get_or (keys_of places rows) i [] =
+    let key : map value_view c.as_slice.result.now ≡ get_or (group_keys places rows) i [] =
     ap (map value_view) c.as_slice.ensures.value ∙ ap (λ k. map value_view k.items) (c.index-keys-i.is ∙ ap (λ ks. get_or ks i c.index-keys-i.result) c.as_slice-keys.ensures.keys)
     ∙ key_at places aggregates groups rows c.requires.gathered.2 i c.index-keys-i.result inside in
     let is = ap (map value_view) c.deref.ensures.value ∙ c.in_ok-row.ensures part tallies ∙ ap (λ k. k ++ map (computed_value part) aggregates) key in
@@ -48,11 +48,11 @@ loop-i-preserved c = record {
       let groups = c.args.self.now in
       let aggregates = c.args.aggregates.now in
       let i = c.loop-i.i in
-      let part = part_of places rows (get_or (keys_of places rows) i []) in
+      let part = part_of places rows (get_or (group_keys places rows) i []) in
       let inside : i < length groups.tallies.items = omega (arith, c.loop-i-test.true, ap length c.as_slice-keys.ensures.keys, as_many_keys places aggregates groups rows has) in
       let tallies : AreTallies aggregates part c.index.result.now.items =
       subst (λ (ts : Vec Tally Global). AreTallies aggregates part ts.items) (sym c.index.ensures) (tallies_at places aggregates groups rows has i c.index.result.now inside) in
-      let key : map value_view c.as_slice.result.now ≡ get_or (keys_of places rows) i [] =
+      let key : map value_view c.as_slice.result.now ≡ get_or (group_keys places rows) i [] =
       ap (map value_view) c.as_slice.ensures.value ∙ ap (λ k. map value_view k.items) (c.index-keys-i.is ∙ ap (λ ks. get_or ks i c.index-keys-i.result) c.as_slice-keys.ensures.keys)
       ∙ key_at places aggregates groups rows has i c.index-keys-i.result inside in
       let is = ap (map value_view) c.deref.ensures.value ∙ c.in_ok-row.ensures part tallies ∙ ap (λ k. k ++ map (computed_value part) aggregates) key in

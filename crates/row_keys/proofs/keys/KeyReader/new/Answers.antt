@@ -1,6 +1,6 @@
 use Rattle.std.proofs.Common.{get_or, length, sym, ap, subst, ◌∙◌, arith}
 use Rattle.csvw_meta.specs.Schema.{schema_view}
-use Rattle.typed_columns.specs.Values.{values_in}
+use Rattle.raw_fields.specs.Values.{values_in}
 use Rattle.row_keys.specs.Key.{row_key}
 use Rattle.row_keys.specs.Keys.{Suits}
 use Rattle.row_keys.proofs.KeyLemmas.{one_item}

@@ -2,7 +2,7 @@ use Rattle.std.proofs.Common.{◌≡◌, pos, ◌+◌, ◌-◌, ◌/◌, ◌<◌
 use Rattle.std.specs.Ordering.{int_eq}
 use Rattle.std.proofs.lemmas.Int.{ints}
 use Rattle.std.proofs.lemmas.List.{get_or_default}
-use Rattle.row_keys.specs.Numbers.{number_of, row_at}
+use Rattle.row_keys.specs.Numbers.{key_number, ordered_row}
 use Rattle.row_keys.proofs.NumberLemmas.{above_middle, below_middle, found_at, found_nowhere}
 use Rattle.row_keys.proofs.numbers.NumberKeys.find.Goals as goal
 
@@ -12,11 +12,11 @@ returns-then-found-number c =
     let order = c.self.inside.order.items in
     let middle = c.loop-low.low + (c.loop-low.high - c.loop-low.low) / 2 in
     let row = c.row_at-row.result in
-    let row_is : row ≡ row_at order middle = c.row_at-row.ensures ∙ ap (λ rows. row_at rows middle) c.as_slice.ensures.value in
+    let row_is : row ≡ ordered_row order middle = c.row_at-row.ensures ∙ ap (λ rows. ordered_row rows middle) c.as_slice.ensures.value in
     let inside : middle < length numbers = omega arith in
     let within : row < length numbers = subst (λ i. i < length numbers) (sym row_is) (c.self.invariant.within middle inside) in
-    let here : number_of numbers row ≡ c.index.result.now = get_or_default numbers row (pos 0) c.index.result.now within ∙ sym c.index.ensures in
-    let same : number_of numbers row ≡ c.args.number.now = omega (arith, ints, here, c.if-found-number.true) in
+    let here : key_number numbers row ≡ c.index.result.now = get_or_default numbers row (pos 0) c.index.result.now within ∙ sym c.index.ensures in
+    let same : key_number numbers row ≡ c.args.number.now = omega (arith, ints, here, c.if-found-number.true) in
     sym (found_at order numbers c.self.invariant c.args.number.now row within same) ∙ ap (position (int_eq c.args.number.now)) c.self.view_is
 
 pub loop-low-preserved-then-found-number-2 : goal.loop-low-preserved-then-found-number-2
@@ -25,12 +25,12 @@ loop-low-preserved-then-found-number-2 c =
     let order = c.self.inside.order.items in
     let middle = c.loop-low.low + (c.loop-low.high - c.loop-low.low) / 2 in
     let row = c.row_at-row.result in
-    let row_is : row ≡ row_at order middle = c.row_at-row.ensures ∙ ap (λ rows. row_at rows middle) c.as_slice.ensures.value in
+    let row_is : row ≡ ordered_row order middle = c.row_at-row.ensures ∙ ap (λ rows. ordered_row rows middle) c.as_slice.ensures.value in
     let inside : middle < length numbers = omega arith in
     let within : row < length numbers = subst (λ i. i < length numbers) (sym row_is) (c.self.invariant.within middle inside) in
-    let here : number_of numbers row ≡ c.index.result.now = get_or_default numbers row (pos 0) c.index.result.now within ∙ sym c.index.ensures in
-    let there : number_of numbers (row_at order middle) ≡ c.index.result.now = ap (number_of numbers) (sym row_is) ∙ here in
-    let under : number_of numbers (row_at order middle) <ℤ c.args.number.now = omega (arith, ints, there, c.if-found-number-2.true) in
+    let here : key_number numbers row ≡ c.index.result.now = get_or_default numbers row (pos 0) c.index.result.now within ∙ sym c.index.ensures in
+    let there : key_number numbers (ordered_row order middle) ≡ c.index.result.now = ap (key_number numbers) (sym row_is) ∙ here in
+    let under : key_number numbers (ordered_row order middle) <ℤ c.args.number.now = omega (arith, ints, there, c.if-found-number-2.true) in
     record {
       apart = omega arith;
       within = c.loop-low.invariant.within;
@@ -44,12 +44,12 @@ loop-low-preserved c =
     let order = c.self.inside.order.items in
     let middle = c.loop-low.low + (c.loop-low.high - c.loop-low.low) / 2 in
     let row = c.row_at-row.result in
-    let row_is : row ≡ row_at order middle = c.row_at-row.ensures ∙ ap (λ rows. row_at rows middle) c.as_slice.ensures.value in
+    let row_is : row ≡ ordered_row order middle = c.row_at-row.ensures ∙ ap (λ rows. ordered_row rows middle) c.as_slice.ensures.value in
     let inside : middle < length numbers = omega arith in
     let within : row < length numbers = subst (λ i. i < length numbers) (sym row_is) (c.self.invariant.within middle inside) in
-    let here : number_of numbers row ≡ c.index.result.now = get_or_default numbers row (pos 0) c.index.result.now within ∙ sym c.index.ensures in
-    let there : number_of numbers (row_at order middle) ≡ c.index.result.now = ap (number_of numbers) (sym row_is) ∙ here in
-    let over : c.args.number.now <ℤ number_of numbers (row_at order middle) = first_of (omega (arith, ints, there, c.if-found-number.false, c.if-found-number-2.false), grind (arith, ints, there, c.if-found-number.false, c.if-found-number-2.false)) in
+    let here : key_number numbers row ≡ c.index.result.now = get_or_default numbers row (pos 0) c.index.result.now within ∙ sym c.index.ensures in
+    let there : key_number numbers (ordered_row order middle) ≡ c.index.result.now = ap (key_number numbers) (sym row_is) ∙ here in
+    let over : c.args.number.now <ℤ key_number numbers (ordered_row order middle) = first_of (omega (arith, ints, there, c.if-found-number.false, c.if-found-number-2.false), grind (arith, ints, there, c.if-found-number.false, c.if-found-number-2.false)) in
     record {
       apart = omega arith;
       within = omega arith;

@@ -1,5 +1,5 @@
 use Rattle.std.proofs.Common.{◌-◌, ◌<◌, ◌≤◌, ◌<ℤ◌, ℕ, length}
-use Rattle.row_keys.specs.Numbers.{number_of, row_at}
+use Rattle.row_keys.specs.Numbers.{key_number, ordered_row}
 use Rattle.row_keys.proofs.numbers.NumberKeys.find.Given as goal
 
 -- the number is above those of the places before `low`, and below those from `high` on
@@ -10,8 +10,8 @@ invariant-loop-low l =
     record {
       apart : l.low ≤ l.high;
       within : l.high ≤ length numbers;
-      below : (place : ℕ) → place < l.low → number_of numbers (row_at order place) <ℤ l.number;
-      above : (place : ℕ) → l.high ≤ place → place < length numbers → l.number <ℤ number_of numbers (row_at order place);
+      below : (place : ℕ) → place < l.low → key_number numbers (ordered_row order place) <ℤ l.number;
+      above : (place : ℕ) → l.high ≤ place → place < length numbers → l.number <ℤ key_number numbers (ordered_row order place);
     }
 
 abbrev pub decreases-loop-low : goal.decreases-loop-low

@@ -1,8 +1,6 @@
 use Rattle.std.proofs.Common.{sym, ap, ◌∙◌}
 use Rattle.std.specs.Option.{option_copied}
-use Rattle.block_summary.specs.Ranges.{column_of}
-use Rattle.table_store.specs.Table.{TableOf}
-use Rattle.table_store.proofs.BlockLemmas.{packed_is}
+use Rattle.table_store.proofs.BlockLemmas.{either_kept, packed_is, text_is}
 use Rattle.table_store.proofs.InsideLemmas.{IfOk_then}
 use Rattle.table_store.proofs.block.Block.values.Goals as goal
 
@@ -11,6 +9,11 @@ returns-in-Some c =
     let kept = sym c.packed.ensures ∙ ap option_copied c.in-Some.is in
     IfOk_then c.packed_values.result c.packed_values.ensures (λ values e. e ∙ sym (packed_is c.args.self.now c.args.col c.in-Some.column.now kept))
 
-pub returns-in-None : goal.returns-in-None
-returns-in-None c =
-    IfOk_then c.column_from.result c.column_from.ensures (λ values e. e ∙ ap (λ (t : TableOf). column_of t.rows c.args.col) c.self.view_is)
+pub unreachable-requires : goal.unreachable-requires
+unreachable-requires c =
+    either_kept c.args.self.now c.args.col c.requires (sym c.packed.ensures ∙ ap option_copied c.in_default.is) (sym c.texts.ensures ∙ c.in_default-texts.is)
+
+pub returns : goal.returns
+returns c =
+    let kept = sym c.texts.ensures ∙ c.in-Some-texts.is in
+    IfOk_then c.text_values.result c.text_values.ensures (λ values e. e ∙ sym (text_is c.args.self.now c.args.col c.in-Some-texts.texts kept))

@@ -1,0 +1,65 @@
+-- Flags that are set one after another, and words and columns that are made so.
+use Rattle.std.proofs.Common.{◌≡◌, ℕ, zero, suc, ◌+◌, ◌<◌, ◌≤◌, Bool, true, false, cond, ◌&&◌, ◌||◌, List, [], ◌∷◌, ◌++◌, length, map, take, get_or, refl, ap, sym, subst, ◌∙◌, inl, inr, arith}
+use Rattle.std.proofs.Common.{get_or-set_other, get_or-set_same}
+use Rattle.std.specs.Prelude.{slice_set}
+use Rattle.std.proofs.lemmas.Bool.{cases_order}
+use Rattle.std.proofs.lemmas.List.{get_or-map, length-map, take_more}
+use Rattle.cell_types.specs.Column.{ColumnOf}
+use Rattle.cell_types.specs.Datatype.{DatatypeOf, text}
+use Rattle.column_types.specs.Seen.{flagged}
+use Rattle.column_types.specs.Types.{candidate, null_words, types}
+use Rattle.column_types.proofs.SeenLemmas.{flagged-more}
+
+pub any_default : {X : Type 0} (xs : List X) (k : ℕ) (d e : X) → k < length xs → get_or xs k d ≡ get_or xs k e
+any_default [] k d e less = absurd (omega (arith, less))
+any_default (x ∷ xs) zero d e less = refl
+any_default (x ∷ xs) (suc k) d e less = any_default xs k d e (omega (arith, less))
+
+-- the flag at a place is set by a test of the flag that was there
+set-done : (test : ℕ → Bool → Bool) (first flags : List Bool) (place : ℕ) (v d : Bool) → place < length flags
+    → ((k : ℕ) → k < place → get_or flags k false ≡ test k (get_or first k false)) → ((k : ℕ) → place ≤ k → get_or flags k false ≡ get_or first k false)
+    → v ≡ test place (get_or flags place d) → (k : ℕ) → k < place + 1 → get_or (slice_set flags place v) k false ≡ test k (get_or first k false)
+set-done test first flags place v d within done left is k less =
+    elim (cases_order k place) [
+      | inl same ↦
+          ap (λ n. get_or (slice_set flags place v) n false) same ∙ get_or-set_same flags place v false within
+          ∙ is ∙ ap (test place) (any_default flags place d false within ∙ left place (omega arith)) ∙ ap (λ n. test n (get_or first n false)) (sym same)
+      | inr (inl before) ↦ get_or-set_other flags place k v false (λ e. absurd (omega (arith, e, before))) ∙ done k before
+      | inr (inr after) ↦ absurd (omega (arith, less, after))
+    ]
+
+pub set-left : (first flags : List Bool) (place : ℕ) (v : Bool) → ((k : ℕ) → place ≤ k → get_or flags k false ≡ get_or first k false)
+    → (k : ℕ) → place + 1 ≤ k → get_or (slice_set flags place v) k false ≡ get_or first k false
+set-left first flags place v left k less = get_or-set_other flags place k v false (λ e. absurd (omega (arith, e, less))) ∙ left k (omega (arith, less))
+
+pub and-done : (h : ℕ → Bool) (first flags : List Bool) (place : ℕ) (v d w : Bool) → place < length flags
+    → ((k : ℕ) → k < place → get_or flags k false ≡ (get_or first k false && h k)) → ((k : ℕ) → place ≤ k → get_or flags k false ≡ get_or first k false)
+    → v ≡ (get_or flags place d && w) → w ≡ h place → (k : ℕ) → k < place + 1 → get_or (slice_set flags place v) k false ≡ (get_or first k false && h k)
+and-done h first flags place v d w within done left is same =
+    set-done (λ k b. b && h k) first flags place v d within done left (is ∙ ap (λ t. get_or flags place d && t) same)
+
+pub or-done : (h : ℕ → Bool) (first flags : List Bool) (place : ℕ) (v d w : Bool) → place < length flags
+    → ((k : ℕ) → k < place → get_or flags k false ≡ (get_or first k false || h k)) → ((k : ℕ) → place ≤ k → get_or flags k false ≡ get_or first k false)
+    → v ≡ (get_or flags place d || w) → w ≡ h place → (k : ℕ) → k < place + 1 → get_or (slice_set flags place v) k false ≡ (get_or first k false || h k)
+or-done h first flags place v d w within done left is same =
+    set-done (λ k b. b || h k) first flags place v d within done left (is ∙ ap (λ t. get_or flags place d || t) same)
+
+-- one word more, where its flag is set
+pub flagged-push : (words : List (List ℕ)) (flags : List Bool) (place : ℕ) (flag : Bool) (word : List ℕ) → place < length flags → place < length null_words
+    → words ≡ [] ∷ flagged (take place flags) null_words → flag ≡ get_or flags place false → word ≡ get_or null_words place []
+    → words ++ cond flag (word ∷ []) [] ≡ [] ∷ flagged (take (place + 1) flags) null_words
+flagged-push words flags place flag word less more so_far e f =
+    ap (λ ws. ws ++ cond flag (word ∷ []) []) so_far
+    ∙ ap (λ ws. [] ∷ ws)
+    (ap (λ b. flagged (take place flags) null_words ++ cond b (word ∷ []) []) e
+    ∙ ap (λ w. flagged (take place flags) null_words ++ cond (get_or flags place false) (w ∷ []) []) f
+    ∙ sym (flagged-more flags null_words place less more))
+
+-- one column more
+pub candidates-more : (columns : List ColumnOf) (made : ColumnOf) (kind : DatatypeOf) (place : ℕ) → place < length types → columns ≡ take place (map candidate types)
+    → made ≡ candidate kind → kind ≡ get_or types place text → columns ++ made ∷ [] ≡ take (place + 1) (map candidate types)
+candidates-more columns made kind place less so_far is at =
+    let within : place < length (map candidate types) = omega (arith, less, length-map types candidate) in
+    ap (λ cs. cs ++ made ∷ []) so_far
+    ∙ ap (λ c. take place (map candidate types) ++ c ∷ []) (is ∙ ap candidate at ∙ sym (get_or-map candidate types place text (candidate text) less))
+    ∙ sym (take_more (map candidate types) place (candidate text) within)

@@ -1,0 +1,6 @@
+pub mod Lists
+pub mod ReadingLemmas
+pub mod FittingLemmas
+pub mod OpenLemmas
+pub mod SeenLemmas
+pub mod FlagLemmas

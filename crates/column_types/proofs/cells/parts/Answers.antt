@@ -1,0 +1,11 @@
+-- Behind the first point.
+use Rattle.std.proofs.Common.{◌+◌, ◌-◌, ◌≤◌, length, drop, arith, ap, ◌∙◌, drop-drop, take_all, length-drop}
+use Rattle.column_types.proofs.cells.parts.Goals as goal
+
+pub returns-in-len1-up-clause-places : goal.returns-in-len1-up-clause-places
+returns-in-len1-up-clause-places c =
+    let rest = c.split_at.result.1.now in
+    let cell = c.args.cell.now in
+    let place = c.whole_len.result in
+    let short : length (drop 1 rest) ≤ length rest - 1 = omega (arith, length-drop 1 rest) in
+    take_all (length rest - 1) (drop 1 rest) short ∙ ap (drop 1) c.split_at.ensures.back ∙ drop-drop 1 place cell ∙ ap (λ n. drop (n + 1) cell) c.whole_len.ensures.place

@@ -1,0 +1,88 @@
+-- What is known of a column when some of its cells are read.
+use Rattle.std.specs.Prelude.{◌≡◌, ℕ, ◌<◌, Bool, true, false, ◌&&◌, ◌||◌, List, [], ◌∷◌, ◌++◌, filter, length, slice_index_or, All, Option, None, Some}
+use Rattle.std.specs.List.{list_all, list_any, range_with_len}
+use Rattle.cell_types.specs.Column.{ColumnOf}
+use Rattle.cell_types.specs.Datatype.{DatatypeOf, text}
+use Rattle.column_types.specs.declared.form.Form.{Form}
+use Rattle.column_types.specs.declared.seen.Seen.{Seen}
+use Rattle.column_types.specs.Reading.{fits_at, has_value_at, datatype_at, IsDatatypePlace}
+use Rattle.column_types.specs.Types.{datatype_for, types, null_words, null_column, stands_for, stands_for_null, is_null_in, is_padded, has_point, has_one_place, ends_in_zero}
+
+-- so look the cells that were read
+pub record HasForm (form : Form) (cells : List (List ℕ)) : Type 0 where
+  pub padded : form.padded ≡ list_any is_padded cells
+  pub points : form.points ≡ list_all has_point cells
+  pub one_place : form.points ≡ true → form.one_place ≡ list_any has_one_place cells
+  pub zero : form.points ≡ true → form.zero ≡ list_any ends_in_zero cells
+
+-- the places of all datatypes
+abbrev pub places : List ℕ
+places = range_with_len 0 (length types)
+
+-- these are the cells that were read: the datatypes that are left are those that fit them
+pub record HasSeen (seen : Seen) (cells : List (List ℕ)) : Type 0 where
+  pub left : seen.left.items ≡ filter (fits_at cells) places
+  pub count : length seen.words.items ≡ length null_words
+  pub words : (k : ℕ) → k < length null_words → slice_index_or seen.words.items k false ≡ list_any (stands_for (slice_index_or null_words k [])) cells
+  pub nulls : seen.all_null ≡ list_all stands_for_null cells
+  pub form : HasForm seen.form cells
+
+-- a datatype is left, and there is a flag for each word
+pub record IsOpen (seen : Seen) : Type 0 where
+  pub some : 0 < length seen.left.items
+  pub places : All IsDatatypePlace seen.left.items
+  pub count : length seen.words.items ≡ length null_words
+
+-- the value of one more cell was read
+pub record HasReadCells (old : Seen) (cell : List ℕ) (new : Seen) : Type 0 where
+  pub left : new.left.items ≡ filter (has_value_at cell) old.left.items
+  pub count : length new.words.items ≡ length old.words.items
+  pub words : (k : ℕ) → k < length null_words
+      → slice_index_or new.words.items k false ≡ (slice_index_or old.words.items k false || stands_for (slice_index_or null_words k []) cell)
+  pub nulls : new.all_null ≡ (old.all_null && stands_for_null cell)
+
+-- the first datatype that is left
+abbrev pub first_type : List ℕ → DatatypeOf
+first_type [] = text
+first_type (place ∷ others) = datatype_at place
+
+-- a flag is set where the cell is null in its column
+abbrev pub AreMarked : List ColumnOf → List ℕ → List Bool → List Bool → Type 0
+AreMarked columns cell old new = (k : ℕ) → k < length columns
+    → slice_index_or new k false ≡ (slice_index_or old k false || is_null_in (slice_index_or columns k (null_column [])) cell)
+
+-- a flag is set where the cell stands for null by its word
+abbrev pub HaveWords : List Bool → List ℕ → List Bool → Type 0
+HaveWords old cell new = (k : ℕ) → k < length null_words
+    → slice_index_or new k false ≡ (slice_index_or old k false || stands_for (slice_index_or null_words k []) cell)
+
+-- the words that are flagged
+abbrev pub flagged : List Bool → List (List ℕ) → List (List ℕ)
+flagged [] words = []
+flagged (flag ∷ flags) [] = []
+flagged (true ∷ flags) (word ∷ words) = word ∷ flagged flags words
+flagged (false ∷ flags) (word ∷ words) = flagged flags words
+
+-- ---- a column that may be known as one of texts
+-- these cells of a column were read: nothing is kept where it can only be one of texts, whatever its other cells are
+abbrev pub Knows : Option Seen → List (List ℕ) → Type 0
+Knows None cells = (more : List (List ℕ)) → datatype_for (cells ++ more) ≡ text
+Knows (Some seen) cells = HasSeen seen cells × (0 < length seen.left.items)
+
+-- these are all cells of a column
+abbrev pub EndsAs : Option Seen → List (List ℕ) → Type 0
+EndsAs None cells = datatype_for cells ≡ text
+EndsAs (Some seen) cells = HasSeen seen cells
+
+-- what is kept of the cells that were read
+abbrev pub IsKnownOfCells : Option Seen → Type 0
+IsKnownOfCells None = Unit {0}
+IsKnownOfCells (Some seen) = All IsDatatypePlace seen.left.items × (length seen.words.items ≡ length null_words)
+
+abbrev pub IsOpenOrText : Option Seen → Type 0
+IsOpenOrText None = Unit {0}
+IsOpenOrText (Some seen) = IsOpen seen
+
+-- one more cell was read
+abbrev pub HasMore : Option Seen → List ℕ → Option Seen → Type 0
+HasMore old cell new = (cells : List (List ℕ)) → Knows old cells → Knows new (cells ++ cell ∷ [])

@@ -1,8 +1,0 @@
-use Rattle.std.proofs.Common.{◌≡◌, map, take}
-use Rattle.cell_types.specs.Column.{column_view}
-use Rattle.csvw_guess.specs.Types.{null_column, null_words}
-use Rattle.csvw_guess.proofs.types.null_columns.Given as goal
-
--- the columns of the words so far
-abbrev pub invariant-loop-word : goal.invariant-loop-word
-invariant-loop-word l = map column_view l.columns.items ≡ take l.word-index (map null_column null_words)

@@ -1,0 +1,120 @@
+//! What would be accepted in the place of what is refused.
+use cell_types::{BooleanForm, CellFault, Column, Datatype, DateForm};
+use csv_index::TextFault;
+use csvw_meta::MetaFault;
+use std::alloc::{AllocError, Global};
+use value_text::quoted;
+
+/// What metadata may have there.
+pub fn accepted_metadata(fault: &MetaFault) -> &'static str {
+    match fault {
+        MetaFault::NotJson => "a JSON text in UTF-8",
+        MetaFault::NotObject => "an object",
+        MetaFault::NoTables =>
+            "`tables` with a table for each file, or `url` and `tableSchema` of one",
+        MetaFault::TooManyTables => "at most 256 tables",
+        MetaFault::BadUrl =>
+            "a letter, then letters, digits, `_` and `-`, then `.csv`, of at most 132 characters",
+        MetaFault::DuplicateUrl => "a url that no earlier table has",
+        MetaFault::Unsupported { key } => accepted_in_place(key.as_str()),
+        MetaFault::NoColumns => "an object with `columns`, an array of at least one column",
+        MetaFault::TooManyColumns => "at most 256 columns",
+        MetaFault::BadName =>
+            "a letter, then letters, digits and `_`, of at most 128 characters; another text is one of `titles`",
+        MetaFault::DuplicateName => "a name that no earlier column has",
+        MetaFault::BadDatatype => "a name, or an object with `base` and `format`",
+        MetaFault::BadFormat =>
+            "of a boolean `T|F`, as Y|N; of a date yyyy-MM-dd, yyyyMMdd, dd/MM/yyyy, MM/dd/yyyy or dd.MM.yyyy",
+        MetaFault::BadNull => "a text or an array of texts",
+        MetaFault::BadDefault => "a text",
+        MetaFault::BadRequired => "true or false",
+        MetaFault::BadTitles => "a text, an array of texts, or an object of such by language",
+        MetaFault::BadKey => "the name of a column, or an array of different ones",
+        MetaFault::NoMemory => "more memory",
+    }
+}
+
+/// What may stand in the place of a member or a datatype that is not served.
+fn accepted_in_place(key: &str) -> &'static str {
+    match key {
+        "name" => "a column with a name",
+        "tableSchema" => "the schema itself, and no url of it",
+        "virtual" => "columns of the file alone",
+        "format" => "a format of a boolean or of a date",
+        "dialect" | "transformations" | "separator" => "metadata without it",
+        "length"
+        | "minLength"
+        | "maxLength"
+        | "minimum"
+        | "maximum"
+        | "minInclusive"
+        | "maxInclusive"
+        | "minExclusive"
+        | "maxExclusive" => "a datatype without it",
+        _ => "integer, decimal, boolean, date or string",
+    }
+}
+
+/// What a file may have there.
+pub fn accepted_file(fault: TextFault) -> &'static str {
+    match fault {
+        TextFault::NotUtf8 { .. } => "UTF-8",
+        TextFault::BareCr { .. } => "a line feed after a carriage return",
+        TextFault::StrayQuote { .. } => {
+            "a double quote as the first of a field, and each one inside such a field twice"
+        }
+        TextFault::AfterQuote { .. } => {
+            "after a closing double quote a comma or the end of the line; a double quote inside stands twice"
+        }
+        TextFault::Unfinished { .. } =>
+            "a closing double quote, and a line feed after a carriage return",
+        TextFault::NoHeader => "a header line",
+        TextFault::Width { .. } => "as many fields as the header has",
+        TextFault::NoMemory => "more memory",
+    }
+}
+
+/// How a date of a form is written.
+fn accepted_date(form: DateForm) -> &'static str {
+    match form {
+        DateForm::YearMonthDay => "a day of the calendar as yyyy-MM-dd",
+        DateForm::Compact => "a day of the calendar as yyyyMMdd",
+        DateForm::DayMonthYear => "a day of the calendar as dd/MM/yyyy",
+        DateForm::MonthDayYear => "a day of the calendar as MM/dd/yyyy",
+        DateForm::Dotted => "a day of the calendar as dd.MM.yyyy",
+    }
+}
+
+/// What a cell of a datatype may be.
+fn accepted_text(alloc: Global, datatype: &Datatype) -> Result<String, AllocError> {
+    match datatype {
+        Datatype::Integer => String::from_str(
+            alloc,
+            "digits with a sign or none, from -9223372036854775808 to 9223372036854775807",
+        ),
+        Datatype::Text => String::from_str(alloc, "a text"),
+        Datatype::Boolean(BooleanForm::Standard) => String::from_str(alloc, "true, false, 1 or 0"),
+        Datatype::Boolean(BooleanForm::Texts(of_true, of_false)) => {
+            let of_true = quoted(alloc, of_true.as_str())?;
+            let of_false = quoted(alloc, of_false.as_str())?;
+            format!(in alloc; "{of_true} or {of_false}")
+        }
+        Datatype::Date(form) => String::from_str(alloc, accepted_date(*form)),
+        Datatype::Decimal => String::from_str(
+            alloc,
+            "digits with a sign or none and at most one point, of six decimal places at most",
+        ),
+    }
+}
+
+/// What a cell of a column may be, where it has no value for that fault.
+pub fn accepted_cell(
+    alloc: Global,
+    column: &Column,
+    fault: CellFault,
+) -> Result<String, AllocError> {
+    match fault {
+        CellFault::Missing => String::from_str(alloc, "a value, which the column requires"),
+        _ => accepted_text(alloc, &column.datatype),
+    }
+}

@@ -1,0 +1,18 @@
+//! What the service understands of a folder, and why it refuses one: for a person who writes metadata. Of each column its datatype, its nulls, its least and its greatest
+//! value; of each refusal its cause with the file, the line, the column and the cell, and what would be accepted.
+#![tactic(auto)]
+
+mod accepted;
+mod bounds;
+mod metadata;
+mod place;
+mod probe;
+mod refusal;
+mod rows;
+mod show;
+mod table;
+
+pub use metadata::metadata_refusals;
+pub use refusal::{MOST_REFUSALS, Refusal, refusal_lines};
+pub use show::catalog_text;
+pub use table::{table_refusals, text_refusals};

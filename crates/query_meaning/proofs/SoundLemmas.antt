@@ -1,0 +1,168 @@
+-- Expressions that are sound on a row: its numbers fit 128 bits and are within their bounds, its texts are short. Values and columns are.
+use Rattle.std.proofs.Common.{◌≡◌, ℕ, zero, suc, ◌*◌, ◌^◌, ◌≤◌, Bool, true, false, Option, Some, None, List, [], ◌∷◌, length, refl, arith, if◌then◌else◌}
+use Rattle.std.specs.Prelude.{unsigned_abs, IfSome, IfOk, Result, Ok, Err, nat_le, option_and_then, slice_get}
+use Rattle.std.proofs.lemmas.Bool.{leb-true}
+use Rattle.cell_types.specs.Value as cells
+use Rattle.cell_types.specs.Value.{CellValue}
+use Rattle.odata_parse.specs.Tree as tree
+use Rattle.odata_parse.specs.Tree.{LiteralOf}
+use Rattle.typed_trees.specs.declared.tree.TheConstants.{MILLIONTHS}
+use Rattle.odata_types.specs.declared.types.TheConstants.{MOST_SIZE}
+use Rattle.odata_types.specs.declared.types.ColumnType.{ColumnType}
+use Rattle.odata_types.specs.declared.types.ColumnType.TheVariants as column
+use Rattle.odata_types.specs.declared.fault.TypeFault.{TypeFault}
+use Rattle.odata_types.specs.declared.fault.TypeFault.TheVariants.{TooLarge}
+use Rattle.odata_types.specs.Columns.{InputOf}
+use Rattle.odata_types.specs.Result.{◌>>=◌}
+use Rattle.typed_trees.specs.TypedTree as typed
+use Rattle.typed_trees.specs.TypedTree.{DateExprOf, TextExprOf, IntegerExprOf, DecimalExprOf, TypedExprOf}
+use Rattle.odata_types.specs.Typing.{as_date, as_decimal, as_integer, as_text, as_truth, column_at, column_expr, literal_typing, name_typing, place_of, within}
+use Rattle.row_eval.specs.Bounds.{DecimalsFit, IntegersFit, TruthFits}
+use Rattle.odata_types.specs.Input.{IsBounded, IsDay, IsInput, IsOfType, IsRowOf, IsShortLiteral}
+use Rattle.row_eval.specs.Outcome.{date_outcome, decimal_outcome, integer_outcome, text_outcome}
+use Rattle.row_eval.specs.Row.{day_in, decimal_in, integer_in, text_in}
+use Rattle.query_meaning.proofs.SizeLemmas.{AtMost, Sized, fits_of, scaled_sized}
+
+-- ---- sound expressions: of that many nodes, on that row
+
+abbrev pub IntegerSound : List CellValue → IntegerExprOf × ℕ → Type 0
+IntegerSound row p = (p.1 ≤ MOST_SIZE) × IntegersFit p.0 row × Sized (integer_outcome p.0 row) p.1
+
+abbrev pub DecimalSound : List CellValue → DecimalExprOf × ℕ → Type 0
+DecimalSound row p = (p.1 ≤ MOST_SIZE) × DecimalsFit p.0 row × Sized (decimal_outcome p.0 row) p.1
+
+abbrev pub TextSound : List CellValue → ℕ → TextExprOf → Type 0
+TextSound row k e = IfSome (text_outcome e row) (λ t. length t ≤ k * 2 ^ 30)
+
+abbrev pub DateSound : List CellValue → DateExprOf → Type 0
+DateSound row e = IfSome (date_outcome e row) (λ d. IsDay (unsigned_abs d.year) d.month d.day)
+
+abbrev pub Sound : List CellValue → ℕ → TypedExprOf → Type 0
+Sound row k typed.nothing = Unit {0}
+Sound row k (typed.integer e b) = IntegerSound row (e, b)
+Sound row k (typed.text e) = TextSound row k e
+Sound row k (typed.truth e) = TruthFits e row
+Sound row k (typed.date e) = DateSound row e
+Sound row k (typed.decimal e b) = DecimalSound row (e, b)
+
+pub bind : {A B : Type 0} (r : Result A TypeFault) (f : A → Result B TypeFault) (P : A → Type 0) (Q : B → Type 0) → IfOk r P → ((x : A) → P x → IfOk (f x) Q) → IfOk (r >>= f) Q
+bind (Ok x) f P Q p g = g x p
+bind (Err e) f P Q p g = tt
+
+pub if_within : {X : Type 0} (size : ℕ) (x : X) (Q : X → Type 0) → (size ≤ MOST_SIZE → Q x) → IfOk (within size x) Q
+if_within size x Q f = by (nat_le size MOST_SIZE) refl
+  where
+    by : (c : Bool) → nat_le size MOST_SIZE ≡ c → IfOk (if c then Ok x else Err TooLarge) Q
+    by true e = f (leb-true size MOST_SIZE e)
+    by false e = tt
+
+pub always : {X : Type 0} (r : Result X TypeFault) → IfOk r (λ _. Unit {0})
+always (Ok x) = tt
+always (Err e) = tt
+
+pub as_integer_sound : (row : List CellValue) (k : ℕ) (t : TypedExprOf) → Sound row k t → IfOk (as_integer t) (IntegerSound row)
+as_integer_sound row k typed.nothing h = (omega arith, tt, tt)
+as_integer_sound row k (typed.integer e b) h = h
+as_integer_sound row k (typed.text e) h = tt
+as_integer_sound row k (typed.truth e) h = tt
+as_integer_sound row k (typed.date e) h = tt
+as_integer_sound row k (typed.decimal e b) h = tt
+
+pub as_decimal_sound : (row : List CellValue) (k : ℕ) (t : TypedExprOf) → Sound row k t → IfOk (as_decimal t) (DecimalSound row)
+as_decimal_sound row k typed.nothing h = (omega arith, tt, tt)
+as_decimal_sound row k (typed.integer e b) h = if_within (b * MILLIONTHS) (typed.scaled e, b * MILLIONTHS) (DecimalSound row) (λ limit.
+    let s = scaled_sized (integer_outcome e row) b h.2 in (limit, (h.1, fits_of (decimal_outcome (typed.scaled e) row) (b * MILLIONTHS) limit s), s))
+as_decimal_sound row k (typed.text e) h = tt
+as_decimal_sound row k (typed.truth e) h = tt
+as_decimal_sound row k (typed.date e) h = tt
+as_decimal_sound row k (typed.decimal e b) h = h
+
+pub as_text_sound : (row : List CellValue) (k : ℕ) (t : TypedExprOf) → Sound row k t → IfOk (as_text t) (TextSound row k)
+as_text_sound row k typed.nothing h = tt
+as_text_sound row k (typed.integer e b) h = tt
+as_text_sound row k (typed.text e) h = h
+as_text_sound row k (typed.truth e) h = tt
+as_text_sound row k (typed.date e) h = tt
+as_text_sound row k (typed.decimal e b) h = tt
+
+pub as_date_sound : (row : List CellValue) (k : ℕ) (t : TypedExprOf) → Sound row k t → IfOk (as_date t) (DateSound row)
+as_date_sound row k typed.nothing h = tt
+as_date_sound row k (typed.integer e b) h = tt
+as_date_sound row k (typed.text e) h = tt
+as_date_sound row k (typed.truth e) h = tt
+as_date_sound row k (typed.date e) h = h
+as_date_sound row k (typed.decimal e b) h = tt
+
+pub as_truth_sound : (row : List CellValue) (k : ℕ) (t : TypedExprOf) → Sound row k t → IfOk (as_truth t) (λ e. TruthFits e row)
+as_truth_sound row k typed.nothing h = tt
+as_truth_sound row k (typed.integer e b) h = tt
+as_truth_sound row k (typed.text e) h = tt
+as_truth_sound row k (typed.truth e) h = h
+as_truth_sound row k (typed.date e) h = tt
+as_truth_sound row k (typed.decimal e b) h = tt
+
+-- ---- values and columns
+
+pub literal_sound : (row : List CellValue) (v : LiteralOf) → IsShortLiteral v → IfOk (literal_typing v) (Sound row 1)
+literal_sound row tree.null h = tt
+literal_sound row (tree.boolean b) h = tt
+literal_sound row (tree.number n) h = if_within (unsigned_abs n) (typed.integer (typed.integer_literal n) (unsigned_abs n)) (Sound row 1) (λ limit. (limit, tt, omega arith))
+literal_sound row (tree.text t) h = omega (arith, h)
+literal_sound row (tree.date y m d) h = h
+literal_sound row (tree.decimal n) h = if_within (unsigned_abs n) (typed.decimal (typed.decimal_literal n) (unsigned_abs n)) (Sound row 1) (λ limit. (limit, tt, omega arith))
+
+integer_cell : (o : Option CellValue) (b : ℕ) → IfSome o (IsOfType (column.Integer b)) → AtMost b (option_and_then integer_in o)
+integer_cell None b h = tt
+integer_cell (Some cells.null) b h = tt
+integer_cell (Some (cells.integer n)) b h = h
+integer_cell (Some (cells.text t)) b h = tt
+integer_cell (Some (cells.boolean c)) b h = tt
+integer_cell (Some (cells.date y m d)) b h = tt
+integer_cell (Some (cells.decimal n)) b h = tt
+
+decimal_cell : (o : Option CellValue) (b : ℕ) → IfSome o (IsOfType (column.Decimal b)) → AtMost b (option_and_then decimal_in o)
+decimal_cell None b h = tt
+decimal_cell (Some cells.null) b h = tt
+decimal_cell (Some (cells.integer n)) b h = tt
+decimal_cell (Some (cells.text t)) b h = tt
+decimal_cell (Some (cells.boolean c)) b h = tt
+decimal_cell (Some (cells.date y m d)) b h = tt
+decimal_cell (Some (cells.decimal n)) b h = h
+
+text_cell : (o : Option CellValue) → IfSome o (IsOfType column.Text) → IfSome (option_and_then text_in o) (λ t. length t ≤ 1 * 2 ^ 30)
+text_cell None h = tt
+text_cell (Some cells.null) h = tt
+text_cell (Some (cells.integer n)) h = tt
+text_cell (Some (cells.text t)) h = omega (arith, h)
+text_cell (Some (cells.boolean c)) h = tt
+text_cell (Some (cells.date y m d)) h = tt
+text_cell (Some (cells.decimal n)) h = tt
+
+date_cell : (o : Option CellValue) → IfSome o (IsOfType column.Date) → IfSome (option_and_then day_in o) (λ d. IsDay (unsigned_abs d.year) d.month d.day)
+date_cell None h = tt
+date_cell (Some cells.null) h = tt
+date_cell (Some (cells.integer n)) h = tt
+date_cell (Some (cells.text t)) h = tt
+date_cell (Some (cells.boolean c)) h = tt
+date_cell (Some (cells.date y m d)) h = h
+date_cell (Some (cells.decimal n)) h = tt
+
+column_sound : (row : List CellValue) (place : ℕ) (type : ColumnType) → IsBounded type → IfSome (slice_get row place) (IsOfType type) → Sound row 1 (column_expr place type)
+column_sound row place (column.Integer b) limit h = (limit, tt, integer_cell (slice_get row place) b h)
+column_sound row place column.Text limit h = text_cell (slice_get row place) h
+column_sound row place column.Boolean limit h = tt
+column_sound row place column.Date limit h = date_cell (slice_get row place) h
+column_sound row place (column.Decimal b) limit h = (limit, tt, decimal_cell (slice_get row place) b h)
+
+cell_at : (inputs : List InputOf) (row : List CellValue) (place : ℕ) (c : InputOf) → IsInput inputs → IsRowOf inputs row → slice_get inputs place ≡ Some c → IsBounded c.column_type × IfSome (slice_get row place) (IsOfType c.column_type)
+cell_at [] row place c limit h e = absurd (cc)
+cell_at (i ∷ is) [] place c limit h e = absurd h
+cell_at (i ∷ is) (v ∷ vs) zero c limit h e = let same : i ≡ c = cc in rw (← same) (limit.0, h.0)
+cell_at (i ∷ is) (v ∷ vs) (suc place) c limit h e = cell_at is vs place c limit.1 h.1 e
+
+pub name_sound : (inputs : List InputOf) (row : List CellValue) (n : List ℕ) → IsInput inputs → IsRowOf inputs row → IfOk (name_typing inputs n) (Sound row 1)
+name_sound inputs row n limit h = by (slice_get inputs (place_of inputs n)) refl
+  where
+    by : (o : Option InputOf) → slice_get inputs (place_of inputs n) ≡ o → IfOk (column_at (place_of inputs n) o) (Sound row 1)
+    by None e = tt
+    by (Some c) e = let at = cell_at inputs row (place_of inputs n) c limit h e in column_sound row (place_of inputs n) c.column_type at.0 at.1

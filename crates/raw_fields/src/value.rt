@@ -1,0 +1,48 @@
+//! The values of fields as they stand in a file.
+ghost use Rattle.std.specs.Prelude.{◌≡◌, ◌⊎◌, Ok, Err, IfOk, IfErr, IsErrOf};
+ghost use Rattle.cell_types.specs.Value.{value_view};
+ghost use Rattle.cell_types.specs.Cell.{NeedsMemory};
+ghost use Rattle.cell_types.specs.Column.{column_view};
+ghost use Rattle.raw_fields.specs.Raw.{raw_content, raw_view};
+ghost use Rattle.raw_fields.specs.Values.{value_in, value_or_null, HasValue};
+
+use crate::raw::Raw;
+use cell_types::{CellFault, Column, Value, read_text};
+use std::alloc::{AllocError, Global};
+
+/// The value of a field in a column.
+pub fn cell_value<'a>(alloc: Global, column: &Column, raw: Raw<'a>) -> Result<Value<'a>, CellFault>
+    ensures value { IfOk result (λ value.
+        value_in (column_view column.now, raw_view raw.entry) ≡ Ok (value_view value)) }
+    ensures fault { IfErr result (λ e. (e ≡ CellFault.NoMemory)
+        ⊎ (value_in (column_view column.now, raw_view raw.entry) ≡ Err e)) }
+
+    // A copy is made only of a field in which a doubled quote stands, or of a text that must be normalized.
+    ensures memory { IsErrOf result CellFault.NoMemory
+        → (raw_content (raw_view raw.entry) ≡ raw.entry.bytes.now → ⊥)
+        ⊎ NeedsMemory (column_view column.now) (raw_content (raw_view raw.entry)) }
+{
+    match raw.text(alloc) {
+        Ok(text) => read_text(alloc, column, text),
+        Err(_) => Err(CellFault::NoMemory),
+    }
+}
+
+/// The value of a field in a column, which has one there.
+pub fn field_value<'a>(
+    alloc: Global,
+    column: &Column,
+    raw: Raw<'a>,
+) -> Result<Value<'a>, AllocError>
+    requires { HasValue (column_view column.now) (raw_view raw) }
+    ensures { IfOk result (λ value.
+        value_view value ≡ value_or_null (value_in (column_view column.now, raw_view raw.entry))) }
+{
+    match cell_value(alloc, column, raw) {
+        Ok(value) => Ok(value),
+        Err(fault) => match fault {
+            CellFault::NoMemory => Err(AllocError),
+            _ => unreachable!(),
+        },
+    }
+}

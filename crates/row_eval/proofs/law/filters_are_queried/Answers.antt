@@ -1,5 +1,0 @@
-use Rattle.row_eval.proofs.QueryLemmas.{filter_is_queried}
-use Rattle.row_eval.proofs.law.filters_are_queried.Goals as goal
-
-pub returns : goal.returns
-returns c = filter_is_queried

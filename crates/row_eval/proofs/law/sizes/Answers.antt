@@ -1,5 +1,0 @@
-use Rattle.std.proofs.Common.{refl}
-use Rattle.row_eval.proofs.law.sizes.Goals as goal
-
-pub returns : goal.returns
-returns c = record { most = refl; column = refl; function = refl; millionths = refl }

@@ -1,5 +1,0 @@
-use Rattle.row_eval.proofs.RowLemmas.{table_input, table_rows}
-use Rattle.row_eval.proofs.law.tables_are_inputs.Goals as goal
-
-pub returns : goal.returns
-returns c = record { input = table_input; rows = table_rows }

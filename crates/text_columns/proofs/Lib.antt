@@ -1,0 +1,4 @@
+mod ListLemmas
+mod TextLemmas
+mod ReadLemmas
+mod SearchLemmas

@@ -1,0 +1,80 @@
+//! The texts of a column of a block, as they are lent.
+ghost use Rattle.std.specs.Prelude.{◌≡◌, ◌<◌, false, MatchOption, length, slice_index_or};
+ghost use Rattle.cell_types.specs.Value.{null, text as text_cell, value_view};
+
+use crate::places::{Places, count_of, place_at, start_at};
+use cell_types::Value;
+use std::borrow::CowStr;
+use std::marker::Model;
+
+/// The texts and nulls of the rows of a block.
+#[derive(Drop)]
+pub struct TextColumn<'t> {
+    pub(crate) bytes: &'t str,
+    /// Where each text ends.
+    pub(crate) ends: &'t Places,
+    /// Which rows are null; nothing where none is.
+    pub(crate) nulls: &'t [bool],
+}
+
+impl<'t> Model for TextColumn<'t> {
+    ghost use Rattle.std.specs.Prelude.{List};
+    ghost use Rattle.cell_types.specs.Value.{CellValue};
+
+    ghost Value = { List CellValue };
+
+    ghost use Rattle.text_columns.specs.Places.{place_list};
+    ghost use Rattle.text_columns.specs.Texts.{text_block_cells, AreTextBytes};
+
+    ghost view = { λ c. text_block_cells c.nulls.now (place_list c.ends.now) c.bytes.now };
+
+    ghost invariant = { λ c. AreTextBytes c.nulls.now (place_list c.ends.now) c.bytes.now };
+}
+
+/// Whether a row is null; none is, past the end of the marks.
+#[inline(always)]
+pub(crate) fn is_marked(nulls: &[bool], row: usize) -> bool
+    ensures { result ≡ slice_index_or nulls.now row false }
+{
+    match nulls.get(row) {
+        Some(is_null) => *is_null,
+        None => false,
+    }
+}
+
+impl<'t> TextColumn<'t> {
+    /// How many rows there are.
+    #[inline(always)]
+    pub fn len(&self) -> usize
+        ensures { result ≡ length self.now }
+    {
+        count_of(self.ends)
+    }
+
+    /// The text of a row; nothing where it is null.
+    #[inline(always)]
+    pub fn text(&self, row: usize) -> Option<&'t str>
+        requires { row < length self.now }
+        ensures { MatchOption result (slice_index_or self.now row null ≡ null)
+            (λ t. slice_index_or self.now row null ≡ text_cell t.now) }
+    {
+        if is_marked(self.nulls, row) {
+            return None;
+        }
+        let start = start_at(self.ends, row);
+        let end = place_at(self.ends, row);
+        Some(&self.bytes[start..end])
+    }
+
+    /// The value of a row.
+    #[inline(always)]
+    pub fn value(&self, row: usize) -> Value<'t>
+        requires { row < length self.now }
+        ensures { value_view result ≡ slice_index_or self.now row null }
+    {
+        match self.text(row) {
+            Some(text) => Value::Text(CowStr::Borrowed(text)),
+            None => Value::Null,
+        }
+    }
+}

@@ -1,0 +1,26 @@
+-- The cells of a column of numbers, and of one of texts, as they are read.
+use Rattle.std.specs.Prelude.{ℕ, List, [], ◌∷◌, ◌++◌, Option, None, Some}
+use Rattle.block_summary.specs.declared.number.PackedType.{PackedType}
+use Rattle.cell_types.specs.Value.{CellValue, null, text}
+
+-- what the numbers stand for, how many cells there are to be, and those so far
+pub record NumberReaderOf : Type 0 where
+  pub packed_type : PackedType
+  pub rows : ℕ
+  pub cells : List CellValue
+
+pub record TextReaderOf : Type 0 where
+  pub rows : ℕ
+  pub cells : List CellValue
+
+-- one more cell
+abbrev pub numbers_with : NumberReaderOf → CellValue → NumberReaderOf
+numbers_with reader cell = record reader { cells = reader.cells ++ cell ∷ [] }
+
+abbrev pub texts_with : TextReaderOf → CellValue → TextReaderOf
+texts_with reader cell = record reader { cells = reader.cells ++ cell ∷ [] }
+
+-- the cell of a text, or a null
+abbrev pub text_or_null : Option (List ℕ) → CellValue
+text_or_null None = null
+text_or_null (Some t) = text t

@@ -1,0 +1,2 @@
+pub mod TypedTree
+pub mod CanFault

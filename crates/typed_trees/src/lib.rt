@@ -1,0 +1,14 @@
+//! Typed expressions (OData 4.01 URL Conventions, section 5.1.1): a name is the number of a column, and each node belongs to the enum of
+//! its type. The operators of numbers and of comparison, the trees, and which of them may divide by zero.
+#![tactic(auto)]
+
+mod division;
+mod operator;
+mod tree;
+
+pub use division::{can_fault, truth_can_fault};
+pub use operator::{ArithmeticOperator, ComparisonOperator};
+pub use tree::{
+    DateExpr, DatePart, DecimalExpr, IntegerExpr, MILLIONTHS, TextExpr, TextTest, TruthExpr,
+    TypedExpr,
+};

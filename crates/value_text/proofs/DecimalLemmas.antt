@@ -1,0 +1,66 @@
+-- Zeros at the end of digits, and the text with its sign.
+use Rattle.std.proofs.Common.{◌≡◌, Result, Ok, Err, append_assoc, ℕ, ℤ, pos, negsuc, ◌<ℤ◌, ◌≤ℤ◌, ◌+◌, ◌-◌, ◌<◌, ◌≤◌, ◌&&◌, Bool, true, false, cond, List, [], ◌∷◌, ◌++◌, length, get_or, take, refl, sym, ap, ap₂, ◌∙◌, arith}
+use Rattle.std.specs.List.{list_all}
+use Rattle.std.proofs.lemmas.Bool.{false_from_ne_true, eqb-true}
+use Rattle.std.proofs.lemmas.List.{take_more}
+use Rattle.std.proofs.lemmas.List.Folds.{list_all-append}
+use Rattle.std.specs.Prelude.{OnOk, unsigned_abs}
+use Rattle.std.proofs.lemmas.Int.{ints}
+use Rattle.cell_types.specs.Decimal.{decimal_text, is_zero, millionths_text, without_last_zeros}
+
+and-true : (b : Bool) → (b && true) ≡ b
+and-true true = refl
+and-true false = refl
+
+and-false : (b : Bool) → (b && false) ≡ false
+and-false true = refl
+and-false false = refl
+
+all_zeros : (ds : List ℕ) (d : ℕ) (b : Bool) → is_zero d ≡ b → list_all is_zero (ds ++ d ∷ []) ≡ (list_all is_zero ds && b)
+all_zeros ds d b e = list_all-append is_zero ds (d ∷ []) ∙ ap (λ t. list_all is_zero ds && t) (and-true (is_zero d) ∙ e)
+
+-- one zero more at the end changes nothing
+zero_left_out : (ds : List ℕ) → without_last_zeros (ds ++ 48 ∷ []) ≡ without_last_zeros ds
+zero_left_out [] = refl
+zero_left_out (d ∷ ds) =
+    ap₂ (λ b rest. cond (is_zero d && b) [] (d ∷ rest)) (all_zeros ds 48 true refl ∙ and-true (list_all is_zero ds)) (zero_left_out ds)
+
+-- after another digit none is left out
+last_kept : (ds : List ℕ) (d : ℕ) → is_zero d ≡ false → without_last_zeros (ds ++ d ∷ []) ≡ ds ++ d ∷ []
+last_kept [] d other = ap (λ b. cond (b && true) [] (d ∷ [])) other
+last_kept (x ∷ ds) d other =
+    ap₂ (λ b rest. cond b [] (x ∷ rest)) (ap (λ b. is_zero x && b) (all_zeros ds d false other ∙ and-false (list_all is_zero ds)) ∙ and-false (is_zero x)) (last_kept ds d other)
+
+taken : (ds : List ℕ) (n : ℕ) → 0 < n → n ≤ length ds → take n ds ≡ take (n - 1) ds ++ get_or ds (n - 1) 0 ∷ []
+taken ds n some le = let e : n - 1 + 1 ≡ n = omega arith in ap (λ k. take k ds) (sym e) ∙ take_more ds (n - 1) 0 (omega arith)
+
+pub without-zero : (ds rest : List ℕ) (n : ℕ) → 0 < n → n ≤ length ds → get_or ds (n - 1) 0 ≡ 48 → without_last_zeros (take n ds) ≡ rest → without_last_zeros (take (n - 1) ds) ≡ rest
+without-zero ds rest n some le zero is =
+    sym (zero_left_out (take (n - 1) ds)) ∙ ap (λ d. without_last_zeros (take (n - 1) ds ++ d ∷ [])) (sym zero) ∙ ap without_last_zeros (sym (taken ds n some le)) ∙ is
+
+pub without-other : (ds rest : List ℕ) (n : ℕ) → 0 < n → n ≤ length ds → (get_or ds (n - 1) 0 ≡ 48 → ⊥) → without_last_zeros (take n ds) ≡ rest → take n ds ≡ rest
+without-other ds rest n some le other is =
+    let no : is_zero (get_or ds (n - 1) 0) ≡ false = false_from_ne_true _ (λ t. other (eqb-true (get_or ds (n - 1) 0) 48 t)) in
+    let e = taken ds n some le in
+    e ∙ sym (last_kept (take (n - 1) ds) (get_or ds (n - 1) 0) no) ∙ ap without_last_zeros (sym e) ∙ is
+
+pub without-none : (ds rest : List ℕ) (n : ℕ) → n ≤ 0 → without_last_zeros (take n ds) ≡ rest → take n ds ≡ rest
+without-none ds rest n none is = let zero : n ≡ 0 = omega arith in ap (λ k. take k ds) zero ∙ ap (λ k. without_last_zeros (take k ds)) (sym zero) ∙ is
+
+-- ---- the sign
+
+pub text-negative : (z : ℤ) → z <ℤ pos 0 → decimal_text z ≡ 45 ∷ millionths_text (unsigned_abs z)
+unfolding decimal_text
+text-negative (pos n) below = absurd (omega (arith, ints, below))
+text-negative (negsuc n) below = refl
+
+pub text-other : (z : ℤ) → pos 0 ≤ℤ z → decimal_text z ≡ millionths_text (unsigned_abs z)
+unfolding decimal_text
+text-other (pos n) above = refl
+text-other (negsuc n) above = absurd (omega (arith, ints, above))
+
+-- what is appended in two parts
+pub appended : {T E : Type 0} (r : Result T E) (old mid new front back text : List ℕ) → mid ≡ old ++ front → OnOk r (new ≡ mid ++ back) → text ≡ front ++ back
+    → OnOk r (new ≡ old ++ text)
+appended (Ok x) old mid new front back text e h is = h ∙ ap (λ xs. xs ++ back) e ∙ append_assoc old front back ∙ ap (λ xs. old ++ xs) (sym is)
+appended (Err x) old mid new front back text e h is = tt
