@@ -4,6 +4,7 @@ pub mod TextLemmas
 pub mod PartLemmas
 pub mod DateLemmas
 pub mod ListLemmas
+pub mod CodeLemmas
 pub mod TruthLemmas
 pub mod ArithmeticLemmas
 pub mod BoundLemmas

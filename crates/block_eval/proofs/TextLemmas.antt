@@ -43,17 +43,3 @@ related-gives r f g cs wanted a b ts left right is = record {
 -- a truth of two texts that are known under other names
 pub of-lanes : (r : TextRelation) {x y a b : Option (List ℕ)} (t : Truth) → t ≡ related r x y → x ≡ a → y ≡ b → t ≡ related r a b
 of-lanes r {x} {y} {a} {b} t e f g = e ∙ ap (λ z. related r z y) f ∙ ap (related r a) g
-
--- the truths of one search are those of each row
-pub search-relates : (texts : Bor (List CellValue)) (part : Bor (List ℕ)) (wanted : List Bool) (ts : List Truth) → length texts.now ≡ length wanted
-    → HasTruths (length texts.now) (λ row. related (Test Contains) (text_in (get_or texts.now row null)) (Some part.now)) ts → AreRelated (Test Contains) (Cells texts) (Same part) wanted ts
-search-relates texts part wanted ts size has = record {
-  each = λ row h w. let within : row < length texts.now = omega (arith, h, size) in has.each row within;
-  long = has.long ∙ size;
-}
-
--- of vectors that are known under other names
-pub of-vectors : (r s : TextRelation) (left right a b : Texts) (wanted : List Bool) (ts : List Truth) → r ≡ s → left ≡ a → right ≡ b → AreRelated s a b wanted ts
-    → AreRelated r left right wanted ts
-of-vectors r s left right a b wanted ts e f g is =
-    subst (λ x. AreRelated x left right wanted ts) (sym e) (subst (λ x. AreRelated s x right wanted ts) (sym f) (subst (λ x. AreRelated s a x wanted ts) (sym g) is))

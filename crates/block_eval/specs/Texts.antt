@@ -14,7 +14,7 @@ use Rattle.block_eval.specs.declared.columns.Column.{Column}
 use Rattle.block_eval.specs.declared.relation.TextRelation.{TextRelation}
 use Rattle.block_eval.specs.declared.relation.TextRelation.TheVariants.{Comparison, Test}
 use Rattle.block_eval.specs.declared.texts.Texts.{Texts}
-use Rattle.block_eval.specs.declared.texts.Texts.TheVariants.{Cells, Null, Same}
+use Rattle.block_eval.specs.declared.texts.Texts.TheVariants.{Cells, Null, Rows, Same}
 use Rattle.block_eval.specs.Columns.{IsRowAt}
 use Rattle.block_eval.specs.Lanes.{truth_lane, IsWanted}
 
@@ -26,11 +26,13 @@ abbrev pub text_lane : Texts → ℕ → Option (List ℕ)
 text_lane Null row = None
 text_lane (Same t) row = Some t.now
 text_lane (Cells texts) row = text_at texts.now row
+text_lane (Rows texts rows) row = text_at texts.now (slice_index_or rows.now row 0)
 
 abbrev pub AreTextsLong : ℕ → Texts → Type 0
 AreTextsLong rows Null = Unit {0}
 AreTextsLong rows (Same t) = Unit {0}
 AreTextsLong rows (Cells texts) = length texts.now ≡ rows
+AreTextsLong rows (Rows texts those) = (length those.now ≡ rows) × ((i : ℕ) → i < rows → slice_index_or those.now i 0 < length texts.now)
 
 -- for each wanted row the lane is what f makes of its cells
 pub record GivesTexts (f : List CellValue → Option (List ℕ)) (columns : List Column) (wanted : List Bool) (v : Texts) : Type 0 where
@@ -52,6 +54,11 @@ marked_truth mark text = truth_of_option (option_map (λ t. mark) text)
 -- on each wanted row, what a relation says of the texts of two vectors
 pub record AreRelated (r : TextRelation) (left right : Texts) (wanted : List Bool) (truths : List Truth) : Type 0 where
   pub each : (row : ℕ) → row < length wanted → IsWanted wanted row → truth_lane truths row ≡ related r (text_lane left row) (text_lane right row)
+  pub long : length truths ≡ length wanted
+
+-- on each wanted row, what a relation says of the text of a column and one text
+pub record AreRelatedTo (r : TextRelation) (cells : List CellValue) (right : List ℕ) (wanted : List Bool) (truths : List Truth) : Type 0 where
+  pub each : (row : ℕ) → row < length wanted → IsWanted wanted row → truth_lane truths row ≡ related r (text_at cells row) (Some right)
   pub long : length truths ≡ length wanted
 
 -- on each wanted row, whether the text of a vector is one of a list

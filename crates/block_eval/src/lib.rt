@@ -5,6 +5,7 @@
 mod block;
 mod bounded;
 mod bounds;
+mod codes;
 mod columns;
 mod comparison;
 mod dates;

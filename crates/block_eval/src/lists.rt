@@ -4,13 +4,15 @@
 ghost use Rattle.std.specs.Prelude.{◌≡◌, ◌<◌, ℕ, Option, IfOk, IsTrue, length, map, option_map};
 ghost use Rattle.std.specs.Cmp.Lexicographic.{slice_cmp};
 ghost use Rattle.std.specs.Ordering.{int_cmp, nat_cmp};
+ghost use Rattle.text_columns.specs.Codes.{AreCodes};
 ghost use Rattle.typed_trees.specs.TypedTree.{date_in as date_in_of, date_view, decimal_in as decimal_in_of, decimal_view, integer_in as integer_in_of, integer_view, optional_day, optional_text, text_in as text_in_of, text_view};
 ghost use Rattle.row_eval.specs.Comparison.{is_among};
 ghost use Rattle.row_eval.specs.Logic.{greatest, truth_of as truth_of_bool};
 ghost use Rattle.block_eval.specs.Dates.{day_of};
 ghost use Rattle.block_eval.specs.Lanes.{comparison, number_lane, truth_lane, AreLong, AreOutcomes, HasTruths, IsWanted};
-ghost use Rattle.block_eval.specs.Texts.{text_lane, AreAmong, AreTextsLong};
+ghost use Rattle.block_eval.specs.Texts.{text_at, text_lane, AreAmong, AreTextsLong};
 
+use crate::codes::spread;
 use crate::columns::Column;
 use crate::dates::{eval_dates, number_of};
 use crate::numbers::{eval_decimals, eval_integers};
@@ -20,6 +22,7 @@ use block_lanes::{Fallback, Numbers, compare, disjunction};
 use jiff::civil::Date;
 use row_eval::{Truth, truth_of};
 use std::alloc::Global;
+use text_columns::{TextCodes, TextColumn};
 use typed_trees::{ComparisonOperator, DateExpr, DecimalExpr, IntegerExpr, TextExpr};
 
 /// An item on each row.
@@ -222,8 +225,8 @@ fn among_each(texts: Texts<'_>, items: &[Option<String>], wanted: &[bool], out: 
     }
 }
 
-/// Which texts of the wanted rows are in a list, in a list of its own.
-fn texts_among(
+/// Which texts of the wanted rows are in a list, in a list of its own, one text after another.
+fn among_texts(
     alloc: Global,
     texts: Texts<'_>,
     items: &[Option<String>],
@@ -235,6 +238,46 @@ fn texts_among(
 {
     let mut truths = Vec::from_elem(alloc, Truth::False, wanted.len())?;
     among_each(texts, items, wanted, truths.as_mut_slice());
+    Ok(truths)
+}
+
+/// Which texts of a block with codes are in a list. It is asked once for each code.
+fn among_codes<'a>(
+    alloc: Global,
+    texts: &'a TextColumn<'a>,
+    codes: &'a TextCodes,
+    items: &[Option<String>],
+) -> Result<Vec<Truth>, Fallback>
+    requires { AreCodes codes.now texts.now }
+    ensures { IfOk result (λ truths. HasTruths (length texts.now)
+        (λ row. truth_of_bool (is_among (slice_cmp nat_cmp) (text_at texts.now row)
+        (map optional_text items.now))) truths.items) }
+{
+    let wanted = Vec::from_elem(alloc, true, codes.rows.len())?;
+    let rows = Texts::Rows(texts, codes.rows.as_slice());
+    let answers = among_texts(alloc, rows, items, wanted.as_slice())?;
+    let truths = spread(alloc, codes.codes.as_slice(), answers.as_slice())?;
+    Ok(truths)
+}
+
+/// Which texts of the wanted rows are in a list, in a list of its own.
+fn texts_among(
+    alloc: Global,
+    texts: Texts<'_>,
+    items: &[Option<String>],
+    wanted: &[bool],
+) -> Result<Vec<Truth>, Fallback>
+    requires { AreTextsLong (length wanted.now) texts }
+    ensures { IfOk result
+        (λ truths. AreAmong texts.entry (map optional_text items.now) wanted.now truths.items) }
+{
+    if let Texts::Cells(column) = texts {
+        if let Some(codes) = column.codes() {
+            let truths = among_codes(alloc, column, codes, items)?;
+            return Ok(truths);
+        }
+    }
+    let truths = among_texts(alloc, texts, items, wanted)?;
     Ok(truths)
 }
 

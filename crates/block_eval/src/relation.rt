@@ -1,14 +1,16 @@
 //! What a comparison, `contains`, `startswith` and `endswith` say of texts on the wanted rows of a block. Texts are ordered by code points,
 //! as their bytes are.
 
-ghost use Rattle.std.specs.Prelude.{◌≡◌, ◌<◌, ℕ, IfOk, IsTrue, length, option_map};
+ghost use Rattle.std.specs.Prelude.{◌≡◌, ◌<◌, ℕ, Some, IfOk, IsTrue, length, option_map};
 ghost use Rattle.std.specs.Cmp.Lexicographic.{slice_cmp};
 ghost use Rattle.std.specs.Ordering.{nat_cmp};
+ghost use Rattle.text_columns.specs.Codes.{AreCodes};
 ghost use Rattle.typed_trees.specs.TypedTree.{compare_texts as texts_compared, test_text as text_tested, text_view};
 ghost use Rattle.row_eval.specs.Comparison.{compared, holds as holds_of, is_equal};
-ghost use Rattle.block_eval.specs.Lanes.{truth_lane, AreOutcomes, IsWanted};
-ghost use Rattle.block_eval.specs.Texts.{related, text_lane, AreRelated, AreTextsLong};
+ghost use Rattle.block_eval.specs.Lanes.{truth_lane, AreOutcomes, HasTruths, IsWanted};
+ghost use Rattle.block_eval.specs.Texts.{related, text_at, text_lane, AreRelated, AreRelatedTo, AreTextsLong};
 
+use crate::codes::spread;
 use crate::columns::Column;
 use crate::search::contain;
 use crate::texts::{Texts, eval_texts};
@@ -16,6 +18,7 @@ use block_lanes::Fallback;
 use row_eval::{Truth, holds, text_passes, truth_of};
 use std::alloc::Global;
 use std::cmp::Ordering;
+use text_columns::{TextCodes, TextColumn};
 use typed_trees::{ComparisonOperator, TextExpr, TextTest};
 
 /// What two texts are asked for.
@@ -141,8 +144,57 @@ fn relate_texts(
     Ok(truths)
 }
 
-/// What a relation says of texts, on the wanted rows, in a list of its own. A part that is the same on each row is sought in all texts of a column at once, also
+/// What a relation says of the texts of a block with codes and one text. It is asked once for each code.
+fn relate_codes<'a>(
+    alloc: Global,
+    relation: TextRelation,
+    texts: &'a TextColumn<'a>,
+    codes: &'a TextCodes,
+    right: &str,
+) -> Result<Vec<Truth>, Fallback>
+    requires { AreCodes codes.now texts.now }
+    ensures { IfOk result (λ truths. HasTruths (length texts.now)
+        (λ row. related relation (text_at texts.now row) (Some right.now)) truths.items) }
+{
+    let wanted = Vec::from_elem(alloc, true, codes.rows.len())?;
+    let left = Texts::Rows(texts, codes.rows.as_slice());
+    let right = Texts::Same(right);
+    let answers = relate_texts(alloc, relation, left, right, wanted.as_slice())?;
+    let truths = spread(alloc, codes.codes.as_slice(), answers.as_slice())?;
+    Ok(truths)
+}
+
+/// What a relation says of the texts of a column and one text, on the wanted rows, in a list of its own. Without codes a part is sought in all texts at once, also
 /// where few rows are wanted: to pass over the others costs as much.
+fn relate_column<'a>(
+    alloc: Global,
+    relation: TextRelation,
+    texts: &'a TextColumn<'a>,
+    right: &str,
+    wanted: &[bool],
+) -> Result<Vec<Truth>, Fallback>
+    requires { length texts.now ≡ length wanted.now }
+    ensures { IfOk result (λ truths.
+        AreRelatedTo relation texts.now right.now wanted.now truths.items) }
+{
+    if let Some(codes) = texts.codes() {
+        let truths = relate_codes(alloc, relation, texts, codes, right)?;
+        return Ok(truths);
+    }
+    match relation {
+        TextRelation::Test(TextTest::Contains) => {
+            let truths = contain(alloc, texts, right)?;
+            Ok(truths)
+        }
+        _ => {
+            let left = Texts::Cells(texts);
+            let truths = relate_texts(alloc, relation, left, Texts::Same(right), wanted)?;
+            Ok(truths)
+        }
+    }
+}
+
+/// What a relation says of texts, on the wanted rows, in a list of its own.
 fn relate(
     alloc: Global,
     relation: TextRelation,
@@ -155,9 +207,9 @@ fn relate(
     ensures { IfOk result
         (λ truths. AreRelated relation left.entry right.entry wanted.now truths.items) }
 {
-    match (relation, left, right) {
-        (TextRelation::Test(TextTest::Contains), Texts::Cells(texts), Texts::Same(part)) => {
-            let truths = contain(alloc, texts, part)?;
+    match (left, right) {
+        (Texts::Cells(texts), Texts::Same(text)) => {
+            let truths = relate_column(alloc, relation, texts, text, wanted)?;
             Ok(truths)
         }
         _ => {

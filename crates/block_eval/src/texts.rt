@@ -21,6 +21,8 @@ pub enum Texts<'a> {
     Same(&'a str),
     /// The texts of a column and its nulls.
     Cells(&'a TextColumn<'a>),
+    /// The texts of some rows of a column and their nulls.
+    Rows(&'a TextColumn<'a>, &'a [usize]),
 }
 
 impl<'a> Texts<'a> {
@@ -34,6 +36,7 @@ impl<'a> Texts<'a> {
             Texts::Null => None,
             Texts::Same(text) => Some(text),
             Texts::Cells(texts) => texts.text(row),
+            Texts::Rows(texts, rows) => texts.text(rows[row]),
         }
     }
 }

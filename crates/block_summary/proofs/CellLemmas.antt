@@ -48,7 +48,7 @@ number_at [] (x ∷ vs) (suc i) v e = let r = number_at [] vs i v e in (omega (a
 number_at (n ∷ ns) (x ∷ vs) zero v e = let r = cell-some n x v e in (omega arith, r.0, r.1)
 number_at (n ∷ ns) (x ∷ vs) (suc i) v e = let r = number_at ns vs i v e in (omega (arith, r.0), r.1, r.2)
 
-sums-at : (least : ℤ) (offsets : List ℕ) (i : ℕ) → i < length offsets → get_or (sums least offsets) i (pos 0) ≡ least +ℤ pos (get_or offsets i 0)
+pub sums-at : (least : ℤ) (offsets : List ℕ) (i : ℕ) → i < length offsets → get_or (sums least offsets) i (pos 0) ≡ least +ℤ pos (get_or offsets i 0)
 sums-at least offsets i h = get_or-map (λ offset. least +ℤ pos offset) offsets i 0 (pos 0) h
 
 pub length-cells : (nulls : List Bool) (least : ℤ) (offsets : List ℕ) → length (cells_of nulls (sums least offsets)) ≡ length offsets

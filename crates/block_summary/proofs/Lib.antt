@@ -1,12 +1,13 @@
 mod BoundLemmas
 mod BufferLemmas
 mod CellLemmas
-mod LaneLemmas
-mod OffsetLemmas
+mod MarkLemmas
 mod OrderLemmas
 mod RangeLemmas
 mod ReadingLemmas
 mod SkipLemmas
+mod SpanLemmas
+mod TotalLemmas
 mod TypeLemmas
 mod WidenLemmas
 pub mod OneRangeLemmas

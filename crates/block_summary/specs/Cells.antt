@@ -1,5 +1,6 @@
 -- The cells of a column of integers.
-use Rattle.std.specs.Prelude.{◌≡◌, ◌⊎◌, MatchOption, ℕ, ℤ, pos, Bool, true, false, List, [], ◌∷◌, Option, None, Some, ◌<◌, ◌^◌, ◌+ℤ◌, ◌≤ℤ◌, ◌<ℤ◌, length, map, slice_index_or}
+pub use Rattle.offset_lanes.specs.Offsets.{AreBelow, AreOffsets, AreSums, AreWithin}
+use Rattle.std.specs.Prelude.{◌≡◌, ◌⊎◌, MatchOption, ℕ, ℤ, pos, Bool, true, false, List, [], ◌∷◌, Option, None, Some, ◌+ℤ◌, ◌≤ℤ◌, length, map, slice_index_or}
 use Rattle.block_summary.specs.declared.bounds.Bounds.{Bounds}
 
 -- a number, or null
@@ -17,10 +18,6 @@ cells_of (n ∷ ns) (v ∷ vs) = number_or_null n v ∷ cells_of ns vs
 abbrev pub sums : ℤ → List ℕ → List ℤ
 sums least offsets = map (λ offset. least +ℤ pos offset) offsets
 
--- each of these numbers is below 2^63
-abbrev pub AreBelow : ℤ → List ℕ → Type 0
-AreBelow least offsets = (i : ℕ) → i < length offsets → (least +ℤ pos (slice_index_or offsets i 0)) <ℤ pos (2 ^ 63)
-
 -- the numbers of the rows lie between two numbers
 abbrev pub AreBetween : ℤ → ℤ → List (Option ℤ) → Type 0
 AreBetween least greatest cells =
@@ -36,17 +33,6 @@ pub record AreBounds (least greatest : ℤ) (cells : List (Option ℤ)) : Type 0
 abbrev pub AreNull : List (Option ℤ) → Type 0
 AreNull cells = (i : ℕ) → slice_index_or cells i None ≡ None
 
--- the values lie between two numbers, where they are no null
-abbrev pub AreWithin : ℤ → ℤ → List Bool → List ℤ → Type 0
-AreWithin least greatest nulls values =
-    (i : ℕ) → i < length values → slice_index_or nulls i false ≡ false → (least ≤ℤ slice_index_or values i (pos 0)) × (slice_index_or values i (pos 0) ≤ℤ greatest)
-
--- from the least number the offset of each row leads to its value, and to no number above the greatest
-pub record AreOffsets (least greatest : ℤ) (nulls : List Bool) (values : List ℤ) (offsets : List ℕ) : Type 0 where
-  pub long : length offsets ≡ length values
-  pub bound : (i : ℕ) → i < length offsets → (least +ℤ pos (slice_index_or offsets i 0)) ≤ℤ greatest
-  pub each : (i : ℕ) → i < length offsets → slice_index_or nulls i false ≡ false → least +ℤ pos (slice_index_or offsets i 0) ≡ slice_index_or values i (pos 0)
-
 -- the bounds of the rows, where some row has a number
 abbrev pub HaveBounds : Option Bounds → List (Option ℤ) → Type 0
 HaveBounds bounds cells = MatchOption bounds (AreNull cells) (λ b. AreBounds b.least b.greatest cells)
@@ -54,10 +40,6 @@ HaveBounds bounds cells = MatchOption bounds (AreNull cells) (λ b. AreBounds b.
 -- the number of each row that has one stands in its place
 abbrev pub AreUnpacked : List (Option ℤ) → List ℤ → Type 0
 AreUnpacked cells out = (i : ℕ) (value : ℤ) → slice_index_or cells i None ≡ Some value → slice_index_or out i (pos 0) ≡ value
-
--- each number is the sum of the least one and an offset
-abbrev pub AreSums : ℤ → List ℕ → List ℤ → Type 0
-AreSums least offsets out = (i : ℕ) → i < length out → slice_index_or out i (pos 0) ≡ least +ℤ pos (slice_index_or offsets i 0)
 
 -- marks of nulls that are kept in place of others: none, where none is set
 pub record AreMarks (nulls kept : List Bool) : Type 0 where

@@ -1,5 +1,4 @@
 pub mod Cells
-pub mod Offsets
 pub mod Types
 pub mod Ranges
 pub mod Blocks
@@ -7,4 +6,6 @@ pub mod Reading
 pub mod Rows
 pub mod TextRange
 pub mod Tests
+pub mod Passing
+pub mod Sums
 pub mod Laws

@@ -1,13 +1,19 @@
 //! The integers of one column of a block.
 
-ghost use Rattle.std.specs.Prelude.{◌≡◌, ◌≤ℤ◌, false, None, IfOk, length, map, slice_index_or};
+ghost use Rattle.std.specs.Prelude.{◌≡◌, ◌<◌, ◌≤ℤ◌, ℕ, false, None, IfOk, length, map, slice_index_or};
 ghost use Rattle.std.specs.List.{count_by};
 ghost use Rattle.std.specs.Option.{is_none};
 ghost use Rattle.block_summary.specs.Cells.{cells_of, AreMarks, AreUnpacked, AreWithin, HaveBounds};
+ghost use Rattle.block_summary.specs.Passing.{lies_between, number_passes};
+ghost use Rattle.block_summary.specs.Sums.{number_sum};
 
 use crate::bounds::Bounds;
-use crate::lanes::{bounds_of, null_count_of, sum_of};
-use crate::offsets::{Offsets, add_each, offset_at, offsets_of, rows_of};
+use crate::lanes::{bounds_of, null_count_of, total_of};
+use crate::span::{is_turned, span_of};
+use crate::test::Comparison;
+use offset_lanes::{
+    Offsets, add_each, mark_each, offset_at, offsets_of, rows_of, sum_of, turn_each, unmark_nulls,
+};
 use std::alloc::{AllocError, Global};
 use std::marker::Model;
 
@@ -16,6 +22,8 @@ use std::marker::Model;
 pub struct Integers {
     bounds: Option<Bounds>,
     null_count: usize,
+    /// The sum of the integers.
+    sum: i128,
     /// What the offsets are added to.
     least: i64,
     /// Which rows are null; nothing where none is.
@@ -28,7 +36,8 @@ impl Model for Integers {
     ghost use Rattle.std.specs.List.{count_by};
     ghost use Rattle.std.specs.Option.{is_none};
     ghost use Rattle.block_summary.specs.Cells.{cells_of, sums, AreBelow, HaveBounds};
-    ghost use Rattle.block_summary.specs.Offsets.{offset_list};
+    ghost use Rattle.offset_lanes.specs.OffsetList.{offset_list};
+    ghost use Rattle.block_summary.specs.Sums.{number_sum};
 
     ghost Value = { List (Option ℤ) };
 
@@ -37,7 +46,8 @@ impl Model for Integers {
     ghost invariant = { λ c. AreBelow c.least (offset_list c.offsets)
         × ((c.nulls.items ≡ []) ⊎ (length c.nulls.items ≡ length (offset_list c.offsets)))
         × HaveBounds c.bounds (cells_of c.nulls.items (sums c.least (offset_list c.offsets)))
-        × (c.null_count ≡ count_by is_none (cells_of c.nulls.items (sums c.least (offset_list c.offsets)))) };
+        × (c.null_count ≡ count_by is_none (cells_of c.nulls.items (sums c.least (offset_list c.offsets))))
+        × (c.sum ≡ number_sum (cells_of c.nulls.items (sums c.least (offset_list c.offsets)))) };
 }
 
 /// The marks of nulls that are kept: none, where no row is null.
@@ -78,11 +88,13 @@ fn kept(
     ensures { IfOk result (λ column. column ≡ cells_of nulls.now values.now) }
 {
     let null_count = null_count_of(nulls);
+    let sum = total_of(values, nulls);
     let nulls_kept = kept_nulls(alloc, nulls, null_count)?;
     let offsets = offsets_of(alloc, least, greatest, values, nulls)?;
     Ok(Integers {
         bounds,
         null_count,
+        sum,
         least,
         nulls: nulls_kept,
         offsets,
@@ -161,5 +173,40 @@ impl Integers {
         ensures { result ≡ count_by is_none self.now }
     {
         self.null_count
+    }
+
+    /// The sum of the numbers; nulls are passed over.
+    pub fn sum(&self) -> i128
+        ensures { result ≡ number_sum self.now }
+    {
+        self.sum
+    }
+
+    /// Marks the rows whose numbers lie between two: the offsets are looked at as they are kept.
+    fn mark_between(&self, bounds: Bounds, out: &mut [bool])
+        requires { length out.old ≡ length self.now }
+        ensures { (i : ℕ) → i < length out.new → slice_index_or out.new i false
+            ≡ lies_between bounds (slice_index_or self.now i None) }
+    {
+        if bounds.greatest < self.least {
+            out.fill(false);
+            return;
+        }
+        let low = bounds.least.max(self.least).abs_diff(self.least);
+        let high = bounds.greatest.abs_diff(self.least);
+        mark_each(&self.offsets, low, high, out);
+        unmark_nulls(self.nulls.as_slice(), out);
+    }
+
+    /// Marks the rows whose numbers pass a comparison with a literal.
+    pub fn mark_passing(&self, op: Comparison, literal: i64, out: &mut [bool])
+        requires { length out.old ≡ length self.now }
+        ensures { out.new ≡ map (number_passes op literal) self.now }
+    {
+        let _least = self.least;
+        self.mark_between(span_of(op, literal), out);
+        if is_turned(op) {
+            turn_each(out);
+        }
     }
 }

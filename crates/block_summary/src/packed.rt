@@ -5,11 +5,14 @@ ghost use Rattle.std.specs.List.{count_by};
 ghost use Rattle.cell_types.specs.Value.{null, value_view};
 ghost use Rattle.block_summary.specs.Cells.{AreUnpacked, HaveBounds};
 ghost use Rattle.block_summary.specs.Ranges.{is_null, HasGreatest, HasLeast};
-ghost use Rattle.block_summary.specs.Types.{numbers_of, number_cells, AreNumbersOf};
+ghost use Rattle.block_summary.specs.Passing.{number_passes};
+ghost use Rattle.block_summary.specs.Sums.{number_sum};
+ghost use Rattle.block_summary.specs.Types.{cells_of_type, numbers_of, number_cells, AreNumbersOf};
 
 use crate::bounds::Bounds;
 use crate::integers::Integers;
 use crate::number::{PackedType, typed_value};
+use crate::test::Comparison;
 use cell_types::Value;
 use std::alloc::{AllocError, Global};
 use std::marker::Model;
@@ -120,5 +123,27 @@ impl PackedColumn {
         ensures { result ≡ count_by is_null self.now }
     {
         self.numbers.null_count()
+    }
+
+    /// What the numbers stand for; of nulls alone, any.
+    pub fn packed_type(&self) -> PackedType
+        ensures { cells_of_type result (numbers_of self.now) ≡ self.now }
+    {
+        self.packed_type
+    }
+
+    /// The sum of the numbers; nulls are passed over.
+    pub fn sum(&self) -> i128
+        ensures { result ≡ number_sum (numbers_of self.now) }
+    {
+        self.numbers.sum()
+    }
+
+    /// Marks the rows whose numbers pass a comparison with a literal, and no others. No number is unpacked.
+    pub fn mark_passing(&self, op: Comparison, literal: i64, out: &mut [bool])
+        requires { length out.old ≡ length self.now }
+        ensures { out.new ≡ map (number_passes op literal) (numbers_of self.now) }
+    {
+        self.numbers.mark_passing(op, literal, out);
     }
 }

@@ -1,5 +1,6 @@
 pub mod Bytes
 pub mod Records
+pub mod Raw
 pub mod Faults
 pub mod Files
 pub mod Structure

@@ -6,7 +6,7 @@ use Rattle.std.proofs.lemmas.List.{get_or_at, take_at, length_push}
 use Rattle.std.proofs.lemmas.Str.{IsUtf8-take, IsUtf8-drop, IsCharBoundary-before_ascii, IsCharBoundary-after_ascii}
 use Rattle.csv_grammar.specs.Bytes.{double_quote, comma, carriage_return, line_feed}
 use Rattle.csv_grammar.specs.Records.{Field, unquoted, quoted, is_plain, doubled, print_field, IsField}
-use Rattle.raw_fields.specs.Raw.{raw_of}
+use Rattle.csv_grammar.specs.Raw.{raw_of}
 use Rattle.csv_index.specs.Between.{without_return, unwrapped, raw_between}
 
 -- ---- what a plain byte is not

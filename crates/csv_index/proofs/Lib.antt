@@ -15,3 +15,6 @@ pub mod ReadingLemmas
 pub mod StructureLemmas
 pub mod Tables
 pub mod FindLemmas
+pub mod PartLemmas
+pub mod PartPlaces
+pub mod PartRests

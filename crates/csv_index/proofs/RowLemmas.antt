@@ -6,9 +6,9 @@ use Rattle.std.specs.Option.{option_and_then}
 use Rattle.csv_grammar.specs.Records.{Field}
 use Rattle.csv_grammar.specs.Files.{HasWidth, IsTable}
 use Rattle.raw_fields.specs.Laws.{FieldsStandSo}
-use Rattle.raw_fields.specs.Raw.{RawField, raw_of, field_of}
+use Rattle.csv_grammar.specs.Raw.{RawField, raw_of, field_of}
 use Rattle.csv_index.specs.Between.{raw_between}
-use Rattle.raw_fields.specs.Raw.{RawTable}
+use Rattle.csv_grammar.specs.Raw.{RawTable}
 use Rattle.csv_index.specs.Index.{raw_table, Places, cut, raws, rows_cut, row_fields, table_in, cell_at, FitsFile, IsRawTable}
 
 -- there is a field for each place
@@ -30,7 +30,7 @@ slice_get-take (suc n) [] i h = refl
 slice_get-take (suc n) (x ∷ xs) zero h = refl
 slice_get-take (suc n) (x ∷ xs) (suc i) h = slice_get-take n xs i (omega arith)
 
-length-rows_of : (n width : ℕ) (fields : List RawField) → length (rows_cut n width fields) ≡ n
+pub length-rows_of : (n width : ℕ) (fields : List RawField) → length (rows_cut n width fields) ≡ n
 length-rows_of zero width fields = refl
 length-rows_of (suc n) width fields = ap suc (length-rows_of n width (drop width fields))
 
@@ -43,6 +43,13 @@ slice_get-rows_of (suc n) width fields (suc row) h =
     let e : width + row * width ≡ suc row * width = omega arith in
     slice_get-rows_of n width (drop width fields) row (omega arith)
     ∙ ap (λ rest. Some (take width rest)) (drop-drop (row * width) width fields ∙ ap (λ k. drop k fields) e)
+
+-- a field of a row
+pub cell-rows_of : (n width : ℕ) (fields : List RawField) (row col : ℕ) (raw : RawField) → row < n → col < width
+    → slice_get fields (row * width + col) ≡ Some raw → cell_at (rows_cut n width fields) row col ≡ Some raw
+cell-rows_of n width fields row col raw r c e =
+    ap (option_and_then (λ row_fields. slice_get row_fields col)) (slice_get-rows_of n width fields row r)
+    ∙ slice_get-take width (drop (row * width) fields) col c ∙ slice_get-drop (row * width) fields col ∙ e
 
 -- the rows, one after another, are the fields
 no_fields : (fields : List RawField) → length fields ≡ 0 → [] ≡ fields

@@ -8,7 +8,7 @@ use Rattle.csv_grammar.specs.Records.{Field, Line, IsRecord, IsLast, AreRecords}
 use Rattle.csv_grammar.specs.Faults.{HasFault}
 use Rattle.csv_grammar.specs.Files.{mark_len, text_of, HasWidth}
 use Rattle.raw_fields.specs.Laws.{FieldsStandSo}
-use Rattle.raw_fields.specs.Raw.{raw_of}
+use Rattle.csv_grammar.specs.Raw.{raw_of}
 use Rattle.csv_index.specs.Between.{raw_between}
 use Rattle.csv_index.specs.Index.{Places, cut, Rise, FitsFile, IsIndexOf}
 use Rattle.csv_index.specs.declared.blocks.Block.{Block}

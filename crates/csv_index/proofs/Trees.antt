@@ -9,7 +9,7 @@ use Rattle.std.proofs.lemmas.Str.{IsUtf8-drop, is_utf8-from_IsUtf8, IsCharBounda
 use Rattle.csv_grammar.specs.Bytes.{comma, carriage_return, line_feed}
 use Rattle.csv_grammar.specs.Records.{Field, print_field, IsField, print_record, IsRecord, IsLast, LineBreak, crlf, lf, Line, print_break, print_line, CsvText, print_last, print_text, IsText, records_of}
 use Rattle.csv_grammar.specs.Structure.{Role, separator, inner, field_roles, record_roles, break_roles, line_roles, last_roles, text_roles}
-use Rattle.raw_fields.specs.Raw.{RawField, raw_of}
+use Rattle.csv_grammar.specs.Raw.{RawField, raw_of}
 use Rattle.csv_index.specs.Between.{raw_between}
 use Rattle.csv_index.specs.Index.{cut, Rise, AreAscii}
 use Rattle.csv_index.specs.Structure.{all_fields}

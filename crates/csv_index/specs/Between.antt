@@ -1,7 +1,7 @@
 -- The field that the bytes between two structural places are (RFC 4180, section 2, rules 1, 2 and 5).
 use Rattle.std.specs.Prelude.{ℕ, ◌-◌, true, false, List, length, slice_index, slice_range, if◌then◌else◌, ◌==◌}
 use Rattle.csv_grammar.specs.Bytes.{double_quote, carriage_return}
-use Rattle.raw_fields.specs.Raw.{RawField}
+use Rattle.csv_grammar.specs.Raw.{RawField}
 
 -- a CR at the end belongs to the line break
 abbrev pub without_return : List ℕ → List ℕ

@@ -5,7 +5,7 @@ use Rattle.std.specs.List.{flat_map, AllByRecursion}
 use Rattle.std.specs.Str.{is_utf8, IsCharBoundary}
 use Rattle.csv_grammar.specs.Records.{Field}
 use Rattle.csv_grammar.specs.Files.{IsTable}
-use Rattle.raw_fields.specs.Raw.{RawField, RawTable, raw_of, field_of}
+use Rattle.csv_grammar.specs.Raw.{RawField, RawTable, raw_of, field_of}
 use Rattle.csv_index.specs.Between.{raw_between}
 
 -- how a header and rows stand

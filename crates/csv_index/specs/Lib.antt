@@ -1,6 +1,7 @@
 pub mod Between
 pub mod Index
 pub mod Fields
+pub mod Parts
 pub mod Fault
 pub mod Blocks
 pub mod Widths

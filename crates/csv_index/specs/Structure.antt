@@ -5,7 +5,7 @@ use Rattle.std.specs.Str.{is_utf8, IsCharBoundary}
 use Rattle.csv_grammar.specs.Records.{Field, AreRecords}
 use Rattle.csv_grammar.specs.Faults.{Cause, HasFault}
 use Rattle.csv_grammar.specs.Files.{malformed}
-use Rattle.raw_fields.specs.Raw.{raw_of}
+use Rattle.csv_grammar.specs.Raw.{raw_of}
 use Rattle.csv_index.specs.Between.{raw_between}
 use Rattle.csv_index.specs.Index.{cut, Rise, AreAscii}
 use Rattle.csv_index.specs.Blocks.{block_places, AreRanked}

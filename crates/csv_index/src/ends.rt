@@ -1,5 +1,5 @@
 //! The places behind the fields of a file, one after another, each by clearing the lowest set bit of a mask.
-ghost use Rattle.std.specs.Prelude.{◌≡◌, [], ◌∷◌, MatchOption};
+ghost use Rattle.std.specs.Prelude.{◌≡◌, ◌<◌, ◌≤◌, [], ◌∷◌, MatchOption, length, slice_index, take, drop};
 
 use crate::blocks::Block;
 use std::marker::Model;
@@ -48,5 +48,22 @@ impl<'i> Ends<'i> {
         let bit = self.word.trailing_zeros();
         self.word &= !(1 << bit);
         Some(self.base + bit as usize)
+    }
+
+    /// Writes so many of the next places, from the second on.
+    pub fn fill(&mut self, places: &mut Vec<usize>, count: usize)
+        requires count { count ≤ length self.old }
+        requires room { count < length places.old.items }
+        ensures long { length places.new.items ≡ length places.old.items }
+        ensures first { slice_index places.new.items 0 ≡ slice_index places.old.items 0 }
+        ensures places { take count (drop 1 places.new.items) ≡ take count self.old }
+        ensures left { self.new ≡ drop count self.old }
+    {
+        for n in 0..count {
+            let Some(end) = self.next() else {
+                unreachable!();
+            };
+            places[n + 1] = end;
+        }
     }
 }

@@ -20,7 +20,7 @@ pub struct Fields<'i, 'a> {
 
 impl<'i, 'a> Model for Fields<'i, 'a> {
     ghost use Rattle.std.specs.Prelude.{List, map};
-    ghost use Rattle.raw_fields.specs.Raw.{RawField};
+    ghost use Rattle.csv_grammar.specs.Raw.{RawField};
     ghost use Rattle.csv_index.specs.Between.{raw_between};
     ghost use Rattle.csv_index.specs.Index.{cut};
     ghost use Rattle.csv_index.specs.Fields.{AreLeft};

@@ -9,13 +9,14 @@ use crate::blocks::{Block, find};
 use crate::ends::Ends;
 use crate::fault::TextFault;
 use crate::fields::Fields;
+use crate::parts::{PART_ROWS, Parts};
 use crate::raw::between;
 use crate::structure::Structure;
 use crate::utf8::check_text;
 use csv_grammar::mark_len;
 use lane_class::BLOCK;
 use raw_fields::Raw;
-use std::alloc::Global;
+use std::alloc::{AllocError, Global};
 use std::marker::Model;
 
 /// Where each field of a file stands.
@@ -54,6 +55,8 @@ impl Model for Index {
 }
 
 impl Index {
+    ghost use Rattle.csv_index.specs.Parts.{parts_of};
+
     /// Reads a file once. The bytes are a table, whose places the index has, or the error tells what is first wrong with them.
     pub fn build(alloc: Global, bytes: &[u8]) -> Result<Index, TextFault>
         ensures table { IfOk result (λ index. IsIndexOf index bytes.now) }
@@ -145,6 +148,29 @@ impl Index {
         }
     }
 
+    /// The fields of the records behind the header, in parts. The bytes are those of `build`.
+    pub(crate) fn parts<'i>(
+        &'i self,
+        alloc: Global,
+        bytes: &'i str,
+    ) -> Result<Parts<'i>, AllocError>
+        requires { FitsFile self.now bytes.now }
+        ensures { IfOk result (λ parts. parts
+            ≡ parts_of bytes.now self.now.width (table_in self.now bytes.now).rows) }
+    {
+        let header = self.width - 1;
+        let mut places = Vec::from_elem(alloc, 0, self.rows.min(PART_ROWS) * self.width + 1)?;
+        places[0] = self.end_of(header);
+        Ok(Parts {
+            text: bytes,
+            width: self.width,
+            rows: 0,
+            left: self.rows,
+            places,
+            ends: self.ends_behind(header),
+        })
+    }
+
     /// The field of that number, the header's first and then record after record.
     fn field<'a>(&self, bytes: &'a str, n: usize) -> Raw<'a>
         requires bytes { FitsFile self.now bytes.now }
@@ -202,7 +228,7 @@ impl Index {
 
 /// The text from a place up to another.
 #[inline(always)]
-fn piece(bytes: &str, start: usize, end: usize) -> &str
+pub(crate) fn piece(bytes: &str, start: usize, end: usize) -> &str
     requires order { start ≤ end }
     requires start { IsCharBoundary bytes.now start }
     requires end { IsCharBoundary bytes.now end }

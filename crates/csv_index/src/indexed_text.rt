@@ -1,5 +1,5 @@
 //! The text of a file with its index.
-ghost use Rattle.std.specs.Prelude.{◌≡◌, ◌≤◌, ◌<◌, Some, IfOk, IfErr, slice_get, length, drop};
+ghost use Rattle.std.specs.Prelude.{◌≡◌, ◌≤◌, ◌<◌, [], Some, IfOk, IfErr, slice_get, length, drop};
 ghost use Rattle.std.specs.List.{AllByRecursion};
 ghost use Rattle.raw_fields.specs.Raw.{raw_view};
 ghost use Rattle.csv_index.specs.Index.{IsRawTable, cell_at, row_fields};
@@ -8,9 +8,10 @@ ghost use Rattle.csv_index.specs.Fault.{IsTextFault};
 use crate::fault::TextFault;
 use crate::fields::Fields;
 use crate::index::Index;
+use crate::parts::Parts;
 use crate::utf8::text_of;
 use raw_fields::Raw;
-use std::alloc::Global;
+use std::alloc::{AllocError, Global};
 use std::marker::Model;
 
 /// The text of a file that is a table, with its index: its fields as they stand there.
@@ -21,7 +22,7 @@ pub struct IndexedText {
 }
 
 impl Model for IndexedText {
-    ghost use Rattle.raw_fields.specs.Raw.{RawTable};
+    ghost use Rattle.csv_grammar.specs.Raw.{RawTable};
     ghost use Rattle.csv_index.specs.Index.{FitsFile, table_in};
     ghost use Rattle.std.specs.Prelude.{string_bytes};
 
@@ -81,5 +82,14 @@ impl IndexedText {
         ensures { result ≡ row_fields (drop row self.now.rows) }
     {
         self.index.fields(self.text.as_str(), row)
+    }
+
+    /// The rows by parts, all of which are left.
+    pub fn parts(&self, alloc: Global) -> Result<Parts<'_>, AllocError>
+        ensures width { IfOk result (λ parts. parts.width ≡ length self.now.header) }
+        ensures part { IfOk result (λ parts. parts.part ≡ []) }
+        ensures left { IfOk result (λ parts. parts.left ≡ self.now.rows) }
+    {
+        self.index.parts(alloc, self.text.as_str())
     }
 }

@@ -4,7 +4,7 @@ use Rattle.std.specs.Prelude.{string_bytes}
 use Rattle.std.specs.List.{list_any}
 use Rattle.std.specs.Str.{bytes_eq}
 use Rattle.std.proofs.lemmas.List.{get_or-map, length-map}
-use Rattle.raw_fields.specs.Raw.{RawTable, field_of}
+use Rattle.csv_grammar.specs.Raw.{RawTable, field_of}
 use Rattle.csv_index.specs.Index.{IsRawTable}
 use Rattle.csvw_meta.specs.Forms.{is_table_url}
 use Rattle.table_store.specs.declared.file.NamedFile.{NamedFile}

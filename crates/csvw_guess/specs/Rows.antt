@@ -1,6 +1,6 @@
 -- What is known of the columns of a file when some of its rows are read.
 use Rattle.std.specs.Prelude.{ℕ, ◌<◌, List, [], false, length, slice_index_or, Option, None}
-use Rattle.raw_fields.specs.Raw.{RawField, raw_content}
+use Rattle.csv_grammar.specs.Raw.{RawField, raw_content}
 use Rattle.column_types.specs.declared.seen.Seen.{Seen}
 use Rattle.column_types.specs.Seen.{HasMore}
 

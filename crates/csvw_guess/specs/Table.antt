@@ -2,7 +2,7 @@
 use Rattle.std.specs.Prelude.{◌≡◌, ℕ, ◌+◌, Bool, true, false, ◌&&◌, ◌||◌, List, [], ◌∷◌, length, map, get_or, is_none, nat_le, if◌then◌else◌}
 use Rattle.std.specs.List.{list_all}
 use Rattle.csv_grammar.specs.Records.{Field, content}
-use Rattle.raw_fields.specs.Raw.{RawTable, field_of, raw_content}
+use Rattle.csv_grammar.specs.Raw.{RawTable, field_of, raw_content}
 use Rattle.cell_types.specs.Column.{ColumnOf}
 use Rattle.cell_types.specs.Cell.{value_of}
 use Rattle.cell_types.specs.Datatype.{DatatypeOf, integer, text}

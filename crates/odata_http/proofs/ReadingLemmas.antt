@@ -96,7 +96,7 @@ starts catalog seen asked number found table schema reading plan summaries is nu
         format_is = format;
         counting_is = counting;
         plan = plan;
-        means = ap (option_map (answer_of asked.query.counting)) (alike table.rows stood.are_rows) ∙ means table.schema table.rows;
+        means = ap (option_map (answer_of asked.query.counting)) (alike table.rows stood.read.are_rows) ∙ means table.schema table.rows;
         handed = 0;
         stands = stood;
         left_are = omega (arith, calls);

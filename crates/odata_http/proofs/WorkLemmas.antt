@@ -18,9 +18,9 @@ use Rattle.odata_http.specs.declared.reading.Reading.{Reading}
 use Rattle.odata_http.specs.declared.response.Response.{Response}
 use Rattle.odata_http.specs.declared.work.Work.{Work}
 use Rattle.odata_http.specs.declared.work.Work.TheVariants.{Refuse, ListTables, Find, Read, Replied, Failed}
-use Rattle.odata_http.specs.Exchange.{Answers, Begins, GivesReply, GoesOn, IsFinding, IsReading, IsWork, QueryTakes, most_calls}
+use Rattle.odata_http.specs.Exchange.{Answers, Begins, GivesReply, GoesOn, IsFinding, IsReading, IsReplied, IsWork, MayGoOn, QueryTakes, answers, done, failed, most_calls}
 use Rattle.odata_http.specs.Reply.{IsReply, RespondsWithRows, ResponseOf, error_response, reply_of, service_response}
-use Rattle.odata_http.specs.Work.{IsAskedFor, ReadsOn, StartsReading, StartsWork, WorksOn, response_view, step_of}
+use Rattle.odata_http.specs.Work.{IsAskedFor, MayWork, ReadsOn, StartsReading, StartsWork, WorksOn, response_view, step_of}
 
 pub starts_refusal : (catalog : CatalogOf) (code : Code) → StartsWork catalog (refused code) (Refuse code)
 starts_refusal catalog code = (1, refl, (refl, refl))
@@ -128,6 +128,32 @@ pub goes_to : (catalog : CatalogOf) (head : HeadOf) (left : ℕ) (old : Exchange
 goes_to catalog head left old work given step same told a w =
     let here = subst (λ (x : Work). GoesOn catalog head left (with_work old x) (Ok (step_of work))) (sym same) (goes_on catalog head left old work a w) in
     subst (λ (s : Step). GoesOn catalog head left (with_work old given) (Ok s)) (sym told) here
+
+-- the work of an exchange that may go on may go on
+work_may : (catalog : CatalogOf) (request : RequestOf) (left : ℕ) (work : Work) → IsWork catalog request left work → MayWork catalog work
+work_may catalog (refused code) left (Find finding) h = absurd h
+work_may catalog (refused code) left (Read reading) h = absurd h
+work_may catalog service left (Find finding) h = absurd h
+work_may catalog service left (Read reading) h = absurd h
+work_may catalog (rows asked) left (Find finding) h = (asked, h.0)
+work_may catalog (rows asked) left (Read reading) h = (asked, left, h)
+work_may catalog request left (Refuse code) h = tt
+work_may catalog request left ListTables h = tt
+work_may catalog request left (Replied bytes) h = tt
+work_may catalog request left Failed h = tt
+
+replied_may : (catalog : CatalogOf) (work : Work) (reply : List ℕ) → IsReplied work reply → MayWork catalog work
+replied_may catalog (Refuse code) reply h = tt
+replied_may catalog ListTables reply h = tt
+replied_may catalog (Find finding) reply h = absurd h
+replied_may catalog (Read reading) reply h = absurd h
+replied_may catalog (Replied bytes) reply h = tt
+replied_may catalog Failed reply h = tt
+
+pub may_work : (catalog : CatalogOf) (exchange : Exchange) → MayGoOn catalog exchange → MayWork catalog exchange.work
+may_work catalog exchange (done is) = replied_may catalog exchange.work is.0 is.1
+may_work catalog exchange (failed is) = subst (MayWork catalog) (sym is) tt
+may_work catalog exchange (answers head left a) = work_may catalog a.request left exchange.work a.work
 
 left_few : (catalog : CatalogOf) (request : RequestOf) (left : ℕ) (work : Work) → IsWork catalog request left work → (0 < left) × (left ≤ most_calls work)
 left_few catalog (refused code) left (Refuse other) h = let one = h.1 in (omega (arith, one), omega (arith, one))

@@ -18,4 +18,5 @@ pub use Rattle.http_heads.specs.Head
 pub use Rattle.http_heads.specs.Checks
 pub use Rattle.http_heads.specs.Cut
 pub use Rattle.odata_request.specs.Request
+pub use Rattle.reply_output.specs.Waiting
 pub use Rattle.query_exec.specs.Run as RunsOfPlans

@@ -2,6 +2,7 @@
 ghost use Rattle.std.specs.Prelude.{◌≡◌, ◌++◌, [], ℕ, List, Result, ⊤};
 ghost use Rattle.odata_http.specs.declared.answer.AnswerFault.{AnswerFault};
 ghost use Rattle.odata_http.specs.Answer.{AreSmall, IsAnswered, IsRestAnswered, IsSent, IsTakenIn};
+ghost use Rattle.odata_http.specs.Output.{IsAddedReply};
 ghost use Rattle.odata_http.specs.Reply.{IsReply};
 
 use crate::device::{Sink, send};
@@ -9,6 +10,7 @@ use crate::exchange::reply_to;
 use crate::laws::cuts_are_small;
 use crate::reply::reply_to_rest;
 use http_heads::{CheckedHead, Splitter, Unreadable, one_cut};
+use reply_output::Output;
 use std::alloc::{AllocError, Global};
 use table_store::Catalog;
 
@@ -49,6 +51,15 @@ impl<W: Sink> Outlet for W {
             Ok(()) => Ok(()),
             Err(_) => Err(AnswerFault::Write),
         }
+    }
+}
+
+impl Outlet for Output {
+    ghost takes = { λ old reply result new. IsAddedReply old reply result new };
+
+    fn put(&mut self, reply: Vec<u8>) -> Result<(), AnswerFault> {
+        self.give(reply)?;
+        Ok(())
     }
 }
 

@@ -9,7 +9,6 @@ mod exchange;
 mod finding;
 mod laws;
 mod media;
-mod output;
 mod reading;
 mod reply;
 mod response;
@@ -24,8 +23,8 @@ pub use http_heads::{CheckedHead, Field, Head, MAX_FIELDS, MAX_HEAD, Splitter, U
 pub use laws::{
     cuts_are_small, hopeless_ends, joins, one_length, one_reading, one_reply, statuses,
 };
-pub use output::Output;
 pub use query_exec::Step;
 pub use reply::reply_to_rest;
+pub use reply_output::Output;
 pub use runs::{RunFault, run};
 pub use session::{Session, SessionFault};

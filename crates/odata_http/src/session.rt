@@ -4,8 +4,8 @@ ghost use Rattle.odata_http.specs.Reply.{IsReply};
 ghost use Rattle.odata_http.specs.Session.{IsEnded, IsFedSession, IsLiveOr, Takes, new_session};
 
 use crate::answer::{answer_rest, take_in};
-use crate::output::Output;
 use http_heads::Splitter;
+use reply_output::Output;
 use std::alloc::Global;
 use std::marker::Model;
 use table_store::Catalog;

@@ -16,6 +16,7 @@ mod BringLemmas
 mod LawLemmas
 mod StepLemmas
 mod PlaceLemmas
+mod TookLemmas
 mod FlightLemmas
 mod WorkLemmas
 mod PieceLemmas

@@ -23,7 +23,7 @@ zip_get (x ∷ held) [] k z = absurd z
 zip_get (x ∷ held) (p ∷ places) zero z = z.0
 zip_get (x ∷ held) (p ∷ places) (suc k) z = zip_get held places k z.1
 
-zip_set : (held : List (Option Connection)) (places : List (Option ConnOf)) (k : ℕ) (x : Option Connection) (p : Option ConnOf)
+pub zip_set : (held : List (Option Connection)) (places : List (Option ConnOf)) (k : ℕ) (x : Option Connection) (p : Option ConnOf)
     → AllStand held places → PlaceStandsFor x p → AllStand (set held k x) (set places k p)
 zip_set [] [] k x p z s = tt
 zip_set [] (q ∷ places) k x p z s = absurd z
@@ -60,12 +60,12 @@ some_there : (c : Connection) (o : Option ConnOf) → PlaceStandsFor (Some c) o 
 some_there c None s = absurd s
 some_there c (Some d) s = (d, refl, s)
 
-free_at : (held : List (Option Connection)) (h : HubOf) (k : ℕ) → AllStand held h.places → get_or held k None ≡ None → conn_at h k ≡ None
+pub free_at : (held : List (Option Connection)) (h : HubOf) (k : ℕ) → AllStand held h.places → get_or held k None ≡ None → conn_at h k ≡ None
 free_at held h k z e =
     let P : Option Connection → Type 0 = λ o. PlaceStandsFor o (conn_at h k) in
     none_there (conn_at h k) (subst P e (zip_get held h.places k z))
 
-taken_at : (held : List (Option Connection)) (h : HubOf) (k : ℕ) (c : Connection) → AllStand held h.places → get_or held k None ≡ Some c
+pub taken_at : (held : List (Option Connection)) (h : HubOf) (k : ℕ) (c : Connection) → AllStand held h.places → get_or held k None ≡ Some c
     → (d : ConnOf) × (conn_at h k ≡ Some d) × ConnStandsFor c d
 taken_at held h k c z e =
     let P : Option Connection → Type 0 = λ o. PlaceStandsFor o (conn_at h k) in
@@ -179,15 +179,21 @@ taken_whole n new items a b =
     let none : drop (length new) items ≡ [] = drop_all (length new) items (omega (arith, a, b)) in
     ap (λ t. take n (new ++ t)) none ∙ ap (take n) (append-nil new) ∙ take_all n new (omega (arith, a))
 
--- what a call makes of the places is written back
+-- what is made of the places is written back
+pub written : (S : List (Option Connection) → List (Option Connection) → Type 0) (n : ℕ) (items now new : List (Option Connection)) → now ≡ items
+    → length now ≡ n → length new ≡ length now → S now new → S items (take n (new ++ drop (length new) items))
+written S n items now new same len kept s =
+    let size : length items ≡ n = ap length (sym same) ∙ len in
+    let P : List (Option Connection) → Type 0 = λ x. S x new in
+    let Q : List (Option Connection) → Type 0 = λ x. S items x in
+    subst Q (sym (taken_whole n new items (kept ∙ len) size)) (subst P same s)
+
+-- and by a call
 pub written_back : (catalog : CatalogOf) (n : ℕ) (items now new : List (Option Connection)) (event : Event) (answer : Answer) → now ≡ items
     → length now ≡ n → length new ≡ length now → IsPlacesStep catalog now event answer new
     → IsPlacesStep catalog items event answer (take n (new ++ drop (length new) items))
 written_back catalog n items now new event answer same len kept s =
-    let size : length items ≡ n = ap length (sym same) ∙ len in
-    let P : List (Option Connection) → Type 0 = λ x. IsPlacesStep catalog x event answer new in
-    let Q : List (Option Connection) → Type 0 = λ x. IsPlacesStep catalog items event answer x in
-    subst Q (sym (taken_whole n new items (kept ∙ len) size)) (subst P same s)
+    written (λ old next. IsPlacesStep catalog old event answer next) n items now new same len kept s
 
 -- a free place is as it was
 pub nowhere_again : (catalog : CatalogOf) (held : List (Option Connection)) (k : ℕ) (call : Call) (o : Option Connection) → get_or held k None ≡ None

@@ -1,5 +1,6 @@
 -- What a connection and a hub stand for, and calls as steps of that.
-use Rattle.std.specs.Prelude.{◌≡◌, ⊤, Bool, List, Option, Some, None, Result, Ok, Err}
+use Rattle.std.specs.Prelude.{◌≡◌, ⊤, ℕ, Bool, List, Option, Some, None, Result, Ok, Err}
+use Rattle.std.specs.Borrow.{Bor}
 use Rattle.std.specs.List.{AllZip}
 use Rattle.table_store.specs.Catalog.{CatalogOf}
 use Rattle.http_heads.specs.Hopeless.{TellsHopeless}
@@ -7,9 +8,10 @@ use Rattle.odata_hub.specs.declared.answers.HubFault.{HubFault}
 use Rattle.odata_hub.specs.declared.answers.HubFault.TheVariants.{NoSuchConnection}
 use Rattle.odata_hub.specs.declared.connection.Connection.{Connection}
 use Rattle.odata_hub.specs.declared.hub.Hub.{Hub}
-use Rattle.odata_hub.specs.Connections.{Answer, Call, ConnOf, FlightOf, Step, is_over}
+use Rattle.odata_hub.specs.Connections.{Answer, Call, ConnOf, FlightOf, Refused, Step, Take, answer_to, is_over}
 use Rattle.odata_hub.specs.Held.{IsInFlight}
-use Rattle.odata_hub.specs.Schedules.{Event, HubOf, HubStep}
+use Rattle.odata_http.specs.Waiting.{IsFront}
+use Rattle.odata_hub.specs.Schedules.{Event, HubOf, HubStep, On, conn_at}
 
 -- the connection, where what it holds of an exchange stands for this one
 abbrev pub conn_of : Connection → Option FlightOf → ConnOf
@@ -70,3 +72,35 @@ TellsOver (Some c) result = result ≡ Ok (is_over c)
 abbrev pub TellsHopelessAt : Option ConnOf → Result Bool HubFault → Type 0
 TellsHopelessAt None result = result ≡ Err NoSuchConnection
 TellsHopelessAt (Some c) result = (told : Bool) × (result ≡ Ok told) × TellsHopeless c.rest told
+
+-- ---- output that is lent and then taken
+
+-- first bytes of the output of what a place holds are lent, or there is none
+abbrev pub LendsAt : Option ConnOf → Result (Bor (List ℕ)) HubFault → Type 0
+LendsAt None result = result ≡ Err NoSuchConnection
+LendsAt (Some c) result = (bytes : Bor (List ℕ)) × (result ≡ Ok bytes) × IsFront bytes.now c.output
+
+-- of so many bytes of the output of what a place holds it is told that they were taken, or that there is none
+abbrev pub TellsTook : Option ConnOf → Result ⊤ HubFault → Type 0
+TellsTook None result = result ≡ Err NoSuchConnection
+TellsTook (Some c) result = result ≡ Ok tt
+
+-- the step of a connection that takes so many bytes, of the one that this stands for
+abbrev pub IsConnTook : Connection → ℕ → Connection → Type 0
+IsConnTook old count new =
+    (c : ConnOf) → ConnStandsFor old c → (d : ConnOf) × Step c (Take count) (answer_to c (Take count)) d × ConnStandsFor new d
+
+-- what taking so many bytes answers: they are those that were lent
+abbrev pub took_answer : Option ConnOf → ℕ → Answer
+took_answer None count = Refused NoSuchConnection
+took_answer (Some c) count = answer_to c (Take count)
+
+-- so many bytes are taken from the connection at a place: one step of the hub that these tables and places stand for
+abbrev pub ArePlacesTook : CatalogOf → List (Option Connection) → ℕ → ℕ → List (Option Connection) → Type 0
+ArePlacesTook catalog old place count new = (h : HubOf) → AreHub catalog old h
+    → (n : HubOf) × HubStep h (On place (Take count)) (took_answer (conn_at h place) count) n × AreHub catalog new n
+
+-- and of a hub
+abbrev pub IsHubTook : Hub → ℕ → ℕ → Hub → Type 0
+IsHubTook old place count new = (h : HubOf) → Models old h
+    → (n : HubOf) × HubStep h (On place (Take count)) (took_answer (conn_at h place) count) n × Models new n

@@ -23,9 +23,10 @@ pub(crate) struct Connection {
 impl Connection {
     ghost use Rattle.std.specs.Prelude.{◌≡◌, ◌≤◌, [], IfOk, None, Some, Option, OnErr, drop, length, take};
     ghost use Rattle.http_heads.specs.Hopeless.{TellsHopeless};
+    ghost use Rattle.odata_http.specs.Waiting.{IsFront};
     ghost use Rattle.odata_hub.specs.Connections.{ConnOf, Done, End, FlightOf, Gave, IsFailed, Piece, Take, Turn, Went, call_answer, fresh, is_over};
     ghost use Rattle.odata_hub.specs.Held.{IsFlight, IsInFlight};
-    ghost use Rattle.odata_hub.specs.Stands.{ConnStandsFor, IsConnStep, conn_of};
+    ghost use Rattle.odata_hub.specs.Stands.{ConnStandsFor, IsConnStep, IsConnTook, conn_of};
     ghost use Rattle.odata_hub.specs.Work.{FoundWork, IsWorked, KeepsOutput};
 
     /// A connection that holds nothing.
@@ -189,6 +190,20 @@ impl Connection {
         ensures others { drop result out.new ≡ drop result out.old }
     {
         self.output.take(out)
+    }
+
+    /// First bytes of the output: one at least, where any waits.
+    pub(crate) fn waiting(&self) -> &[u8]
+        ensures { IsFront result.now self.now.output }
+    {
+        self.output.waiting()
+    }
+
+    /// The first so many bytes of the output wait no more, or all, where fewer wait.
+    pub(crate) fn took(&mut self, count: usize)
+        ensures { IsConnTook self.old count self.new }
+    {
+        self.output.took(count);
     }
 
     /// Whether a closing head was cut off, and all replies were taken: where memory ran out, one of them was never made.

@@ -4,7 +4,8 @@ ghost use Rattle.std.specs.Prelude.{◌<◌, ◌^◌, length};
 use crate::answers::{HubFault, Turned};
 use crate::connection::Connection;
 use crate::places::{
-    closed_at, end_at, first_free, free_at, hopeless_at, piece_at, take_at, turn_at,
+    closed_at, end_at, first_free, free_at, hopeless_at, piece_at, take_at, took_at, turn_at,
+    waiting_at,
 };
 use std::alloc::{AllocError, Global};
 use std::rc::Rc;
@@ -27,7 +28,7 @@ impl Hub {
     ghost use Rattle.std.specs.Prelude.{◌≡◌, ◌≤◌, IfOk, None, OnErr, drop, length, replicate, take};
     ghost use Rattle.odata_hub.specs.Connections.{Done, End, Gave, Opened, Piece, Take, Turn, Went, call_answer};
     ghost use Rattle.odata_hub.specs.Schedules.{Drop, HubOf, On, Open, Reload, conn_at};
-    ghost use Rattle.odata_hub.specs.Stands.{IsHubStep, Models, TellsHopelessAt, TellsOver, current_tables};
+    ghost use Rattle.odata_hub.specs.Stands.{IsHubStep, IsHubTook, LendsAt, Models, TellsHopelessAt, TellsOver, TellsTook, current_tables};
 
     /// A hub of so many places, all of them free, with these tables.
     pub fn new(alloc: Global, catalog: Rc<Catalog>, places: u32) -> Result<Hub, AllocError>
@@ -89,6 +90,21 @@ impl Hub {
         ensures err { OnErr result (out.new ≡ out.old) }
     {
         take_at(&mut self.places, conn.0, out)
+    }
+
+    /// First bytes of a connection's output: one at least, where any waits.
+    pub fn waiting(&self, conn: Conn) -> Result<&[u8], HubFault>
+        ensures { (h : HubOf) → Models self.now h → LendsAt (conn_at h conn.0) result }
+    {
+        waiting_at(&self.places, conn.0)
+    }
+
+    /// The first so many bytes of a connection's output wait no more, or all, where fewer wait: as after a take with that room, without a buffer.
+    pub fn took(&mut self, conn: Conn, count: usize) -> Result<(), HubFault>
+        ensures took { IsHubTook self.old conn.0 count self.new }
+        ensures tells { (h : HubOf) → Models self.old h → TellsTook (conn_at h conn.0) result }
+    {
+        took_at(&mut self.places, conn.0, count)
     }
 
     /// Gives a connection's place back.

@@ -4,7 +4,7 @@ ghost use Rattle.std.specs.List.{position};
 ghost use Rattle.table_store.specs.Catalog.{CatalogOf};
 ghost use Rattle.odata_hub.specs.Connections.{Done, End, Gave, Piece, Take, Turn, Went, call_answer};
 ghost use Rattle.odata_hub.specs.Schedules.{Drop, HubOf, On, conn_at};
-ghost use Rattle.odata_hub.specs.Stands.{AreHub, IsPlacesStep, TellsHopelessAt, TellsOver};
+ghost use Rattle.odata_hub.specs.Stands.{ArePlacesTook, AreHub, IsPlacesStep, LendsAt, TellsHopelessAt, TellsOver, TellsTook};
 
 use crate::answers::{HubFault, Turned};
 use crate::connection::Connection;
@@ -96,6 +96,45 @@ pub(crate) fn take_at(
     }
     match &mut places[place] {
         Some(connection) => Ok(connection.take(out)),
+        None => Err(HubFault::NoSuchConnection),
+    }
+}
+
+/// First bytes of the output of the connection at a place.
+pub(crate) fn waiting_at(places: &[Option<Connection>], place: u32) -> Result<&[u8], HubFault>
+    ensures { (catalog : CatalogOf) (h : HubOf) → AreHub catalog places.now h
+        → LendsAt (conn_at h place) result }
+{
+    let place = place as usize;
+    if place >= places.len() {
+        return Err(HubFault::NoSuchConnection);
+    }
+    match &places[place] {
+        Some(connection) => Ok(connection.waiting()),
+        None => Err(HubFault::NoSuchConnection),
+    }
+}
+
+/// The first bytes of the output of the connection at a place wait no more.
+pub(crate) fn took_at(
+    places: &mut [Option<Connection>],
+    place: u32,
+    count: usize,
+) -> Result<(), HubFault>
+    ensures took { (catalog : CatalogOf) → ArePlacesTook catalog places.old place count places.new }
+    ensures tells { (catalog : CatalogOf) (h : HubOf) → AreHub catalog places.old h
+        → TellsTook (conn_at h place) result }
+    ensures len { length places.new ≡ length places.old }
+{
+    let place = place as usize;
+    if place >= places.len() {
+        return Err(HubFault::NoSuchConnection);
+    }
+    match &mut places[place] {
+        Some(connection) => {
+            connection.took(count);
+            Ok(())
+        }
         None => Err(HubFault::NoSuchConnection),
     }
 }

@@ -3,10 +3,9 @@ use Rattle.std.proofs.Common.{◌≡◌, ℕ, true, false, List, [], ◌∷◌, 
 use Rattle.cell_types.specs.Value.{CellValue}
 use Rattle.csvw_meta.specs.Schema.{SchemaOf}
 use Rattle.table_store.specs.Catalog.{CatalogOf}
-use Rattle.odata_url.specs.declared.fault.UrlFault.{UrlFault}
 use Rattle.odata_url.specs.declared.option_name.OptionName.{OptionName}
 use Rattle.odata_url.specs.declared.option_name.OptionName.TheVariants as name
-use Rattle.odata_url.specs.Target.{QueryOption, TargetOf, target_of}
+use Rattle.odata_url.specs.Target.{QueryOption}
 use Rattle.odata_parse.specs.declared.format.Format.{Format}
 use Rattle.odata_parse.specs.declared.format.Format.TheVariants.{Json, Csv}
 use Rattle.odata_parse.specs.Options.{IsKey}
@@ -19,14 +18,15 @@ use Rattle.odata_query.specs.Query.{QueryOf, TypedOf, optional_typing, order_typ
 use Rattle.odata_query.specs.Selection.{optional_selection_typing}
 use Rattle.reply_codes.specs.declared.code.Code.{Code}
 use Rattle.http_heads.specs.declared.checks.HeadFault.{HeadFault}
-use Rattle.odata_request.specs.Fault.{type_code, url_code}
+use Rattle.odata_request.specs.Fault.{type_code}
 use Rattle.odata_request.specs.Resource as resource
-use Rattle.odata_request.specs.Resource.{ResourceOf, path_resource}
-use Rattle.odata_request.specs.Options.{TextsOf, asked_format, options_fault, texts_of, option_value}
-use Rattle.odata_request.specs.Query.{AsksQuery, IsRefusedBy, IsTyped, ReadsQuery}
-use Rattle.odata_request.specs.Reading.{ReadsApply, ReadsOption, ReadsOr, ReadsTree, Then, goes_on, stops}
-use Rattle.odata_request.specs.Request.{AsksFitting, AsksFor, AsksOptions, AsksResource, AsksRows, AsksService, AsksTable, AsksTarget, AsksUnder, AsksUnless, RequestOf, RowsRequestOf, rows, rows_request, service}
+use Rattle.odata_request.specs.Resource.{ResourceOf}
+use Rattle.odata_request.specs.Options.{TextsOf, options_fault, texts_of, option_value}
+use Rattle.odata_request.specs.Query.{AsksQuery, ReadsQuery}
+use Rattle.odata_request.specs.Reading.{ReadsApply, ReadsOption, ReadsOr, ReadsTree}
+use Rattle.odata_request.specs.Request.{Asks, AsksOf, AsksRows, RequestOf, RowsRequestOf, request_in, rows, service}
 use Rattle.odata_request.specs.Laws.{KeysStandAlone}
+use Rattle.odata_request.proofs.StepLemmas.{no_code, not_under, same_value, then_ok, told_ok}
 
 -- of the options that fit the row of a key none is `$apply`
 no_apply : (number : ℕ) (text : List ℕ) (options : List QueryOption) → options_fault (resource.key number text) options ≡ None → option_value name.Apply options ≡ None
@@ -44,10 +44,6 @@ no_apply number text (option ∷ options) e = of option.0 option.1 (λ h. no_app
     of name.Top value rest h = absurd (cc h)
 
 -- ---- what was read
-
-then_parts : {X Y : Type 0} (step : Result X Code → Type 0) (next : X → Result Y Code → Type 0) (y : Y) → Then step next (Ok y) → (x : X) × step (Ok x) × next x (Ok y)
-then_parts step next y (stops code s e) = absurd (cc e)
-then_parts step next y (goes_on x s n) = (x, s, n)
 
 abbrev ok_in : {X : Type 0} {E : Type 0} → X → Result X E → X
 ok_in d (Ok x) = x
@@ -68,14 +64,14 @@ pub record IsAlone (texts : TextsOf) (key : Type 0) (apply : Type 0) : Type 0 wh
 
 read_alone : (limit : ℕ) (texts : TextsOf) (q : QueryOf) → ReadsQuery limit texts (Ok q) → IsAlone texts (q.key ≡ None) (q.apply ≡ [])
 read_alone limit texts q reads =
-    let key = then_parts _ _ q reads in
-    let apply = then_parts _ _ q key.2 in
-    let filter = then_parts _ _ q apply.2 in
-    let count = then_parts _ _ q filter.2 in
-    let order = then_parts _ _ q count.2 in
-    let skip = then_parts _ _ q order.2 in
-    let top = then_parts _ _ q skip.2 in
-    let select = then_parts _ _ q top.2 in
+    let key = then_ok reads in
+    let apply = then_ok key.2 in
+    let filter = then_ok apply.2 in
+    let count = then_ok filter.2 in
+    let order = then_ok count.2 in
+    let skip = then_ok order.2 in
+    let top = then_ok skip.2 in
+    let select = then_ok top.2 in
     let same = ap (ok_in q) select.2 in
     record {
       key_is = λ none. ap (λ (x : QueryOf). x.key) same ∙ not_there (ReadsTree IsKey) texts.key key.0 none key.1;
@@ -106,21 +102,10 @@ typed_alone schema texts query t e alone =
           ∙ ap (λ r. (ok_in apply.0 r).0) (sym apply.1 ∙ ap (λ ts. apply_typing (inputs_of schema) ts) (alone.apply_is none));
     }
 
-fits_alone : (schema : SchemaOf) (texts : TextsOf) (query : QueryOf) (t : TypedOf) → IsTyped (query_typing schema query) (Ok t)
-    → IsAlone texts (query.key ≡ None) (query.apply ≡ []) → IsAlone texts (t.key ≡ None) (t.apply ≡ [])
-fits_alone schema texts query t typed alone = of (query_typing schema query) refl typed
-  where
-    of : (r : Result TypedOf TypeFault) → query_typing schema query ≡ r → IsTyped r (Ok t) → IsAlone texts (t.key ≡ None) (t.apply ≡ [])
-    of (Ok x) e h = typed_alone schema texts query t (e ∙ ap (λ (q : TypedOf). Ok q) (ap (ok_in x) (sym h))) alone
-    of (Err fault) e h = by_code (type_code fault) h
-      where
-        by_code : (code : Option Code) → IsRefusedBy code (Ok t) → IsAlone texts (t.key ≡ None) (t.apply ≡ [])
-        by_code None k = absurd k
-        by_code (Some c) k = absurd (cc k)
-
 asks_alone : (limit : ℕ) (schema : SchemaOf) (texts : TextsOf) (t : TypedOf) → AsksQuery limit schema texts (Ok t) → IsAlone texts (t.key ≡ None) (t.apply ≡ [])
 asks_alone limit schema texts t asks =
-    let read = then_parts _ _ t asks in fits_alone schema texts read.0 t read.2 (read_alone limit texts read.0 read.1)
+    let read = then_ok asks in
+    typed_alone schema texts read.0 t (told_ok type_code (query_typing schema read.0) t read.2) (read_alone limit texts read.0 read.1)
 
 -- ---- what is asked
 
@@ -128,21 +113,13 @@ abbrev rows_in : RowsRequestOf → RequestOf → RowsRequestOf
 rows_in d (rows asked) = asked
 rows_in d other = d
 
-query_alone : (catalog : CatalogOf) (number : ℕ) (texts : TextsOf) (format : Format) (asked : RowsRequestOf) → AsksRows catalog number texts format (rows asked)
+rows_alone : (catalog : CatalogOf) (number : ℕ) (texts : TextsOf) (format : Format) (asked : RowsRequestOf) → AsksRows catalog number texts format (Ok (rows asked))
     → IsAlone texts (asked.query.key ≡ None) (asked.query.apply ≡ [])
-query_alone catalog number texts format asked h = of h.query h.asks h.request_is
-  where
-    of : (r : Result TypedOf Code) → AsksQuery catalog.limits.transformations h.table.schema texts r → rows asked ≡ rows_request number format r
-        → IsAlone texts (asked.query.key ≡ None) (asked.query.apply ≡ [])
-    of (Err code) asks e = absurd (cc e)
-    of (Ok t) asks e =
-        let same : t ≡ asked.query = ap (λ r. (rows_in asked r).query) (sym e) in
-        subst (λ (q : TypedOf). IsAlone texts (q.key ≡ None) (q.apply ≡ [])) same (asks_alone catalog.limits.transformations h.table.schema texts t asks)
-
-table_alone : (catalog : CatalogOf) (number : ℕ) (texts : TextsOf) (format : Option Format) (asked : RowsRequestOf) → AsksTable catalog number texts format (rows asked)
-    → IsAlone texts (asked.query.key ≡ None) (asked.query.apply ≡ [])
-table_alone catalog number texts (Some format) asked h = query_alone catalog number texts format asked h
-table_alone catalog number texts None asked h = absurd (cc h)
+rows_alone catalog number texts format asked h =
+    let table = then_ok h in
+    let query = then_ok table.2 in
+    let same : query.0 ≡ asked.query = ap (λ r. (rows_in asked (ok_in (rows asked) r)).query) (sym query.2) in
+    subst (λ (q : TypedOf). IsAlone texts (q.key ≡ None) (q.apply ≡ [])) same (asks_alone catalog.limits.transformations table.0.schema texts query.0 query.1)
 
 abbrev Stands : RowsRequestOf → Type 0
 Stands asked = (key : List CellValue) → asked.query.key ≡ Some key → asked.query.apply ≡ []
@@ -150,43 +127,29 @@ Stands asked = (key : List CellValue) → asked.query.key ≡ Some key → asked
 no_key : (asked : RowsRequestOf) (texts : TextsOf) → texts.key ≡ None → IsAlone texts (asked.query.key ≡ None) (asked.query.apply ≡ []) → Stands asked
 no_key asked texts none alone key is = let there = alone.key_is none in absurd (cc (there, is))
 
-no_service : (format : Option Format) (asked : RowsRequestOf) → AsksService format (rows asked) → ⊥
-no_service (Some Json) asked h = cc h
-no_service (Some Csv) asked h = cc h
-no_service None asked h = cc h
+of_stands : (catalog : CatalogOf) (r : ResourceOf) (options : List QueryOption) (format : Format) (asked : RowsRequestOf) → options_fault r options ≡ None
+    → AsksOf catalog r options format (Ok (rows asked)) → Stands asked
+of_stands catalog resource.service options Json asked e h = absurd (let bad = same_value (rows asked) service h in cc bad)
+of_stands catalog resource.service options Csv asked e h = absurd (no_code (rows asked) _ h)
+of_stands catalog (resource.rows number) options format asked e h =
+    no_key asked (texts_of None false options) refl (rows_alone catalog number (texts_of None false options) format asked h)
+of_stands catalog (resource.count number) options format asked e h =
+    no_key asked (texts_of None true options) refl (rows_alone catalog number (texts_of None true options) format asked h)
+of_stands catalog (resource.key number text) options format asked e h = λ key is.
+    (rows_alone catalog number (texts_of (Some text) false options) format asked h).apply_is (no_apply number text options e)
 
-fitting_stands : (catalog : CatalogOf) (r : ResourceOf) (options : List QueryOption) (asked : RowsRequestOf) → options_fault r options ≡ None
-    → AsksFitting catalog r options (rows asked) → Stands asked
-fitting_stands catalog resource.service options asked e h = absurd (no_service (asked_format options) asked h)
-fitting_stands catalog (resource.rows number) options asked e h =
-    no_key asked (texts_of None false options) refl (table_alone catalog number (texts_of None false options) (asked_format options) asked h)
-fitting_stands catalog (resource.count number) options asked e h =
-    no_key asked (texts_of None true options) refl (table_alone catalog number (texts_of None true options) (asked_format options) asked h)
-fitting_stands catalog (resource.key number text) options asked e h = λ key is.
-    (table_alone catalog number (texts_of (Some text) false options) (asked_format options) asked h).apply_is (no_apply number text options e)
-
-options_stand : (catalog : CatalogOf) (r : ResourceOf) (options : List QueryOption) (asked : RowsRequestOf) → AsksOptions catalog r options (rows asked) → Stands asked
-options_stand catalog r options asked h = of (options_fault r options) refl h
-  where
-    of : (code : Option Code) → options_fault r options ≡ code → AsksUnless code (AsksFitting catalog r options) (rows asked) → Stands asked
-    of (Some c) e k = absurd (cc k)
-    of None e k = fitting_stands catalog r options asked e k
-
-resource_stands : (catalog : CatalogOf) (options : List QueryOption) (r : Result ResourceOf Code) (asked : RowsRequestOf) → AsksResource catalog options r (rows asked) → Stands asked
-resource_stands catalog options (Ok r) asked h = options_stand catalog r options asked h
-resource_stands catalog options (Err code) asked h = absurd (cc h)
-
-under_none : (code : Option Code) (asked : RowsRequestOf) → AsksUnder code (rows asked) → ⊥
-under_none (Some code) asked h = cc h
-under_none None asked h = h
-
-target_stands : (catalog : CatalogOf) (target : Result TargetOf UrlFault) (asked : RowsRequestOf) → AsksTarget catalog target (rows asked) → Stands asked
-target_stands catalog (Ok target) asked h = resource_stands catalog target.options (path_resource catalog.tables target.segments) asked h
-target_stands catalog (Err fault) asked h = absurd (under_none (url_code fault) asked h)
-
-head_stands : (catalog : CatalogOf) (fault : Option HeadFault) (target : List ℕ) (asked : RowsRequestOf) → AsksFor catalog fault target (rows asked) → Stands asked
-head_stands catalog (Some fault) target asked h = absurd (cc h)
-head_stands catalog None target asked h = target_stands catalog (target_of target) asked h
+asks_stand : (catalog : CatalogOf) (fault : Option HeadFault) (target : List ℕ) (asked : RowsRequestOf) → Asks catalog fault target (Ok (rows asked)) → Stands asked
+asks_stand catalog fault target asked h =
+    let head = then_ok h in
+    let read = then_ok head.2 in
+    let resource = then_ok read.2 in
+    let fitting = then_ok resource.2 in
+    let format = then_ok fitting.2 in
+    of_stands catalog resource.0 read.0.options format.0 asked (not_under (options_fault resource.0 read.0.options) fitting.0 fitting.1) format.2
 
 pub keys_alone : KeysStandAlone
-keys_alone catalog fault target asked key asks is = head_stands catalog fault target asked asks key is
+keys_alone catalog fault target asked key h is = of h.outcome h.asks h.request_is
+  where
+    of : (outcome : Result RequestOf Code) → Asks catalog fault target outcome → rows asked ≡ request_in outcome → asked.query.apply ≡ []
+    of (Ok request) asks e = asks_stand catalog fault target asked (subst (λ q. Asks catalog fault target (Ok q)) (sym e) asks) key is
+    of (Err code) asks e = absurd (cc e)

@@ -7,5 +7,5 @@ pub mod LengthLemmas
 pub mod UniqueLemmas
 pub mod RequestLemmas
 pub mod InsideLemmas
-pub mod QueryLemmas
+pub mod StepLemmas
 pub mod AloneLemmas

@@ -1,5 +1,5 @@
 -- What the calls that read texts and type a query give is how the texts read and what is asked for.
-use Rattle.std.proofs.Common.{◌≡◌, ℕ, List, Result, Ok, Err, IsErrAnd, refl, sym, subst}
+use Rattle.std.proofs.Common.{◌≡◌, ℕ, List, Result, Ok, Err, refl, sym, subst}
 use Rattle.odata_lex.specs.Lexer.{AreTokens, IsFault}
 use Rattle.odata_lex.specs.Token.{TokenOf, token_views}
 use Rattle.odata_lex.specs.declared.fault.LexFault.{LexFault}
@@ -14,12 +14,11 @@ use Rattle.csvw_meta.specs.Schema.{SchemaOf}
 use Rattle.odata_query.specs.Query.{QueryOf, TypedOf, query_typing}
 use Rattle.odata_types.specs.Result.{IsCause}
 use Rattle.reply_codes.specs.declared.code.Code.{Code}
-use Rattle.odata_request.specs.declared.fault.RequestFault.{RequestFault}
-use Rattle.odata_request.specs.declared.fault.RequestFault.TheVariants.{Refused, NoMemory}
-use Rattle.odata_request.specs.Fault.{Yields, Refuses, fault_of, lex_code, parse_code, type_code}
+use Rattle.odata_request.specs.Fault.{TellsCause, Yields, Refuses, fault_of, lex_code, parse_code, type_code}
 use Rattle.odata_request.specs.Options.{TextsOf}
-use Rattle.odata_request.specs.Query.{AsksQuery, IsTyped, ReadsQuery}
-use Rattle.odata_request.specs.Reading.{ReadsText, bad_token, goes_on, has_tokens, has_tree, no_tree, stops, too_deep, too_many}
+use Rattle.odata_request.specs.Query.{AsksQuery, ReadsQuery}
+use Rattle.odata_request.specs.Reading.{ReadsText, bad_token, goes_on, has_tokens, goes_on, has_tree, no_tree, too_deep, too_many}
+use Rattle.odata_request.proofs.StepLemmas.{go_on, told_as, told_under}
 
 -- ---- texts
 
@@ -49,43 +48,23 @@ pub read_tree : {T X : Type 0} (view : T → X) (IsDeep : List TokenOf → Type 
     → AreTokens text tokens → IsParsedUnless IsDeep view IsTree (token_views text tokens) (Ok tree) → ReadsText IsDeep IsTree text (Ok (view tree))
 read_tree view IsDeep IsTree text tokens tree are h = has_tokens tokens are (has_tree (view tree) (λ d. tree_not_deep tree (h.too_deep.1 d)) h.tree refl)
 
--- a fault that is passed on as another is that one
-pub passed_on : {T X : Type 0} (view : T → X) (R : Result X Code → Type 0) (result : Result T RequestFault) (made : RequestFault) → IsErrAnd result (λ fault. fault ≡ made)
-    → Yields view R (Err made) → Yields view R result
-passed_on view R (Ok tree) made h g = absurd h
-passed_on view R (Err fault) made h g = subst (λ (f : RequestFault). Yields view R (Err f)) (sym h) g
-
 -- ---- types
-
-unfit_as : (schema : SchemaOf) (query : QueryOf) (fault : TypeFault) (code : Code) → query_typing schema query ≡ Err fault → IsTyped (Err fault) (Err code)
-    → IsTyped (query_typing schema query) (Err code)
-unfit_as schema query fault code e t = subst (λ (w : Result TypedOf TypeFault). IsTyped w (Err code)) (sym e) t
 
 -- a query that does not fit
 unfit : (schema : SchemaOf) (query : QueryOf) (fault : TypeFault) → IsCause fault (query_typing schema query)
-    → Refuses (IsTyped (query_typing schema query)) (fault_of (type_code fault))
-unfit schema query type.UnknownName e = unfit_as schema query type.UnknownName _ e refl
-unfit schema query type.Mismatch e = unfit_as schema query type.Mismatch _ e refl
-unfit schema query type.TooLarge e = unfit_as schema query type.TooLarge _ e refl
-unfit schema query type.AliasTaken e = unfit_as schema query type.AliasTaken _ e refl
-unfit schema query type.BadKey e = unfit_as schema query type.BadKey _ e refl
+    → Refuses (TellsCause type_code (query_typing schema query)) (fault_of (type_code fault))
+unfit schema query type.UnknownName e = told_under type_code (query_typing schema query) type.UnknownName e
+unfit schema query type.Mismatch e = told_under type_code (query_typing schema query) type.Mismatch e
+unfit schema query type.TooLarge e = told_under type_code (query_typing schema query) type.TooLarge e
+unfit schema query type.AliasTaken e = told_under type_code (query_typing schema query) type.AliasTaken e
+unfit schema query type.BadKey e = told_under type_code (query_typing schema query) type.BadKey e
 unfit schema query type.NoMemory e = tt
-
--- texts that do not read
-pub unread_query : (limit : ℕ) (schema : SchemaOf) (texts : TextsOf) (fault : RequestFault) → Refuses (ReadsQuery limit texts) fault → Refuses (AsksQuery limit schema texts) fault
-unread_query limit schema texts (Refused code) h = stops code h refl
-unread_query limit schema texts NoMemory h = tt
-
-read_as : (limit : ℕ) (schema : SchemaOf) (texts : TextsOf) (query : QueryOf) (fault : RequestFault) → ReadsQuery limit texts (Ok query)
-    → Refuses (IsTyped (query_typing schema query)) fault → Refuses (AsksQuery limit schema texts) fault
-read_as limit schema texts query (Refused code) r h = goes_on query r h
-read_as limit schema texts query NoMemory r h = tt
 
 pub unfit_query : (limit : ℕ) (schema : SchemaOf) (texts : TextsOf) (query : QueryOf) (fault : TypeFault) → ReadsQuery limit texts (Ok query)
     → IsCause fault (query_typing schema query) → Refuses (AsksQuery limit schema texts) (fault_of (type_code fault))
-unfit_query limit schema texts query fault r e = read_as limit schema texts query (fault_of (type_code fault)) r (unfit schema query fault e)
+unfit_query limit schema texts query fault r e = go_on _ _ (fault_of (type_code fault)) query r (unfit schema query fault e)
 
 -- a query that fits
 pub fit_query : (limit : ℕ) (schema : SchemaOf) (texts : TextsOf) (query : QueryOf) (typed : TypedOf) → ReadsQuery limit texts (Ok query)
     → query_typing schema query ≡ Ok typed → AsksQuery limit schema texts (Ok typed)
-fit_query limit schema texts query typed r e = goes_on query r (subst (λ (w : Result TypedOf TypeFault). IsTyped w (Ok typed)) (sym e) refl)
+fit_query limit schema texts query typed r e = goes_on query r (told_as type_code (query_typing schema query) typed e)

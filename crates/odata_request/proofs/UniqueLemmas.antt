@@ -8,15 +8,14 @@ use Rattle.odata_parse.specs.Laws.{HasOneTree}
 use Rattle.odata_parse.specs.Apply.{IsApply}
 use Rattle.odata_parse.specs.Expression.{IsFilter}
 use Rattle.odata_parse.specs.Options.{IsKey, IsOrder, IsSelection}
-use Rattle.odata_types.specs.declared.fault.TypeFault.{TypeFault}
 use Rattle.csvw_meta.specs.Schema.{SchemaOf}
-use Rattle.odata_query.specs.Query.{TypedOf, query_typing}
+use Rattle.odata_query.specs.Query.{query_typing}
 use Rattle.reply_codes.specs.declared.code.Code.{Code}
-use Rattle.reply_codes.specs.declared.code.Code.TheVariants.{BadToken}
 use Rattle.odata_request.specs.Fault.{type_code}
 use Rattle.odata_request.specs.Options.{TextsOf}
-use Rattle.odata_request.specs.Query.{AsksQuery, IsRefusedBy, IsTyped, ReadsQuery}
-use Rattle.odata_request.specs.Reading.{◌>>=◌, IsResult, ReadsFlag, ReadsNumber, ReadsOption, ReadsOr, ReadsText, ReadsTokens, bad_token, goes_on, has_tokens, has_tree, is_number, no_number, no_tree, stops, too_deep, too_many}
+use Rattle.odata_request.specs.Query.{AsksQuery, ReadsQuery}
+use Rattle.odata_request.specs.Reading.{ReadsFlag, ReadsNumber, ReadsOption, ReadsOr, ReadsText, ReadsTokens, bad_token, has_tokens, has_tree, is_number, no_number, no_tree, too_deep, too_many}
+use Rattle.odata_request.proofs.StepLemmas.{HasOne, is_one, steps_one, told_one}
 
 -- the laws of tokens and trees
 pub record Grammars : Type 0 where
@@ -27,33 +26,6 @@ pub record Grammars : Type 0 where
   pub filter : HasOneTree IsFilter
   pub order : HasOneTree IsOrder
   pub select : HasOneTree IsSelection
-
--- one result at most
-abbrev HasOne : {X : Type 0} → (Result X Code → Type 0) → Type 0
-HasOne {X} R = (r s : Result X Code) → R r → R s → r ≡ s
-
--- ---- steps
-
-abbrev code_in : {X : Type 0} → Result X Code → Code
-code_in (Ok x) = BadToken
-code_in (Err code) = code
-
-abbrev value_in : {X : Type 0} → X → Result X Code → X
-value_in other (Ok x) = x
-value_in other (Err code) = other
-
-no_code : {X : Type 0} (x : X) (code : Code) → ◌≡◌ {A = Result X Code} (Ok x) (Err code) → ⊥
-no_code x code e = cc e
-
-is_one : {X : Type 0} (made : Result X Code) → HasOne (IsResult made)
-is_one made r s e f = e ∙ sym f
-
-steps_one : {X Y : Type 0} (step : Result X Code → Type 0) (next : X → Result Y Code → Type 0) → HasOne step → ((x : X) → HasOne (next x)) → HasOne (step >>= next)
-steps_one step next one others r s (stops c h e) (stops d k f) = e ∙ ap (λ x. Err (code_in x)) (one (Err c) (Err d) h k) ∙ sym f
-steps_one step next one others r s (stops c h e) (goes_on y k g) = absurd (no_code y c (one (Ok y) (Err c) k h))
-steps_one step next one others r s (goes_on x h e) (stops d k f) = absurd (no_code x d (one (Ok x) (Err d) h k))
-steps_one {X} step next one others r s (goes_on x h e) (goes_on y k f) =
-    others y r s (subst (λ (z : X). next z r) (ap (value_in x) (one (Ok x) (Ok y) h k)) e) f
 
 -- ---- trees and texts
 
@@ -129,14 +101,5 @@ reading_one laws limit texts =
     steps_one _ _ (option_one _ (text_one _ IsSelection laws.select laws) texts.select) (λ select.
     is_one _))))))))
 
-refused_one : {X : Type 0} (code : Option Code) (r s : Result X Code) → IsRefusedBy code r → IsRefusedBy code s → r ≡ s
-refused_one None r s e f = absurd e
-refused_one (Some code) r s e f = e ∙ sym f
-
-typed_one : (w : Result TypedOf TypeFault) → HasOne (IsTyped w)
-typed_one (Ok query) r s e f = e ∙ sym f
-typed_one (Err fault) r s e f = refused_one (type_code fault) r s e f
-
-pub query_one : Grammars → (limit : ℕ) (schema : SchemaOf) (texts : TextsOf) (r s : Result TypedOf Code)
-    → AsksQuery limit schema texts r → AsksQuery limit schema texts s → r ≡ s
-query_one laws limit schema texts = steps_one _ _ (reading_one laws limit texts) (λ query. typed_one (query_typing schema query))
+pub query_one : Grammars → (limit : ℕ) (schema : SchemaOf) (texts : TextsOf) → HasOne (AsksQuery limit schema texts)
+query_one laws limit schema texts = steps_one _ _ (reading_one laws limit texts) (λ query. told_one type_code (query_typing schema query))

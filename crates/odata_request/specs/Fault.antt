@@ -1,5 +1,5 @@
 -- The codes under which a request is refused (OData 4.01 JSON Format, section 21.1): each fault that is a cause has one, of its name.
-use Rattle.std.specs.Prelude.{Option, None, Some, Result, Ok, Err, ⊤}
+use Rattle.std.specs.Prelude.{◌≡◌, Option, None, Some, Result, Ok, Err, ⊤}
 use Rattle.odata_url.specs.declared.fault.UrlFault.{UrlFault}
 use Rattle.odata_url.specs.declared.fault.UrlFault.TheVariants as url
 use Rattle.odata_lex.specs.declared.fault.LexFault.{LexFault}
@@ -47,6 +47,16 @@ type_code type.TooLarge = Some TooLarge
 type_code type.AliasTaken = Some AliasTaken
 type_code type.BadKey = Some BadKey
 type_code type.NoMemory = None
+
+-- refused under the code, where there is one
+abbrev pub IsRefusedBy : {X : Type 0} → Option Code → Result X Code → Type 0
+IsRefusedBy None result = ⊥
+IsRefusedBy (Some code) result = result ≡ Err code
+
+-- what there is, or the code of the cause why it is not
+abbrev pub TellsCause : {X E : Type 0} → (E → Option Code) → Result X E → Result X Code → Type 0
+TellsCause code (Ok x) result = result ≡ Ok x
+TellsCause code (Err fault) result = IsRefusedBy (code fault) result
 
 -- refused under the code, where there is one
 abbrev pub fault_of : Option Code → RequestFault

@@ -1,6 +1,6 @@
 -- How the value of an option reads (OData 4.01 Part 2, URL Conventions, section 5.1): as the one tree that its tokens have, or under the code
 -- of what is wrong first.
-use Rattle.std.specs.Prelude.{◌≡◌, ℕ, Bool, List, Option, None, Some, Result, Ok, Err}
+use Rattle.std.specs.Prelude.{◌≡◌, ℕ, Bool, List, Option, None, Some, Result, Ok, Err, ⊤}
 use Rattle.std.specs.Str.Parse.{digits_value}
 use Rattle.odata_lex.specs.Token.{TokenOf, token_views}
 use Rattle.odata_lex.specs.Lexer.{AreTokens, IsBad, IsTooMany}
@@ -25,6 +25,16 @@ step >>= next = λ result. Then step next result
 -- this result and no other
 abbrev pub IsResult : {X : Type 0} → Result X Code → Result X Code → Type 0
 IsResult made result = result ≡ made
+
+-- this, where there is something
+abbrev pub IsThere : {X : Type 0} → Option X → Result X Code → Type 0
+IsThere None result = ⊥
+IsThere (Some x) result = result ≡ Ok x
+
+-- whether to go on: not under a code
+abbrev pub passes_unless : Option Code → Result ⊤ Code
+passes_unless None = Ok tt
+passes_unless (Some code) = Err code
 
 -- how tokens read: that they nest too deep comes before their tree
 pub data ReadsTokens {X : Type 0} (IsDeep : List TokenOf → Type 0) (IsTree : List TokenOf → X → Type 0) (tokens : List TokenOf) (result : Result X Code) : Type 0 where

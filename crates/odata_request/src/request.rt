@@ -2,7 +2,8 @@
 ghost use Rattle.std.specs.Prelude.{◌<◌, ◌≤◌, IfOk, length, map, string_bytes};
 ghost use Rattle.odata_url.specs.Target.{option_view, target_of};
 ghost use Rattle.odata_request.specs.Options.{asked_view};
-ghost use Rattle.odata_request.specs.Request.{AsksFitting, AsksFor, AsksOptions, AsksPath, AsksRows, AsksService, AsksTable, AsksTarget, IsInside, Requests, request_view};
+ghost use Rattle.odata_request.specs.Fault.{Yields};
+ghost use Rattle.odata_request.specs.Request.{Asks, AsksFor, AsksOf, AsksPath, AsksRows, IsInside, request_view};
 ghost use Rattle.odata_request.specs.Resource.{IsOfTables, resource_view};
 
 use crate::fault::RequestFault;
@@ -47,7 +48,8 @@ fn rows_request(
     format: Format,
 ) -> Result<Request, RequestFault>
     requires { number < length catalog.now.tables }
-    ensures { Requests (AsksRows catalog.now number (asked_view texts.entry) format) result }
+    ensures { Yields request_view
+        (AsksRows catalog.now number (asked_view texts.entry) format) result }
 {
     let table = &catalog.tables()[number];
     let limit = catalog.limits().transformations;
@@ -59,77 +61,29 @@ fn rows_request(
     }))
 }
 
-/// The same, where the format is one that is served.
-fn table_request(
-    alloc: Global,
-    catalog: &Catalog,
-    number: usize,
-    texts: Texts<'_>,
-    format: Option<Format>,
-) -> Result<Request, RequestFault>
-    requires { number < length catalog.now.tables }
-    ensures { Requests (AsksTable catalog.now number (asked_view texts.entry) format) result }
-{
-    match format {
-        Some(format) => rows_request(alloc, catalog, number, texts, format),
-        None => Err(RequestFault::Refused(Code::NotAcceptable)),
-    }
-}
-
-/// The service document in a format.
-fn service_request(format: Option<Format>) -> Result<Request, RequestFault>
-    ensures { Requests (AsksService format) result }
-{
-    match format {
-        Some(Format::Json) => Ok(Request::Service),
-        _ => Err(RequestFault::Refused(Code::NotAcceptable)),
-    }
-}
-
-/// What options that fit ask of a resource.
-fn fitting_request(
+/// What options ask of a resource in a format.
+fn request_on(
     alloc: Global,
     catalog: &Catalog,
     resource: Resource<'_>,
     options: &[(OptionName, String)],
+    format: Format,
 ) -> Result<Request, RequestFault>
     requires { IsOfTables catalog.now.tables (resource_view resource) }
-    ensures { Requests (AsksFitting catalog.now (resource_view resource.entry)
-        (map option_view options.now)) result }
+    ensures { Yields request_view (AsksOf catalog.now (resource_view resource.entry)
+        (map option_view options.now) format) result }
 {
-    let format = asked_format(options);
-    match resource {
-        Resource::Service => service_request(format),
-        Resource::Rows(number) => {
-            let texts = Texts::of(None, false, options);
-            table_request(alloc, catalog, number, texts, format)
+    let (number, key, counting) = match (resource, format) {
+        (Resource::Service, Format::Json) => return Ok(Request::Service),
+        (Resource::Service, Format::Csv) => {
+            return Err(RequestFault::Refused(Code::NotAcceptable));
         }
-        Resource::Count(number) => {
-            let texts = Texts::of(None, true, options);
-            table_request(alloc, catalog, number, texts, format)
-        }
-        Resource::Key(number, key) => {
-            let texts = Texts::of(Some(key), false, options);
-            table_request(alloc, catalog, number, texts, format)
-        }
-    }
-}
-
-/// What options ask of a resource.
-fn request_for(
-    alloc: Global,
-    catalog: &Catalog,
-    resource: Resource<'_>,
-    options: &[(OptionName, String)],
-) -> Result<Request, RequestFault>
-    requires { IsOfTables catalog.now.tables (resource_view resource) }
-    ensures { Requests (AsksOptions catalog.now (resource_view resource.entry)
-        (map option_view options.now)) result }
-{
-    match options_fault(resource, options) {
-        Some(code) => Err(RequestFault::Refused(code)),
-        None => fitting_request(alloc, catalog, resource, options),
-    }
+        (Resource::Rows(number), _) => (number, None, false),
+        (Resource::Count(number), _) => (number, None, true),
+        (Resource::Key(number, key), _) => (number, Some(key), false),
+    };
+    let texts = Texts::of(key, counting, options);
+    rows_request(alloc, catalog, number, texts, format)
 }
 
 /// What a path and options ask for.
@@ -139,17 +93,29 @@ fn path_request(
     segments: &[String],
     options: &[(OptionName, String)],
 ) -> Result<Request, RequestFault>
-    ensures { Requests (AsksPath catalog.now
+    ensures { Yields request_view (AsksPath catalog.now
         (map string_bytes segments.now) (map option_view options.now)) result }
 {
     let resource = resource_of(catalog, segments)?;
-    request_for(alloc, catalog, resource, options)
+    if let Some(code) = options_fault(resource, options) {
+        return Err(RequestFault::Refused(code));
+    }
+    let format = asked_format(options).ok_or(Code::NotAcceptable)?;
+    request_on(alloc, catalog, resource, options, format)
 }
 
-/// What a target asks for.
-fn target_request(alloc: Global, catalog: &Catalog, target: &[u8]) -> Result<Request, RequestFault>
-    ensures { Requests (AsksTarget catalog.now (target_of target.now)) result }
+/// What a head with that fault or none, and that target, asks for, or why it is refused.
+fn asked(
+    alloc: Global,
+    catalog: &Catalog,
+    fault: Option<HeadFault>,
+    target: &[u8],
+) -> Result<Request, RequestFault>
+    ensures { Yields request_view (Asks catalog.now fault target.now) result }
 {
+    if let Some(fault) = fault {
+        return Err(RequestFault::from(fault));
+    }
     let target = Target::read(alloc, target)?;
     path_request(
         alloc,
@@ -157,21 +123,6 @@ fn target_request(alloc: Global, catalog: &Catalog, target: &[u8]) -> Result<Req
         target.segments.as_slice(),
         target.options.as_slice(),
     )
-}
-
-/// What a head with that fault or none, and that target, asks for.
-fn head_request(
-    alloc: Global,
-    catalog: &Catalog,
-    fault: Option<HeadFault>,
-    target: &[u8],
-) -> Result<Request, RequestFault>
-    ensures { Requests (AsksFor catalog.now fault target.now) result }
-{
-    match fault {
-        Some(fault) => Err(RequestFault::from(fault)),
-        None => target_request(alloc, catalog, target),
-    }
 }
 
 /// What a head with that fault or none, and that target, asks for. The fault is that of `http_heads::check_head`.
@@ -190,7 +141,7 @@ pub fn request_of(
 {
     odata_types::filters_are_queried();
     odata_types::expressions_are_queried();
-    match head_request(alloc, catalog, fault, target) {
+    match asked(alloc, catalog, fault, target) {
         Ok(request) => Ok(request),
         Err(RequestFault::Refused(code)) => Ok(Request::Refused(code)),
         Err(RequestFault::NoMemory) => Err(AllocError),

@@ -1,20 +1,17 @@
 -- How many rows pass the conditions of a plan.
-use Rattle.std.proofs.Common.{◌≡◌, ℕ, ◌+◌, ◌≤◌, Bool, true, false, ◌&&◌, cond, Option, None, Some, List, [], ◌∷◌, ◌++◌, length, refl, sym, ap, ◌∙◌, arith}
+use Rattle.std.proofs.Common.{◌≡◌, ℕ, ◌+◌, ◌≤◌, Bool, true, false, ◌&&◌, cond, Option, None, Some, List, [], ◌∷◌, length, refl, sym, ap, ◌∙◌, arith}
 use Rattle.std.specs.Prelude.{count_by, filter, option_and_then, option_map}
 use Rattle.std.specs.List.{list_any}
-use Rattle.std.proofs.lemmas.List.{length-map}
-use Rattle.std.proofs.lemmas.List.Sums.{count_by-le-length, sum_by-append, sum_by-cons}
+use Rattle.std.proofs.lemmas.List.{length-map, take-map}
+use Rattle.std.proofs.lemmas.List.Sums.{count_by-le-length, sum_by-cons}
 use Rattle.cell_types.specs.Value.{CellValue}
 use Rattle.typed_trees.specs.TypedTree.{TruthExprOf}
 use Rattle.query_meaning.specs.Filter.{faults, passes, passes_each}
+use Rattle.query_meaning.specs.Meaning.{first_rows}
 use Rattle.row_columns.specs.Picked.{values_at}
 use Rattle.block_filter.specs.Conditions.{passing_all}
 use Rattle.query_exec.specs.Picked.{selected_rows}
 use Rattle.query_exec.proofs.ConditionLemmas.{some_selected}
-
--- of rows and of rows behind them
-pub counted_parts : (p : List CellValue → Bool) (front back whole : List (List CellValue)) → whole ≡ front ++ back → count_by p whole ≡ count_by p front + count_by p back
-counted_parts p front back whole is = ap (count_by p) is ∙ sum_by-append (λ row. cond (p row) 1 0) front back
 
 -- where there are no conditions all do
 all_counted : (rows : List (List CellValue)) → length rows ≡ count_by (passes_each []) rows
@@ -42,26 +39,26 @@ counted_behind true es rows kept each is = absurd (cc)
 counted_behind false es rows kept each is = each rows is
 
 -- as many rows pass conditions in turn as these are all true on
-passed_count : (es : List TruthExprOf) (rows kept : List (List CellValue)) → passing_all es rows ≡ Some kept → length kept ≡ count_by (passes_each es) rows
+pub passed_count : (es : List TruthExprOf) (rows kept : List (List CellValue)) → passing_all es rows ≡ Some kept → length kept ≡ count_by (passes_each es) rows
 passed_count [] rows kept is = let same : rows ≡ kept = cc in ap length (sym same) ∙ all_counted rows
 passed_count (e ∷ es) rows kept is =
     counted_behind (list_any (faults e) rows) es (filter (passes e) rows) kept (λ xs. passed_count es xs kept) is ∙ counted_filter (passes e) (passes_each es) rows
 
-selected_long : (picked : Option (List ℕ)) (rows : List (List CellValue)) → length (selected_rows picked rows) ≡ length rows
+pub selected_long : (picked : Option (List ℕ)) (rows : List (List CellValue)) → length (selected_rows picked rows) ≡ length rows
 selected_long None rows = refl
 selected_long (Some places) rows = length-map rows (values_at places)
 
--- whichever columns are picked of them
-pub selected_count : (es : List TruthExprOf) (picked : Option (List ℕ)) (rows kept : List (List CellValue))
-    → option_map (selected_rows picked) (passing_all es rows) ≡ Some kept → length kept ≡ count_by (passes_each es) rows
-selected_count es picked rows kept is =
-    let some = some_selected picked (passing_all es rows) kept is in
-    ap length (sym some.2) ∙ selected_long picked some.0 ∙ passed_count es rows some.0 some.1
-
--- no more rows pass than there are
+-- no more rows pass than there are, whichever columns are picked of them
 pub few_pass : (es : List TruthExprOf) (picked : Option (List ℕ)) (rows kept : List (List CellValue)) → option_map (selected_rows picked) (passing_all es rows) ≡ Some kept
     → length kept ≤ length rows
 few_pass es picked rows kept is =
-    let same = selected_count es picked rows kept is in
+    let some = some_selected picked (passing_all es rows) kept is in
+    let same : length kept ≡ count_by (passes_each es) rows = ap length (sym some.2) ∙ selected_long picked some.0 ∙ passed_count es rows some.0 some.1 in
     let few = count_by-le-length (passes_each es) rows in
     omega (arith, same, few)
+
+pub first_selected : (places : Option (List ℕ)) (most : Option ℕ) (rows : List (List CellValue))
+    → selected_rows places (first_rows most rows) ≡ first_rows most (selected_rows places rows)
+first_selected None most rows = refl
+first_selected (Some places) None rows = refl
+first_selected (Some places) (Some n) rows = sym (take-map (values_at places) n rows)

@@ -8,7 +8,6 @@ use Rattle.csvw_meta.specs.Schema.{SchemaOf}
 use Rattle.typed_trees.specs.TypedTree.{TruthExprOf}
 use Rattle.table_store.specs.Fits.{HasTableRows, IsTableRow}
 use Rattle.table_store.specs.Table.{TableOf}
-use Rattle.row_columns.specs.Kinds.{kinds_of}
 use Rattle.query_plan.specs.Fitting.{IsFitFor, NodesFit}
 use Rattle.query_meaning.specs.Fitting.{AreTableRows}
 use Rattle.query_plan.specs.Laws.{NodesInTurn}
@@ -17,9 +16,7 @@ use Rattle.query_plan.specs.Plan.{NodeOf, PlanOf, select_nodes, table_result}
 use Rattle.query_exec.specs.declared.run.Run.{Run}
 use Rattle.block_filter.specs.Conditions.{ConditionsFit, ConditionsInTurn}
 use Rattle.query_exec.specs.Conditions.{condition_nodes}
-use Rattle.query_exec.specs.Picked.{selected_kinds}
-use Rattle.query_exec.specs.Run.{conditions_of, places_of, steps_of, StandsFor}
-use Rattle.query_exec.specs.Taking.{MayTake}
+use Rattle.query_exec.specs.Run.{conditions_of, places_of, steps_of, HasTakenBlocks}
 use Rattle.query_exec.proofs.ConditionLemmas.{conditions_give}
 
 -- the rows of a table are rows that a plan is for
@@ -48,25 +45,17 @@ conditions_fit (e ∷ es) above names count row h = (
       (ap (option_map (λ rows. record { names = names; rows = rows; count = count })) passed)),
 )
 
-pub block_fits : (run : Run) (plan : PlanOf) (table : TableOf) (handed : ℕ) (block : TableOf) → StandsFor run plan table handed → HasTableRows block
+pub block_fits : (run : Run) (plan : PlanOf) (table : TableOf) (handed : ℕ) (block : TableOf) → HasTakenBlocks run plan table handed → HasTableRows block
     → block.schema ≡ table.schema → All (ConditionsFit (conditions_of run)) block.rows
-block_fits run plan table handed block stands rows same k d h =
+block_fits run plan table handed block has rows same k d h =
     let row = get_or block.rows k d in
     let above = select_nodes (places_of run) ++ steps_of run in
     let is : IsTableRow table.schema.columns row = subst (λ (s : SchemaOf). IsTableRow s.columns row) same (rows.each k d h) in
     let fit : NodesFit (condition_nodes (conditions_of run) ++ above) (table_result table.schema (row ∷ [])) =
     subst (λ ns. NodesFit ns (table_result table.schema (row ∷ [])))
-    (sym stands.plan_is ∙ append_assoc (condition_nodes (conditions_of run)) (select_nodes (places_of run)) (steps_of run))
-    (stands.fits (row ∷ []) (one_row table.schema row is)) in
+    (sym has.plan_is ∙ append_assoc (condition_nodes (conditions_of run)) (select_nodes (places_of run)) (steps_of run))
+    (has.fits (row ∷ []) (one_row table.schema row is)) in
     conditions_fit (conditions_of run) above (table_names table.schema) _ row fit
-
--- the columns that are picked are there, and their values are kept
-pub block_may_be_taken : (run : Run) (plan : PlanOf) (table : TableOf) (handed : ℕ) (block : TableOf) → StandsFor run plan table handed → block.schema ≡ table.schema
-    → MayTake run block
-block_may_be_taken run plan table handed block stands same = record {
-  within = subst (λ (s : SchemaOf). IfSome (places_of run) (All (λ place. place < length s.columns))) (sym same) stands.within;
-  kinds_are = stands.kinds_are ∙ ap (λ (s : SchemaOf). selected_kinds (places_of run) (kinds_of s.columns)) (sym same);
-}
 
 -- ---- the columns that a plan picks behind its conditions
 

@@ -14,7 +14,7 @@ use Rattle.query_plan.specs.Plan.{PlanOf, needed}
 use Rattle.query_plan.specs.Scan.{reached, rows_of_blocks, up_to}
 use Rattle.query_meaning.specs.Filter.{passes_each}
 use Rattle.query_exec.specs.Run.{handed_block, handed_rows, next_block, wanted}
-use Rattle.query_exec.specs.Taking.{room_behind}
+use Rattle.query_exec.specs.Sink.{room_behind}
 
 -- ---- lists
 

@@ -1,212 +1,149 @@
 -- What a run has that was handed the first so many of the blocks that are needed.
-use Rattle.std.proofs.Common.{◌≡◌, ℕ, ◌+◌, ◌<◌, false, Option, Some, None, List, [], ◌∷◌, ◌++◌, length, map, drop, get_or, refl, sym, ap, ◌∙◌, subst, string_bytes}
-use Rattle.std.specs.List.{All}
-use Rattle.std.specs.Prelude.{IfSome, count_by, option_and_then, option_map, slice_get}
-use Rattle.std.proofs.lemmas.List.{length-map}
-use Rattle.cell_types.specs.declared.column.Column.{Column}
-use Rattle.cell_types.specs.Column.{ColumnOf, column_view}
+use Rattle.std.proofs.Common.{◌≡◌, ℕ, zero, suc, ◌+◌, Option, Some, None, List, [], ◌∷◌, ◌++◌, map, drop, take, refl, sym, ap, ◌∙◌, subst, arith}
+use Rattle.std.specs.Prelude.{count_by, option_and_then, option_map, slice_get}
+use Rattle.std.proofs.lemmas.List.{get_or_append_left, length-append}
+use Rattle.std.proofs.lemmas.List.Concat.{flat_map-append}
+use Rattle.block_summary.specs.Blocks.{block_at}
 use Rattle.cell_types.specs.Value.{CellValue}
+use Rattle.csvw_meta.specs.Schema.{SchemaOf}
 use Rattle.odata_query.specs.Query.{optional_numbers}
-use Rattle.typed_trees.specs.TypedTree.{boxed_truth, TruthExprOf}
+use Rattle.odata_types.specs.Input.{IsTableRow}
+use Rattle.typed_trees.specs.TypedTree.{boxed_truth}
 use Rattle.table_store.specs.Block.{block_of}
 use Rattle.table_store.specs.Table.{TableOf}
-use Rattle.query_plan.specs.Fitting.{IsFitFor, NodesFit}
+use Rattle.query_plan.specs.Fitting.{NodesFit}
 use Rattle.query_meaning.specs.Fitting.{AreTableRows}
-use Rattle.query_plan.specs.Laws.{NodesInTurn, ScansReadTableRows}
-use Rattle.query_meaning.specs.Meaning.{ResultOf, selected_names, table_names}
-use Rattle.query_plan.specs.Plan.{NodeOf, PlanOf, leading, needed, node_view, nodes_result, select_nodes, table_result}
-use Rattle.query_plan.specs.Scan.{rows_of_blocks, up_to}
 use Rattle.query_meaning.specs.Filter.{passes_each}
-use Rattle.row_order.specs.Best.{BestInPieces}
-use Rattle.row_columns.specs.Kinds.{any, kinds_of, KindOf}
-use Rattle.query_exec.specs.declared.run.Run.{Run}
-use Rattle.query_exec.specs.declared.run.Stage.TheVariants.{Reading}
-use Rattle.query_exec.specs.Answer.{plan_answer}
+use Rattle.query_meaning.specs.Meaning.{ResultOf}
+use Rattle.query_plan.specs.Laws.{NodesInTurn, ScansReadTableRows}
+use Rattle.query_plan.specs.Plan.{PlanOf, leading, needed, nodes_result, select_nodes, table_result}
+use Rattle.query_plan.specs.Scan.{rows_of_blocks, up_to}
 use Rattle.block_filter.specs.Conditions.{rows_joined, passing_all, ConditionsInTurn}
+use Rattle.query_exec.specs.declared.run.Run.{Run}
+use Rattle.query_exec.specs.Answer.{plan_answer}
 use Rattle.query_exec.specs.Conditions.{condition_nodes}
-use Rattle.query_exec.specs.Picked.{selected_kinds, selected_rows}
-use Rattle.query_exec.specs.Run.{conditions_of, handed_rows, kept_answer, kept_result, next_block, places_of, rows_so_far, steps_of, wanted_block, IsReady, StandsFor}
-use Rattle.query_exec.specs.Gathers.{after_gathered, GathersFor, IsGathered}
-use Rattle.query_exec.specs.Taking.{room_behind, HasTakenIn}
-use Rattle.query_exec.specs.Useful.{useful, StepsFit}
+use Rattle.query_exec.specs.Intermediate.{without_count}
+use Rattle.query_exec.specs.Kept.{kept_names}
+use Rattle.query_exec.specs.Picked.{selected_rows}
+use Rattle.query_exec.specs.Run.{conditions_of, handed_rows, next_block, passed_answer, passed_rows, places_of, steps_of, wanted_block, HasPassed, HasTakenBlocks, HasTakenIn, IsReady}
+use Rattle.query_exec.specs.Sink.{room_behind, sink_kept}
 use Rattle.query_exec.proofs.NeededLemmas.{all_rows, drop_one, first_left, more_rows, needed_behind, wanted_is_first}
-use Rattle.query_exec.proofs.BestLemmas.{alike_answer, alike_fit, alike_joined, none_faulted, Alike}
-use Rattle.query_exec.proofs.ConditionLemmas.{parts_fit, parts_give, selected_joined, selected_result}
-use Rattle.query_exec.proofs.CountLemmas.{counted_parts, selected_count}
+use Rattle.query_exec.proofs.KeptLemmas.{as_many, still_kept}
+use Rattle.query_exec.proofs.ConditionLemmas.{parts_fit, parts_give, selected_joined}
 
--- the names of a table's columns
-pub names-column_view : (columns : List Column) → map (λ (c : ColumnOf). c.name) (map column_view columns) ≡ map (λ c. string_bytes c.name) columns
-names-column_view [] = refl
-names-column_view (column ∷ columns) = ap (λ names. string_bytes column.name ∷ names) (names-column_view columns)
+-- ---- the blocks that were handed in
 
--- ---- what a run answers
+in_two : {X : Type 0} (n : ℕ) (xs : List X) → xs ≡ take n xs ++ drop n xs
+in_two zero xs = refl
+in_two (suc n) [] = refl
+in_two (suc n) (x ∷ xs) = ap (λ ys. x ∷ ys) (in_two n xs)
 
--- a run that has what the conditions make of the rows of the first so many blocks that are needed
-pub record HasRead (run : Run) (plan : PlanOf) (table : TableOf) (blocks : ℕ) : Type 0 where
-  pub plan_is : condition_nodes (conditions_of run) ++ select_nodes (places_of run) ++ steps_of run ≡ plan.nodes
-  pub conditions_are : leading plan.nodes ≡ conditions_of run
-  pub fits : IsFitFor table.schema plan
-  pub are_rows : AreTableRows table.schema table.rows
-  pub reads : run.stage ≡ Reading
-  pub left_are : up_to run.room (conditions_of run) table.rows run.left.items ≡ drop blocks (needed plan table.rows)
-  pub within : IfSome (places_of run) (All (λ place. place < length table.schema.columns))
-  pub names_are : map string_bytes run.names.items ≡ selected_names (places_of run) (table_names table.schema)
-  pub kinds_are : run.kept.kinds ≡ selected_kinds (places_of run) (kinds_of table.schema.columns)
-  pub count_is : run.faulted ≡ false → run.count ≡ count_by (passes_each (conditions_of run)) (handed_rows plan table blocks)
-  pub gone : List (List CellValue)
-  pub gathered : IsGathered (steps_of run) run gone
-  pub passed : Alike (steps_of run) (after_gathered gone (rows_so_far run)) (option_map (selected_rows (places_of run)) (passing_all (conditions_of run) (handed_rows plan table blocks)))
+front_rows : (schema : SchemaOf) (front back : List (List CellValue)) → AreTableRows schema (front ++ back) → AreTableRows schema front
+front_rows schema front back are =
+    let long = length-append front back in
+    let few = are.count in
+    record {
+      each = λ k d h. subst (IsTableRow schema.columns) (get_or_append_left front back d k h) (are.each k d (omega (arith, h, long)));
+      count = omega (arith, few, long);
+    }
 
-pub no_block_read : (run : Run) (plan : PlanOf) (table : TableOf) (handed : ℕ) → StandsFor run plan table handed → HasRead run plan table handed
-no_block_read run plan table handed stands = record {
-  plan_is = stands.plan_is;
-  conditions_are = stands.conditions_are;
-  fits = stands.fits;
-  are_rows = stands.are_rows;
-  reads = stands.reads;
-  left_are = stands.left_are;
-  within = stands.within;
-  names_are = stands.names_are;
-  kinds_are = stands.kinds_are;
-  count_is = stands.count_is;
-  gone = stands.gone;
-  gathered = stands.gathered;
-  passed = stands.passed;
-}
+-- the rows of the first so many blocks that are needed are rows of a table
+pub handed_are_rows : ScansReadTableRows → (plan : PlanOf) (table : TableOf) (handed : ℕ) → AreTableRows table.schema table.rows
+    → AreTableRows table.schema (handed_rows plan table handed)
+handed_are_rows scans plan table handed are =
+    let blocks = needed plan table.rows in
+    let parts : rows_of_blocks table.rows blocks ≡ handed_rows plan table handed ++ rows_of_blocks table.rows (drop handed blocks) =
+    ap (rows_of_blocks table.rows) (in_two handed blocks) ∙ flat_map-append (block_at table.rows) (take handed blocks) (drop handed blocks) in
+    front_rows table.schema (handed_rows plan table handed) (rows_of_blocks table.rows (drop handed blocks))
+    (subst (AreTableRows table.schema) parts (scans table.schema plan.scan (leading plan.nodes) table.rows are))
 
 -- the block that the run wants next is the next that is needed
-pub wanted_is_next : (run : Run) (plan : PlanOf) (table : TableOf) (blocks : ℕ) → HasRead run plan table blocks → wanted_block run ≡ next_block plan table blocks
+pub wanted_is_next : (run : Run) (plan : PlanOf) (table : TableOf) (blocks : ℕ) → HasTakenBlocks run plan table blocks → wanted_block run ≡ next_block plan table blocks
 wanted_is_next run plan table blocks has =
     wanted_is_first run.room (conditions_of run) table.rows run.left.items
-    ∙ ap (λ numbers. slice_get numbers 0) has.left_are
-    ∙ first_left (needed plan table.rows) blocks
+    ∙ ap (λ numbers. slice_get numbers 0) has.left_are ∙ first_left (needed plan table.rows) blocks
 
--- what is kept behind one block more
-pub one_block_more : ConditionsInTurn → BestInPieces → (steps : List NodeOf) (es : List TruthExprOf) (picked : Option (List ℕ)) (front block whole : List (List CellValue))
-    (before after : Option (List (List CellValue))) → whole ≡ front ++ block → Alike steps before (option_map (selected_rows picked) (passing_all es front))
-    → Alike steps after (rows_joined before (option_map (selected_rows picked) (passing_all es block))) → Alike steps after (option_map (selected_rows picked) (passing_all es whole))
-one_block_more law pieces steps es picked front block whole before after whole_is was taken =
-    let kept = option_map (selected_rows picked) in
-    taken ∙ alike_joined pieces steps before (kept (passing_all es front)) (kept (passing_all es block)) was
-    ∙ ap (option_map (useful steps))
-    (sym (selected_joined picked (passing_all es front) (passing_all es block))
-    ∙ ap kept (sym (law.parts es front block) ∙ ap (passing_all es) (sym whole_is)))
+-- ---- one block more
 
-pub block_read : ConditionsInTurn → BestInPieces → (old new : Run) (plan : PlanOf) (table : TableOf) (handed number : ℕ) → StandsFor old plan table handed
-    → next_block plan table handed ≡ Some number → HasTakenIn old new (block_of table number).rows → HasRead new plan table (handed + 1)
-block_read law pieces old new plan table handed number stands next taken =
-    let same = taken.same in
+-- what passes of the rows before it, and of its own
+pub one_block_more : ConditionsInTurn → (run : Run) (plan : PlanOf) (table : TableOf) (handed number : ℕ) → next_block plan table handed ≡ Some number
+    → rows_joined (passed_rows run (handed_rows plan table handed)) (passed_rows run (block_of table number).rows) ≡ passed_rows run (handed_rows plan table (handed + 1))
+one_block_more law run plan table handed number next =
+    let es = conditions_of run in
+    let front = handed_rows plan table handed in
+    let block = (block_of table number).rows in
+    sym (selected_joined (places_of run) (passing_all es front) (passing_all es block))
+    ∙ ap (option_map (selected_rows (places_of run))) (sym (law.parts es front block) ∙ ap (passing_all es) (sym (more_rows plan table handed number next)))
+
+pub block_read : ConditionsInTurn → (old new : Run) (plan : PlanOf) (table : TableOf) (handed number : ℕ) → HasTakenBlocks old plan table handed
+    → next_block plan table handed ≡ Some number → HasTakenIn old new (block_of table number).rows → HasTakenBlocks new plan table (handed + 1)
+block_read law old new plan table handed number has next taken =
     let rows = table.rows in
-    let es_are : conditions_of old ≡ conditions_of new = ap (λ cs. map boxed_truth cs.items) (sym same.conditions) in
-    let picked_are : places_of old ≡ places_of new = ap optional_numbers (sym same.places) in
-    let steps_are : steps_of old ≡ steps_of new = ap (λ ns. map node_view ns.items) (sym same.steps) in
-    let after = taken.passed stands.gone stands.gathered.gathers in
-    let kept = one_block_more law pieces (steps_of old) (conditions_of old) (places_of old) (handed_rows plan table handed) (block_of table number).rows
-    (handed_rows plan table (handed + 1)) (after_gathered stands.gone (rows_so_far old)) (after_gathered after.0 (rows_so_far new)) (more_rows plan table handed number next) stands.passed after.2 in
+    let es_are : conditions_of old ≡ conditions_of new = ap (λ (cs : _). map boxed_truth cs.items) (sym taken.conditions) in
+    let picked_are : places_of old ≡ places_of new = ap optional_numbers (sym taken.columns.places) in
+    let front = handed_rows plan table handed in
+    let whole = handed_rows plan table (handed + 1) in
     let first : slice_get (up_to old.room (conditions_of old) rows old.left.items) 0 ≡ Some number =
-    ap (λ numbers. slice_get numbers 0) stands.left_are ∙ first_left (needed plan rows) handed ∙ next in
+    ap (λ numbers. slice_get numbers 0) has.left_are ∙ first_left (needed plan rows) handed ∙ next in
+    let passed : HasPassed new (passed_rows old whole) =
+    subst (HasPassed new) (one_block_more law old plan table handed number next) (taken.passed (passed_rows old front) has.passed) in
     record {
-      plan_is = rw (same.conditions, same.places, same.steps) stands.plan_is;
-      conditions_are = stands.conditions_are ∙ es_are;
-      fits = stands.fits;
-      are_rows = stands.are_rows;
-      reads = same.stage ∙ stands.reads;
+      plan_is =
+          ap (λ es. condition_nodes es ++ select_nodes (places_of new) ++ steps_of new) (sym es_are)
+          ∙ ap (λ picked. condition_nodes (conditions_of old) ++ select_nodes picked ++ steps_of new) (sym picked_are)
+          ∙ ap (λ steps. condition_nodes (conditions_of old) ++ select_nodes (places_of old) ++ steps) taken.steps ∙ has.plan_is;
+      conditions_are = has.conditions_are ∙ es_are;
+      fits = has.fits;
+      are_rows = has.are_rows;
+      reads = taken.stage ∙ has.reads;
       left_are =
           ap (λ es. up_to new.room es rows new.left.items) (sym es_are)
-          ∙ ap (λ room. up_to room (conditions_of old) rows new.left.items) taken.looks_on
+          ∙ ap (λ room. up_to room (conditions_of old) rows new.left.items) taken.room_is
           ∙ ap (up_to (room_behind old.room (count_by (passes_each (conditions_of old)) (block_of table number).rows)) (conditions_of old) rows) taken.left_are
           ∙ needed_behind old.room (conditions_of old) rows old.left.items number first
-          ∙ ap (drop 1) stands.left_are ∙ drop_one (needed plan rows) handed;
-      within = rw same.places stands.within;
-      names_are = rw (same.places, same.names) stands.names_are;
-      kinds_are = rw same.places (same.kinds ∙ stands.kinds_are);
-      count_is = λ works.
-          let on = taken.counts_on works in
-          let p = passes_each (conditions_of old) in
-          let block = (block_of table number).rows in
-          on.1 ∙ ap (λ n. n + count_by p block) (stands.count_is on.0)
-          ∙ sym (counted_parts p (handed_rows plan table handed) block (handed_rows plan table (handed + 1)) (more_rows plan table handed number next))
-          ∙ ap (λ es. count_by (passes_each es) (handed_rows plan table (handed + 1))) es_are;
-      gone = after.0;
-      gathered = record { gathers = subst (λ ns. GathersFor ns new.gathering after.0) steps_are after.1; keeps_none = taken.keeps_none };
+          ∙ ap (drop 1) has.left_are ∙ drop_one (needed plan rows) handed;
+      columns = still_kept (sink_kept old.sink) (sink_kept new.sink) table.schema taken.columns has.columns;
       passed =
-          subst (λ steps. Alike steps (after_gathered after.0 (rows_so_far new)) (option_map (selected_rows (places_of new)) (passing_all (conditions_of new) (handed_rows plan table (handed + 1))))) steps_are
-          (kept ∙ ap (λ es. option_map (useful (steps_of old)) (option_map (selected_rows (places_of old)) (passing_all es (handed_rows plan table (handed + 1))))) es_are
-          ∙ ap (λ picked. option_map (useful (steps_of old)) (option_map (selected_rows picked) (passing_all (conditions_of new) (handed_rows plan table (handed + 1))))) picked_are);
+          subst (λ picked. HasPassed new (option_map (selected_rows picked) (passing_all (conditions_of new) whole))) picked_are
+          (subst (λ es. HasPassed new (option_map (selected_rows (places_of old)) (passing_all es whole))) es_are passed);
     }
+
+-- ---- where no block is needed
 
 -- the rows of all blocks that are needed
 abbrev read_rows : PlanOf → TableOf → List (List CellValue)
 read_rows plan table = rows_of_blocks table.rows (needed plan table.rows)
 
--- what the conditions make of these
-whole_read : (run : Run) (plan : PlanOf) (table : TableOf) (blocks : ℕ) (has : HasRead run plan table blocks) → next_block plan table blocks ≡ None
-    → Alike (steps_of run) (after_gathered has.gone (rows_so_far run)) (option_map (selected_rows (places_of run)) (passing_all (conditions_of run) (read_rows plan table)))
-whole_read run plan table blocks has beyond =
-    has.passed
-    ∙ ap (λ rows. option_map (useful (steps_of run)) (option_map (selected_rows (places_of run)) (passing_all (conditions_of run) rows))) (all_rows plan table blocks beyond)
+pub whole_read : (run : Run) (plan : PlanOf) (table : TableOf) (blocks : ℕ) → HasTakenBlocks run plan table blocks → next_block plan table blocks ≡ None
+    → HasPassed run (passed_rows run (read_rows plan table))
+whole_read run plan table blocks has beyond = subst (λ rows. HasPassed run (passed_rows run rows)) (all_rows plan table blocks beyond) has.passed
 
--- and how many pass these
-whole_count : (run : Run) (plan : PlanOf) (table : TableOf) (blocks : ℕ) → HasRead run plan table blocks → next_block plan table blocks ≡ None → (zs : List (List CellValue))
-    → option_map (selected_rows (places_of run)) (passing_all (conditions_of run) (read_rows plan table)) ≡ Some zs → run.count ≡ length zs
-whole_count run plan table blocks has beyond zs is =
+-- what passes of rows of the table may go through the steps
+pub passed_fit : NodesInTurn → (run : Run) (plan : PlanOf) (table : TableOf) (blocks : ℕ) (all rows : List (List CellValue)) → HasTakenBlocks run plan table blocks
+    → AreTableRows table.schema all → passed_rows run all ≡ Some rows → NodesFit (steps_of run) (without_count (kept_names (sink_kept run.sink)) rows)
+passed_fit law run plan table blocks all rows has are is =
     let es = conditions_of run in
-    let picked = places_of run in
-    let works : run.faulted ≡ false =
-    none_faulted (steps_of run) run.faulted has.gone run.kept.rows zs (option_map (selected_rows picked) (passing_all es (read_rows plan table)))
-    (whole_read run plan table blocks has beyond) is in
-    has.count_is works ∙ ap (count_by (passes_each es)) (all_rows plan table blocks beyond) ∙ sym (selected_count es picked (read_rows plan table) zs is)
-
--- the rows that are kept may go through the steps
-fits_behind : NodesInTurn → ScansReadTableRows → (run : Run) (plan : PlanOf) (table : TableOf) (blocks : ℕ) (has : HasRead run plan table blocks) → next_block plan table blocks ≡ None
-    → (rows : List (List CellValue)) → after_gathered has.gone (rows_so_far run) ≡ Some rows → StepsFit (steps_of run) run.count (record (kept_result run) { rows = rows })
-fits_behind law scans run plan table blocks has beyond rows is =
-    let es = conditions_of run in
-    let all = read_rows plan table in
     let r = table_result table.schema all in
-    let fit : NodesFit (condition_nodes es ++ select_nodes (places_of run) ++ steps_of run) r =
-    subst (λ ns. NodesFit ns r) (sym has.plan_is) (has.fits all (scans table.schema plan.scan (leading plan.nodes) table.rows has.are_rows)) in
-    let alike = subst (λ kept. Alike (steps_of run) kept (option_map (selected_rows (places_of run)) (passing_all es all))) is
-    (whole_read run plan table blocks has beyond) in
-    subst (λ names. StepsFit (steps_of run) run.count (record { names = names; rows = rows; count = None })) (sym has.names_are)
-    (alike_fit (steps_of run) (selected_result (places_of run) r) run.count (option_map (selected_rows (places_of run)) (passing_all es all)) rows alike
-    (whole_count run plan table blocks has beyond)
-    (λ kept passed. parts_fit law es (places_of run) (steps_of run) r all kept fit passed))
+    let fit : NodesFit (condition_nodes es ++ select_nodes (places_of run) ++ steps_of run) r = subst (λ ns. NodesFit ns r) (sym has.plan_is) (has.fits all are) in
+    subst (λ names. NodesFit (steps_of run) (without_count names rows)) (sym has.columns.names_are) (parts_fit law es (places_of run) (steps_of run) r all rows fit is)
 
-kinds_long : (picked : Option (List ℕ)) (kinds : List KindOf) (names : List (List ℕ)) → length kinds ≡ length names
-    → length (selected_kinds picked kinds) ≡ length (selected_names picked names)
-kinds_long None kinds names same = same
-kinds_long (Some places) kinds names same =
-    length-map places (λ place. get_or kinds place any) ∙ sym (length-map places (λ place. get_or names place []))
-
--- there is a column for each name
-pub as_many : (run : Run) (plan : PlanOf) (table : TableOf) → map string_bytes run.names.items ≡ selected_names (places_of run) (table_names table.schema)
-    → run.kept.kinds ≡ selected_kinds (places_of run) (kinds_of table.schema.columns) → length run.kept.kinds ≡ length run.names.items
-as_many run plan table names_are kinds_are =
-    ap length kinds_are
-    ∙ kinds_long (places_of run) (kinds_of table.schema.columns) (table_names table.schema)
-    (length-map table.schema.columns _ ∙ sym (length-map table.schema.columns _))
-    ∙ ap length (sym names_are) ∙ length-map run.names.items string_bytes
-
-pub is_ready : NodesInTurn → ScansReadTableRows → (run : Run) (plan : PlanOf) (table : TableOf) (blocks : ℕ) → HasRead run plan table blocks → wanted_block run ≡ None → IsReady run
+pub is_ready : NodesInTurn → ScansReadTableRows → (run : Run) (plan : PlanOf) (table : TableOf) (blocks : ℕ) → HasTakenBlocks run plan table blocks → wanted_block run ≡ None → IsReady run
 is_ready law scans run plan table blocks has beyond = record {
-  width = as_many run plan table has.names_are has.kinds_are;
-  gone = has.gone;
-  gathered = has.gathered;
-  fits = fits_behind law scans run plan table blocks has (sym (wanted_is_next run plan table blocks has) ∙ beyond);
+  width = as_many (sink_kept run.sink) table.schema has.columns;
+  passed = passed_rows run (read_rows plan table);
+  has = whole_read run plan table blocks has (sym (wanted_is_next run plan table blocks has) ∙ beyond);
+  fits = λ rows is. passed_fit law run plan table blocks (read_rows plan table) rows has (scans table.schema plan.scan (leading plan.nodes) table.rows has.are_rows) is;
 }
 
 -- what the run gives then is the answer of the plan
-pub answer_is : (run : Run) (plan : PlanOf) (table : TableOf) (blocks : ℕ) (has : HasRead run plan table blocks) → next_block plan table blocks ≡ None
-    → plan_answer plan table ≡ kept_answer run has.gone
-answer_is run plan table blocks has beyond =
+pub answer_is : (run : Run) (plan : PlanOf) (table : TableOf) (blocks : ℕ) → HasTakenBlocks run plan table blocks
+    → plan_answer plan table ≡ passed_answer run (passed_rows run (read_rows plan table))
+answer_is run plan table blocks has =
     let es = conditions_of run in
     let picked = places_of run in
     let all = read_rows plan table in
     let r = table_result table.schema all in
-    let kept : List (List ℕ) → List (List CellValue) → Option ResultOf = λ names rows. nodes_result (steps_of run) (record { names = names; rows = rows; count = None }) in
+    let kept : List (List ℕ) → List (List CellValue) → Option ResultOf = λ names rows. nodes_result (steps_of run) (without_count names rows) in
     ap (λ ns. nodes_result ns r) (sym has.plan_is)
     ∙ parts_give es picked (steps_of run) r all
-    ∙ ap (λ names. option_and_then (kept names) (option_map (selected_rows picked) (passing_all es all))) (sym has.names_are)
-    ∙ sym (alike_answer (steps_of run) (kept_result run) run.count (after_gathered has.gone (rows_so_far run)) (option_map (selected_rows picked) (passing_all es all))
-    (whole_read run plan table blocks has beyond) (whole_count run plan table blocks has beyond))
+    ∙ ap (λ names. option_and_then (kept names) (option_map (selected_rows picked) (passing_all es all))) (sym has.columns.names_are)

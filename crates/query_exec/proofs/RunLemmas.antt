@@ -1,34 +1,39 @@
 -- What the calls of a run give behind the blocks that were handed in.
-use Rattle.std.proofs.Common.{◌≡◌, ◌⊎◌, inl, inr, ℕ, ◌+◌, ◌<◌, true, Option, Some, None, ◌++◌, length, drop, refl, sym, ap, ◌∙◌, subst, arith, string_bytes}
-use Rattle.std.specs.Prelude.{Result, Ok, Err, count_by, is_some, max, option_map}
+use Rattle.std.proofs.Common.{◌≡◌, ◌⊎◌, inl, inr, ℕ, ◌+◌, ◌<◌, true, false, Option, Some, None, List, ◌++◌, length, drop, map, refl, sym, ap, ◌∙◌, subst, arith}
+use Rattle.std.specs.Prelude.{IsErrAnd, Result, Ok, Err, count_by, is_some, max, option_and_then, option_map}
 use Rattle.std.proofs.Math.Nat.{le-max_right, max-eq_left, max-eq_right}
 use Rattle.std.proofs.lemmas.Bool.{cases_lt}
-use Rattle.std.proofs.lemmas.List.{length-map}
-use Rattle.std.proofs.lemmas.List.Sums.{count_by-le-length}
 use Rattle.std.proofs.lemmas.Option.{slice_get_within}
+use Rattle.cell_types.specs.Value.{CellValue}
+use Rattle.typed_trees.specs.TypedTree.{TruthExprOf}
+use Rattle.table_store.specs.Fits.{HasTableRows}
 use Rattle.table_store.specs.Table.{TableOf}
+use Rattle.row_columns.specs.Picked.{numbered}
+use Rattle.block_filter.specs.declared.block.Passed.{Passed}
+use Rattle.block_filter.specs.Conditions.{passing_all, rows_joined, ConditionsInTurn}
+use Rattle.block_filter.specs.Passing.{unless_faulted, ArePassing}
+use Rattle.query_meaning.specs.Filter.{passes_each}
+use Rattle.query_meaning.specs.Meaning.{first_rows}
 use Rattle.query_plan.specs.Fitting.{NodesFit}
 use Rattle.query_plan.specs.Laws.{NodesInTurn, ScansReadTableRows}
-use Rattle.query_meaning.specs.Meaning.{selected_names, table_names}
-use Rattle.query_plan.specs.Plan.{PlanOf, needed, select_nodes, table_result}
-use Rattle.query_meaning.specs.Filter.{passes_each}
-use Rattle.row_order.specs.Best.{BestInPieces}
+use Rattle.query_plan.specs.Plan.{PlanOf, needed, node_view, nodes_result}
+use Rattle.query_rows.specs.Rows.{RowsOf}
 use Rattle.query_exec.specs.declared.fault.ExecFault.{ExecFault}
 use Rattle.query_exec.specs.declared.fault.ExecFault.TheVariants.{DivisionByZero, NoMemory, Failed}
+use Rattle.query_exec.specs.declared.intermediate.Intermediate.{Intermediate}
 use Rattle.query_exec.specs.declared.run.Run.{Run}
-use Rattle.block_filter.specs.Conditions.{rows_joined, passing_all, ConditionsInTurn}
-use Rattle.query_exec.specs.Conditions.{condition_nodes}
-use Rattle.query_rows.specs.Rows.{RowsOf}
+use Rattle.query_exec.specs.Intermediate.{intermediate_view, without_count, GivesIntermediate, IsIntermediate}
+use Rattle.query_exec.specs.Fault.{exec_fault}
+use Rattle.row_eval.specs.declared.fault.EvalFault.{EvalFault}
+use Rattle.row_eval.specs.declared.fault.EvalFault.TheVariants as eval
+use Rattle.query_exec.specs.Kept.{kept_names, AreKeptOf}
 use Rattle.query_exec.specs.Picked.{selected_rows}
-use Rattle.query_exec.specs.Run.{conditions_of, handed_block, handed_rows, next_block, places_of, rows_so_far, run_length, steps_of, wanted_block, RunGoesOn, IsReady, StandsFor, StepsTo}
-use Rattle.query_exec.specs.Gathers.{after_gathered, GathersFor, MayGather}
-use Rattle.query_exec.specs.Taking.{passed_rows, taken_rows, HasTakenIn, MayCount}
-use Rattle.query_exec.proofs.NeededLemmas.{is_block, is_no_block, more_rows, none_behind}
-use Rattle.query_exec.proofs.BestLemmas.{Alike}
-use Rattle.query_exec.proofs.CountLemmas.{counted_parts, few_pass}
-use Rattle.query_exec.proofs.GatherLemmas.{behind_joined, handed_are_rows, may_join, same_of}
-use Rattle.query_exec.proofs.ConditionLemmas.{parts_fit, selected_result}
-use Rattle.query_exec.proofs.ReadLemmas.{answer_is, as_many, block_read, is_ready, no_block_read, one_block_more, wanted_is_next, HasRead}
+use Rattle.query_exec.specs.Run.{conditions_of, handed_block, handed_rows, next_block, passed_answer, passed_rows, places_of, run_length, steps_of, wanted_block, HasPassed, HasTakenBlocks, HasTakenIn, IsRunAnswer, IsReady, MayTakeIn, RunGoesOn, StandsFor, StepsTo}
+use Rattle.query_exec.specs.Sink.{room_behind, sink_kept, sink_nodes, spare_of, AreFound, SinkMakes, HasPushed, MayFinish, MayPush, PushesOn}
+use Rattle.query_exec.proofs.CountLemmas.{few_pass, passed_count}
+use Rattle.query_exec.proofs.FitLemmas.{block_fits}
+use Rattle.query_exec.proofs.NeededLemmas.{is_block, is_no_block, none_behind}
+use Rattle.query_exec.proofs.ReadLemmas.{answer_is, block_read, handed_are_rows, is_ready, one_block_more, passed_fit, wanted_is_next, whole_read}
 
 -- ---- calls
 
@@ -56,118 +61,231 @@ some_next None is = absurd (cc)
 some_next (Some number) is = (number, refl)
 
 -- of so many calls before
-pub answers : (run new : Run) (plan : PlanOf) (table : TableOf) (handed blocks : ℕ) (result : Result (Option RowsOf) ExecFault) → HasRead run plan table blocks
+pub answers : (run new : Run) (plan : PlanOf) (table : TableOf) (handed blocks : ℕ) (result : Result (Option RowsOf) ExecFault) → HasTakenBlocks run plan table blocks
     → ((number : ℕ) → next_block plan table blocks ≡ Some number → blocks ≡ handed + 1) → (next_block plan table blocks ≡ None → handed + 1 ≡ run_length plan table)
     → RunGoesOn run new result → StepsTo plan table handed new result
 answers run new plan table handed blocks (Ok None) has more last goes =
     let next = some_next (next_block plan table blocks) (ap is_some (sym (wanted_is_next run plan table blocks has)) ∙ goes.0) in
     let one : blocks ≡ handed + 1 = more next.0 next.1 in
     let inside = slice_get_within (needed plan table.rows) blocks next.0 next.1 in
-    let within : handed + 1 < run_length plan table = omega (arith, inside, one, le-max_right 1 (length (needed plan table.rows))) in (
-      within,
-      subst (λ (r : Run). StandsFor r plan table (handed + 1)) (sym goes.1) (record {
-        plan_is = has.plan_is;
-        conditions_are = has.conditions_are;
-        fits = has.fits;
-        are_rows = has.are_rows;
-        reads = has.reads;
-        left_are = has.left_are ∙ ap (λ k. drop k (needed plan table.rows)) one;
-        goes_on = within;
-        within = has.within;
-        names_are = has.names_are;
-        kinds_are = has.kinds_are;
-        count_is = λ works. has.count_is works ∙ ap (λ k. count_by (passes_each (conditions_of run)) (handed_rows plan table k)) one;
-        gone = has.gone;
-        gathered = has.gathered;
-        passed = subst (λ k. Alike (steps_of run) (after_gathered has.gone (rows_so_far run)) (option_map (selected_rows (places_of run)) (passing_all (conditions_of run) (handed_rows plan table k)))) one
-            has.passed;
-      }),
-    )
+    let within : handed + 1 < run_length plan table = omega (arith, inside, one, le-max_right 1 (length (needed plan table.rows))) in
+    (within, record { read = subst (λ (r : Run). HasTakenBlocks r plan table (handed + 1)) (sym goes.1) (subst (HasTakenBlocks run plan table) one has); goes_on = within })
 answers run new plan table handed blocks (Ok (Some rows)) has more last goes =
     let beyond = sym (wanted_is_next run plan table blocks has) ∙ goes.0 in
-    (last beyond, answer_is run plan table blocks has beyond ∙ goes.1 has.gone has.gathered)
+    (last beyond, answer_is run plan table blocks has ∙ goes.1 _ (whole_read run plan table blocks has beyond))
 answers run new plan table handed blocks (Err DivisionByZero) has more last goes =
     let beyond = sym (wanted_is_next run plan table blocks has) ∙ goes.0 in
-    (last beyond, answer_is run plan table blocks has beyond ∙ goes.1 has.gone has.gathered)
+    (last beyond, answer_is run plan table blocks has ∙ goes.1 _ (whole_read run plan table blocks has beyond))
 answers run new plan table handed blocks (Err NoMemory) has more last goes = goes
 answers run new plan table handed blocks (Err Failed) has more last goes = goes
 
-pub after_block : ConditionsInTurn → BestInPieces → (old new next : Run) (block : TableOf) (plan : PlanOf) (table : TableOf) (handed : ℕ) (result : Result (Option RowsOf) ExecFault)
-    → StandsFor old plan table handed → Some block ≡ handed_block plan table handed → HasTakenIn old new block.rows
-    → RunGoesOn new next result → StepsTo plan table handed next result
-after_block law pieces old new next block plan table handed result stands is taken goes =
-    let at = is_block plan table handed block is in
-    answers new next plan table handed (handed + 1) result
-    (block_read law pieces old new plan table handed at.0 stands at.1 (subst (λ (b : TableOf). HasTakenIn old new b.rows) at.2 taken))
-    (λ number h. refl) (λ h. last_block plan table handed at.0 at.1 h) goes
+module _ (run : Run) (plan : PlanOf) (table : TableOf) (handed : ℕ) (stands : StandsFor run plan table handed) where
+  -- ---- without a block
 
-pub after_none : (run next : Run) (plan : PlanOf) (table : TableOf) (handed : ℕ) (result : Result (Option RowsOf) ExecFault) → StandsFor run plan table handed
-    → None ≡ handed_block plan table handed → RunGoesOn run next result → StepsTo plan table handed next result
-after_none run next plan table handed result stands is goes =
-    let beyond = is_no_block plan table handed is in
-    answers run next plan table handed handed result (no_block_read run plan table handed stands)
-    (λ number h. let none : None ≡ Some number = sym beyond ∙ h in absurd (cc)) (λ h. last_none plan table handed stands.goes_on beyond) goes
+  pub after_none : (next : Run) (result : Result (Option RowsOf) ExecFault) → None ≡ handed_block plan table handed → RunGoesOn run next result
+      → StepsTo plan table handed next result
+  after_none next result is goes =
+      let beyond = is_no_block plan table handed is in
+      answers run next plan table handed handed result stands.read
+      (λ number h. let none : None ≡ Some number = sym beyond ∙ h in absurd (cc)) (λ h. last_none plan table handed stands.goes_on beyond) goes
 
--- ---- before the steps
+  pub ready_behind_none : NodesInTurn → ScansReadTableRows → wanted_block run ≡ None → IsReady run
+  ready_behind_none turn scans beyond = is_ready turn scans run plan table handed stands.read beyond
 
-pub ready_behind_block : ConditionsInTurn → BestInPieces → NodesInTurn → ScansReadTableRows → (old new : Run) (block : TableOf) (plan : PlanOf) (table : TableOf) (handed : ℕ)
-    → StandsFor old plan table handed → Some block ≡ handed_block plan table handed → HasTakenIn old new block.rows → wanted_block new ≡ None → IsReady new
-ready_behind_block law pieces turn scans old new block plan table handed stands is taken beyond =
-    let at = is_block plan table handed block is in
-    is_ready turn scans new plan table (handed + 1)
-    (block_read law pieces old new plan table handed at.0 stands at.1 (subst (λ (b : TableOf). HasTakenIn old new b.rows) at.2 taken)) beyond
+  -- ---- behind a block
 
-pub ready_behind_none : NodesInTurn → ScansReadTableRows → (run : Run) (plan : PlanOf) (table : TableOf) (handed : ℕ) → StandsFor run plan table handed → wanted_block run ≡ None
-    → IsReady run
-ready_behind_none turn scans run plan table handed stands beyond = is_ready turn scans run plan table handed (no_block_read run plan table handed stands) beyond
+  module _ (law : ConditionsInTurn) (block : TableOf) (is : Some block ≡ handed_block plan table handed) where
+    read_behind : (new : Run) → HasTakenIn run new block.rows → HasTakenBlocks new plan table (handed + 1)
+    read_behind new taken =
+        let at = is_block plan table handed block is in
+        block_read law run new plan table handed at.0 stands.read at.1 (subst (λ (b : TableOf). HasTakenIn run new b.rows) at.2 taken)
 
--- ---- before a block is taken in
+    pub after_block : (new next : Run) (result : Result (Option RowsOf) ExecFault) → HasTakenIn run new block.rows → RunGoesOn new next result
+        → StepsTo plan table handed next result
+    after_block new next result taken goes =
+        let at = is_block plan table handed block is in
+        answers new next plan table handed (handed + 1) result (read_behind new taken) (λ number h. refl)
+        (λ h. last_block plan table handed at.0 at.1 h) goes
 
--- what passes of it may be counted
-pub block_may_be_counted : ScansReadTableRows → (run : Run) (block : TableOf) (plan : PlanOf) (table : TableOf) (handed : ℕ) → StandsFor run plan table handed
-    → Some block ≡ handed_block plan table handed → MayCount run block.rows
-block_may_be_counted scans run block plan table handed stands is = λ works.
-    let p = passes_each (conditions_of run) in
-    let front = handed_rows plan table handed in
-    let whole = handed_rows plan table (handed + 1) in
-    let at = is_block plan table handed block is in
-    let whole_is : whole ≡ front ++ block.rows = more_rows plan table handed at.0 at.1 ∙ ap (λ (b : TableOf). front ++ b.rows) (sym at.2) in
-    let are = handed_are_rows scans plan table (handed + 1) stands.are_rows in
-    let count = are.count in
-    let parts = counted_parts p front block.rows whole whole_is in
-    let few = count_by-le-length p whole in
-    let before = stands.count_is works in
-    omega (arith, few, count, parts, before)
+    pub ready_behind_block : NodesInTurn → ScansReadTableRows → (new : Run) → HasTakenIn run new block.rows → wanted_block new ≡ None → IsReady new
+    ready_behind_block turn scans new taken beyond = is_ready turn scans new plan table (handed + 1) (read_behind new taken) beyond
 
--- what passes of it may be gathered
-pub block_may_be_gathered : ConditionsInTurn → BestInPieces → NodesInTurn → ScansReadTableRows → (run : Run) (block : TableOf) (plan : PlanOf) (table : TableOf) (handed : ℕ)
-    → StandsFor run plan table handed → Some block ≡ handed_block plan table handed → MayGather (steps_of run) run (taken_rows run block.rows)
-block_may_be_gathered law pieces turn scans run block plan table handed stands is = record {
-  gone = stands.gone;
-  gathers = stands.gathered.gathers;
-  joins = λ g kept gathering kept_is.
-      let steps = steps_of run in
-      let es = conditions_of run in
-      let picked = places_of run in
-      let gone = stands.gone in
-      let front = handed_rows plan table handed in
-      let whole = handed_rows plan table (handed + 1) in
-      let at = is_block plan table handed block is in
-      let gathers : GathersFor steps (Some g) gone = subst (λ gs. GathersFor steps gs gone) gathering stands.gathered.gathers in
-      let whole_is : whole ≡ front ++ block.rows = more_rows plan table handed at.0 at.1 ∙ ap (λ (b : TableOf). front ++ b.rows) (sym at.2) in
-      let before = after_gathered gone (rows_so_far run) in
-      let after = rows_joined before (passed_rows run block.rows) in
-      let alike = one_block_more law pieces steps es picked front block.rows whole before after whole_is stands.passed refl in
-      let passed : option_map (selected_rows picked) (passing_all es whole) ≡ Some (gone ++ kept) =
-      sym (same_of steps g gone gathers after (option_map (selected_rows picked) (passing_all es whole)) alike)
-      ∙ sym (behind_joined gone (rows_so_far run) (passed_rows run block.rows)) ∙ ap (after_gathered gone) kept_is in
-      let are = handed_are_rows scans plan table (handed + 1) stands.are_rows in
-      let r = table_result table.schema whole in
-      let fit : NodesFit (condition_nodes es ++ select_nodes picked ++ steps) r = subst (λ ns. NodesFit ns r) (sym stands.plan_is) (stands.fits whole are) in
-      let few = few_pass es picked whole (gone ++ kept) passed in
-      let count = are.count in
-      let named : length (selected_names picked (table_names table.schema)) ≡ length run.kept.kinds =
-      ap length (sym stands.names_are) ∙ length-map run.names.items string_bytes ∙ sym (as_many run plan table stands.names_are stands.kinds_are) in
-      may_join steps g gone kept (selected_result picked r) (length run.kept.kinds) gathers named (omega (arith, few, count))
-      (parts_fit turn es picked steps r whole (gone ++ kept) fit passed);
+    -- what passes of its rows may go to the sink
+    pub block_may_be_taken : NodesInTurn → ScansReadTableRows → HasTableRows block → MayTakeIn run block
+    block_may_be_taken turn scans rows_are =
+        let at = is_block plan table handed block is in
+        let schema_is : block.schema ≡ table.schema = ap (λ (b : TableOf). b.schema) at.2 in
+        let has = stands.read in
+        let whole = handed_rows plan table (handed + 1) in
+        let are = handed_are_rows scans plan table (handed + 1) has.are_rows in
+        let passed : (rows : List (List CellValue)) → rows_joined (passed_rows run (handed_rows plan table handed)) (passed_rows run block.rows) ≡ Some rows
+        → passed_rows run whole ≡ Some rows =
+        λ rows e. sym (one_block_more law run plan table handed at.0 at.1)
+        ∙ ap (λ (b : TableOf). rows_joined (passed_rows run (handed_rows plan table handed)) (passed_rows run b.rows)) (sym at.2) ∙ e in
+        record {
+          conditions = block_fits run plan table handed block has rows_are schema_is;
+          columns = subst (AreKeptOf (sink_kept run.sink)) (sym schema_is) has.columns;
+          passed = passed_rows run (handed_rows plan table handed);
+          has = has.passed;
+          few = λ rows e.
+              let less = few_pass (conditions_of run) (places_of run) whole rows (passed rows e) in
+              let count = are.count in
+              omega (arith, less, count);
+          fits = λ rows e.
+              turn.below_fit (sink_nodes run.sink) (map node_view run.steps.items) (without_count (kept_names (sink_kept run.sink)) rows)
+              (passed_fit turn run plan table handed whole rows has are (passed rows e));
+        }
+
+-- ---- a block is taken in
+
+some_first : (most : Option ℕ) (passed : Option (List (List CellValue))) (kept : List (List CellValue)) → option_map (first_rows most) passed ≡ Some kept
+    → (all : List (List CellValue)) × (passed ≡ Some all) × (first_rows most all ≡ kept)
+some_first most None kept is = absurd (cc)
+some_first most (Some all) kept is = (all, refl, cc)
+
+-- what was found, unless a condition divided by zero
+found_of : (es : List TruthExprOf) (most : Option ℕ) (rows : List (List CellValue)) (found : Passed) → ArePassing es most rows found → found.faulted ≡ false
+    → (passing : List (List CellValue)) × (passing_all es rows ≡ Some passing) × AreFound most rows found passing
+found_of es most rows found are works =
+    let some = some_first most (passing_all es rows) (numbered found.numbers.items rows) (are.passed ∙ ap (λ b. unless_faulted b (numbered found.numbers.items rows)) works) in (
+      some.0,
+      some.1,
+      record { within = are.within; first = sym some.2; count = are.count ∙ sym (passed_count es rows some.0 some.1) },
+    )
+
+-- rows passed before where no condition divided by zero
+some_passed : (run : Run) (passed : Option (List (List CellValue))) → HasPassed run passed → run.faulted ≡ false
+    → (rows : List (List CellValue)) × (passed ≡ Some rows) × HasPushed run.sink rows
+some_passed run None has works = let wrong : false ≡ true = sym works ∙ has.faulted in absurd (cc)
+some_passed run (Some rows) has works = (rows, refl, has.pushed)
+
+pub may_push : (run : Run) (block : TableOf) (found : Passed) → MayTakeIn run block → ArePassing (conditions_of run) (spare_of run.sink) block.rows found
+    → run.faulted ≡ false → found.faulted ≡ false → MayPush run.sink block found
+may_push run block found may are works still =
+    let new = found_of (conditions_of run) (spare_of run.sink) block.rows found are still in
+    let old = some_passed run may.passed may.has works in
+    let joined : rows_joined may.passed (passed_rows run block.rows) ≡ Some (old.0 ++ selected_rows (places_of run) new.0) =
+    ap (λ passed. rows_joined passed (passed_rows run block.rows)) old.1
+    ∙ ap (λ passed. rows_joined (Some old.0) (option_map (selected_rows (places_of run)) passed)) new.1 in
+    record {
+      passing = new.0;
+      are_found = new.2;
+      columns = may.columns;
+      before = old.0;
+      pushed = old.2;
+      few = may.few (old.0 ++ selected_rows (places_of run) new.0) joined;
+      fits = may.fits (old.0 ++ selected_rows (places_of run) new.0) joined;
+    }
+
+none_passed : (run : Run) (passed : Option (List (List CellValue))) → HasPassed run passed → run.faulted ≡ true → passed ≡ None
+none_passed run None has faults = refl
+none_passed run (Some rows) has faults = let wrong : true ≡ false = sym faults ∙ has.faulted in absurd (cc)
+
+-- a condition divided by zero on rows before
+pub fault_before : (old : Run) (rows : List (List CellValue)) → old.faulted ≡ true → (before : Option (List (List CellValue))) → HasPassed old before
+    → rows_joined before (passed_rows old rows) ≡ None
+fault_before old rows faults before has = ap (λ passed. rows_joined passed (passed_rows old rows)) (none_passed old before has faults)
+
+none_first : (most : Option ℕ) (passed : Option (List (List CellValue))) → option_map (first_rows most) passed ≡ None → passed ≡ None
+none_first most None is = refl
+none_first most (Some all) is = absurd (cc)
+
+joined_none : (passed : Option (List (List CellValue))) → rows_joined passed None ≡ None
+joined_none None = refl
+joined_none (Some rows) = refl
+
+-- or on these
+pub fault_found : (old : Run) (most : Option ℕ) (rows : List (List CellValue)) (found : Passed) → ArePassing (conditions_of old) most rows found → found.faulted ≡ true
+    → (before : Option (List (List CellValue))) → HasPassed old before → rows_joined before (passed_rows old rows) ≡ None
+fault_found old most rows found are faults before has =
+    let none = none_first most (passing_all (conditions_of old) rows) (are.passed ∙ ap (λ f. unless_faulted f (numbered found.numbers.items rows)) faults) in
+    ap (λ passed. rows_joined before (option_map (selected_rows (places_of old)) passed)) none ∙ joined_none before
+
+pub faulted_taken : (old new : Run) (rows : List (List CellValue)) → new ≡ record old { left = new.left; room = new.room; lanes = new.lanes; faulted = new.faulted } → new.faulted ≡ true → new.left.items ≡ drop 1 old.left.items
+    → new.room ≡ room_behind old.room (count_by (passes_each (conditions_of old)) rows)
+    → ((before : Option (List (List CellValue))) → HasPassed old before → rows_joined before (passed_rows old rows) ≡ None) → HasTakenIn old new rows
+faulted_taken old new rows is faults left room none = record {
+  conditions = ap (λ (r : Run). r.conditions) is;
+  stage = ap (λ (r : Run). r.stage) is;
+  steps = ap steps_of is;
+  columns = record {
+    places = ap (λ (r : Run). (sink_kept r.sink).places) is;
+    names = ap (λ (r : Run). (sink_kept r.sink).names) is;
+    kinds = ap (λ (r : Run). (sink_kept r.sink).columns.kinds) is;
+  };
+  left_are = left;
+  room_is = room;
+  passed = λ before has. subst (HasPassed new) (sym (none before has)) (record { faulted = faults; pushed = tt });
 }
+
+-- rows that pass no more, once a condition divided by zero
+pub passed_over : (old new : Run) (rows : List (List CellValue)) → old.faulted ≡ true → old.room ≡ None → new ≡ record old { left = new.left }
+    → new.left.items ≡ drop 1 old.left.items → HasTakenIn old new rows
+passed_over old new rows faults room is left =
+    faulted_taken old new rows
+    (subst (λ (r : Run). r ≡ record old { left = r.left; room = r.room; lanes = r.lanes; faulted = r.faulted }) (sym is) refl)
+    (ap (λ (r : Run). r.faulted) is ∙ faults) left
+    (ap (λ (r : Run). r.room) is ∙ room ∙ ap (λ room. room_behind room (count_by (passes_each (conditions_of old)) rows)) (sym room))
+    (λ before has. ap (λ passed. rows_joined passed (passed_rows old rows)) (none_passed old before has faults))
+
+pub pushed_taken : (old new : Run) (rows : List (List CellValue)) (found : Passed) → ArePassing (conditions_of old) (spare_of old.sink) rows found → old.faulted ≡ false
+    → found.faulted ≡ false → new ≡ record old { left = new.left; room = new.room; lanes = new.lanes; sink = new.sink } → new.left.items ≡ drop 1 old.left.items
+    → new.room ≡ room_behind old.room found.count → PushesOn old.sink new.sink rows found → HasTakenIn old new rows
+pushed_taken old new rows found are works still is left room pushes =
+    let more = found_of (conditions_of old) (spare_of old.sink) rows found are still in
+    record {
+      conditions = ap (λ (r : Run). r.conditions) is;
+      stage = ap (λ (r : Run). r.stage) is;
+      steps = ap (λ (r : Run). sink_nodes new.sink ++ map node_view r.steps.items) is ∙ ap (λ ns. ns ++ map node_view old.steps.items) pushes.nodes;
+      columns = pushes.columns;
+      left_are = left;
+      room_is = room ∙ ap (room_behind old.room) are.count;
+      passed = λ before has.
+          let some = some_passed old before has works in
+          let joined : rows_joined before (passed_rows old rows) ≡ Some (some.0 ++ selected_rows (places_of old) more.0) =
+          ap (λ passed. rows_joined passed (passed_rows old rows)) some.1
+          ∙ ap (λ passed. rows_joined (Some some.0) (option_map (selected_rows (places_of old)) passed)) more.1 in
+          subst (HasPassed new) (sym joined) (record { faulted = ap (λ (r : Run). r.faulted) is ∙ works; pushed = pushes.pushed some.0 more.0 more.2 some.2 });
+    }
+
+-- ---- the end
+
+pub may_finish : (run : Run) → IsReady run → run.faulted ≡ false → NodesInTurn → MayFinish run.sink
+may_finish run ready works turn =
+    let some = some_passed run ready.passed ready.has works in
+    record {
+      width = ready.width;
+      rows = some.0;
+      pushed = some.2;
+      fits = turn.below_fit (sink_nodes run.sink) (map node_view run.steps.items) (without_count (kept_names (sink_kept run.sink)) some.0) (ready.fits some.0 some.1);
+    }
+
+module _ (run : Run) (ready : IsReady run) (works : run.faulted ≡ false) (turn : NodesInTurn) (sunk : Intermediate) (sinks : SinkMakes run.sink sunk) where
+  pub sunk_is : IsIntermediate sunk
+  sunk_is = let some = some_passed run ready.passed ready.has works in (sinks.makes some.0 some.2).intermediate
+
+  pub steps_fit : NodesFit (map node_view run.steps.items) (intermediate_view sunk)
+  steps_fit =
+      let some = some_passed run ready.passed ready.has works in
+      turn.above_fit (sink_nodes run.sink) (map node_view run.steps.items) (without_count (kept_names (sink_kept run.sink)) some.0) (intermediate_view sunk)
+      (ready.fits some.0 some.1) (sinks.makes some.0 some.2).result
+
+  -- what the steps make of what the sink made is the answer
+  pub answer_made : (answer : Option RowsOf) → nodes_result (map node_view run.steps.items) (intermediate_view sunk) ≡ answer → IsRunAnswer run answer
+  answer_made answer is = λ passed has.
+      let some = some_passed run passed has works in
+      let r = without_count (kept_names (sink_kept run.sink)) some.0 in
+      ap (passed_answer run) some.1 ∙ turn.turn (sink_nodes run.sink) (map node_view run.steps.items) r
+      ∙ ap (option_and_then (nodes_result (map node_view run.steps.items))) (sinks.makes some.0 some.2).result ∙ is
+
+  fault_answer : (new : Run) (fault : EvalFault) → wanted_block run ≡ None → GivesIntermediate (nodes_result (map node_view run.steps.items) (intermediate_view sunk)) (Err fault)
+      → RunGoesOn run new (Err (exec_fault fault))
+  fault_answer new eval.DivisionByZero beyond gives = (beyond, answer_made None gives)
+  fault_answer new eval.NoMemory beyond gives = tt
+
+  -- a fault of the steps is one of the run
+  pub fault_goes_on : (new : Run) (fault : EvalFault) (result : Result (Option RowsOf) ExecFault) → wanted_block run ≡ None
+      → GivesIntermediate (nodes_result (map node_view run.steps.items) (intermediate_view sunk)) (Err fault) → IsErrAnd result (λ made. made ≡ exec_fault fault)
+      → RunGoesOn run new result
+  fault_goes_on new fault (Ok made) beyond gives is = absurd is
+  fault_goes_on new fault (Err made) beyond gives is = subst (λ f. RunGoesOn run new (Err f)) (sym is) (fault_answer new fault beyond gives)

@@ -9,9 +9,10 @@ pub mod Fault
 pub mod Answer
 pub mod Conditions
 pub mod Picked
-pub mod Useful
-pub mod Underway
-pub mod Gathers
+pub mod Kept
+pub mod Intermediate
+pub mod Items
+pub mod Sink
+pub mod TopN
 pub mod Run
-pub mod Taking
 pub mod Admitted

@@ -1,33 +1,31 @@
 -- What a run stands for, and what its calls make of that.
-use Rattle.std.specs.Prelude.{◌≡◌, ◌<◌, ◌+◌, ◌++◌, ⊤, ℕ, false, true, IfSome, Option, Some, None, Result, Ok, Err, List, count_by, drop, if◌then◌else◌, is_some, length, map, max, option_and_then, option_map, slice_get, string_bytes, take}
+use Rattle.std.specs.Prelude.{◌≡◌, ◌<◌, ◌+◌, ◌++◌, ◌^◌, ⊤, ℕ, true, IfSome, Option, Some, None, Result, Ok, Err, List, count_by, drop, is_none, is_some, length, map, max, option_and_then, option_map, slice_get, take}
 use Rattle.std.specs.List.{All}
 use Rattle.cell_types.specs.Value.{CellValue}
-use Rattle.odata_query.specs.Query.{optional_numbers}
 use Rattle.typed_trees.specs.TypedTree.{TruthExprOf, boxed_truth}
 use Rattle.table_store.specs.Block.{block_of}
 use Rattle.table_store.specs.Table.{TableOf}
-use Rattle.row_columns.specs.Kinds.{kinds_of}
-use Rattle.query_plan.specs.Fitting.{IsFitFor}
+use Rattle.query_plan.specs.Fitting.{IsFitFor, NodesFit}
 use Rattle.query_meaning.specs.Fitting.{AreTableRows}
-use Rattle.query_meaning.specs.Meaning.{ResultOf, selected_names, table_names}
-use Rattle.query_plan.specs.Plan.{NodeOf, PlanOf, leading, needed, node_view, select_nodes}
-use Rattle.query_plan.specs.Scan.{rows_of_blocks, up_to}
 use Rattle.query_meaning.specs.Filter.{passes_each}
+use Rattle.query_plan.specs.Plan.{NodeOf, PlanOf, leading, needed, node_view, nodes_result, select_nodes}
+use Rattle.query_plan.specs.Scan.{rows_of_blocks, up_to}
+use Rattle.block_filter.specs.Conditions.{passing_all, rows_joined, ConditionsFit}
 use Rattle.query_exec.specs.declared.fault.ExecFault.{ExecFault}
 use Rattle.query_exec.specs.declared.fault.ExecFault.TheVariants.{DivisionByZero, NoMemory, Failed}
 use Rattle.query_exec.specs.declared.run.Run.{Run}
 use Rattle.query_exec.specs.declared.run.Stage.TheVariants.{Reading, Ended, Refused}
 use Rattle.query_exec.specs.declared.run.Step.{Step}
 use Rattle.query_exec.specs.declared.run.Step.TheVariants.{More, Done}
-use Rattle.query_exec.specs.Answer.{plan_answer}
-use Rattle.block_filter.specs.Conditions.{passing_all}
-use Rattle.query_exec.specs.Conditions.{condition_nodes}
-use Rattle.query_exec.specs.Gathers.{after_gathered, IsGathered}
-use Rattle.query_exec.specs.Picked.{selected_kinds, selected_rows}
 use Rattle.query_rows.specs.Rows.{RowsOf}
-use Rattle.query_exec.specs.Useful.{steps_result, useful, StepsFit}
+use Rattle.query_exec.specs.Answer.{plan_answer}
+use Rattle.query_exec.specs.Conditions.{condition_nodes}
+use Rattle.query_exec.specs.Intermediate.{without_count}
+use Rattle.query_exec.specs.Kept.{kept_names, kept_places, AreKeptOf, HasSameColumns}
+use Rattle.query_exec.specs.Picked.{selected_rows}
+use Rattle.query_exec.specs.Sink.{room_behind, sink_kept, sink_nodes, HasPushed}
 
--- the number of the block that is needed behind those that were handed in, where there is one
+-- the number of the block that is needed after those that were handed in, where there is one
 abbrev pub next_block : PlanOf → TableOf → ℕ → Option ℕ
 next_block plan table handed = slice_get (needed plan table.rows) handed
 
@@ -43,43 +41,41 @@ run_length plan table = max 1 (length (needed plan table.rows))
 abbrev pub handed_rows : PlanOf → TableOf → ℕ → List (List CellValue)
 handed_rows plan table handed = rows_of_blocks table.rows (take handed (needed plan table.rows))
 
--- the conditions that the plan begins with, the columns that are picked then, if so, and the steps behind them
+-- the conditions that the plan begins with, the columns that are picked then, if so, and the steps after them, of which the sink does the first
 abbrev pub conditions_of : Run → List TruthExprOf
 conditions_of run = map boxed_truth run.conditions.items
 
 abbrev pub places_of : Run → Option (List ℕ)
-places_of run = optional_numbers run.places
+places_of run = kept_places (sink_kept run.sink)
 
 abbrev pub steps_of : Run → List NodeOf
-steps_of run = map node_view run.steps.items
+steps_of run = sink_nodes run.sink ++ map node_view run.steps.items
 
--- what is kept of the rows that passed the conditions, unless one of these divided by zero
-abbrev pub rows_so_far : Run → Option (List (List CellValue))
-rows_so_far run = if run.faulted then None else Some run.kept.rows
+-- what passes of rows, in the columns that are picked; None, where a condition divides by zero
+abbrev pub passed_rows : Run → List (List CellValue) → Option (List (List CellValue))
+passed_rows run rows = option_map (selected_rows (places_of run)) (passing_all (conditions_of run) rows)
 
--- and these under their names
-abbrev pub kept_result : Run → ResultOf
-kept_result run = record { names = map string_bytes run.names.items; rows = run.kept.rows; count = None }
+-- these rows went to the sink, unless a condition divided by zero
+pub record HasPassed (run : Run) (passed : Option (List (List CellValue))) : Type 0 where
+  pub faulted : run.faulted ≡ is_none passed
+  pub pushed : IfSome passed (HasPushed run.sink)
 
--- The run stands for the plan on the table, of which it was handed so many of the blocks that are needed: what it gathered and what it kept is of the same
--- use as what the conditions make of their rows, in the columns that are picked; it counted all of these, be they kept or not; and up to its stop it is left
--- with the other blocks that are needed.
-pub record StandsFor (run : Run) (plan : PlanOf) (table : TableOf) (handed : ℕ) : Type 0 where
+-- The run was handed the first so many of the blocks that the plan needs of the table: what passes of their rows went to the sink; and up to its stop it is
+-- left with the other blocks that are needed.
+pub record HasTakenBlocks (run : Run) (plan : PlanOf) (table : TableOf) (handed : ℕ) : Type 0 where
   pub plan_is : condition_nodes (conditions_of run) ++ select_nodes (places_of run) ++ steps_of run ≡ plan.nodes
   pub conditions_are : leading plan.nodes ≡ conditions_of run
   pub fits : IsFitFor table.schema plan
   pub are_rows : AreTableRows table.schema table.rows
   pub reads : run.stage ≡ Reading
   pub left_are : up_to run.room (conditions_of run) table.rows run.left.items ≡ drop handed (needed plan table.rows)
+  pub columns : AreKeptOf (sink_kept run.sink) table.schema
+  pub passed : HasPassed run (passed_rows run (handed_rows plan table handed))
+
+-- so it stands for the plan on the table, while a call is left
+pub record StandsFor (run : Run) (plan : PlanOf) (table : TableOf) (handed : ℕ) : Type 0 where
+  pub read : HasTakenBlocks run plan table handed
   pub goes_on : handed < run_length plan table
-  pub within : IfSome (places_of run) (All (λ place. place < length table.schema.columns))
-  pub names_are : map string_bytes run.names.items ≡ selected_names (places_of run) (table_names table.schema)
-  pub kinds_are : run.kept.kinds ≡ selected_kinds (places_of run) (kinds_of table.schema.columns)
-  pub count_is : run.faulted ≡ false → run.count ≡ count_by (passes_each (conditions_of run)) (handed_rows plan table handed)
-  pub gone : List (List CellValue)
-  pub gathered : IsGathered (steps_of run) run gone
-  pub passed : option_map (useful (steps_of run)) (after_gathered gone (rows_so_far run))
-      ≡ option_map (useful (steps_of run)) (option_map (selected_rows (places_of run)) (passing_all (conditions_of run) (handed_rows plan table handed)))
 
 -- the run is done, and gives this
 abbrev pub RunGives : Run → RowsOf → Type 0
@@ -122,21 +118,41 @@ StepsTo plan table handed run (Err DivisionByZero) = (handed + 1 ≡ run_length 
 StepsTo plan table handed run (Err NoMemory) = ⊤
 StepsTo plan table handed run (Err Failed) = ⊥
 
--- what the steps behind the conditions make of the rows that passed these
-abbrev pub kept_answer : Run → List (List CellValue) → Option RowsOf
-kept_answer run gone = option_and_then (λ rows. steps_result (steps_of run) run.count (record (kept_result run) { rows = rows })) (after_gathered gone (rows_so_far run))
+-- what the steps make of the rows that passed
+abbrev pub passed_answer : Run → Option (List (List CellValue)) → Option RowsOf
+passed_answer run passed = option_and_then (λ rows. nodes_result (steps_of run) (without_count (kept_names (sink_kept run.sink)) rows)) passed
 
-abbrev pub IsKeptAnswer : Run → Option RowsOf → Type 0
-IsKeptAnswer run answer = (gone : List (List CellValue)) → IsGathered (steps_of run) run gone → kept_answer run gone ≡ answer
+abbrev pub IsRunAnswer : Run → Option RowsOf → Type 0
+IsRunAnswer run answer = (passed : Option (List (List CellValue))) → HasPassed run passed → passed_answer run passed ≡ answer
 
 -- the rows that passed may go through the steps
 pub record IsReady (run : Run) : Type 0 where
-  pub width : length run.kept.kinds ≡ length run.names.items
-  pub gone : List (List CellValue)
-  pub gathered : IsGathered (steps_of run) run gone
-  pub fits : (rows : List (List CellValue)) → after_gathered gone (rows_so_far run) ≡ Some rows → StepsFit (steps_of run) run.count (record (kept_result run) { rows = rows })
+  pub width : length (sink_kept run.sink).columns.kinds ≡ length (kept_names (sink_kept run.sink))
+  pub passed : Option (List (List CellValue))
+  pub has : HasPassed run passed
+  pub fits : (rows : List (List CellValue)) → passed ≡ Some rows → NodesFit (steps_of run) (without_count (kept_names (sink_kept run.sink)) rows)
 
--- the next of the blocks that are left, where the stop looks for rows behind those before it
+-- a run may take in a block: what passes of its rows may go to the sink
+pub record MayTakeIn (run : Run) (block : TableOf) : Type 0 where
+  pub conditions : All (ConditionsFit (conditions_of run)) block.rows
+  pub columns : AreKeptOf (sink_kept run.sink) block.schema
+  pub passed : Option (List (List CellValue))
+  pub has : HasPassed run passed
+  pub few : (rows : List (List CellValue)) → rows_joined passed (passed_rows run block.rows) ≡ Some rows → length rows < 2 ^ 64
+  pub fits : (rows : List (List CellValue)) → rows_joined passed (passed_rows run block.rows) ≡ Some rows
+      → NodesFit (sink_nodes run.sink) (without_count (kept_names (sink_kept run.sink)) rows)
+
+-- it took in the first of the blocks that are left: what passes of its rows went to the sink
+pub record HasTakenIn (old new : Run) (rows : List (List CellValue)) : Type 0 where
+  pub conditions : new.conditions ≡ old.conditions
+  pub stage : new.stage ≡ old.stage
+  pub steps : steps_of new ≡ steps_of old
+  pub columns : HasSameColumns (sink_kept old.sink) (sink_kept new.sink)
+  pub left_are : new.left.items ≡ drop 1 old.left.items
+  pub room_is : new.room ≡ room_behind old.room (count_by (passes_each (conditions_of old)) rows)
+  pub passed : (before : Option (List (List CellValue))) → HasPassed old before → HasPassed new (rows_joined before (passed_rows old rows))
+
+-- the next of the blocks that are left, where the stop looks for rows after those before it
 abbrev pub wanted : Option ℕ → Option ℕ → Option ℕ
 wanted (Some ℕ.zero) next = None
 wanted room next = next
@@ -147,7 +163,7 @@ wanted_block run = wanted run.room (slice_get run.left.items 0)
 -- what a run makes of the blocks that were handed in: nothing yet where others are to come
 abbrev pub RunGoesOn : Run → Run → Result (Option RowsOf) ExecFault → Type 0
 RunGoesOn old new (Ok None) = (is_some (wanted_block old) ≡ true) × (new ≡ old)
-RunGoesOn old new (Ok (Some rows)) = (wanted_block old ≡ None) × IsKeptAnswer old (Some rows)
-RunGoesOn old new (Err DivisionByZero) = (wanted_block old ≡ None) × IsKeptAnswer old None
+RunGoesOn old new (Ok (Some rows)) = (wanted_block old ≡ None) × IsRunAnswer old (Some rows)
+RunGoesOn old new (Err DivisionByZero) = (wanted_block old ≡ None) × IsRunAnswer old None
 RunGoesOn old new (Err NoMemory) = ⊤
 RunGoesOn old new (Err Failed) = ⊥

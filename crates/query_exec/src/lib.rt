@@ -3,16 +3,17 @@
 #![tactic(auto)]
 
 mod admitted;
-mod best;
+mod aggregate;
 mod fault;
-mod gathers;
-mod in_time;
+mod intermediate;
+mod kept;
 mod names;
 mod parts;
 mod run;
+mod sink;
+mod slice;
 mod steps;
-mod taking;
-mod underway;
+mod top_n;
 
 pub use fault::ExecFault;
 pub use query_rows::Rows;

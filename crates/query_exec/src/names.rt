@@ -1,20 +1,44 @@
 //! The names of the columns of aggregates.
-ghost use Rattle.std.specs.Prelude.{◌≡◌, OnOk, ◌++◌, map, string_bytes};
+ghost use Rattle.std.specs.Prelude.{◌≡◌, ◌<◌, IfOk, IfSome, ◌++◌, length, map, string_bytes};
+ghost use Rattle.std.specs.List.{All};
 ghost use Rattle.odata_query.specs.Aggregate.{named_view};
+ghost use Rattle.query_plan.specs.Plan.{node_names};
+ghost use Rattle.row_groups.specs.Gathered.{lent_places};
+ghost use Rattle.query_exec.specs.Intermediate.{aggregate_node};
 
 use odata_query::NamedAggregate;
-use std::alloc::AllocError;
+use query_rows::picked_names;
+use std::alloc::{AllocError, Global};
 
-/// Appends the aliases of aggregates.
-pub(crate) fn push_aliases(
-    names: &mut Vec<String>,
+/// Names, and after them the aliases of aggregates.
+fn with_aliases(
+    names: Vec<String>,
     aggregates: &[NamedAggregate],
-) -> Result<(), AllocError>
-    ensures { OnOk result (map string_bytes names.new.items ≡ map string_bytes names.old.items
+) -> Result<Vec<String>, AllocError>
+    ensures { IfOk result (λ made. map string_bytes made.items ≡ map string_bytes names.items
         ++ map (λ a. a.alias) (map named_view aggregates.now)) }
 {
+    let mut names = names;
     for named in aggregates {
         names.push(named.alias.clone()?)?;
     }
-    Ok(())
+    Ok(names)
+}
+
+/// The names of the columns that rows are grouped by, if so, and after them the aliases of aggregates.
+pub(crate) fn aggregate_names(
+    alloc: Global,
+    names: &[String],
+    places: Option<&[usize]>,
+    aggregates: &[NamedAggregate],
+) -> Result<Vec<String>, AllocError>
+    requires { IfSome places (λ places. All (λ place. place < length names.now) places.now) }
+    ensures { IfOk result (λ made. map string_bytes made.items
+        ≡ node_names (aggregate_node (lent_places places.entry) (map named_view aggregates.now))
+        (map string_bytes names.now)) }
+{
+    match places {
+        Some(places) => with_aliases(picked_names(alloc, names, places)?, aggregates),
+        None => with_aliases(Vec::new(alloc), aggregates),
+    }
 }

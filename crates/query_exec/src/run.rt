@@ -1,5 +1,5 @@
 //! A run of a plan on a table that it is handed block by block.
-ghost use Rattle.std.specs.Prelude.{◌≡◌, ◌↔◌, ℕ, None, Ok, IfOk, IfErr, OnErr, IsErrOf};
+ghost use Rattle.std.specs.Prelude.{◌≡◌, ◌↔◌, ℕ, None, Ok, IfOk, IfErr, OnErr, OnOk, IsErrOf};
 ghost use Rattle.csvw_meta.specs.Schema.{schema_view};
 ghost use Rattle.table_store.specs.Fits.{HasTableRows};
 ghost use Rattle.table_store.specs.Summaries.{AreSummariesOf};
@@ -9,21 +9,21 @@ ghost use Rattle.query_plan.specs.Plan.{plan_view, PlanOf};
 ghost use Rattle.query_rows.specs.Rows.{RowsOf};
 ghost use Rattle.query_exec.specs.declared.fault.ExecFault.TheVariants.{NoMemory, Failed};
 ghost use Rattle.query_exec.specs.declared.run.Step.TheVariants.{Done};
-ghost use Rattle.query_exec.specs.Run.{handed_block, next_block, AdvancesTo, RunGives, RunGoesOn, RunIsRefused, IsAwaited, RunIsDone, IsReady, MayBeHanded, StandsFor, StepsTo, wanted_block};
+ghost use Rattle.query_exec.specs.Run.{handed_block, next_block, AdvancesTo, HasTakenIn, RunGives, RunGoesOn, RunIsRefused, IsAwaited, RunIsDone, IsReady, MayBeHanded, MayTakeIn, StandsFor, StepsTo, wanted_block};
 
 use crate::admitted::admitted;
 use crate::fault::ExecFault;
-use crate::gathers::{gathering_of, made_of};
-use crate::parts::{Parts, kept_columns, kept_names, split};
-use block_filter::{Lanes, conditions_in_turn};
+use crate::kept::Kept;
+use crate::parts::{Parts, split};
+use crate::sink::Sink;
+use crate::slice::room_behind;
+use crate::steps::apply_all;
+use block_filter::{Lanes, conditions_in_turn, filter_block};
 use block_summary::{Summary, one_range};
 use csvw_meta::Schema;
 use query_plan::{Node, Plan, nodes_in_turn, scans_read_table_rows};
 use query_rows::Rows;
-use row_columns::Columns;
-use row_groups::Gathering;
-use row_order::best_in_pieces;
-use std::alloc::Global;
+use std::alloc::{AllocError, Global};
 use std::collections::VecDeque;
 use std::mem;
 use table_store::Block;
@@ -44,31 +44,23 @@ enum Stage {
     Refused,
 }
 
-/// A run of a plan.
+/// A run of a plan: blocks are read, and of their rows those that pass the conditions go to the sink.
 #[derive(Drop)]
 pub struct Run {
-    /// The conditions that the plan begins with.
-    pub(crate) conditions: Vec<Box<TruthExpr>>,
-    /// The columns whose values are kept, where only these go on behind the conditions.
-    pub(crate) places: Option<Vec<usize>>,
-    /// The steps behind them, which go over the rows of all blocks together.
-    pub(crate) steps: Vec<Node>,
     /// The numbers of the blocks that are admitted and were not handed in.
-    pub(crate) left: VecDeque<usize>,
+    left: VecDeque<usize>,
     /// How many rows that pass the conditions the stop still looks for, where there is one.
-    pub(crate) room: Option<u64>,
-    /// The names of the columns whose values are kept.
-    names: Vec<String>,
+    room: Option<u64>,
+    /// The conditions that the plan begins with.
+    conditions: Vec<Box<TruthExpr>>,
     /// The columns of a block that a condition names.
-    pub(crate) lanes: Lanes,
-    /// Of the rows that passed the conditions those that the first step has a use for.
-    pub(crate) kept: Columns,
-    /// How many rows passed them, be they kept or not, unless one divided by zero.
-    pub(crate) count: u64,
-    /// What gathers them, where the first step makes aggregates or groups of them: then none is kept behind a block.
-    pub(crate) gathering: Option<Gathering>,
+    lanes: Lanes,
     /// Whether a condition divided by zero on a row.
-    pub(crate) faulted: bool,
+    faulted: bool,
+    /// What the rows go to that pass them, unless one divided by zero.
+    sink: Sink,
+    /// The steps on what the sink makes of them.
+    steps: Vec<Node>,
     stage: Stage,
 }
 
@@ -89,20 +81,38 @@ impl Run {
         requires { wanted_block self.old ≡ None → IsReady self.old }
         ensures { RunGoesOn self.old self.new result }
     {
+        nodes_in_turn();
         if self.wanted().is_some() {
             return Ok(None);
         }
         if self.faulted {
             return Err(ExecFault::DivisionByZero);
         }
-        let names = mem::replace(&mut self.names, Vec::new(alloc));
-        let kept = mem::replace(&mut self.kept, Columns::none(alloc));
-        if self.steps.is_empty() {
-            return Ok(Some(Rows::new(names, kept, None)));
-        }
-        let gathering = self.gathering.take();
-        let made = made_of(alloc, &self.steps, names, kept, gathering, self.count)?;
+        let sink = mem::replace(&mut self.sink, Sink::Collect(Kept::none(alloc)));
+        let sunk = sink.finish(alloc)?;
+        let made = apply_all(alloc, &self.steps, sunk)?;
         Ok(Some(made.into_rows(alloc)?))
+    }
+
+    /// Takes in the rows of the next block: those that pass the conditions go to the sink, until a condition divides by zero.
+    #[tactic(auto, using(crate::proofs::RunLemmas::may_push, crate::proofs::RunLemmas::passed_over))]
+    fn take_in(&mut self, alloc: Global, block: &Block<'_>) -> Result<(), AllocError>
+        requires { MayTakeIn self.old block.now }
+        ensures { OnOk result (HasTakenIn self.old self.new block.now.rows) }
+    {
+        let _number = self.left.pop_front();
+        if self.faulted && self.room.is_none() {
+            return Ok(());
+        }
+        let most = self.sink.spare();
+        let found = filter_block(alloc, &self.conditions, block, most, &mut self.lanes)?;
+        self.room = room_behind(self.room, found.count as u64);
+        if self.faulted || found.faulted {
+            self.faulted = true;
+            return Ok(());
+        }
+        self.sink.push(alloc, block, found, &mut self.lanes)?;
+        Ok(())
     }
 
     /// Takes in the block, if one is needed, and goes on.
@@ -115,7 +125,6 @@ impl Run {
     {
         conditions_in_turn();
         nodes_in_turn();
-        best_in_pieces();
         scans_read_table_rows();
         if let Some(block) = block {
             block.values_fit();
@@ -147,22 +156,17 @@ impl Run {
             places,
             steps,
         } = split(alloc, nodes)?;
-        let names = kept_names(alloc, schema.columns.as_slice(), &places)?;
+        let kept = Kept::new(alloc, schema, places)?;
+        let (sink, steps) = Sink::of(alloc, kept, steps)?;
         let lanes = Lanes::new(alloc, schema.columns.len())?;
-        let kept = kept_columns(alloc, schema.columns.as_slice(), &places)?;
-        let gathering = gathering_of(alloc, &steps)?;
         Ok(Run {
-            conditions,
-            places,
-            steps,
             left,
             room: scan.stop,
-            names,
+            conditions,
             lanes,
-            kept,
-            count: 0,
-            gathering,
             faulted: false,
+            sink,
+            steps,
             stage: Stage::Reading,
         })
     }

@@ -7,9 +7,6 @@ pub mod ValueLemmas
 pub mod TypingLemmas
 pub mod AggregateLemmas
 pub mod BestLemmas
-pub mod RenumberLemmas
-pub mod NarrowLemmas
-pub mod NarrowFitLemmas
 pub mod RewriteLemmas
 pub mod PushLemmas
 pub mod StopLemmas

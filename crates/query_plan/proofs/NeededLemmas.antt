@@ -15,7 +15,6 @@ use Rattle.typed_trees.specs.TypedTree.{TruthExprOf}
 use Rattle.odata_query.specs.Aggregate.{TypedTransformationOf, aggregate_rows, filter_rows, group_rows}
 use Rattle.odata_query.specs.Query.{TypedOf}
 use Rattle.query_plan.specs.Laws.{NeededBlocksAreRead, PlansNeedBlocks}
-use Rattle.query_plan.specs.Narrow.{narrowed_nodes}
 use Rattle.query_plan.specs.Needed.{conditions_can_fault, conditions_before, gives_first_rows, is_filter, last_row, row_conditions}
 use Rattle.query_meaning.specs.Order.{Item}
 use Rattle.query_plan.specs.Plan.{NodeOf, PlanOf, apply_nodes, asked_slice, count_nodes, filter_nodes, leading, naive_plan, needed, order_nodes, select_nodes, slice_nodes}
@@ -25,7 +24,7 @@ use Rattle.query_meaning.specs.Filter.{passes_each}
 use Rattle.query_plan.specs.Tests.{test_of}
 use Rattle.query_plan.proofs.MeaningLemmas.{last_nodes}
 use Rattle.query_plan.proofs.PushLemmas.{leading-split, passes-split}
-use Rattle.query_plan.proofs.RewriteLemmas.{leading_best, leading_narrowed}
+use Rattle.query_plan.proofs.RewriteLemmas.{leading_best}
 use Rattle.query_plan.proofs.ScanLemmas.{all_rows, few_admitted}
 use Rattle.query_plan.proofs.TypedQueryLemmas.{none_last}
 use Rattle.query_plan.proofs.ValueLemmas.{filter_length}
@@ -180,7 +179,7 @@ stop_alike q =
 -- what a rewritten plan needs by its filters that come first
 needs_pushed : (p : PlanOf) (rows : List Row) → needed (rewritten p) rows ≡ needed (pushed p) rows
 needs_pushed p rows =
-    ap (λ (es : List TruthExprOf). read_blocks (pushed p).scan es rows) (leading_best (narrowed_nodes (pushed p).nodes) ∙ leading_narrowed (pushed p).nodes)
+    ap (λ (es : List TruthExprOf). read_blocks (pushed p).scan es rows) (leading_best (pushed p).nodes)
 
 few_rows : (ok : ℕ → Bool) (rows : List Row) → length rows < 2 ^ 64 → length (rows_of_blocks rows (filter ok (block_numbers rows))) < 2 ^ 64
 few_rows ok rows h =

@@ -19,14 +19,12 @@ use Rattle.query_meaning.specs.Meaning.{ResultOf, table_names}
 use Rattle.query_plan.specs.Plan.{NodeOf, PlanOf, leading, nodes_result, table_result}
 use Rattle.query_plan.specs.Fitting.{IsFitFor}
 use Rattle.query_meaning.specs.Fitting.{AreTableRows}
-use Rattle.query_plan.specs.Narrow.{narrowed_nodes}
 use Rattle.query_plan.specs.Push.{early_stop, may_be_pushed, pushed, pushed_down, rewritten, split_nodes}
-use Rattle.query_plan.specs.Rewrite.{MeansTheSame, best_nodes, narrowed_plan}
+use Rattle.query_plan.specs.Rewrite.{MeansTheSame, best_nodes, best_plan}
 use Rattle.query_plan.specs.Scan.{ScanOf, TestOf, admitted_blocks, bare, block_numbers, is_bare, read_blocks, rows_of_blocks, up_to}
 use Rattle.query_meaning.specs.Filter.{passes_each}
 use Rattle.query_plan.proofs.BestLemmas.{best_fit, best_result}
-use Rattle.query_plan.proofs.NarrowFitLemmas.{narrowed_fits, narrowed_means}
-use Rattle.query_plan.proofs.RewriteLemmas.{leading_best, leading_narrowed, same_steps}
+use Rattle.query_plan.proofs.RewriteLemmas.{leading_best, same_steps}
 use Rattle.query_plan.proofs.SplitFitLemmas.{split_fit}
 use Rattle.query_plan.proofs.PushLemmas.{behind, behind-split, behind_filters, faults-split, leading-split, passes-split}
 use Rattle.query_plan.proofs.ScanLemmas.{all_rows, bare_rows}
@@ -118,18 +116,16 @@ fits_when laws schema p true e fit = λ rows are.
     let safe = not-true (list_any truth_can_fault (leading p.nodes)) (and_parts (is_bare p.scan) (not (list_any truth_can_fault (leading p.nodes))) e).1 in
     split_fit laws p.nodes (table_names schema) None rows safe (fit rows are)
 
-narrowed_same : (schema : SchemaOf) (p : PlanOf) → MeansTheSame schema p (narrowed_plan p)
-narrowed_same schema p =
-    same_steps schema p (best_nodes (narrowed_nodes p.nodes)) (leading_best (narrowed_nodes p.nodes) ∙ leading_narrowed p.nodes)
-    (λ rows. best_result (narrowed_nodes p.nodes) (table_result schema rows) ∙ narrowed_means p.nodes (table_result schema rows))
+best_same : (schema : SchemaOf) (p : PlanOf) → MeansTheSame schema p (best_plan p)
+best_same schema p = same_steps schema p (best_nodes p.nodes) (leading_best p.nodes) (λ rows. best_result p.nodes (table_result schema rows))
 
 pub rewritten_means : PushLaws → (schema : SchemaOf) (p : PlanOf) → IsTypedPlan schema p → MeansTheSame schema p (rewritten p)
-rewritten_means laws schema p typed rows are = narrowed_same schema (pushed p) rows are ∙ pushed_means laws schema p typed rows are
+rewritten_means laws schema p typed rows are = best_same schema (pushed p) rows are ∙ pushed_means laws schema p typed rows are
 
 pub rewritten_fits : FaultsAreForeseen → (schema : SchemaOf) (p : PlanOf) → IsFitFor schema p → IsFitFor schema (rewritten p)
 rewritten_fits laws schema p fit = λ rows are.
     let first = fits_when laws schema p (may_be_pushed p) refl fit in
-    best_fit (narrowed_nodes (pushed p).nodes) (table_result schema rows) (narrowed_fits (pushed p).nodes (table_result schema rows) (first rows are))
+    best_fit (pushed p).nodes (table_result schema rows) (first rows are)
 
-pub is_narrowed : (p : PlanOf) (few best : List NodeOf) → few ≡ narrowed_nodes p.nodes → best ≡ best_nodes few → record p { nodes = best } ≡ narrowed_plan p
-is_narrowed p few best e f = ap (λ (ns : List NodeOf). record p { nodes = ns }) (f ∙ ap best_nodes e)
+pub is_best : (p : PlanOf) (best : List NodeOf) → best ≡ best_nodes p.nodes → record p { nodes = best } ≡ best_plan p
+is_best p best e = ap (λ (ns : List NodeOf). record p { nodes = ns }) e

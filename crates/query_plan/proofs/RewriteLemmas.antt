@@ -1,11 +1,10 @@
 -- Other steps on the same rows.
-use Rattle.std.proofs.Common.{◌≡◌, ℕ, suc, ◌+◌, Option, Some, None, List, [], ◌∷◌, ◌++◌, take, drop, refl, ap, ◌∙◌, arith}
+use Rattle.std.proofs.Common.{◌≡◌, ℕ, Option, Some, None, List, [], ◌∷◌, refl, ap, ◌∙◌}
 use Rattle.cell_types.specs.Value.{CellValue}
 use Rattle.csvw_meta.specs.Schema.{SchemaOf}
 use Rattle.typed_trees.specs.TypedTree.{TruthExprOf}
 use Rattle.query_meaning.specs.Order.{Item}
-use Rattle.query_plan.specs.Narrow.{leading_filters, narrowed, narrowed_nodes, selected_first, wanted_columns}
-use Rattle.query_plan.specs.Plan.{NodeOf, PlanOf, aggregating, choosing, filtering, grouping, projecting, slicing, leading, needed, nodes_result, sorting, table_result}
+use Rattle.query_plan.specs.Plan.{NodeOf, PlanOf, filtering, leading, needed, nodes_result, sorting, table_result}
 use Rattle.query_plan.specs.Rewrite.{MeansTheSame, best_nodes, chosen, rows_needed}
 use Rattle.query_plan.specs.Scan.{read_blocks, rows_of_blocks}
 
@@ -29,20 +28,3 @@ leading_best (n ∷ []) = refl
 leading_best (filtering e ∷ m ∷ ns) = ap (λ (es : List TruthExprOf). e ∷ es) (leading_best (m ∷ ns))
 leading_best (sorting items ∷ m ∷ ns) = leading_chosen items (rows_needed m) (best_nodes (m ∷ ns))
 leading_best (n ∷ m ∷ ns) = refl
-
-leading_selected : (o : Option (List ℕ)) (n : NodeOf) (ns : List NodeOf) → leading (n ∷ ns) ≡ [] → leading (selected_first o (n ∷ ns)) ≡ []
-leading_selected None n ns e = e
-leading_selected (Some places) n ns e = refl
-
-pub leading_narrowed : (ns : List NodeOf) → leading (narrowed_nodes ns) ≡ leading ns
-leading_narrowed [] = refl
-leading_narrowed (filtering e ∷ ns) =
-    let all = filtering e ∷ ns in
-    let more : 1 + leading_filters ns ≡ suc (leading_filters ns) = omega arith in
-    ap (λ (k : ℕ). leading (take k all ++ narrowed (drop k all))) more ∙ ap (λ (es : List TruthExprOf). e ∷ es) (leading_narrowed ns)
-leading_narrowed (aggregating aggregates ∷ ns) = leading_selected (wanted_columns (aggregating aggregates ∷ ns)) (aggregating aggregates) ns refl
-leading_narrowed (grouping places aggregates ∷ ns) = leading_selected (wanted_columns (grouping places aggregates ∷ ns)) (grouping places aggregates) ns refl
-leading_narrowed (sorting items ∷ ns) = leading_selected (wanted_columns (sorting items ∷ ns)) (sorting items) ns refl
-leading_narrowed (choosing items most ∷ ns) = leading_selected (wanted_columns (choosing items most ∷ ns)) (choosing items most) ns refl
-leading_narrowed (slicing s ∷ ns) = leading_selected (wanted_columns (slicing s ∷ ns)) (slicing s) ns refl
-leading_narrowed (projecting places ∷ ns) = leading_selected (wanted_columns (projecting places ∷ ns)) (projecting places) ns refl

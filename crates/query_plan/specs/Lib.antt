@@ -10,7 +10,6 @@ pub use Rattle.query_meaning.specs.Meaning
 pub mod Scan
 pub mod Plan
 pub mod Fitting
-pub mod Narrow
 pub mod Rewrite
 pub mod Tests
 pub mod Push

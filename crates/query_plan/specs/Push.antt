@@ -4,7 +4,7 @@ use Rattle.std.specs.List.{filter_map, list_any}
 use Rattle.typed_trees.specs.CanFault.{truth_can_fault}
 use Rattle.typed_trees.specs.TypedTree.{TruthExprOf, conjunction}
 use Rattle.query_plan.specs.Plan.{NodeOf, PlanOf, filtering, leading, slicing}
-use Rattle.query_plan.specs.Rewrite.{narrowed_plan}
+use Rattle.query_plan.specs.Rewrite.{best_plan}
 pub use Rattle.query_plan.specs.Rewrite.{room_of}
 use Rattle.query_plan.specs.Scan.{is_bare}
 use Rattle.query_plan.specs.Tests.{test_of}
@@ -46,6 +46,6 @@ pushed_down p = record {
 abbrev pub pushed : PlanOf → PlanOf
 pushed p = if may_be_pushed p then pushed_down p else p
 
--- a plan that reads fewer blocks, and of what it reads keeps few columns, and few rows of a sort
+-- a plan that reads fewer blocks, and keeps few rows of a sort
 abbrev pub rewritten : PlanOf → PlanOf
-rewritten p = narrowed_plan (pushed p)
+rewritten p = best_plan (pushed p)

@@ -3,7 +3,6 @@ use Rattle.std.specs.Prelude.{◌≡◌, ℕ, ◌+◌, ◌^◌, Bool, false, Lis
 use Rattle.cell_types.specs.Value.{CellValue}
 use Rattle.csvw_meta.specs.Schema.{SchemaOf}
 use Rattle.query_meaning.specs.Fitting.{AreTableRows}
-use Rattle.query_plan.specs.Narrow.{narrowed_nodes}
 use Rattle.query_plan.specs.Plan.{NodeOf, PlanOf, choosing, plan_result, slicing, sorting}
 
 -- on the rows of a table the plans have one result, or both have none
@@ -38,6 +37,6 @@ best_nodes (n ∷ m ∷ ns) = chosen n (rows_needed m) ∷ best_nodes (m ∷ ns)
 
 -- ---- the whole
 
--- few columns, and then few rows of a sort
-abbrev pub narrowed_plan : PlanOf → PlanOf
-narrowed_plan p = record p { nodes = best_nodes (narrowed_nodes p.nodes) }
+-- few rows of each sort
+abbrev pub best_plan : PlanOf → PlanOf
+best_plan p = record p { nodes = best_nodes p.nodes }

@@ -4,10 +4,9 @@
 #![tactic(auto)]
 
 mod law;
-mod narrow;
+mod plain;
 mod plan;
 mod push;
-mod renumber;
 mod rewrites;
 mod scan;
 mod test;
@@ -18,7 +17,7 @@ pub use law::{
     scans_read_table_rows, tests_are_passed, unadmitted_blocks_pass_none, worked_blocks,
     worked_tests,
 };
-pub use narrow::are_plain;
+pub use plain::are_plain;
 pub use plan::{Node, Plan, Slice, naive};
 pub use rewrites::rewrite;
 pub use scan::{ColumnTest, Scan};

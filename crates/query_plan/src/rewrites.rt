@@ -1,8 +1,7 @@
 //! Plans of the same meaning, with less to do.
-ghost use Rattle.std.specs.Prelude.{◌≡◌, ◌≤◌, IfOk, length, map};
+ghost use Rattle.std.specs.Prelude.{◌≡◌, IfOk, map};
 ghost use Rattle.csvw_meta.specs.Schema.{SchemaOf};
 ghost use Rattle.query_plan.specs.Fitting.{IsFitFor};
-ghost use Rattle.query_plan.specs.Narrow.{leading_filters, narrowed_nodes};
 ghost use Rattle.query_plan.specs.Plan.{node_view, plan_view};
 ghost use Rattle.query_plan.specs.Push.{rewritten};
 ghost use Rattle.query_plan.specs.Types.{IsTypedPlan};
@@ -11,7 +10,6 @@ ghost use Rattle.query_plan.specs.Rewrite.{best_nodes, chosen, rows_needed, Mean
 use crate::law::unadmitted_blocks_pass_none;
 use crate::plan::{Node, Plan};
 use crate::push::pushed;
-use crate::renumber::narrowed;
 use odata_types::tables_are_inputs;
 use row_eval::faults_are_foreseen;
 use std::alloc::{AllocError, Global};
@@ -55,34 +53,8 @@ fn with_best_rows(alloc: Global, nodes: Vec<Node>) -> Result<Vec<Node>, AllocErr
     Ok(made)
 }
 
-/// How many filters come first.
-fn leading_filters(nodes: &[Node]) -> usize
-    ensures value { result ≡ leading_filters (map node_view nodes.now) }
-    ensures bound { result ≤ length nodes.now }
-{
-    for (i, node) in nodes.iter().enumerate() {
-        if !matches!(node, Node::Filter(_)) {
-            return i;
-        }
-    }
-    nodes.len()
-}
-
-/// The steps, where the columns that they name are selected behind the filters that come first.
-fn narrowed_nodes(alloc: Global, nodes: Vec<Node>) -> Result<Vec<Node>, AllocError>
-    ensures { IfOk result (λ made.
-        map node_view made.items ≡ narrowed_nodes (map node_view nodes.items)) }
-{
-    let mut made = nodes;
-    let behind = made.split_off(leading_filters(&made))?;
-    let mut behind = narrowed(alloc, behind)?;
-    made.append(&mut behind)?;
-    Ok(made)
-}
-
 /// A plan that gives the same result on the rows of any table that the plan was typed for. It reads only the blocks that its first filters ask
-/// for, and keeps of the columns those that are named, where no item of an order is computed, and of a whole sort only the rows that are asked
-/// for.
+/// for, and keeps of a whole sort only the rows that are asked for. Its steps name the columns that the plan's do.
 pub fn rewrite(alloc: Global, plan: Plan) -> Result<Plan, AllocError>
     ensures rewritten { IfOk result (λ made. plan_view made ≡ rewritten (plan_view plan)) }
     ensures means { IfOk result (λ made. (schema : SchemaOf)
@@ -95,7 +67,6 @@ pub fn rewrite(alloc: Global, plan: Plan) -> Result<Plan, AllocError>
     tables_are_inputs();
     let plan = pushed(alloc, plan)?;
     let Plan { scan, nodes } = plan;
-    let nodes = narrowed_nodes(alloc, nodes)?;
     let nodes = with_best_rows(alloc, nodes)?;
     Ok(Plan { scan, nodes })
 }

@@ -9,7 +9,7 @@ ghost use Rattle.query_rows.specs.Rows.{rows_of_row};
 use crate::names::{names_of, picked_names};
 use cell_types::Value;
 use csvw_meta::Schema;
-use row_columns::Columns;
+use row_columns::{Columns, owned};
 use std::alloc::{AllocError, Global};
 use std::marker::Model;
 
@@ -38,9 +38,13 @@ fn one_row(alloc: Global, values: &[Value<'_>]) -> Result<Columns, AllocError>
     ensures kinds { IfOk result (λ made. length made.kinds ≡ length values.now) }
     ensures rows { IfOk result (λ made. made.rows ≡ row_view values.now ∷ []) }
 {
-    let mut columns = Columns::of_any(alloc, values.len())?;
-    columns.push(alloc, values)?;
-    Ok(columns)
+    let mut row = Vec::with_capacity(alloc, values.len())?;
+    for value in values {
+        row.push(owned(alloc, value)?)?;
+    }
+    let mut rows = Vec::new(alloc);
+    rows.push(row)?;
+    Columns::of_rows(alloc, values.len(), rows)
 }
 
 impl Rows {

@@ -8,7 +8,7 @@ use Rattle.std.specs.List.{list_any}
 use Rattle.std.specs.Str.Pattern.{LacksTextAt, FindsText, SplitsAroundMatch, HasMatch}
 use Rattle.csv_grammar.specs.Bytes.{double_quote}
 use Rattle.csv_grammar.specs.Records.{Field, unquoted, quoted, content, doubled}
-use Rattle.raw_fields.specs.Raw.{RawField, raw_of, field_of, raw_content, halved}
+use Rattle.csv_grammar.specs.Raw.{RawField, raw_of, field_of, raw_content, halved}
 
 -- a double quote as it is written inside a quoted field
 abbrev pub pair : List ℕ

@@ -1,7 +1,7 @@
 -- What holds of every field.
 use Rattle.std.specs.Prelude.{◌≡◌}
 use Rattle.csv_grammar.specs.Records.{Field}
-use Rattle.raw_fields.specs.Raw.{raw_of, field_of}
+use Rattle.csv_grammar.specs.Raw.{raw_of, field_of}
 
 -- what stands as a field does is that field
 abbrev pub FieldsStandSo : Type 0

@@ -1,8 +1,8 @@
 -- The values of fields as they stand in a file.
 use Rattle.std.specs.Prelude.{◌≡◌, List, [], ◌∷◌, length, map, Result, Ok, Err}
 use Rattle.std.specs.List.{zip, AllByRecursion}
-use Rattle.raw_fields.specs.Raw.{RawField, raw_content}
-use Rattle.raw_fields.specs.Raw.{RawTable}
+use Rattle.csv_grammar.specs.Raw.{RawField, raw_content}
+use Rattle.csv_grammar.specs.Raw.{RawTable}
 use Rattle.cell_types.specs.declared.fault.CellFault.{CellFault}
 use Rattle.cell_types.specs.Value.{CellValue, null}
 use Rattle.cell_types.specs.Column.{ColumnOf}

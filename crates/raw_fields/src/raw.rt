@@ -4,7 +4,7 @@ ghost use Rattle.std.specs.Bool.{MatchBool};
 ghost use Rattle.std.specs.List.{list_any};
 ghost use Rattle.std.specs.Cow.{cow_str_bytes, IsBorrowedStr};
 ghost use Rattle.csv_grammar.specs.Bytes.{double_quote};
-ghost use Rattle.raw_fields.specs.Raw.{halved};
+ghost use Rattle.csv_grammar.specs.Raw.{halved};
 
 use std::alloc::{AllocError, Global};
 use std::borrow::CowStr;
@@ -18,7 +18,8 @@ pub struct Raw<'a> {
 }
 
 impl<'a> Raw<'a> {
-    ghost use Rattle.raw_fields.specs.Raw.{raw_view, raw_content, raw_of};
+    ghost use Rattle.csv_grammar.specs.Raw.{raw_content, raw_of};
+    ghost use Rattle.raw_fields.specs.Raw.{raw_view};
     ghost use Rattle.csv_grammar.specs.Records.{Field, content};
 
     /// What the field says: each pair of double quotes inside a quoted field is one (RFC 4180, section 2, rule 7). It copies only

@@ -3,7 +3,8 @@ ghost use Rattle.std.specs.Prelude.{◌≡◌, ◌⊎◌, Ok, Err, IfOk, IfErr, 
 ghost use Rattle.cell_types.specs.Value.{value_view};
 ghost use Rattle.cell_types.specs.Cell.{NeedsMemory};
 ghost use Rattle.cell_types.specs.Column.{column_view};
-ghost use Rattle.raw_fields.specs.Raw.{raw_content, raw_view};
+ghost use Rattle.csv_grammar.specs.Raw.{raw_content};
+ghost use Rattle.raw_fields.specs.Raw.{raw_view};
 ghost use Rattle.raw_fields.specs.Values.{value_in, value_or_null, HasValue};
 
 use crate::raw::Raw;

@@ -2,7 +2,8 @@
 use Rattle.std.proofs.Common.{◌≡◌, ◌<◌, ℕ, List, [], ◌++◌, Vec, append_assoc, codes, get_or, length, subst, sym, ap, ◌∙◌}
 use Rattle.std.proofs.lemmas.List.{get_or-map}
 use Rattle.cell_types.specs.Value.{CellValue}
-use Rattle.reply_text.specs.Json.{comma_before, json_member, json_text, json_value, member_head, AreHeads}
+use Rattle.reply_text.specs.Json.{comma_before, json_member, member_head, AreHeads}
+use Rattle.reply_values.specs.Json.{json_text, json_value}
 
 pub head_there : {A : Type 0} (names : List (List ℕ)) (heads : List (Vec ℕ A)) (col : ℕ) (head : Vec ℕ A) → AreHeads names heads → col < length names → head ≡ get_or heads col head
     → head.items ≡ member_head col (get_or names col [])

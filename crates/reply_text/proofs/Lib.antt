@@ -1,7 +1,3 @@
-pub mod LaneLemmas
-pub mod BlockLemmas
-pub mod DoubledLemmas
-pub mod DecimalLemmas
 pub mod JsonLemmas
 pub mod MemberLemmas
 pub mod HeadLemmas
@@ -11,3 +7,9 @@ pub mod TableLemmas
 pub mod NumberLemmas
 pub mod PrintLemmas
 pub mod TreeLemmas
+pub mod SizeLemmas
+pub mod PieceLemmas
+pub mod BoundLemmas
+pub mod CursorLemmas
+pub mod RoomLemmas
+pub mod ErrorLemmas

@@ -8,7 +8,7 @@ use Rattle.json.specs.Print.{escape, escape_byte, print, print_from, quoted}
 use Rattle.json.specs.Json as json
 use Rattle.json.specs.Tree.{json_tokens, items_tokens, members_tokens}
 use Rattle.json.proofs.Printed.Strings.{escape_byte_plain}
-use Rattle.reply_text.specs.Json.{json_escaped, json_text}
+use Rattle.reply_values.specs.Json.{json_escaped, json_text}
 
 -- ---- texts in quotes
 

@@ -5,7 +5,8 @@ use Rattle.table_store.specs.Table.{TableOf}
 use Rattle.query_rows.specs.Rows.{RowsOf}
 use Rattle.reply_codes.specs.declared.code.Code.{Code}
 use Rattle.reply_codes.specs.Code.{code_name, message_of}
-use Rattle.reply_text.specs.Json.{json_text, json_row, json_count, json_text_member}
+use Rattle.reply_text.specs.Json.{json_row, json_count}
+use Rattle.reply_values.specs.Json.{json_text, json_text_member}
 
 -- rows: an object whose member `value` has an object for each
 abbrev pub rows_text : RowsOf → List ℕ

@@ -6,7 +6,7 @@ use Rattle.json.specs.Json as json
 use Rattle.cell_types.specs.Decimal.{decimal_text}
 use Rattle.cell_types.specs.Value as cell
 use Rattle.cell_types.specs.Value.{CellValue, null, integer, text, boolean, date}
-use Rattle.reply_text.specs.Value.{day_text}
+use Rattle.reply_values.specs.Value.{day_text}
 
 -- what a value is written as: a number has its digits, and a date is a text
 abbrev pub json_of : CellValue → json.Json

@@ -1,6 +1,6 @@
 -- What holds of the bodies.
-use Rattle.std.specs.Prelude.{◌≡◌, ℕ, ◌<◌, ◌≤◌, Bool, false, true, List, [], ◌∷◌, Some, length, map, IsTrue}
-use Rattle.std.specs.List.{All, AllByRecursion}
+use Rattle.std.specs.Prelude.{◌≡◌, ℕ, ◌-◌, ◌^◌, ◌<◌, ◌≤◌, Bool, false, true, List, [], ◌∷◌, Some, length, map, IsTrue}
+use Rattle.std.specs.List.{All, AllByRecursion, concat}
 use Rattle.std.specs.Fmt.{signed_decimal}
 use Rattle.json.specs.Json.{document}
 use Rattle.csv_grammar.specs.Records.{Field, unquoted, quoted, content, is_plain, AreRecords}
@@ -8,10 +8,14 @@ use Rattle.cell_types.specs.Decimal.{decimal_text}
 use Rattle.cell_types.specs.Value.{CellValue, null, integer, text, boolean, date, decimal}
 use Rattle.table_store.specs.Catalog.{FolderOf, CatalogOf, Means}
 use Rattle.query_rows.specs.Rows.{RowsOf, rows_of_table}
-use Rattle.reply_text.specs.Value.{bool_text, day_text}
+use Rattle.reply_values.specs.Value.{bool_text, day_text}
 use Rattle.reply_text.specs.Body.{rows_text}
-use Rattle.reply_text.specs.Csv.{needs_quotes, csv_text}
-use Rattle.reply_text.specs.Json.{json_row, json_value}
+use Rattle.reply_text.specs.Csv.{csv_text}
+use Rattle.reply_values.specs.Csv.{needs_quotes}
+use Rattle.reply_text.specs.Json.{json_row}
+use Rattle.reply_values.specs.Json.{json_value}
+use Rattle.reply_text.specs.Pieces.{csv_pieces, json_pieces}
+use Rattle.reply_values.specs.Size.{told}
 use Rattle.reply_text.specs.JsonTree.{body_of, json_of, object_of, CountFits, FitJson, FitsJson}
 
 -- the text of a value; null has the empty one
@@ -69,3 +73,14 @@ pub record JsonReadsBack : Type 0 where
   pub values : (value : CellValue) → FitsJson value → document (json_value value) ≡ Some (json_of value)
   pub rows : (names : List (List ℕ)) (values : List CellValue) → AllByRecursion FitsJson values → document (json_row names values) ≡ Some (object_of names values)
   pub bodies : (rows : RowsOf) → FitJson rows.rows → CountFits rows.count → document (rows_text rows) ≡ Some (body_of rows.names rows.rows rows.count)
+
+-- A number of bytes that is counted is the number of bytes that are laid down, where it is less than the greatest that 64 bits tell; and each that 64 bits tell is
+-- counted so.
+pub record CountsAreLengths : Type 0 where
+  pub counted : (length : ℕ) → told length < 2 ^ 64 - 1 → told length ≡ length
+  pub short : (length : ℕ) → length < 2 ^ 64 → told length ≡ length
+
+-- the pieces of a body of rows are the body
+pub record PiecesAreBodies : Type 0 where
+  pub json : (rows : RowsOf) → concat (json_pieces rows) ≡ rows_text rows
+  pub csv : (rows : RowsOf) → concat (csv_pieces rows) ≡ csv_text rows

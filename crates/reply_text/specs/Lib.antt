@@ -1,8 +1,11 @@
-pub mod Value
 pub mod Json
 pub mod JsonTree
 pub mod Body
 pub mod Csv
+pub mod Size
+pub mod Pieces
+pub mod Cursor
+pub mod Inside
 pub mod Laws
 pub use Rattle.query_rows.specs.Rows
 pub use Rattle.table_store.specs.Table

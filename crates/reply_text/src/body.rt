@@ -3,27 +3,39 @@ ghost use Rattle.std.specs.Prelude.{◌≡◌, ◌++◌, OnOk, IfOk, length, map
 ghost use Rattle.std.specs.Fmt.{decimal};
 ghost use Rattle.std.specs.List.{join_with_byte};
 ghost use Rattle.reply_text.specs.Body.{entry_text, error_text, named_text, row_text, rows_text, service_text};
+ghost use Rattle.reply_values.specs.Size.{told};
 
-use crate::json_text::{
-    push_comma, push_count, push_number, push_row, push_rows, push_text, push_text_member,
-};
+use crate::json_rows::{push_comma, push_opening, push_row as push_row_at, push_rows};
 use query_rows::Rows;
 use reply_codes::Code;
+use reply_values::{push_number, push_text, push_text_member, text_member_size};
 use std::alloc::{AllocError, Global};
 use table_store::{Catalog, Table};
+
+/// Appends rows as a JSON object whose member `value` has an object for each row (OData 4.01 JSON Format, section 13).
+pub fn push_json(out: &mut Vec<u8>, rows: &Rows) -> Result<(), AllocError>
+    ensures { OnOk result (out.new.items ≡ out.old.items ++ rows_text rows.now) }
+{
+    push_opening(out, rows.count())?;
+    push_rows(out, rows)?;
+    out.extend_from_slice(b"]}")
+}
 
 /// Rows as a JSON object whose member `value` has an object for each row (OData 4.01 JSON Format, section 13).
 pub fn json_body(alloc: Global, rows: &Rows) -> Result<Vec<u8>, AllocError>
     ensures { IfOk result (λ body. body.items ≡ rows_text rows.now) }
 {
     let mut body = Vec::new(alloc);
-    body.extend_from_slice(b"{")?;
-    push_count(&mut body, rows.count())?;
-    push_text(&mut body, b"value")?;
-    body.extend_from_slice(b":[")?;
-    push_rows(&mut body, rows)?;
-    body.extend_from_slice(b"]}")?;
+    push_json(&mut body, rows)?;
     Ok(body)
+}
+
+/// Appends the one row as a JSON object (OData 4.01 JSON Format, section 6).
+pub fn push_row(out: &mut Vec<u8>, rows: &Rows) -> Result<(), AllocError>
+    requires { length rows.now.rows ≡ 1 }
+    ensures { OnOk result (out.new.items ≡ out.old.items ++ row_text rows.now) }
+{
+    push_row_at(out, rows, 0)
 }
 
 /// The one row as a JSON object (OData 4.01 JSON Format, section 6).
@@ -32,7 +44,7 @@ pub fn row_body(alloc: Global, rows: &Rows) -> Result<Vec<u8>, AllocError>
     ensures { IfOk result (λ body. body.items ≡ row_text rows.now) }
 {
     let mut body = Vec::new(alloc);
-    push_row(&mut body, rows, 0)?;
+    push_row(&mut body, rows)?;
     Ok(body)
 }
 
@@ -91,17 +103,33 @@ pub fn service_body(alloc: Global, catalog: &Catalog) -> Result<Vec<u8>, AllocEr
     Ok(body)
 }
 
+/// Appends an error as a JSON object with its code and message (OData 4.01 JSON Format, section 21.1).
+pub fn push_error(out: &mut Vec<u8>, code: Code) -> Result<(), AllocError>
+    ensures { OnOk result (out.new.items ≡ out.old.items ++ error_text code) }
+{
+    out.extend_from_slice(b"{")?;
+    push_text(out, b"error")?;
+    out.extend_from_slice(b":{")?;
+    push_text_member(out, b"code", code.name().as_bytes())?;
+    out.extend_from_slice(b",")?;
+    push_text_member(out, b"message", code.message().as_bytes())?;
+    out.extend_from_slice(b"}}")
+}
+
 /// An error as a JSON object with its code and message (OData 4.01 JSON Format, section 21.1).
 pub fn error_body(alloc: Global, code: Code) -> Result<Vec<u8>, AllocError>
     ensures { IfOk result (λ body. body.items ≡ error_text code) }
 {
     let mut body = Vec::new(alloc);
-    body.extend_from_slice(b"{")?;
-    push_text(&mut body, b"error")?;
-    body.extend_from_slice(b":{")?;
-    push_text_member(&mut body, b"code", code.name().as_bytes())?;
-    body.extend_from_slice(b",")?;
-    push_text_member(&mut body, b"message", code.message().as_bytes())?;
-    body.extend_from_slice(b"}}")?;
+    push_error(&mut body, code)?;
     Ok(body)
+}
+
+/// How many bytes an error takes.
+pub fn error_size(code: Code) -> usize
+    ensures { result ≡ told (length (error_text code)) }
+{
+    text_member_size(b"code", code.name().as_bytes())
+        .saturating_add(text_member_size(b"message", code.message().as_bytes()))
+        .saturating_add(13)
 }

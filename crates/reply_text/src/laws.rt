@@ -1,5 +1,5 @@
 //! The laws of the bodies: each function is a theorem, and does nothing.
-ghost use Rattle.reply_text.specs.Laws.{CsvReadsBack, JsonReadsBack, TablesFitCsv};
+ghost use Rattle.reply_text.specs.Laws.{CountsAreLengths, CsvReadsBack, JsonReadsBack, PiecesAreBodies, TablesFitCsv};
 
 use csv_grammar::one_list_of_records;
 use csvw_meta::accepted_schemas;
@@ -22,4 +22,14 @@ pub fn tables_fit_csv()
 /// What we publish as JSON, a reader of JSON (RFC 8259) gives back: the values of cells, rows, and bodies of rows.
 pub fn json_reads_back()
     ensures { JsonReadsBack }
+{}
+
+/// A number of bytes that is counted is the number of bytes that are laid down, where it is less than the greatest that 64 bits tell.
+pub fn counts_are_lengths()
+    ensures { CountsAreLengths }
+{}
+
+/// The pieces that a body of rows is laid down in are the body.
+pub fn pieces_are_bodies()
+    ensures { PiecesAreBodies }
 {}

@@ -1,16 +1,27 @@
 //! The bodies of replies: rows, the service document and errors as JSON (RFC 8259; OData 4.01 JSON Format), and rows as CSV (RFC 4180), each appended to one buffer in one
-//! pass. Each function gives the stated text.
+//! pass, or laid down piece by piece. Each function gives the stated text, and beside it stands another that tells how many bytes it takes.
 #![tactic(auto)]
 
 mod body;
-mod csv;
-mod decimal;
-mod json_text;
-mod lanes;
+mod csv_rows;
+mod csv_sizes;
+mod cursor;
+mod json_rows;
+mod json_sizes;
 mod laws;
-mod value;
+mod pieces;
+mod sizes;
 
-pub use body::{error_body, json_body, number_body, row_body, service_body};
-pub use csv::csv_body;
-pub use laws::{csv_reads_back, json_reads_back, tables_fit_csv};
+pub use body::{
+    error_body, error_size, json_body, number_body, push_error, push_json, push_row, row_body,
+    service_body,
+};
+pub use csv_rows::{csv_body, push_csv};
+pub use csv_sizes::csv_size;
+pub use cursor::BodyCursor;
+pub use json_sizes::{json_size, row_size};
+pub use laws::{
+    counts_are_lengths, csv_reads_back, json_reads_back, pieces_are_bodies, tables_fit_csv,
+};
 pub use reply_codes::Code;
+pub use reply_values::{number_size, push_number};

@@ -1,10 +1,5 @@
-pub mod TextLemmas
-pub mod KeptLemmas
+pub mod NumberLemmas
+pub mod PieceLemmas
+pub mod StoreLemmas
 pub mod RowLemmas
-pub mod PickedLemmas
-pub mod FitLemmas
-pub mod CopyLemmas
-pub mod PickLemmas
-pub mod PlaceLemmas
-pub mod TakenLemmas
-pub mod ColumnLemmas
+pub mod KindLemmas

@@ -1,126 +1,251 @@
--- A row comes behind the others: each column has one value more.
-use Rattle.std.proofs.Common.{◌≡◌, inl, inr, ℕ, zero, suc, ◌+◌, ◌<◌, ◌≤◌, List, [], ◌∷◌, ◌++◌, length, map, get_or, refl, sym, ap, ◌∙◌, subst, arith}
-use Rattle.std.specs.Prelude.{set}
-use Rattle.std.specs.List.{AllByRecursion}
-use Rattle.std.proofs.lemmas.Bool.{cases_eq}
-use Rattle.std.proofs.lemmas.List.{get_or_append_left, get_or_default, get_or_push, get_or-set_other, get_or-set_same, length_push, length-set}
-use Rattle.cell_types.specs.Value.{CellValue, null}
-use Rattle.row_columns.specs.declared.cells.Cells.{Cells}
-use Rattle.row_columns.specs.Cells.{cells_view, kind_of, IsPushed}
-use Rattle.row_columns.specs.Kept.{row_at, rows_of, IsColumn}
-use Rattle.row_columns.specs.Kinds.{AreOfKinds, IsOfKind, KindOf}
+-- Rows by number.
+use Rattle.std.proofs.Common.{◌≡◌, ℕ, zero, suc, ◌+◌, ◌-◌, ◌*◌, ◌/◌, ◌%◌, ◌<◌, ◌≤◌, List, [], ◌∷◌, ◌++◌, Option, None, Some, Vec, Global, Result, Ok, Err, length, map, get_or, refl, sym, ap, ◌∙◌, subst, arith, append_assoc}
+use Rattle.std.specs.Prelude.{option_and_then, slice_get, IfOk}
+use Rattle.std.specs.declared.alloc.AllocError.{AllocError}
+use Rattle.std.specs.List.{All, AllByRecursion}
+use Rattle.std.proofs.lemmas.List.{get_or-map, get_or_append_left, get_or_push, length-append, length-map, length_push, map-append}
+use Rattle.std.proofs.lemmas.List.Elements.{All-from_recursion}
+use Rattle.std.proofs.lemmas.Option.{get_or_from_slice_get, slice_get-get_or}
+use Rattle.block_summary.specs.declared.block.TheConstants.{BLOCK_ROWS}
+use Rattle.block_summary.specs.declared.number.PackedType.{PackedType}
+use Rattle.cell_types.specs.Column.{ColumnOf}
+use Rattle.cell_types.specs.Value.{CellValue, null, value_view}
+use Rattle.cell_types.specs.declared.value.Value.{Value}
+use Rattle.table_store.specs.Fits.{IsTableRow}
+use Rattle.typed_columns.specs.ColumnCells.{ColumnCells}
+use Rattle.row_columns.specs.declared.store.Store.{Store}
+use Rattle.row_columns.specs.Numbers.{numbers_from}
+use Rattle.row_columns.specs.Picked.{numbered, values_at}
+use Rattle.row_columns.specs.Piece.{piece_row}
+use Rattle.row_columns.specs.declared.store.Store.TheVariants.{Blocks, Values}
+use Rattle.row_columns.specs.Store.{end_of, numbered_row, stored_kinds, stored_row, value_rows, IsPicked, IsStoredWide, HasTakenRows}
+use Rattle.row_columns.proofs.StoreLemmas.{stored_wide}
 
--- each column got its value
-abbrev pub ArePushed : List Cells → List CellValue → List Cells → Type 0
-ArePushed [] [] [] = Unit {0}
-ArePushed (c ∷ cs) (v ∷ vs) (d ∷ ds) = IsPushed c v d × ArePushed cs vs ds
-ArePushed _ _ _ = ⊥
+module _ {X : Type 0} where
+  -- the same on each number below an end
+  pub map_below : (f g : ℕ → X) (end : ℕ) (numbers : List ℕ) → ((n : ℕ) → n < end → f n ≡ g n) → AllByRecursion (λ n. n < end) numbers → map f numbers ≡ map g numbers
+  map_below f g end [] same all = refl
+  map_below f g end (n ∷ numbers) same all =
+      ap (λ x. x ∷ map f numbers) (same n all.0) ∙ ap (λ xs. g n ∷ xs) (map_below f g end numbers same all.1)
 
--- the first columns got their values
-pub record IsPushing (old now : List Cells) (values : List CellValue) (i : ℕ) : Type 0 where
-  pub len : length now ≡ length old
-  pub front : (k : ℕ) (d : Cells) (v : CellValue) → k < i → IsPushed (get_or old k d) (get_or values k v) (get_or now k d)
-  pub back : (k : ℕ) (d : Cells) → i ≤ k → get_or now k d ≡ get_or old k d
+  -- those that come after others have the numbers from their length on
+  pub map_from : (xs ys : List X) (d : X) → map (λ n. get_or (xs ++ ys) n d) (numbers_from (length xs) (length ys)) ≡ ys
+  map_from xs [] d = refl
+  map_from xs (y ∷ ys) d =
+      let longer : List X = xs ++ y ∷ [] in
+      let same : xs ++ y ∷ ys ≡ longer ++ ys = sym (append_assoc xs (y ∷ []) ys) in
+      let size : length longer ≡ suc (length xs) = omega (arith, length-append xs (y ∷ [])) in
+      let at : get_or (xs ++ y ∷ ys) (length xs) d ≡ y =
+      ap (λ l. get_or l (length xs) d) same ∙ get_or_append_left longer ys d (length xs) (omega (arith, size)) ∙ get_or_push xs y d (length xs) refl in
+      ap (λ x. x ∷ map (λ n. get_or (xs ++ y ∷ ys) n d) (numbers_from (suc (length xs)) (length ys))) at
+      ∙ ap (λ l. y ∷ map (λ n. get_or l n d) (numbers_from (suc (length xs)) (length ys))) same
+      ∙ ap (λ k. y ∷ map (λ n. get_or (longer ++ ys) n d) (numbers_from k (length ys))) (sym size)
+      ∙ ap (λ zs. y ∷ zs) (map_from longer ys d)
 
-pub none_pushed : (columns : List Cells) (values : List CellValue) → IsPushing columns columns values 0
-none_pushed columns values = record { len = refl; front = λ k d v h. absurd (omega arith); back = λ k d h. refl }
+pub all_append : (P : ℕ → Type 0) (a b : List ℕ) → AllByRecursion P a → AllByRecursion P b → AllByRecursion P (a ++ b)
+all_append P [] b pa pb = pb
+all_append P (n ∷ a) b pa pb = (pa.0, all_append P a b pa.1 pb)
 
-pub one_more : (old now : List Cells) (values : List CellValue) (i : ℕ) (x y : Cells) (value : CellValue) → i < length now → i < length values
-    → x ≡ get_or now i x → value ≡ get_or values i value → IsPushed x value y → IsPushing old now values i → IsPushing old (set now i y) values (i + 1)
-one_more old now values i x y value inside within at value_at pushed so_far =
+pub all_below : (end more : ℕ) (numbers : List ℕ) → end ≤ more → AllByRecursion (λ n. n < end) numbers → AllByRecursion (λ n. n < more) numbers
+all_below end more [] h all = tt
+all_below end more (n ∷ numbers) h all = (omega (arith, h, all.0), all_below end more numbers h all.1)
+
+pub all_from : (start count end : ℕ) → start + count ≤ end → AllByRecursion (λ n. n < end) (numbers_from start count)
+all_from start zero end h = tt
+all_from start (suc count) end h = (omega (arith, h), all_from (suc start) count end (omega (arith, h)))
+
+-- ---- numbers of numbers
+
+pub all_renumbered : (end : ℕ) (numbers places : List ℕ) → AllByRecursion (λ n. n < end) numbers → All (λ place. place < length numbers) places
+    → AllByRecursion (λ n. n < end) (map (λ place. get_or numbers place 0) places)
+all_renumbered end numbers [] all within = tt
+all_renumbered end numbers (place ∷ places) all within = (
+  All-from_recursion (λ n. n < end) numbers all place 0 (within 0 0 (omega arith)),
+  all_renumbered end numbers places all (λ k d h. within (suc k) d (omega (arith, h))),
+)
+
+pub rows_renumbered : (row : ℕ → List CellValue) (numbers places : List ℕ) → All (λ place. place < length numbers) places
+    → map row (map (λ place. get_or numbers place 0) places) ≡ numbered places (map row numbers)
+rows_renumbered row numbers [] within = refl
+rows_renumbered row numbers (place ∷ places) within =
+    let none : List CellValue = [] in
+    ap (λ r. r ∷ map row (map (λ place. get_or numbers place 0) places)) (sym (get_or-map row numbers place 0 none (within 0 0 (omega arith))))
+    ∙ ap (λ rs. get_or (map row numbers) place none ∷ rs) (rows_renumbered row numbers places (λ k d h. within (suc k) d (omega (arith, h))))
+
+-- some columns of them
+pub rows_picked : (places : List ℕ) (old new : Store) (numbers : List ℕ) → IsPicked places old new → AllByRecursion (λ n. n < end_of old) numbers
+    → map (stored_row new) numbers ≡ map (values_at places) (map (stored_row old) numbers)
+rows_picked places old new [] picked all = refl
+rows_picked places old new (n ∷ numbers) picked all =
+    ap (λ r. r ∷ map (stored_row new) numbers) (picked.rows n all.0)
+    ∙ ap (λ rs. values_at places (stored_row old n) ∷ rs) (rows_picked places old new numbers picked all.1)
+
+-- ---- one row
+
+pub row_wide : (store : Store) (numbers : List ℕ) → IsStoredWide store → AllByRecursion (λ n. n < end_of store) numbers
+    → AllByRecursion (λ (row : List CellValue). length row ≡ length (stored_kinds store)) (map (stored_row store) numbers)
+row_wide store [] wide all = tt
+row_wide store (n ∷ numbers) wide all = (stored_wide store n wide all.0, row_wide store numbers wide all.1)
+
+pub value_at_row : (store : Store) (numbers : List ℕ) (row col : ℕ) (value : CellValue) → IsStoredWide store → AllByRecursion (λ n. n < end_of store) numbers → row < length numbers
+    → col < length (stored_kinds store) → value ≡ get_or (stored_row store (get_or numbers row 0)) col null
+    → option_and_then (λ (values : List CellValue). slice_get values col) (slice_get (map (stored_row store) numbers) row) ≡ Some value
+value_at_row store numbers row col value wide all h inside is =
+    let none : List CellValue = [] in
+    let number = get_or numbers row 0 in
+    let rows = map (stored_row store) numbers in
+    let at : get_or rows row none ≡ stored_row store number = get_or-map (stored_row store) numbers row 0 none h in
+    let width = stored_wide store number wide (All-from_recursion (λ n. n < end_of store) numbers all row 0 h) in
+    ap (option_and_then (λ (values : List CellValue). slice_get values col)) (slice_get-get_or rows row none (omega (arith, h, length-map numbers (stored_row store))) ∙ ap (λ r. Some r) at)
+    ∙ slice_get-get_or (stored_row store number) col null (omega (arith, inside, width)) ∙ ap (λ v. Some v) (sym is)
+
+-- ---- rows of one piece more
+
+pub old_row : (pieces : List (List ColumnCells)) (piece : List ColumnCells) (number : ℕ) → number / BLOCK_ROWS < length pieces
+    → numbered_row (pieces ++ piece ∷ []) number ≡ numbered_row pieces number
+old_row pieces piece number h =
+    let none : List ColumnCells = [] in
+    ap (λ (p : List ColumnCells). piece_row p (number % BLOCK_ROWS)) (get_or_append_left pieces (piece ∷ []) none (number / BLOCK_ROWS) h)
+
+pub new_row : (pieces : List (List ColumnCells)) (piece : List ColumnCells) (row : ℕ) → row < BLOCK_ROWS
+    → numbered_row (pieces ++ piece ∷ []) (length pieces * BLOCK_ROWS + row) ≡ piece_row piece row
+new_row pieces piece row h =
+    let none : List ColumnCells = [] in
+    let number = length pieces * BLOCK_ROWS + row in
+    let block : number / BLOCK_ROWS ≡ length pieces = omega (arith, h) in
+    let own : number % BLOCK_ROWS ≡ row = omega (arith, h) in
+    ap (λ n. piece_row (get_or (pieces ++ piece ∷ []) n none) (number % BLOCK_ROWS)) block
+    ∙ ap (λ (p : List ColumnCells). piece_row p (number % BLOCK_ROWS)) (get_or_push pieces piece none (length pieces) refl)
+    ∙ ap (piece_row piece) own
+
+pub new_rows : (pieces : List (List ColumnCells)) (piece : List ColumnCells) (rows : List (List CellValue)) (places numbers : List ℕ) → length rows ≤ BLOCK_ROWS
+    → ((row : ℕ) → row < length rows → piece_row piece row ≡ values_at places (get_or rows row [])) → All (λ n. n < length rows) numbers
+    → map (numbered_row (pieces ++ piece ∷ [])) (map (λ n. length pieces * BLOCK_ROWS + n) numbers) ≡ map (values_at places) (numbered numbers rows)
+new_rows pieces piece rows places [] most is within = refl
+new_rows pieces piece rows places (n ∷ numbers) most is within =
+    let here : n < length rows = within 0 n (omega arith) in
+    let none : List CellValue = [] in
+    ap (λ r. r ∷ map (numbered_row (pieces ++ piece ∷ [])) (map (λ n. length pieces * BLOCK_ROWS + n) numbers)) (new_row pieces piece n (omega (arith, here, most)) ∙ is n here)
+    ∙ ap (λ rs. values_at places (get_or rows n none) ∷ rs) (new_rows pieces piece rows places numbers most is (λ k d h. within (suc k) d (omega (arith, h))))
+
+pub new_within : (count : ℕ) (rows : List (List CellValue)) (numbers : List ℕ) → length rows ≤ BLOCK_ROWS → All (λ n. n < length rows) numbers
+    → AllByRecursion (λ n. n < (count + 1) * BLOCK_ROWS) (map (λ n. count * BLOCK_ROWS + n) numbers)
+new_within count rows [] most within = tt
+new_within count rows (n ∷ numbers) most within =
+    let here : n < length rows = within 0 n (omega arith) in
+    (omega (arith, here, most), new_within count rows numbers most (λ k d h. within (suc k) d (omega (arith, h))))
+
+-- ---- all places of a row
+
+pub all_places : (before row : List CellValue) → map (λ place. get_or (before ++ row) place null) (numbers_from (length before) (length row)) ≡ row
+all_places before row = map_from before row null
+
+pub table_rows_picked : (rows : List (List CellValue)) (width : ℕ) → AllByRecursion (λ (row : List CellValue). length row ≡ width) rows → map (values_at (numbers_from 0 width)) rows ≡ rows
+table_rows_picked [] width wide = refl
+table_rows_picked (row ∷ rows) width wide =
+    let whole : values_at (numbers_from 0 width) row ≡ row = ap (λ n. values_at (numbers_from 0 n) row) (sym wide.0) ∙ all_places [] row in
+    ap (λ r. r ∷ map (values_at (numbers_from 0 width)) rows) whole ∙ ap (λ rs. row ∷ rs) (table_rows_picked rows width wide.1)
+
+-- ---- a cell of a row
+
+cell_of : (o : Option (List CellValue)) (col : ℕ) (v : CellValue) → option_and_then (λ (values : List CellValue). slice_get values col) o ≡ Some v
+    → (values : List CellValue) × (o ≡ Some values) × (slice_get values col ≡ Some v)
+cell_of None col v e = absurd (cc)
+cell_of (Some values) col v e = (values, refl, e)
+
+pub cell_is : (rows : List (List CellValue)) (row col : ℕ) (v : CellValue) → option_and_then (λ (values : List CellValue). slice_get values col) (slice_get rows row) ≡ Some v
+    → v ≡ get_or (get_or rows row []) col null
+cell_is rows row col v e =
+    let here = cell_of (slice_get rows row) col v e in
+    let none : List CellValue = [] in
+    sym (ap (λ vs. get_or vs col null) (get_or_from_slice_get rows row here.0 none here.1) ∙ get_or_from_slice_get here.0 col v null here.2)
+
+-- ---- the rows of a table
+
+table_row_long : (columns : List ColumnOf) (row : List CellValue) → IsTableRow columns row → length row ≡ length columns
+table_row_long [] [] h = refl
+table_row_long [] (v ∷ row) h = absurd h
+table_row_long (c ∷ columns) [] h = absurd h
+table_row_long (c ∷ columns) (v ∷ row) h = omega (arith, table_row_long columns row h.2)
+
+pub numbered_wide : (columns : List ColumnOf) (rows : List (List CellValue)) (numbers : List ℕ) → All (IsTableRow columns) rows → All (λ n. n < length rows) numbers
+    → AllByRecursion (λ (row : List CellValue). length row ≡ length columns) (numbered numbers rows)
+numbered_wide columns rows [] all within = tt
+numbered_wide columns rows (n ∷ numbers) all within =
+    let none : List CellValue = [] in (
+      table_row_long columns (get_or rows n none) (all n none (within 0 0 (omega arith))),
+      numbered_wide columns rows numbers all (λ k d h. within (suc k) d (omega (arith, h))),
+    )
+
+-- ---- rows are taken
+
+pieces_more : (width : ℕ) (pieces : List (List ColumnCells)) (piece : List ColumnCells) → length piece ≡ width → AllByRecursion (λ (p : List ColumnCells). length p ≡ width) pieces
+    → AllByRecursion (λ (p : List ColumnCells). length p ≡ width) (pieces ++ piece ∷ [])
+pieces_more width [] piece e all = (e, tt)
+pieces_more width (p ∷ pieces) piece e all = (all.0, pieces_more width pieces piece e all.1)
+
+pub blocks_taken : (places numbers made : List ℕ) (types : Vec (Option PackedType) Global) (pieces new : Vec (List ColumnCells) Global) (piece : List ColumnCells) (rows : List (List CellValue))
+    → new.items ≡ pieces.items ++ piece ∷ [] → length piece ≡ length types.items → IsStoredWide (Blocks types pieces) → length rows ≤ BLOCK_ROWS
+    → ((row : ℕ) → row < length rows → piece_row piece row ≡ values_at places (get_or rows row [])) → All (λ n. n < length rows) numbers
+    → made ≡ map (λ n. length pieces.items * BLOCK_ROWS + n) numbers
+    → HasTakenRows (Blocks types pieces) (Blocks types new) (map (values_at places) (numbered numbers rows)) made
+blocks_taken places numbers made types pieces new piece rows e long wide most is within made_is =
+    let size : length new.items ≡ length pieces.items + 1 = ap (λ (ps : List (List ColumnCells)). length ps) e ∙ length_push pieces.items piece in
     record {
-      len = length-set now i y ∙ so_far.len;
-      front = λ k d v h. elim (cases_eq k i) [
-        | inl same ↦
-            let old_at : x ≡ get_or old i d = at ∙ get_or_default now i x d inside ∙ so_far.back i d (omega arith) in
-            let value_is : value ≡ get_or values i v = value_at ∙ get_or_default values i value v within in
-            let new_is : y ≡ get_or (set now i y) i d = sym (get_or-set_same now i y d inside) in
-            subst (λ j. IsPushed (get_or old j d) (get_or values j v) (get_or (set now i y) j d)) (sym same) (rw (← old_at, ← value_is, ← new_is) pushed)
-        | inr other ↦ rw (get_or-set_other now i k y d other) (so_far.front k d v (omega arith))
-      ];
-      back = λ k d h. get_or-set_other now i k y d (omega arith) ∙ so_far.back k d (omega arith);
+      kinds = refl;
+      wide = subst (AllByRecursion (λ (p : List ColumnCells). length p ≡ length types.items)) (sym e) (pieces_more (length types.items) pieces.items piece long wide);
+      end = omega (arith, size);
+      stay = λ n h. ap (λ (ps : List (List ColumnCells)). numbered_row ps n) e ∙ old_row pieces.items piece n (omega (arith, h));
+      within = subst (AllByRecursion (λ n. n < length new.items * BLOCK_ROWS)) (sym made_is)
+          (subst (λ k. AllByRecursion (λ n. n < k * BLOCK_ROWS) (map (λ n. length pieces.items * BLOCK_ROWS + n) numbers)) (sym size)
+          (new_within (length pieces.items) rows numbers most within));
+      come = ap (map (numbered_row new.items)) made_is
+          ∙ ap (λ (ps : List (List ColumnCells)). map (numbered_row ps) (map (λ n. length pieces.items * BLOCK_ROWS + n) numbers)) e
+          ∙ new_rows pieces.items piece rows places numbers most is within;
     }
 
-pub all_pushed : (old : List Cells) (values : List CellValue) (now : List Cells) → length now ≡ length old → length values ≡ length old
-    → ((k : ℕ) (d : Cells) (v : CellValue) → k < length values → IsPushed (get_or old k d) (get_or values k v) (get_or now k d)) → ArePushed old values now
-all_pushed [] [] [] e f each = tt
-all_pushed [] [] (n ∷ now) e f each = absurd (omega arith)
-all_pushed [] (v ∷ values) now e f each = absurd (omega arith)
-all_pushed (c ∷ old) [] now e f each = absurd (omega arith)
-all_pushed (c ∷ old) (v ∷ values) [] e f each = absurd (omega arith)
-all_pushed (c ∷ old) (v ∷ values) (n ∷ now) e f each =
-    (each 0 c v (omega arith), all_pushed old values now (omega arith) (omega arith) (λ k d w h. each (suc k) d w (omega arith)))
+all_rows : (P : List CellValue → Type 0) (a b : List (List CellValue)) → AllByRecursion P a → AllByRecursion P b → AllByRecursion P (a ++ b)
+all_rows P [] b pa pb = pb
+all_rows P (r ∷ a) b pa pb = (pa.0, all_rows P a b pa.1 pb)
 
--- ---- what that means
+pub values_taken : (width : ℕ) (rows new : Vec (Vec Value Global) Global) (taken : List (List CellValue)) (made : List ℕ)
+    → value_rows new.items ≡ value_rows rows.items ++ taken → AllByRecursion (λ (r : List CellValue). length r ≡ width) taken → IsStoredWide (Values width rows)
+    → made ≡ numbers_from (length rows.items) (length new.items - length rows.items) → HasTakenRows (Values width rows) (Values width new) taken made
+values_taken width rows new taken made e long wide made_is =
+    let none : List CellValue = [] in
+    let many : length (value_rows rows.items) ≡ length rows.items = length-map rows.items (λ (r : Vec Value Global). map value_view r.items) in
+    let all : length (value_rows new.items) ≡ length new.items = length-map new.items (λ (r : Vec Value Global). map value_view r.items) in
+    let size : length new.items ≡ length rows.items + length taken =
+    omega (arith, all, many, ap (λ (rs : List (List CellValue)). length rs) e, length-append (value_rows rows.items) taken) in
+    let count : length new.items - length rows.items ≡ length taken = omega (arith, size) in
+    record {
+      kinds = refl;
+      wide = subst (AllByRecursion (λ (r : List CellValue). length r ≡ width)) (sym e) (all_rows (λ (r : List CellValue). length r ≡ width) (value_rows rows.items) taken wide long);
+      end = omega (arith, size);
+      stay = λ n h. ap (λ (rs : List (List CellValue)). get_or rs n none) e ∙ get_or_append_left (value_rows rows.items) taken none n (omega (arith, h, many));
+      within = subst (AllByRecursion (λ n. n < length new.items)) (sym made_is) (all_from (length rows.items) (length new.items - length rows.items) (length new.items) (omega (arith, size)));
+      come = ap (map (λ n. get_or (value_rows new.items) n none)) (made_is ∙ ap (numbers_from (length rows.items)) count ∙ ap (λ k. numbers_from k (length taken)) (sym many))
+          ∙ ap (λ (rs : List (List CellValue)). map (λ n. get_or rs n none) (numbers_from (length (value_rows rows.items)) (length taken))) e
+          ∙ map_from (value_rows rows.items) taken none;
+    }
 
-pub kinds_stay : (old : List Cells) (values : List CellValue) (now : List Cells) → ArePushed old values now → map kind_of now ≡ map kind_of old
-kinds_stay [] [] [] all = refl
-kinds_stay [] [] (n ∷ now) all = absurd all
-kinds_stay [] (v ∷ values) now all = absurd all
-kinds_stay (c ∷ old) [] now all = absurd all
-kinds_stay (c ∷ old) (v ∷ values) [] all = absurd all
-kinds_stay (c ∷ old) (v ∷ values) (n ∷ now) all = rw (all.0.kind, kinds_stay old values now all.1) refl
+pub taken_ok : (old new : Store) (rows : List (List CellValue)) (numbers : List ℕ) (result : Result (Vec ℕ Global) AllocError)
+    → ((made : List ℕ) → made ≡ numbers → HasTakenRows old new rows made) → IfOk result (λ made. made.items ≡ numbers) → IfOk result (λ made. HasTakenRows old new rows made.items)
+taken_ok old new rows numbers (Ok made) are h = are made.items h
+taken_ok old new rows numbers (Err e) are h = tt
 
-pub columns_grow : (len : ℕ) (old : List Cells) (values : List CellValue) (now : List Cells) → ArePushed old values now → AllByRecursion (IsColumn len) old → AllByRecursion (IsColumn (len + 1)) now
-columns_grow len [] [] [] all columns = tt
-columns_grow len [] [] (n ∷ now) all columns = absurd all
-columns_grow len [] (v ∷ values) now all columns = absurd all
-columns_grow len (c ∷ old) [] now all columns = absurd all
-columns_grow len (c ∷ old) (v ∷ values) [] all columns = absurd all
-columns_grow len (c ∷ old) (v ∷ values) (n ∷ now) all columns =
-    let count : length (cells_view n) ≡ len + 1 = ap length all.0.values ∙ length_push (cells_view c) v ∙ ap (λ k. k + 1) columns.0.count in
-    (record { count = count; whole = all.0.whole }, columns_grow len old values now all.1 columns.1)
+pub none_taken : (store : Store) → IsStoredWide store → HasTakenRows store store [] []
+none_taken store wide = record { kinds = refl; wide = wide; end = omega arith; stay = λ n h. refl; within = tt; come = refl }
 
--- the rows that were there stay
-row_stays : (len i : ℕ) (old : List Cells) (values : List CellValue) (now : List Cells) → ArePushed old values now → AllByRecursion (IsColumn len) old → i < len
-    → row_at (map cells_view now) i ≡ row_at (map cells_view old) i
-row_stays len i [] [] [] all columns h = refl
-row_stays len i [] [] (n ∷ now) all columns h = absurd all
-row_stays len i [] (v ∷ values) now all columns h = absurd all
-row_stays len i (c ∷ old) [] now all columns h = absurd all
-row_stays len i (c ∷ old) (v ∷ values) [] all columns h = absurd all
-row_stays len i (c ∷ old) (v ∷ values) (n ∷ now) all columns h =
-    let count = columns.0.count in
-    let here : get_or (cells_view n) i null ≡ get_or (cells_view c) i null =
-    ap (λ xs. get_or xs i null) all.0.values ∙ get_or_append_left (cells_view c) (v ∷ []) null i (omega arith) in
-    rw (here, row_stays len i old values now all.1 columns.1 h) refl
+-- the rows that stayed, and those that came
+pub rows_with : (old new : Store) (numbers made : List ℕ) (rows : List (List CellValue)) → HasTakenRows old new rows made → AllByRecursion (λ n. n < end_of old) numbers
+    → map (stored_row new) (numbers ++ made) ≡ map (stored_row old) numbers ++ rows
+rows_with old new numbers made rows taken all =
+    map-append (stored_row new) numbers made
+    ∙ ap (λ (rs : List (List CellValue)). rs ++ map (stored_row new) made) (map_below (stored_row new) (stored_row old) (end_of old) numbers taken.stay all)
+    ∙ ap (λ (rs : List (List CellValue)). map (stored_row old) numbers ++ rs) taken.come
 
-rows_stay : (len n : ℕ) (old : List Cells) (values : List CellValue) (now : List Cells) → ArePushed old values now → AllByRecursion (IsColumn len) old → n ≤ len
-    → rows_of n (map cells_view now) ≡ rows_of n (map cells_view old)
-rows_stay len zero old values now all columns h = refl
-rows_stay len (suc n) old values now all columns h =
-    rw (rows_stay len n old values now all columns (omega arith), row_stays len n old values now all columns (omega arith)) refl
-
--- the last row has the values
-row_comes : (len : ℕ) (old : List Cells) (values : List CellValue) (now : List Cells) → ArePushed old values now → AllByRecursion (IsColumn len) old
-    → row_at (map cells_view now) len ≡ values
-row_comes len [] [] [] all columns = refl
-row_comes len [] [] (n ∷ now) all columns = absurd all
-row_comes len [] (v ∷ values) now all columns = absurd all
-row_comes len (c ∷ old) [] now all columns = absurd all
-row_comes len (c ∷ old) (v ∷ values) [] all columns = absurd all
-row_comes len (c ∷ old) (v ∷ values) (n ∷ now) all columns =
-    let here : get_or (cells_view n) len null ≡ v = ap (λ xs. get_or xs len null) all.0.values ∙ get_or_push (cells_view c) v null len columns.0.count in
-    rw (here, row_comes len old values now all.1 columns.1) refl
-
-pub rows_more : (len : ℕ) (old : List Cells) (values : List CellValue) (now : List Cells) → ArePushed old values now → AllByRecursion (IsColumn len) old
-    → rows_of (len + 1) (map cells_view now) ≡ rows_of len (map cells_view old) ++ values ∷ []
-rows_more len old values now all columns =
-    let next : len + 1 ≡ suc len = omega arith in
-    rw next (rw (rows_stay len len old values now all columns (omega arith), row_comes len old values now all columns) refl)
-
--- ---- kinds
-
-pub length_kinds : (kinds : List KindOf) (values : List CellValue) → AreOfKinds kinds values → length values ≡ length kinds
-length_kinds [] [] all = refl
-length_kinds [] (v ∷ values) all = absurd all
-length_kinds (k ∷ kinds) [] all = absurd all
-length_kinds (k ∷ kinds) (v ∷ values) all = ap suc (length_kinds kinds values all.1)
-
-pub kind_at : (columns : List Cells) (values : List CellValue) (i : ℕ) (d : Cells) (v : CellValue) → AreOfKinds (map kind_of columns) values → i < length values
-    → IsOfKind (kind_of (get_or columns i d)) (get_or values i v)
-kind_at [] [] i d v all h = absurd (omega arith)
-kind_at [] (w ∷ values) i d v all h = absurd all
-kind_at (c ∷ columns) [] i d v all h = absurd all
-kind_at (c ∷ columns) (w ∷ values) zero d v all h = all.0
-kind_at (c ∷ columns) (w ∷ values) (suc i) d v all h = kind_at columns values i d v all.1 (omega arith)
+pub within_with : (old new : Store) (numbers made : List ℕ) (rows : List (List CellValue)) → HasTakenRows old new rows made → AllByRecursion (λ n. n < end_of old) numbers
+    → AllByRecursion (λ n. n < end_of new) (numbers ++ made)
+within_with old new numbers made rows taken all =
+    all_append (λ n. n < end_of new) numbers made (all_below (end_of old) (end_of new) numbers taken.end all) taken.within

@@ -1,7 +1,7 @@
 -- Columns as their callers see them: rows of values, each value of the kind of its column.
-use Rattle.std.specs.Prelude.{ℕ, List, [], replicate}
+use Rattle.std.specs.Prelude.{List, []}
 use Rattle.cell_types.specs.Value.{CellValue}
-use Rattle.row_columns.specs.Kinds.{KindOf, any}
+use Rattle.row_columns.specs.Kinds.{KindOf}
 
 pub record ColumnsOf : Type 0 where
   pub kinds : List KindOf
@@ -10,7 +10,3 @@ pub record ColumnsOf : Type 0 where
 -- no columns, and no rows
 abbrev pub no_columns : ColumnsOf
 no_columns = record { kinds = []; rows = [] }
-
--- so many columns of any, and no rows
-abbrev pub columns_of_any : ℕ → ColumnsOf
-columns_of_any width = record { kinds = replicate width any; rows = [] }

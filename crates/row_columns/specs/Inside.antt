@@ -1,11 +1,14 @@
 -- What columns hold inside.
+use Rattle.std.specs.Prelude.{◌<◌, ℕ, map}
+use Rattle.std.specs.List.{AllByRecursion}
 use Rattle.row_columns.specs.declared.columns.Columns.TheInside.{Inside}
 use Rattle.row_columns.specs.Columns.{ColumnsOf}
-use Rattle.row_columns.specs.Kept.{kept_rows, kinds, AreAligned}
+use Rattle.row_columns.specs.Store.{end_of, stored_kinds, stored_row, IsStoredWide}
 
 abbrev pub columns_view : Inside → ColumnsOf
-columns_view columns = record { kinds = kinds columns.kept; rows = kept_rows columns.kept }
+columns_view columns = record { kinds = stored_kinds columns.store; rows = map (stored_row columns.store) columns.numbers.items }
 
--- each column has a value for each row
-abbrev pub HoldRows : Inside → Type 0
-HoldRows columns = AreAligned columns.kept
+-- each number is that of a row, which has a value for each column
+pub record HoldRows (columns : Inside) : Type 0 where
+  pub wide : IsStoredWide columns.store
+  pub within : AllByRecursion (λ (number : ℕ). number < end_of columns.store) columns.numbers.items

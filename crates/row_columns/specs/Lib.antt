@@ -3,8 +3,8 @@ pub use Rattle.table_store.specs.Block
 pub mod Kinds
 pub mod Picked
 pub mod Columns
-pub mod Cells
 pub mod Numbers
 pub mod Text
-pub mod Kept
+pub mod Piece
+pub mod Store
 pub mod Inside

@@ -1,7 +1,7 @@
--- Cells that stand as numbers.
-use Rattle.cell_types.specs.Value.{CellValue, text}
+-- The numbers of rows.
+use Rattle.std.specs.Prelude.{ℕ, zero, suc, List, [], ◌∷◌}
 
--- each cell but a text has a number, or is null
-abbrev pub IsNoText : CellValue → Type 0
-IsNoText (text t) = ⊥
-IsNoText _ = Unit {0}
+-- so many numbers, from one on
+abbrev pub numbers_from : ℕ → ℕ → List ℕ
+numbers_from start zero = []
+numbers_from start (suc count) = start ∷ numbers_from (suc start) count

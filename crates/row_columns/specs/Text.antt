@@ -6,3 +6,8 @@ use Rattle.cell_types.specs.Value.{CellValue, text}
 abbrev pub text_of_cell : CellValue → Option (List ℕ)
 text_of_cell (text t) = Some t
 text_of_cell _ = None
+
+-- any value but a text
+abbrev pub IsNoText : CellValue → Type 0
+IsNoText (text t) = ⊥
+IsNoText _ = Unit {0}

@@ -1,25 +1,28 @@
 //! Columns of values.
-ghost use Rattle.std.specs.Prelude.{◌≡◌, ◌++◌, ◌∷◌, [], ◌<◌, ◌↔◌, IfOk, IfSome, IsSome, OnErr, OnOk, Some, length, map, option_and_then, option_map, slice_get, slice_index_or};
-ghost use Rattle.std.specs.List.{All};
-ghost use Rattle.block_summary.specs.Ranges.{column_of};
+ghost use Rattle.std.specs.Prelude.{◌≡◌, ◌+◌, ◌++◌, ◌^◌, [], ◌<◌, ◌≤◌, ℕ, IfOk, OnErr, OnOk, Some, length, map, option_and_then, option_map, replicate, slice_get, slice_index_or};
+ghost use Rattle.std.specs.List.{All, AllByRecursion};
 ghost use Rattle.cell_types.specs.Column.{column_view};
-ghost use Rattle.cell_types.specs.Value.{value_view, decimal, integer, null};
-ghost use Rattle.row_columns.specs.Cells.{null_or};
-ghost use Rattle.row_columns.specs.Columns.{columns_of_any, no_columns};
-ghost use Rattle.row_columns.specs.Kinds.{any, decimals, integers, kinds_of, AreOfKinds};
-ghost use Rattle.row_columns.specs.Text.{text_of_cell};
+ghost use Rattle.cell_types.specs.Value.{value_view, null};
+ghost use Rattle.row_columns.specs.Columns.{no_columns};
+ghost use Rattle.row_columns.specs.Kinds.{any, kinds_of};
 ghost use Rattle.row_columns.specs.Picked.{kinds_at, numbered, values_at};
+ghost use Rattle.row_columns.specs.Store.{value_rows};
+ghost use Rattle.row_columns.specs.Text.{text_of_cell};
 
-use crate::kept::Kept;
+use crate::numbers::{all_numbers, numbers_between, renumbered};
+use crate::store::{Store, types_at, types_of};
 use cell_types::{Column, Value};
 use std::alloc::{AllocError, Global};
 use std::marker::Model;
+use std::mem;
 use table_store::Block;
 
-/// Rows of values, one of the kind of each column. They own what they have.
+/// Rows of values, one of the kind of each column. Of the rows of a block their numbers are kept, beside the block.
 #[derive(Drop)]
 pub struct Columns {
-    kept: Kept,
+    store: Store,
+    /// A row of blocks has the number of its block and its own in the block, as one.
+    numbers: Vec<u32>,
 }
 
 impl Model for Columns {
@@ -40,7 +43,8 @@ impl Columns {
         ensures { result ≡ no_columns }
     {
         Columns {
-            kept: Kept::none(alloc),
+            store: Store::none(alloc),
+            numbers: Vec::new(alloc),
         }
     }
 
@@ -49,8 +53,11 @@ impl Columns {
         ensures { IfOk result (λ made.
             made ≡ record { kinds = kinds_of (map column_view columns.now); rows = [] }) }
     {
-        let kept = Kept::new(alloc, columns)?;
-        Ok(Columns { kept })
+        let types = types_of(alloc, columns)?;
+        Ok(Columns {
+            store: Store::Blocks(types, Vec::new(alloc)),
+            numbers: Vec::new(alloc),
+        })
     }
 
     /// No rows yet, for those of a table's columns that have these places, counted from 0.
@@ -64,34 +71,39 @@ impl Columns {
             made.kinds ≡ kinds_at places.now (kinds_of (map column_view columns.now))) }
         ensures rows { IfOk result (λ made. made.rows ≡ []) }
     {
-        let kept = Kept::of_places(alloc, columns, places)?;
-        Ok(Columns { kept })
+        let types = types_at(alloc, columns, places)?;
+        Ok(Columns {
+            store: Store::Blocks(types, Vec::new(alloc)),
+            numbers: Vec::new(alloc),
+        })
     }
 
-    /// No rows yet, for so many columns of any.
-    pub fn of_any(alloc: Global, width: usize) -> Result<Columns, AllocError>
-        ensures { IfOk result (λ made. made ≡ columns_of_any width) }
+    /// Rows of so many values of any kind.
+    pub fn of_rows(
+        alloc: Global,
+        width: usize,
+        rows: Vec<Vec<Value<'static>>>,
+    ) -> Result<Columns, AllocError>
+        requires { AllByRecursion (λ row. length row ≡ width) (value_rows rows.items) }
+        ensures { IfOk result (λ made.
+            made ≡ record { kinds = replicate width any; rows = value_rows rows.entry.items }) }
     {
-        let kept = Kept::of_any(alloc, width)?;
-        Ok(Columns { kept })
+        let numbers = numbers_between(alloc, 0, rows.len())?;
+        Ok(Columns {
+            store: Store::Values(width, rows),
+            numbers,
+        })
     }
 
-    /// Appends a row. Where memory ran out, no column is left.
-    pub fn push(&mut self, alloc: Global, values: &[Value<'_>]) -> Result<(), AllocError>
-        requires { AreOfKinds self.old.kinds (map value_view values.now) }
-        ensures kinds { OnOk result (self.new.kinds ≡ self.old.kinds) }
-        ensures rows { OnOk result
-            (self.new.rows ≡ self.old.rows ++ map value_view values.now ∷ []) }
-        ensures refused { OnErr result (self.new ≡ no_columns) }
+    /// Drops every column and every row.
+    fn drop_all(&mut self, alloc: Global)
+        ensures { self.new ≡ no_columns }
     {
-        let pushed = self.kept.push(alloc, values);
-        if pushed.is_err() {
-            self.kept.clear();
-        }
-        pushed
+        self.store = Store::none(alloc);
+        self.numbers.clear();
     }
 
-    /// Appends the rows of a block with these numbers, a column at a time. Where memory ran out, no column is left.
+    /// Appends the rows of a block with these numbers. Where memory ran out, no column is left.
     pub fn take(
         &mut self,
         alloc: Global,
@@ -105,15 +117,17 @@ impl Columns {
             (self.new.rows ≡ self.old.rows ++ numbered numbers.now block.now.rows) }
         ensures refused { OnErr result (self.new ≡ no_columns) }
     {
-        let taken = self.kept.take(alloc, block, numbers);
-        if taken.is_err() {
-            self.kept.clear();
+        block.values_fit();
+        match all_numbers(alloc, block.schema().columns.len()) {
+            Ok(places) => self.take_places(alloc, block, places.as_slice(), numbers),
+            Err(refused) => {
+                self.drop_all(alloc);
+                Err(refused)
+            }
         }
-        taken
     }
 
-    /// Appends the values that the rows of a block with these numbers have in the columns with these places, a column at a time. Where memory ran out,
-    /// no column is left.
+    /// Appends the values that the rows of a block with these numbers have in the columns with these places. Where memory ran out, no column is left.
     pub fn take_places(
         &mut self,
         alloc: Global,
@@ -129,42 +143,45 @@ impl Columns {
             ≡ self.old.rows ++ map (values_at places.now) (numbered numbers.now block.now.rows)) }
         ensures refused { OnErr result (self.new ≡ no_columns) }
     {
-        let taken = self.kept.take_places(alloc, block, places, numbers);
-        if taken.is_err() {
-            self.kept.clear();
-        }
-        taken
+        let mut store = mem::replace(&mut self.store, Store::none(alloc));
+        let mut kept = mem::replace(&mut self.numbers, Vec::new(alloc));
+        let made = store.take(alloc, block, places, numbers)?;
+        kept.extend_from_slice(made.as_slice())?;
+        self.store = store;
+        self.numbers = kept;
+        Ok(())
     }
 
     /// How many rows there are.
     pub fn len(&self) -> usize
         ensures { result ≡ length self.now.rows }
     {
-        self.kept.len()
+        self.numbers.len()
     }
 
     /// How many columns there are.
     pub fn width(&self) -> usize
         ensures { result ≡ length self.now.kinds }
     {
-        self.kept.width()
+        self.store.width()
     }
 
     /// Each row has a value for each column.
     pub fn rows_are_wide(&self)
         ensures { All (λ row. length row ≡ length self.now.kinds) self.now.rows }
     {
-        self.kept.rows_are_wide();
+        let _store = &self.store; // a look at a field brings the invariant into sight
     }
 
     /// The value of a row and a column, both counted from 0. It takes no memory.
+    #[inline(always)]
     pub fn value(&self, row: usize, col: usize) -> Value<'_>
         requires row { row < length self.now.rows }
         requires col { col < length self.now.kinds }
         ensures { option_and_then (λ values. slice_get values col) (slice_get self.now.rows row)
             ≡ Some (value_view result) }
     {
-        self.kept.value(row, col)
+        self.store.value(self.numbers[row] as usize, col)
     }
 
     /// The text of a row and a column, both counted from 0; nothing where the value is null, or no text. It takes no memory.
@@ -174,27 +191,7 @@ impl Columns {
         ensures { option_map (λ t. t.now) result
             ≡ text_of_cell (slice_index_or (slice_index_or self.now.rows row []) col null) }
     {
-        self.kept.column(col).text(row)
-    }
-
-    /// The integers of a column, one for each row and None for null; nothing where it is no column of integers.
-    pub fn integers(&self, col: usize) -> Option<&[Option<i64>]>
-        requires { col < length self.now.kinds }
-        ensures values { IfSome result
-            (λ numbers. map (null_or integer) numbers.now ≡ column_of self.now.rows col) }
-        ensures kind { IsSome result ↔ (slice_index_or self.now.kinds col any ≡ integers) }
-    {
-        self.kept.column(col).integers()
-    }
-
-    /// The decimals of a column in millionths, one for each row and None for null; nothing where it is no column of decimals.
-    pub fn decimals(&self, col: usize) -> Option<&[Option<i64>]>
-        requires { col < length self.now.kinds }
-        ensures values { IfSome result
-            (λ numbers. map (null_or decimal) numbers.now ≡ column_of self.now.rows col) }
-        ensures kind { IsSome result ↔ (slice_index_or self.now.kinds col any ≡ decimals) }
-    {
-        self.kept.column(col).decimals()
+        self.store.text(self.numbers[row] as usize, col)
     }
 
     /// The values of a row, counted from 0.
@@ -203,7 +200,13 @@ impl Columns {
         ensures { IfOk result
             (λ values. slice_get self.now.rows row ≡ Some (map value_view values.items)) }
     {
-        self.kept.row(alloc, row)
+        self.rows_are_wide();
+        let width = self.width();
+        let mut values = Vec::with_capacity(alloc, width)?;
+        for col in 0..width {
+            values.push(self.value(row, col))?;
+        }
+        Ok(values)
     }
 
     /// The values that the rows with these numbers have in the columns with these places, each counted from 0.
@@ -219,17 +222,28 @@ impl Columns {
         ensures rows { IfOk result (λ made.
             made.rows ≡ map (values_at places.now) (numbered numbers.now self.now.rows)) }
     {
-        let kept = self.kept.picked(alloc, places, numbers)?;
-        Ok(Columns { kept })
+        let store = self.store.picked(alloc, places)?;
+        let numbers = renumbered(alloc, self.numbers.as_slice(), numbers)?;
+        Ok(Columns { store, numbers })
     }
 
-    /// The rows with these numbers, counted from 0.
-    pub fn in_order(&self, alloc: Global, numbers: &[usize]) -> Result<Columns, AllocError>
-        requires { All (λ number. number < length self.now.rows) numbers.now }
-        ensures kinds { IfOk result (λ made. made.kinds ≡ self.now.kinds) }
-        ensures rows { IfOk result (λ made. made.rows ≡ numbered numbers.now self.now.rows) }
+    /// The rows with these numbers, counted from 0, take the place of all. An error leaves the rows as they were.
+    pub fn put_in_order(&mut self, alloc: Global, numbers: &[usize]) -> Result<(), AllocError>
+        requires { All (λ number. number < length self.old.rows) numbers.now }
+        ensures kinds { self.new.kinds ≡ self.old.kinds }
+        ensures rows { OnOk result (self.new.rows ≡ numbered numbers.now self.old.rows) }
+        ensures refused { OnErr result (self.new ≡ self.old) }
     {
-        let kept = self.kept.in_order(alloc, numbers)?;
-        Ok(Columns { kept })
+        self.numbers = renumbered(alloc, self.numbers.as_slice(), numbers)?;
+        Ok(())
+    }
+
+    /// Drops every row.
+    pub fn clear(&mut self)
+        ensures kinds { self.new.kinds ≡ self.old.kinds }
+        ensures rows { self.new.rows ≡ [] }
+    {
+        self.numbers.clear();
+        self.store.clear();
     }
 }

@@ -1,14 +1,13 @@
-//! Rows in columns, each column in a vector of its own kind of values. [`Columns`] are filled a row or some rows of a block at a time; some of their rows,
-//! in any order, and some of their columns are columns again. A caller sees them as a list of rows.
+//! Rows by number. Of the rows of a block that [`Columns`] take they keep the number and a share of the block, and copy no value; other rows stand in them
+//! as values. Some of their rows, in any order, and some of their columns are columns again. A caller sees them as a list of rows.
 #![tactic(auto)]
 
-mod cells;
 mod columns;
-mod copies;
-mod kept;
 mod keys;
 mod numbers;
-mod texts;
+mod piece;
+mod store;
+mod value_rows;
 mod values;
 
 pub use columns::Columns;

@@ -1,64 +1,70 @@
-//! The numbers that some rows of a block have in a column, all of which are unpacked at once.
-ghost use Rattle.std.specs.Prelude.{◌≡◌, ◌++◌, ◌<◌, false, pos, IfOk, OnOk, length, map, slice_index_or};
+//! The numbers of rows.
+ghost use Rattle.std.specs.Prelude.{◌≡◌, ◌+◌, ◌-◌, ◌<◌, ◌≤◌, ◌^◌, IfOk, length, map, slice_index_or};
 ghost use Rattle.std.specs.List.{All};
-ghost use Rattle.block_summary.specs.Cells.{number_or_null, AreUnpacked};
-ghost use Rattle.block_summary.specs.Ranges.{is_null};
-ghost use Rattle.block_summary.specs.Types.{number_of, numbers_of};
-ghost use Rattle.cell_types.specs.Value.{null};
-ghost use Rattle.row_columns.specs.Numbers.{IsNoText};
+ghost use Rattle.row_columns.specs.Numbers.{numbers_from};
 
-use block_summary::PackedColumn;
 use std::alloc::{AllocError, Global};
 
-/// Appends the number of each of these rows; None is null.
-pub(crate) fn push_numbers(
+/// The numbers of so many places.
+pub(crate) fn all_numbers(alloc: Global, len: usize) -> Result<Vec<usize>, AllocError>
+    ensures { IfOk result (λ made. made.items ≡ numbers_from 0 len) }
+{
+    let mut made = Vec::with_capacity(alloc, len)?;
+    for number in 0..len {
+        made.push(number)?;
+    }
+    Ok(made)
+}
+
+/// The numbers, each greater by a start.
+pub(crate) fn numbers_after(
     alloc: Global,
-    values: &mut Vec<Option<i64>>,
-    column: &PackedColumn,
-    rows: &[usize],
-) -> Result<(), AllocError>
-    requires numbers { All IsNoText column.now }
-    requires within { All (λ row. row < length column.now) rows.now }
-    ensures { OnOk result (values.new.items ≡ values.old.items
-        ++ map (λ row. number_of (slice_index_or column.now row null)) rows.now) }
+    start: usize,
+    numbers: &[usize],
+) -> Result<Vec<u32>, AllocError>
+    requires { All (λ number. start + number < 2 ^ 32) numbers.now }
+    ensures { IfOk result (λ made. made.items ≡ map (λ number. start + number) numbers.now) }
 {
-    let numbers = unpacked(alloc, column)?;
-    let nulls = marks(alloc, column)?;
-    for row in rows {
-        values.push(number_at(&numbers, &nulls, *row))?;
+    let mut made = Vec::with_capacity(alloc, numbers.len())?;
+    for number in numbers {
+        made.push((start + *number) as u32)?;
     }
-    Ok(())
+    Ok(made)
 }
 
-/// The number of each cell of a column; at a null stands any number.
-fn unpacked(alloc: Global, column: &PackedColumn) -> Result<Vec<i64>, AllocError>
-    ensures numbers { IfOk result (λ numbers. AreUnpacked (numbers_of column.now) numbers.items) }
-    ensures len { IfOk result (λ numbers. length numbers.items ≡ length column.now) }
+/// The numbers from one on up to another.
+pub(crate) fn numbers_between(
+    alloc: Global,
+    start: usize,
+    end: usize,
+) -> Result<Vec<u32>, AllocError>
+    requires { start ≤ end }
+    ensures { IfOk result (λ made. made.items ≡ numbers_from start (end - start)) }
 {
-    let mut numbers = Vec::from_elem(alloc, 0, column.len())?;
-    column.unpack(numbers.as_mut_slice());
-    Ok(numbers)
-}
-
-/// Which cells of a column are null.
-fn marks(alloc: Global, column: &PackedColumn) -> Result<Vec<bool>, AllocError>
-    ensures { IfOk result (λ nulls. nulls.items ≡ map is_null column.now) }
-{
-    let mut nulls = Vec::from_elem(alloc, false, column.len())?;
-    column.unpack_nulls(nulls.as_mut_slice());
-    Ok(nulls)
-}
-
-/// The number in a place, None where it is marked as null.
-fn number_at(numbers: &[i64], nulls: &[bool], place: usize) -> Option<i64>
-    requires numbers { place < length numbers.now }
-    requires nulls { place < length nulls.now }
-    ensures { result ≡ number_or_null (slice_index_or nulls.now place false)
-        (slice_index_or numbers.now place (pos 0)) }
-{
-    if nulls[place] {
-        None
-    } else {
-        Some(numbers[place])
+    let mut made = Vec::with_capacity(alloc, end - start)?;
+    for number in start..end {
+        // Rows of so many values would not fit in memory.
+        let Ok(number) = u32::try_from(number) else {
+            return Err(AllocError);
+        };
+        made.push(number)?;
     }
+    Ok(made)
+}
+
+/// Those of the numbers that have these places.
+pub(crate) fn renumbered(
+    alloc: Global,
+    numbers: &[u32],
+    places: &[usize],
+) -> Result<Vec<u32>, AllocError>
+    requires { All (λ place. place < length numbers.now) places.now }
+    ensures { IfOk result
+        (λ made. made.items ≡ map (λ place. slice_index_or numbers.now place 0) places.now) }
+{
+    let mut made = Vec::with_capacity(alloc, places.len())?;
+    for place in places {
+        made.push(numbers[*place])?;
+    }
+    Ok(made)
 }

@@ -17,10 +17,6 @@ use Rattle.row_groups.proofs.ListLemmas.{all_behind, all_by_each, all_front}
 
 -- ---- columns of any take all values
 
-pub of_any : (values : List CellValue) → AreOfKinds (replicate (length values) any) values
-of_any [] = tt
-of_any (v ∷ vs) = (tt, of_any vs)
-
 -- ---- sums of some of the rows fit
 
 module _ {X : Type 0} (f : X → Option ℤ) (keeps : X → Bool) (P : ℤ → Type 0) where

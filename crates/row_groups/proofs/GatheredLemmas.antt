@@ -13,14 +13,14 @@ use Rattle.odata_query.specs.Aggregate.{NamedAggregateOf}
 use Rattle.odata_query.specs.FirstSeen.{first_seen}
 use Rattle.odata_query.specs.Query.{optional_numbers}
 use Rattle.query_meaning.specs.Apply.{computed_value, computed_values, group_values, rows_of_group, is_value, same_values, value_at, values_at, present_values}
-use Rattle.row_columns.specs.Kinds.{AreOfKinds, KindOf, any}
+use Rattle.row_columns.specs.Store.{value_rows}
 use Rattle.row_columns.specs.Picked.{numbered}
 use Rattle.row_groups.specs.declared.gathering.Gathering.{Gathering}
 use Rattle.row_groups.specs.declared.groups.Groups.{Groups}
 use Rattle.row_groups.specs.declared.tally.Tally.{Tally}
 use Rattle.row_groups.specs.Gathered.{gathered_rows, key_width, group_keys, part_of, rows_gathered, HasGroups, Adjoins, JoinsGroups, MayJoin, MayJoinGroups}
 use Rattle.row_groups.specs.Tallies.{AreTallies, FitsAll, MayTallyEach}
-use Rattle.row_groups.proofs.FitLemmas.{all_fit_front, all_fit_kept, of_any}
+use Rattle.row_groups.proofs.FitLemmas.{all_fit_front, all_fit_kept}
 use Rattle.row_groups.proofs.GroupLemmas.{found_zip, joins, new_values, new_zip, old_values, same_is, same_self}
 use Rattle.row_groups.proofs.ListLemmas.{all_at, in_two, zip_at, zip_long}
 use Rattle.row_groups.proofs.ValueLemmas.{values_append}
@@ -207,18 +207,24 @@ module _ (places : Option (List ℕ)) (aggregates : List Aggregate) (groups : Gr
       ∙ ap (λ r. take i (rows_gathered places aggregates rows) ++ r ∷ [])
       (get_or-map (λ key. key ++ map (computed_value (part_of places rows key)) aggregates) (group_keys places rows) i [] [] (omega arith) ∙ sym is)
 
-  pub row_kinds : (i width : ℕ) (kinds : List KindOf) (row : List CellValue) → i < length groups.tallies.items → key_width places ≡ width
-      → kinds ≡ replicate (width + length aggregates) any
-      → row ≡ get_or (group_keys places rows) i [] ++ map (computed_value (part_of places rows (get_or (group_keys places rows) i []))) aggregates → AreOfKinds kinds row
-  row_kinds i width kinds row h wide kinds_are is =
+  pub row_wide : (i width : ℕ) (row : List CellValue) → i < length groups.tallies.items → key_width places ≡ width
+      → row ≡ get_or (group_keys places rows) i [] ++ map (computed_value (part_of places rows (get_or (group_keys places rows) i []))) aggregates
+      → length row ≡ width + length aggregates
+  row_wide i width row h wide is =
       let many = as_many in
       let key = get_or (group_keys places rows) i [] in
       let computed = map (computed_value (part_of places rows key)) aggregates in
-      let long : length row ≡ width + length aggregates =
       ap length is ∙ length-append key computed
       ∙ ap (λ n. n + length computed) (all_at (λ v. length v ≡ key_width places) (group_keys places rows) i [] (keys_wide places rows) (omega arith) ∙ wide)
-      ∙ ap (λ n. width + n) (length-map aggregates (computed_value (part_of places rows key))) in
-      subst (λ ks. AreOfKinds ks row) (sym kinds_are) (subst (λ n. AreOfKinds (replicate n any) row) long (of_any row))
+      ∙ ap (λ n. width + n) (length-map aggregates (computed_value (part_of places rows key)))
+
+pub wide_push : {next : List (Vec Value Global)} (rows : List (Vec Value Global)) (row : Vec Value Global) (width : ℕ) → next ≡ rows ++ row ∷ [] → length (map value_view row.items) ≡ width
+    → AllByRecursion (λ (r : List CellValue). length r ≡ width) (value_rows rows) → AllByRecursion (λ (r : List CellValue). length r ≡ width) (value_rows next)
+wide_push rows row width e is so_far = subst (λ rs. AllByRecursion (λ (r : List CellValue). length r ≡ width) (value_rows rs)) (sym e) (more rows so_far)
+  where
+    more : (rs : List (Vec Value Global)) → AllByRecursion (λ (r : List CellValue). length r ≡ width) (value_rows rs) → AllByRecursion (λ (r : List CellValue). length r ≡ width) (value_rows (rs ++ row ∷ []))
+    more [] h = (is, tt)
+    more (r ∷ rs) h = (h.0, more rs h.1)
 
 -- ---- rows join
 

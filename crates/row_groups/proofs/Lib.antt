@@ -7,4 +7,3 @@ pub mod FitLemmas
 pub mod KeyLemmas
 pub mod GroupLemmas
 pub mod GatheredLemmas
-pub mod CellLemmas

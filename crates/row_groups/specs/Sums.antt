@@ -2,21 +2,17 @@
 use Rattle.std.specs.Prelude.{ℕ, ℤ, ◌+ℤ◌, ◌≡◌, ◌++◌, length, List, [], ◌∷◌, Option, Some, None, FitsSigned}
 use Rattle.std.specs.Int.{w128}
 use Rattle.std.specs.List.{filter_map}
-use Rattle.cell_types.specs.Value.{CellValue, decimal, integer}
+use Rattle.cell_types.specs.Value.{CellValue}
 use Rattle.row_eval.specs.Row.{cell, decimal_in, integer_in}
 use Rattle.query_meaning.specs.Apply.{integer_sum}
 use Rattle.query_meaning.specs.Fitting.{AreSummable}
 use Rattle.row_groups.specs.declared.sums.Summed.{Summed}
 use Rattle.row_groups.specs.declared.sums.Summed.TheVariants.{Integers, Decimals}
 
--- the number of a value of that kind, and the value of a number
+-- the number of a value of that kind
 abbrev pub read_of : Summed → CellValue → Option ℤ
 read_of Integers = integer_in
 read_of Decimals = decimal_in
-
-abbrev pub number_value : Summed → ℤ → CellValue
-number_value Integers = integer
-number_value Decimals = decimal
 
 -- the numbers that rows have in a column
 abbrev pub numbers_in : Summed → ℕ → List (List CellValue) → List ℤ

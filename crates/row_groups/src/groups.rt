@@ -136,13 +136,12 @@ impl Groups {
             made.kinds ≡ replicate (width + length aggregates.now) any) }
         ensures rows { IfOk result (λ made. MakesRows self.now aggregates.now made.rows) }
     {
-        let mut made = Columns::of_any(alloc, width + aggregates.len())?;
         let keys = self.keys.as_slice();
+        let mut rows = Vec::with_capacity(alloc, keys.len())?;
         for i in 0..keys.len() {
-            let row = row_of(alloc, keys[i].as_slice(), &self.tallies[i], aggregates)?;
-            made.push(alloc, &row)?;
+            rows.push(row_of(alloc, keys[i].as_slice(), &self.tallies[i], aggregates)?)?;
         }
-        Ok(made)
+        Columns::of_rows(alloc, width + aggregates.len(), rows)
     }
 }
 

@@ -8,7 +8,7 @@ ghost use Rattle.row_groups.specs.Tallies.{AreTallies, IsRowOfTallies, MayTallyE
 use crate::tally::Tally;
 use cell_types::Value;
 use odata_query::Aggregate;
-use row_columns::{Columns, lent};
+use row_columns::{Columns, owned};
 use std::alloc::{AllocError, Global};
 
 /// Of no rows.
@@ -46,22 +46,22 @@ pub(crate) fn join_each(
 }
 
 /// The values of a key, and behind them what is computed.
-pub(crate) fn row_of<'a>(
+pub(crate) fn row_of(
     alloc: Global,
-    key: &'a [Value<'static>],
-    tallies: &'a Vec<Tally>,
+    key: &[Value<'static>],
+    tallies: &Vec<Tally>,
     aggregates: &[Aggregate],
-) -> Result<Vec<Value<'a>>, AllocError>
+) -> Result<Vec<Value<'static>>, AllocError>
     requires { (rows : List (List CellValue)) × AreTallies aggregates.now rows tallies.now.items }
     ensures { IfOk result (λ row. IsRowOfTallies (map value_view key.now) aggregates.now
         tallies.now.items (map value_view row.items)) }
 {
     let mut row = Vec::with_capacity(alloc, key.len())?;
     for value in key {
-        row.push(lent(value))?;
+        row.push(owned(alloc, value)?)?;
     }
     for i in 0..aggregates.len() {
-        row.push(tallies[i].value(aggregates[i]))?;
+        row.push(owned(alloc, &tallies[i].value(aggregates[i]))?)?;
     }
     Ok(row)
 }

@@ -2,7 +2,6 @@
 use Rattle.std.specs.Prelude.{◌≡◌, ◌<◌, ◌≤◌, ◌⊎◌, ℕ, ℤ, List, [], ◌∷◌, length, map, None, Some, All}
 use Rattle.std.specs.Int.{w64}
 use Rattle.std.specs.Int.RustNames.{FitsSigned}
-use Rattle.indexmap.specs.IndexSet.{spare}
 use Rattle.cell_types.specs.Column.{ColumnOf}
 use Rattle.cell_types.specs.Value.{CellValue, null, integer, value_view}
 use Rattle.row_keys.specs.declared.keys.Keys.{Keys}
@@ -41,7 +40,7 @@ Suits (read.Values values) key = Unit {0}
 abbrev pub HasRoom : ReadKeys → ℕ → Type 0
 HasRoom read.Absent rows = Unit {0}
 HasRoom (read.Numbers numbers) rows = rows ≤ numbers.room
-HasRoom (read.Values values) rows = rows ≤ spare values.keys
+HasRoom (read.Values values) rows = rows ≤ values.keys.room
 
 -- so with a reader
 abbrev pub TakesKey : KeyReader → List CellValue → Type 0

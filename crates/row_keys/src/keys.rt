@@ -3,7 +3,7 @@ ghost use Rattle.std.specs.Prelude.{◌≡◌, ◌≢◌, ◌↔◌, ◌<◌, �
 ghost use Rattle.cell_types.specs.Column.{ColumnOf};
 ghost use Rattle.cell_types.specs.Datatype.{integer};
 ghost use Rattle.cell_types.specs.Value.{CellValue, null, value_eq, value_view};
-ghost use Rattle.raw_fields.specs.Raw.{RawField};
+ghost use Rattle.csv_grammar.specs.Raw.{RawField};
 ghost use Rattle.csvw_meta.specs.Schema.{schema_view};
 ghost use Rattle.row_keys.specs.Key.{row_key, row_keys, has_null as has_null_in, repeated_row, row_of};
 ghost use Rattle.row_keys.specs.Numbers.{integer_key};
@@ -14,7 +14,7 @@ use crate::numbers::{NumberKeys, NumberReader, order_of, set_of};
 use crate::values::ValueReader;
 use cell_types::{Datatype, Value};
 use csvw_meta::Schema;
-use indexmap::IndexSet;
+use key_places::KeyPlaces;
 use std::alloc::{AllocError, Global};
 
 /// The keys of the rows of a table. The place of a key among them is its row.
@@ -25,9 +25,9 @@ pub enum Keys {
     /// Each key is one integer.
     Numbers(NumberKeys),
     /// Each key is one integer, and there are more rows than an order of them can name.
-    Integers(IndexSet<i128>),
+    Integers(KeyPlaces<i128>),
     /// Each key is a list of values.
-    Values(IndexSet<Vec<Value<'static>>>),
+    Values(KeyPlaces<Vec<Value<'static>>>),
 }
 
 /// Why rows have no keys. Rows count from 0.
@@ -207,12 +207,12 @@ impl Keys {
                 None => None,
             },
             Keys::Integers(keys) => match integer_in(key) {
-                Some(number) => keys.get_index_of(number),
+                Some(number) => keys.place(number),
                 None => None,
             },
             Keys::Values(keys) => {
                 cell_types::values_compare_as_their_views();
-                keys.get_index_of(key)
+                keys.place_of_list(key)
             }
         }
     }

@@ -5,7 +5,7 @@ ghost use Rattle.std.specs.Ordering.{int_eq};
 ghost use Rattle.row_keys.specs.Key.{repeated_row};
 ghost use Rattle.row_keys.specs.Numbers.{integer_key, key_number, Above, IsOrderOf, RisesAlong};
 
-use indexmap::IndexSet;
+use key_places::KeyPlaces;
 use std::alloc::{AllocError, Global};
 use std::marker::Model;
 
@@ -172,14 +172,14 @@ pub(crate) fn order_of(alloc: Global, numbers: &[i64]) -> Result<Option<Vec<u32>
 pub(crate) fn set_of(
     alloc: Global,
     numbers: &[i64],
-) -> Result<Result<IndexSet<i128>, usize>, AllocError>
+) -> Result<Result<KeyPlaces<i128>, usize>, AllocError>
     ensures set { IfOk result (λ found. IfOk found (λ set. set.keys ≡ numbers.now)) }
     ensures distinct { IfOk result
         (λ found. IfOk found (λ set. repeated_row (map integer_key numbers.now) ≡ None)) }
     ensures repeated { IfOk result
         (λ found. IfErr found (λ row. repeated_row (map integer_key numbers.now) ≡ Some row)) }
 {
-    let mut set = IndexSet::new(alloc);
+    let mut set = KeyPlaces::new(alloc);
     for (row, number) in numbers.iter().enumerate() {
         if !set.insert(*number as i128)? {
             return Ok(Err(row));

@@ -1,12 +1,11 @@
 //! Keys that are lists of values.
 ghost use Rattle.std.specs.Prelude.{◌≡◌, ◌<◌, ◌≤◌, List, [], ◌∷◌, ◌++◌, IfOk, OnOk, length, map, All};
-ghost use Rattle.indexmap.specs.IndexSet.{spare};
 ghost use Rattle.cell_types.specs.Value.{CellValue, value_view};
 ghost use Rattle.row_keys.specs.Key.{row_key};
 ghost use Rattle.row_keys.specs.Values.{HasReadValues};
 
 use cell_types::Value;
-use indexmap::IndexSet;
+use key_places::KeyPlaces;
 use std::alloc::{AllocError, Global};
 use std::borrow::CowStr;
 
@@ -14,7 +13,7 @@ use std::borrow::CowStr;
 #[derive(Drop)]
 pub struct ValueReader {
     /// Those before the first row whose key is that of an earlier row.
-    pub(crate) keys: IndexSet<Vec<Value<'static>>>,
+    pub(crate) keys: KeyPlaces<Vec<Value<'static>>>,
     /// That row.
     pub(crate) repeated: Option<usize>,
 }
@@ -23,10 +22,10 @@ impl ValueReader {
     /// A reader of keys, none of which is read, with room for so many.
     pub(crate) fn new(alloc: Global, rows: usize) -> Result<ValueReader, AllocError>
         ensures read { IfOk result (λ reader. HasReadValues reader []) }
-        ensures room { IfOk result (λ reader. rows ≤ spare reader.keys) }
+        ensures room { IfOk result (λ reader. rows ≤ reader.keys.room) }
     {
         Ok(ValueReader {
-            keys: IndexSet::with_capacity(alloc, rows)?,
+            keys: KeyPlaces::with_capacity(alloc, rows)?,
             repeated: None,
         })
     }

@@ -1,20 +1,19 @@
 -- Columns of numbers as keys of an order.
-use Rattle.std.proofs.Common.{◌≡◌, ℕ, ℤ, Bool, Some, None, Option, List, [], ◌∷◌, length, map, get_or, refl, sym, ap, ◌∙◌, subst, arith}
+use Rattle.std.proofs.Common.{◌≡◌, inl, inr, ℕ, ℤ, ◌+◌, ◌<◌, Bool, Some, None, Option, List, [], ◌∷◌, ◌++◌, length, map, get_or, refl, sym, ap, ◌∙◌, subst, arith}
 use Rattle.std.specs.Prelude.{slice_get}
 use Rattle.std.specs.Option.{unwrap_or}
-use Rattle.std.proofs.lemmas.List.{get_or-map, length-map}
+use Rattle.std.proofs.lemmas.Bool.{cases_eq}
+use Rattle.std.proofs.lemmas.List.{get_or_append_left, get_or_push, length_push}
 use Rattle.block_summary.specs.Types.{cell_of}
 use Rattle.block_summary.specs.declared.number.PackedType.{PackedType}
 use Rattle.block_summary.specs.declared.number.PackedType.TheVariants.{Integer, Decimal}
 use Rattle.cell_types.specs.Value.{CellValue, decimal, integer, null, value_cmp}
-use Rattle.block_summary.specs.Ranges.{column_of}
 use Rattle.typed_trees.specs.TypedTree.{TypedExprOf}
 use Rattle.odata_query.specs.Query.{order_view}
 use Rattle.odata_query.specs.declared.query.OrderBy.{OrderBy}
 use Rattle.row_eval.specs.Outcome as outcome
 use Rattle.row_eval.specs.Row.{decimal_in, integer_in}
-use Rattle.row_columns.specs.Cells.{null_or}
-use Rattle.row_order.specs.InTime.{HaveKeys, IsKeyColumn, IsItemOfKeys}
+use Rattle.row_order.specs.InTime.{IsKeyColumn, IsItemOfKeys}
 use Rattle.row_order.specs.Plain.{IsPlainColumn}
 use Rattle.row_order.specs.declared.plain.PlainColumn.TheVariants as plain
 
@@ -50,18 +49,24 @@ pub first_key : (os : List OrderBy) (o : OrderBy) (place : ℕ) (type : PackedTy
 first_key [] o place type at is = absurd (cc)
 first_key (x ∷ os) o place type at is = let same : o ≡ x = cc in subst (λ y. IsItemOfKeys (order_view y) place type) same is
 
--- the values of a column are those of its numbers
-pub column_keys : (f : ℤ → CellValue) (type : PackedType) (place : ℕ) (keys : List (Option ℤ)) (rows : List (List CellValue)) → ((key : Option ℤ) → null_or f key ≡ cell_of type key)
-    → map (null_or f) keys ≡ column_of rows place → HaveKeys place type (λ n. get_or keys n None) rows
-column_keys f type place keys rows as_cells are n inside =
-    let long : length keys ≡ length rows = sym (length-map keys (null_or f)) ∙ ap length are ∙ length-map rows (λ row. get_or row place null) in
-    sym (get_or-map (λ row. get_or row place null) rows n [] null inside) ∙ ap (λ vs. get_or vs n null) (sym are)
-    ∙ get_or-map (null_or f) keys n None null (omega (arith, inside, long)) ∙ as_cells (get_or keys n None)
+-- so many rows have these keys
+pub record HaveKeysSoFar (place : ℕ) (type : PackedType) (rows : List (List CellValue)) (keys : List (Option ℤ)) (row : ℕ) : Type 0 where
+  pub count : length keys ≡ row
+  pub each : (n : ℕ) → n < row → get_or (get_or rows n []) place null ≡ cell_of type (get_or keys n None)
 
-pub as_integers : (key : Option ℤ) → null_or integer key ≡ cell_of Integer key
-as_integers None = refl
-as_integers (Some n) = refl
+pub keys_none : (place : ℕ) (type : PackedType) (rows : List (List CellValue)) → HaveKeysSoFar place type rows [] 0
+keys_none place type rows = record { count = refl; each = λ n h. absurd (omega (arith, h)) }
 
-pub as_decimals : (key : Option ℤ) → null_or decimal key ≡ cell_of Decimal key
-as_decimals None = refl
-as_decimals (Some n) = refl
+pub keys_more : (place : ℕ) (type : PackedType) (rows : List (List CellValue)) (keys next : List (Option ℤ)) (row : ℕ) (key : Option ℤ)
+    → get_or (get_or rows row []) place null ≡ cell_of type key → next ≡ keys ++ key ∷ [] → HaveKeysSoFar place type rows keys row
+    → HaveKeysSoFar place type rows next (row + 1)
+keys_more place type rows keys next row key is e so_far = record {
+  count = ap length e ∙ length_push keys key ∙ ap (λ n. n + 1) so_far.count;
+  each = λ n h. elim (cases_eq n row) [
+    | inl same ↦ rw same (is ∙ ap (cell_of type) (sym (get_or_push keys key None row so_far.count) ∙ sym (ap (λ ks. get_or ks row None) e)))
+    | inr other ↦
+        let within : n < row = omega (arith, h, other) in
+        so_far.each n within
+        ∙ ap (cell_of type) (sym (get_or_append_left keys (key ∷ []) None n (omega (arith, within, so_far.count))) ∙ sym (ap (λ ks. get_or ks n None) e))
+  ];
+}

@@ -1,14 +1,16 @@
 //! The rows of a block that may be among the first in the order of `$orderby`, behind rows that are kept (OData 4.01 URL Conventions, sections
 //! 5.1.5 and 5.1.6): they are told by the numbers of one column alone.
-ghost use Rattle.std.specs.Prelude.{◌≡◌, ◌<◌, List, None, IfOk, IfSome, length, map, slice_index_or};
+ghost use Rattle.std.specs.Prelude.{◌≡◌, ◌<◌, ◌≤◌, List, None, IfOk, IfSome, IsFalse, length, map, slice_index_or};
 ghost use Rattle.std.specs.List.{All};
-ghost use Rattle.cell_types.specs.Value.{CellValue};
+ghost use Rattle.block_summary.specs.Types.{cell_of};
+ghost use Rattle.cell_types.specs.Value.{CellValue, value_view};
 ghost use Rattle.odata_query.specs.Query.{order_view};
 ghost use Rattle.row_order.specs.InTime.{AreEnoughByKeys, HaveKeys, IsKeyColumn, NeverFault};
 
 use crate::keys_in_time::{Bound, last_of, near, within};
-use crate::plain::{PlainColumn, plain_column};
+use crate::plain::{PlainColumn, plain_column, value_at};
 use block_summary::PackedType;
+use cell_types::Value;
 use odata_query::OrderBy;
 use query_meaning::rows_are_in_order;
 use row_columns::{Columns, KeyColumn, Keys};
@@ -34,19 +36,45 @@ pub fn key_column(items: &[OrderBy]) -> Option<KeyColumn>
 }
 
 /// The keys of rows in a column of integers or decimals.
-fn keys_of(rows: &Columns, column: KeyColumn) -> Option<&[Option<i64>]>
-    ensures count { IfSome result (λ keys. length keys.now ≡ length rows.now.rows) }
-    ensures keys { IfSome result (λ keys. HaveKeys column.place column.packed_type
-        (λ n. slice_index_or keys.now n None) rows.now.rows) }
+fn keys_of(
+    alloc: Global,
+    rows: &Columns,
+    column: KeyColumn,
+) -> Result<Option<Vec<Option<i64>>>, AllocError>
+    ensures count { IfOk result (λ made.
+        IfSome made (λ keys. length keys.items ≡ length rows.now.rows)) }
+    ensures keys { IfOk result (λ made. IfSome made
+        (λ keys. HaveKeys column.place column.packed_type
+        (λ n. slice_index_or keys.items n None) rows.now.rows)) }
 {
-    if column.place >= rows.width() {
-        return None;
+    let mut keys = Vec::with_capacity(alloc, rows.len())?;
+    for row in 0..rows.len() {
+        let Some(key) = key_of(&value_at(rows, row, column.place), column.packed_type) else {
+            return Ok(None);
+        };
+        keys.push(key)?;
     }
-    match column.packed_type {
-        PackedType::Integer => rows.integers(column.place),
-        PackedType::Decimal => rows.decimals(column.place),
-        PackedType::Boolean | PackedType::Date => None,
+    Ok(Some(keys))
+}
+
+/// The number that a value of that type has, and for null none; nothing where it is another value.
+fn key_of(value: &Value<'_>, packed_type: PackedType) -> Option<Option<i64>>
+    ensures { IfSome result (λ key. value_view value.now ≡ cell_of packed_type key) }
+{
+    match (packed_type, value) {
+        (_, Value::Null) => Some(None),
+        (PackedType::Integer, Value::Int(number)) => Some(Some(i64::try_from(*number).ok()?)),
+        (PackedType::Decimal, Value::Decimal(number)) => Some(Some(i64::try_from(*number).ok()?)),
+        _ => None,
     }
+}
+
+/// Whether the last of so many others is not looked for: they are fewer than are asked for, or many more than the rows of the block, so that it would be
+/// long to find.
+fn is_late(others: usize, rows: usize, most: u64) -> bool
+    ensures { IsFalse result → most ≤ others }
+{
+    (others as u64) < most || others / 16 > rows
 }
 
 /// Of the rows with these numbers those that come before the last of rows with the other keys, where these are as many as are asked for. Those that tie
@@ -72,8 +100,7 @@ fn before_last(
 {
     rows_are_in_order();
     cell_types::values_are_ordered();
-    // Of many more rows than the block has the last would be long to find.
-    if (others.len() as u64) < most || others.len() / 16 > numbers.len() {
+    if is_late(others.len(), numbers.len(), most) {
         return Ok(numbers);
     }
     let descending = items[0].descending;
@@ -102,8 +129,11 @@ fn before_kept(
     ensures enough { IfOk result (λ made. AreEnoughByKeys (map order_view items.now) most keys.entry
         kept.now.rows numbers.items made.items) }
 {
-    match keys_of(kept, keys.column) {
-        Some(others) => before_last(alloc, others, keys, numbers, items, most),
+    if is_late(kept.len(), numbers.len(), most) {
+        return Ok(numbers);
+    }
+    match keys_of(alloc, kept, keys.column)? {
+        Some(others) => before_last(alloc, others.as_slice(), keys, numbers, items, most),
         None => Ok(numbers),
     }
 }

@@ -8,3 +8,4 @@ mod known;
 mod tests;
 
 pub use known::known_truth;
+pub use tests::comparison_of;

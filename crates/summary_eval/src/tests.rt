@@ -11,7 +11,8 @@ use cell_types::{Value, values_are_ordered};
 use row_eval::{Truth, truth_of};
 use typed_trees::ComparisonOperator;
 
-fn comparison_of(operator: ComparisonOperator) -> Comparison
+/// An operator as a comparison of a column with a literal.
+pub fn comparison_of(operator: ComparisonOperator) -> Comparison
     ensures { result ≡ comparison_of_operator operator }
 {
     match operator {

@@ -1,7 +1,10 @@
 -- Some of the rows of a table.
-use Rattle.std.proofs.Common.{◌≡◌, inl, inr, Bool, true, false, cond, ℕ, Option, None, Some, option_map, option_and_then, get_or, refl, ◌+◌, ◌-◌, ◌<◌, ◌≤◌, min, List, length, take, drop, slice_get, ap, sym, ◌∙◌, arith}
+use Rattle.std.proofs.Common.{◌≡◌, inl, inr, Bool, true, false, cond, ℕ, Option, None, Some, option_map, option_and_then, get_or, refl, Result, Ok, Err, ◌+◌, ◌*◌, ◌-◌, ◌<◌, ◌≤◌, min, List, length, take, drop, slice_get, ap, sym, ◌∙◌, arith}
+use Rattle.std.specs.Prelude.{IfOk}
+use Rattle.std.specs.declared.alloc.AllocError.{AllocError}
 use Rattle.std.proofs.lemmas.Bool.{cases_order}
 use Rattle.std.proofs.lemmas.List.{length-take, length-drop, take_all, take-map, drop-map}
+use Rattle.block_summary.specs.declared.block.TheConstants.{BLOCK_ROWS}
 use Rattle.block_summary.specs.declared.number.PackedType.{PackedType}
 use Rattle.block_summary.specs.Ranges.{column_of}
 use Rattle.block_summary.specs.Reading.{packed_type_of}
@@ -9,8 +12,8 @@ use Rattle.cell_types.specs.Column.{ColumnOf}
 use Rattle.cell_types.specs.Datatype.{DatatypeOf, is_text, integer, text, boolean, date, decimal}
 use Rattle.cell_types.specs.Value.{CellValue, null}
 use Rattle.table_store.specs.Table.{TableOf}
-use Rattle.table_store.specs.Block.{packed_cells, part, text_cells}
-use Rattle.typed_columns.specs.TypedColumn.{cells_of_texts}
+use Rattle.table_store.specs.Block.{block_of, packed_cells, part, text_cells, typed_cells_of}
+use Rattle.typed_columns.specs.TypedColumn.{block_in, cells_of_texts, typed_cells, ColumnCells}
 use Rattle.table_store.proofs.ColumnLemmas.{there}
 use Rattle.table_store.proofs.PlaceLemmas.{slice_get-take, slice_get-drop}
 
@@ -50,6 +53,20 @@ packed_part table column first n col at =
     let some : ColumnOf → Option (List CellValue) = λ column. option_map (λ type. column_of (take n (drop first table.rows)) col) (packed_type_of column.datatype) in
     ap (λ (cells : List CellValue). option_map (λ (type : PackedType). cells) (packed_type_of column.datatype)) (sym (column_of-part table.rows first n col))
     ∙ ap (option_and_then some) (sym at)
+
+-- those that are shared
+typed_part : (table : TableOf) (column : ColumnOf) (first n col : ℕ) → slice_get table.schema.columns col ≡ Some column
+    → Some (typed_cells column (take n (drop first (column_of table.rows col)))) ≡ typed_cells_of (part table first n) col
+typed_part table column first n col at =
+    let some : ColumnOf → ColumnCells = λ column. typed_cells column (column_of (take n (drop first table.rows)) col) in
+    ap (λ (cells : List CellValue). Some (typed_cells column cells)) (sym (column_of-part table.rows first n col)) ∙ ap (option_map some) (sym at)
+
+pub shared_part : (table : TableOf) (column : ColumnOf) (kept : ColumnCells) (number col : ℕ) (result : Result ColumnCells AllocError)
+    → slice_get table.schema.columns col ≡ Some column → kept ≡ typed_cells column (column_of table.rows col) → IfOk result (λ shared. shared ≡ block_in kept number)
+    → IfOk result (λ shared. Some shared ≡ typed_cells_of (block_of table number) col)
+shared_part table column kept number col (Ok shared) at is h =
+    ap (λ (s : ColumnCells). Some s) (h ∙ ap (λ (k : ColumnCells). block_in k number) is) ∙ typed_part table column (number * BLOCK_ROWS) BLOCK_ROWS col at
+shared_part table column kept number col (Err e) at is h = tt
 
 -- and those of texts
 texts_by : (datatype : DatatypeOf) (cells : List CellValue) → cells_of_texts (packed_type_of datatype) cells ≡ cond (is_text datatype) (Some cells) None

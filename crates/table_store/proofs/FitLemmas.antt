@@ -6,8 +6,8 @@ use Rattle.std.proofs.lemmas.List.Elements.{All-cons, All-head, All-nil, All-tai
 use Rattle.csv_grammar.specs.Bytes.{comma, double_quote}
 use Rattle.csv_grammar.specs.Files.{IsTable, mark_len}
 use Rattle.csv_grammar.specs.Records.{Field, IsLast, Line, LineBreak, content, crlf, doubled, lf, print_break, print_field, print_last, print_line, print_record, print_text, quoted, unquoted}
-use Rattle.raw_fields.specs.Raw.{RawField, field_of, raw_content}
-use Rattle.raw_fields.specs.Raw.{RawTable}
+use Rattle.csv_grammar.specs.Raw.{RawField, field_of, raw_content}
+use Rattle.csv_grammar.specs.Raw.{RawTable}
 use Rattle.cell_types.specs.declared.fault.CellFault.TheVariants.{Missing}
 use Rattle.cell_types.specs.Cell.{is_null_text, null_reading, text_or_default, typed_value, value_of}
 use Rattle.cell_types.specs.Column.{ColumnOf}

@@ -4,7 +4,7 @@ use Rattle.std.proofs.lemmas.List.{drop_all, length-map, length-drop}
 use Rattle.std.specs.List.{list_any}
 use Rattle.std.specs.Str.{bytes_eq}
 use Rattle.csv_grammar.specs.Records.{Field, content}
-use Rattle.raw_fields.specs.Raw.{RawField, raw_content, field_of}
+use Rattle.csv_grammar.specs.Raw.{RawField, raw_content, field_of}
 use Rattle.cell_types.specs.Column.{ColumnOf, column_view}
 use Rattle.cell_types.specs.declared.column.Column.{Column}
 use Rattle.table_store.specs.Table.{mismatch_from, is_called}

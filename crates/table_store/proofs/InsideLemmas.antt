@@ -1,11 +1,10 @@
 -- The values of the rows of a file.
-use Rattle.std.proofs.Common.{◌≡◌, ℕ, ◌+◌, ◌<◌, ◌≤◌, List, [], ◌∷◌, ◌++◌, length, take, get_or, Some, Result, Ok, Err, IfOk, option_map, slice_get, ap, ◌∙◌, arith}
+use Rattle.std.proofs.Common.{◌≡◌, ℕ, ◌<◌, ◌≤◌, List, [], ◌∷◌, length, get_or, Result, Ok, Err, IfOk, ◌∙◌, arith}
 use Rattle.std.specs.List.{zip, AllByRecursion}
-use Rattle.std.proofs.lemmas.List.{length-map, take_more}
+use Rattle.std.proofs.lemmas.List.{length-map}
 use Rattle.std.proofs.lemmas.List.Elements.{All-from_recursion}
-use Rattle.std.proofs.lemmas.Option.{slice_get-map, slice_get-get_or, slice_get_within, get_or_from_slice_get}
 use Rattle.std.proofs.lemmas.Slice.Zip.{length-zip}
-use Rattle.raw_fields.specs.Raw.{RawField}
+use Rattle.csv_grammar.specs.Raw.{RawField}
 use Rattle.cell_types.specs.Column.{ColumnOf}
 use Rattle.raw_fields.specs.Values.{rows_in, value_or_null, value_in, values_in}
 
@@ -37,13 +36,3 @@ rows-wide columns (fields ∷ rows) wide = (length-values_in columns fields (ome
 pub row-wide : (columns : List ColumnOf) (rows : List (List RawField)) (row : ℕ) → AllByRecursion (λ fields. length fields ≡ length columns) rows → row < length rows
     → length (get_or rows row []) ≡ length columns
 row-wide columns rows row wide h = All-from_recursion (λ fields. length fields ≡ length columns) rows wide row [] h
-
--- the rows before one, and that row
-pub rows_in-more : (columns : List ColumnOf) (rows : List (List RawField)) (row : ℕ) → row < length rows
-    → take (row + 1) (rows_in columns rows) ≡ take row (rows_in columns rows) ++ values_in columns (get_or rows row []) ∷ []
-rows_in-more columns rows row h =
-    let all = rows_in columns rows in
-    let values = values_in columns (get_or rows row []) in
-    let at : slice_get all row ≡ Some values =
-    slice_get-map (values_in columns) rows row ∙ ap (option_map (values_in columns)) (slice_get-get_or rows row [] h) in
-    take_more all row values (slice_get_within all row values at) ∙ ap (λ v. take row all ++ v ∷ []) (get_or_from_slice_get all row values values at)

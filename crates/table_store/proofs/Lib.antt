@@ -1,10 +1,10 @@
 pub mod PlaceLemmas
 pub mod ReaderLemmas
 pub mod RowLemmas
+pub mod PartLemmas
 pub mod FitLemmas
 pub mod HeaderLemmas
 pub mod InsideLemmas
-pub mod FieldLemmas
 pub mod CursorLemmas
 pub mod ColumnLemmas
 pub mod BlockLemmas

@@ -1,11 +1,11 @@
 -- What the steps of reading a file show of it, by its fields as they stand.
-use Rattle.std.proofs.Common.{◌≡◌, ℕ, List, [], ◌∷◌, ◌++◌, length, map, Option, Some, None, IfOk, IfSome, option_map, Result, Ok, Err, refl, ap, sym, subst, ◌∙◌, ◌⊎◌, inl, inr}
+use Rattle.std.proofs.Common.{◌≡◌, ℕ, List, [], ◌∷◌, length, map, Option, Some, None, IfOk, IfSome, option_map, Result, Ok, Err, refl, ap, sym, subst, ◌∙◌, ◌⊎◌, inl, inr}
 use Rattle.std.specs.List.{AllByRecursion}
 use Rattle.std.specs.Result.{result_err}
-use Rattle.std.proofs.lemmas.List.{length-map, map-append}
+use Rattle.std.proofs.lemmas.List.{length-map}
 use Rattle.csv_grammar.specs.Files.{HasWidth}
-use Rattle.raw_fields.specs.Raw.{RawField, field_of}
-use Rattle.raw_fields.specs.Raw.{RawTable}
+use Rattle.csv_grammar.specs.Raw.{RawField, field_of}
+use Rattle.csv_grammar.specs.Raw.{RawTable}
 use Rattle.csv_index.specs.Index.{IsRawTable}
 use Rattle.cell_types.specs.declared.fault.CellFault.{CellFault}
 use Rattle.cell_types.specs.declared.fault.CellFault.TheVariants.{NoMemory}
@@ -20,7 +20,6 @@ use Rattle.table_store.specs.declared.loading.TableFault.TheVariants as refused
 use Rattle.table_store.specs.Table.{rows_from, HasCells, HasOtherHeader, HasBadCell}
 use Rattle.table_store.specs.Fault.{TableCause, file_missing, file_too_large, bad_text, bad_header, bad_cell, key_null, key_twice, cell_cause}
 use Rattle.raw_fields.specs.Values.{rows_in, FitsColumns}
-use Rattle.row_keys.specs.Key.{row_key, row_keys}
 use Rattle.row_keys.specs.Keys.{AreKeysOf, HasKeyFault, HasRead}
 use Rattle.typed_columns.specs.TypedColumn.{AreTyped, ColumnCells}
 use Rattle.table_store.specs.Loading.{mismatch_of, key_cause, keys_at, bad_cell_of, table_at, table_cause, ArePartsOf, IsTableAt, IsTableOf, HasRowsCause, HasFileCause, LacksKeys}
@@ -145,14 +144,6 @@ rows_cause schema bytes file (key_twice row) is e has = record {
   whole = has.1;
   first = has.2;
 }
-
--- the last row counts by its key alone
-pub row_keys-last : (places : List ℕ) (rows : List (List CellValue)) (values row : List CellValue) → row_key places values ≡ row_key places row
-    → row_keys places (rows ++ values ∷ []) ≡ row_keys places (rows ++ row ∷ [])
-row_keys-last [] rows values row same = refl
-row_keys-last (place ∷ places) rows values row same =
-    map-append (row_key (place ∷ places)) rows (values ∷ []) ∙ ap (λ key. map (row_key (place ∷ places)) rows ++ key ∷ []) same
-    ∙ sym (map-append (row_key (place ∷ places)) rows (row ∷ []))
 
 -- ---- the parts that were read, and their table
 pub are_parts : (schema : SchemaOf) (rows : List (List RawField)) (typed : List ColumnCells) (reader : KeyReader) (count : ℕ) (found : Result TableParts TableFault)

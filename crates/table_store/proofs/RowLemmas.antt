@@ -1,19 +1,15 @@
 -- The values of rows of fields, one cell after another.
-use Rattle.std.proofs.Common.{set, ◌≡◌, ◌⊎◌, ◌<◌, ◌==◌, ◌||◌, Bool, true, false, get_or, inl, inr, sym, subst, ℕ, zero, suc, ◌+◌, ◌≤◌, List, [], ◌∷◌, length, drop, map, Option, Some, None, option_map, Result, Ok, Err, slice_get, refl, ap, ◌∙◌, arith}
-use Rattle.std.specs.List.{list_any}
-use Rattle.std.proofs.lemmas.Bool.{cases_order, eq-eqb}
-use Rattle.std.proofs.lemmas.List.{drop_all, get_or_past, get_or-set_other, get_or-set_same}
-use Rattle.std.proofs.lemmas.Option.{get_or_from_slice_get, slice_get-map}
+use Rattle.std.proofs.Common.{◌≡◌, ℕ, zero, suc, ◌+◌, ◌≤◌, List, [], ◌∷◌, length, drop, map, Option, Some, None, Result, Ok, Err, slice_get, refl, ap, ◌∙◌}
+use Rattle.std.proofs.lemmas.List.{drop_all}
 use Rattle.std.specs.Result.{result_err}
-use Rattle.raw_fields.specs.Raw.{RawField, raw_content, field_of}
-use Rattle.cell_types.specs.Value.{CellValue, null}
+use Rattle.csv_grammar.specs.Raw.{RawField, raw_content, field_of}
+use Rattle.cell_types.specs.Value.{CellValue}
 use Rattle.cell_types.specs.declared.fault.CellFault.{CellFault}
 use Rattle.cell_types.specs.Column.{ColumnOf, column_view}
 use Rattle.cell_types.specs.Cell.{value_of}
 use Rattle.cell_types.specs.declared.column.Column.{Column}
 use Rattle.table_store.specs.Table.{values_from, value_then, rows_from, row_then}
 use Rattle.raw_fields.specs.Values.{value_or_null, values_in, HaveValues, AllHaveValues}
-use Rattle.row_keys.specs.Key.{row_key}
 use Rattle.table_store.proofs.PlaceLemmas.{drop-from_slice_get}
 
 -- the value of a column's field
@@ -83,51 +79,6 @@ wrong_from-here columns fields col column raw why e f value =
 pub wrong_from-end : (columns : List Column) (fields : List RawField) (col : ℕ) → length columns ≤ col → wrong_from col columns fields ≡ None
 wrong_from-end columns fields col h = rw (drop_all col columns h) refl
 
--- the value of a row in a column
-pub value_at : (columns : List Column) (fields : List RawField) (col : ℕ) (column : Column) (raw : RawField) (value : CellValue)
-    → slice_get columns col ≡ Some column → slice_get fields col ≡ Some raw → value_of (column_view column) (raw_content raw) ≡ Ok value
-    → get_or (values_in (map column_view columns) fields) col null ≡ value
-value_at columns fields col column raw value e f is =
-    let at_column : slice_get (map column_view columns) col ≡ Some (column_view column) = slice_get-map column_view columns col ∙ ap (option_map column_view) e in
-    let values = values_in (map column_view columns) fields in
-    let at : slice_get values col ≡ Some value = slice_get-values_in (map column_view columns) fields col (column_view column) raw at_column f ∙ ap (λ r. Some (value_or_null r)) is in
-    get_or_from_slice_get values col value null at
-
--- one more value among those that are read
-pub value_put : (values row : List CellValue) (places : List ℕ) (col : ℕ) (value : CellValue) → col < length values
-    → ((k : ℕ) → k < col → list_any (λ place. place == k) places ≡ true → get_or values k null ≡ get_or row k null) → (list_any (λ place. place == col) places ≡ true → get_or row col null ≡ value)
-    → (k : ℕ) → k < col + 1 → list_any (λ place. place == k) places ≡ true → get_or (set values col value) k null ≡ get_or row k null
-value_put values row places col value size before there k within among =
-    elim (cases_order k col) [
-      | inl here ↦ ap (λ n. get_or (set values col value) n null) here ∙ get_or-set_same values col value null size ∙ sym (there (subst (λ n. list_any (λ place. place == n) places ≡ true) here among)) ∙ ap (λ n. get_or row n null) (sym here)
-      | inr (inl less) ↦ get_or-set_other values col k value null (λ e. absurd (omega (arith, e, less))) ∙ before k less among
-      | inr (inr more) ↦ absurd (omega (arith, more, within))
-    ]
-
--- past their end both lists say the same
-pub values_past : (values row : List CellValue) (k col : ℕ) → length values ≡ col → length row ≡ col → (k < col → get_or values k null ≡ get_or row k null)
-    → get_or values k null ≡ get_or row k null
-values_past values row k col size wide before =
-    elim (cases_order k col) [
-      | inl here ↦ get_or_past values k null (omega (arith, size, here)) ∙ sym (get_or_past row k null (omega (arith, wide, here)))
-      | inr (inl less) ↦ before less
-      | inr (inr more) ↦ get_or_past values k null (omega (arith, size, more)) ∙ sym (get_or_past row k null (omega (arith, wide, more)))
-    ]
-
-either : (s t : Bool) → (s ≡ true) ⊎ (t ≡ true) → s || t ≡ true
-either true t h = refl
-either false t (inl e) = absurd (cc)
-either false t (inr e) = e
-
--- the key of values that agree where it asks
-pub key_from : (places : List ℕ) (values row : List CellValue)
-    → ((k : ℕ) → list_any (λ place. place == k) places ≡ true → get_or values k null ≡ get_or row k null) → row_key places values ≡ row_key places row
-key_from [] values row agree = refl
-key_from (place ∷ places) values row agree =
-    let first : list_any (λ p. p == place) (place ∷ places) ≡ true = either (place == place) (list_any (λ p. p == place) places) (inl (eq-eqb place place refl)) in
-    ap (λ v. v ∷ row_key places values) (agree place first)
-    ∙ ap (λ vs. get_or row place null ∷ vs) (key_from places values row (λ k among. agree k (either (place == k) (list_any (λ p. p == k) places) (inr among))))
-
 -- ---- rows
 pub row_then-none : (row : ℕ) (values : Result (List CellValue) (ℕ × CellFault)) (rest : Result (List (List CellValue)) (ℕ × ℕ × CellFault))
     → result_err (row_then row values rest) ≡ None → (result_err values ≡ None) × (result_err rest ≡ None)
@@ -167,20 +118,6 @@ rows_from-none row columns (fields ∷ rows) e =
 -- what is wrong from a row on
 abbrev pub wrong_in_rows : ℕ → List ColumnOf → List (List RawField) → Option (ℕ × ℕ × CellFault)
 wrong_in_rows row columns rows = result_err (rows_from row columns (map (map field_of) (drop row rows)))
-
-pub wrong_in_rows-step : (columns : List ColumnOf) (rows : List (List RawField)) (row : ℕ) (fields : List RawField) → slice_get rows row ≡ Some fields
-    → wrong_in_rows row columns rows ≡ result_err (row_then row (values_from 0 columns (map field_of fields)) (rows_from (row + 1) columns (map (map field_of) (drop (row + 1) rows))))
-wrong_in_rows-step columns rows row fields e = rw (drop-from_slice_get rows row fields e) refl
-
-pub wrong_in_rows-past : (columns : List ColumnOf) (rows : List (List RawField)) (row : ℕ) (fields : List RawField) → slice_get rows row ≡ Some fields
-    → result_err (values_from 0 columns (map field_of fields)) ≡ None → wrong_in_rows row columns rows ≡ wrong_in_rows (row + 1) columns rows
-wrong_in_rows-past columns rows row fields e none =
-    wrong_in_rows-step columns rows row fields e ∙ row_then-past row _ _ none
-
-pub wrong_in_rows-here : (columns : List ColumnOf) (rows : List (List RawField)) (row : ℕ) (fields : List RawField) (col : ℕ) (why : CellFault) → slice_get rows row ≡ Some fields
-    → result_err (values_from 0 columns (map field_of fields)) ≡ Some (col, why) → wrong_in_rows row columns rows ≡ Some (row, col, why)
-wrong_in_rows-here columns rows row fields col why e found =
-    wrong_in_rows-step columns rows row fields e ∙ row_then-here row _ _ col why found
 
 -- past the last row
 pub wrong_in_rows-end : (columns : List ColumnOf) (rows : List (List RawField)) (row : ℕ) → length rows ≤ row → wrong_in_rows row columns rows ≡ None

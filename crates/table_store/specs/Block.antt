@@ -9,6 +9,7 @@ use Rattle.cell_types.specs.Value.{CellValue}
 use Rattle.block_summary.specs.declared.block.TheConstants.{BLOCK_ROWS}
 use Rattle.table_store.specs.declared.block.Block.TheInside.{Inside}
 use Rattle.table_store.specs.Table.{TableOf}
+use Rattle.typed_columns.specs.TypedColumn.{typed_cells, ColumnCells}
 
 -- some of the rows of a table
 abbrev pub part : TableOf → ℕ → ℕ → TableOf
@@ -39,6 +40,10 @@ packed_cells block col =
 abbrev pub text_cells : TableOf → ℕ → Option (List CellValue)
 text_cells block col =
     option_and_then (λ (column : ColumnOf). if is_text column.datatype then Some (column_of block.rows col) else None) (slice_get block.schema.columns col)
+
+-- the cells of a column, and what its numbers stand for, where it is none of texts
+abbrev pub typed_cells_of : TableOf → ℕ → Option ColumnCells
+typed_cells_of block col = option_map (λ (column : ColumnOf). typed_cells column (column_of block.rows col)) (slice_get block.schema.columns col)
 
 -- a column is none of texts
 abbrev pub HasNumbers : TableOf → ℕ → Type 0

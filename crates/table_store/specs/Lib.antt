@@ -7,6 +7,7 @@ pub mod Summaries
 pub mod Inside
 pub mod Fault
 pub mod Loading
+pub mod Parts
 pub mod Catalog
 pub mod Laws
 pub use Rattle.csv_grammar.specs.Files

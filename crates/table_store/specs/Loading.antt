@@ -1,15 +1,14 @@
 -- What the steps of loading a table find.
-use Rattle.std.specs.Prelude.{◌≡◌, ◌⊎◌, ℕ, List, length, map, Option, None, Some, Result, Ok, option_map}
+use Rattle.std.specs.Prelude.{◌≡◌, ℕ, List, length, map, Option, None, Some, Result, Ok, option_map}
 use Rattle.std.specs.Result.{result_err}
 use Rattle.std.specs.List.{IsDistinct}
 use Rattle.std.specs.Str.{bytes_eq}
 use Rattle.csv_grammar.specs.Files.{IsFileFault}
-use Rattle.raw_fields.specs.Raw.{RawField, field_of}
-use Rattle.raw_fields.specs.Raw.{RawTable}
+use Rattle.csv_grammar.specs.Raw.{RawField, field_of}
+use Rattle.csv_grammar.specs.Raw.{RawTable}
 use Rattle.csv_index.specs.Index.{IsRawTable}
 use Rattle.csv_index.specs.Fault.{text_cause}
 use Rattle.cell_types.specs.declared.fault.CellFault.{CellFault}
-use Rattle.cell_types.specs.declared.fault.CellFault.TheVariants as cell
 use Rattle.cell_types.specs.Value.{CellValue}
 use Rattle.cell_types.specs.Column.{ColumnOf}
 use Rattle.csvw_meta.specs.declared.schema.Schema.{Schema}
@@ -20,7 +19,7 @@ use Rattle.table_store.specs.declared.loading.TableFault.TheVariants.{FileMissin
 use Rattle.table_store.specs.Table.{TableOf, mismatch_from, values_from, rows_from, HasOtherHeader, HasBadCell, HasNullKey, HasKeyTwice}
 use Rattle.table_store.specs.Fault.{TableCause, file_missing, file_too_large, bad_text, bad_header, bad_cell, key_null, key_twice, cell_cause, LoadCause, no_metadata, bad_meta, bad_table}
 use Rattle.table_store.specs.File.{FileOf}
-use Rattle.row_keys.specs.Key.{row_key, row_keys, null_row, repeated_row}
+use Rattle.row_keys.specs.Key.{row_keys, null_row, repeated_row}
 use Rattle.row_keys.specs.Keys.{AreColumns, AreKeysOf, HasKeyFault, HasRead}
 use Rattle.row_keys.specs.declared.keys.KeyFault.{KeyFault}
 use Rattle.row_keys.specs.declared.keys.KeyFault.TheVariants.{Null, Twice}
@@ -83,19 +82,6 @@ pub record ArePartsOf (schema : SchemaOf) (rows : List (List RawField)) (parts :
   pub count : parts.rows ≡ length rows
   pub columns : AreTyped schema.columns (rows_in schema.columns rows) parts.columns.items
   pub keys : AreKeysOf parts.keys (keys_at schema rows)
-
--- values stand for those of a row as far as a key asks for them: there are as many, and the key is the same
-pub record StandFor (places : List ℕ) (values row : List CellValue) : Type 0 where
-  pub count : length values ≡ length row
-  pub key : row_key places values ≡ row_key places row
-
--- the values of a row of fields as far as a key of those places asks for them
-abbrev pub StandForFields : List ColumnOf → List ℕ → List RawField → List CellValue → Type 0
-StandForFields columns places fields values = (row : List CellValue) × (values_of columns fields ≡ Ok row) × StandFor places values row
-
--- the first cell of a row of fields that has no value, or want of memory
-abbrev pub IsBadCell : List ColumnOf → List RawField → ℕ → CellFault → Type 0
-IsBadCell columns fields col fault = (fault ≡ cell.NoMemory) ⊎ (result_err (values_of columns fields) ≡ Some (col, fault))
 
 -- the first cell of rows of fields that has no value, and why
 abbrev pub bad_cell_of : SchemaOf → List (List RawField) → Option (ℕ × ℕ × CellFault)

@@ -1,12 +1,13 @@
 //! The blocks of a table's rows.
-ghost use Rattle.std.specs.Prelude.{◌≡◌, ◌<◌, Some, IfOk, length, map, slice_get, option_and_then};
+ghost use Rattle.std.specs.Prelude.{◌≡◌, ◌<◌, ◌≤◌, Some, IfOk, length, map, slice_get, option_and_then};
 ghost use Rattle.std.specs.Option.{option_copied};
 ghost use Rattle.block_summary.specs.Cells.{AreUnpacked};
 ghost use Rattle.block_summary.specs.Ranges.{column_of, is_null};
 ghost use Rattle.block_summary.specs.Types.{numbers_of};
+ghost use Rattle.block_summary.specs.declared.block.TheConstants.{BLOCK_ROWS};
 ghost use Rattle.cell_types.specs.Value.{value_view};
 ghost use Rattle.csvw_meta.specs.Schema.{schema_view};
-ghost use Rattle.table_store.specs.Block.{block_count, block_of, packed_cells, text_cells, HasNumbers};
+ghost use Rattle.table_store.specs.Block.{block_count, block_of, packed_cells, text_cells, typed_cells_of, HasNumbers};
 ghost use Rattle.table_store.specs.Fits.{HasTableRows};
 ghost use Rattle.table_store.specs.Summaries.{IsSummaryOf};
 
@@ -19,6 +20,7 @@ use csvw_meta::Schema;
 use std::alloc::{AllocError, Global};
 use std::marker::Model;
 use text_columns::TextColumn;
+use typed_columns::BlockCells;
 
 /// The rows of one block of a table.
 #[derive(Drop)]
@@ -100,6 +102,14 @@ impl<'t> Block<'t> {
         self.table.texts(self.first / BLOCK_ROWS, col)
     }
 
+    /// The cells of a column in the block, to be kept after the block: they are shared with the table, and not copied. It takes no memory.
+    pub fn shared(&self, col: usize) -> Result<BlockCells, AllocError>
+        requires { col < length self.now.schema.columns }
+        ensures { IfOk result (λ cells. Some cells ≡ typed_cells_of self.now col) }
+    {
+        self.table.shared(self.first / BLOCK_ROWS, col)
+    }
+
     /// The values of a column, one for each row.
     pub fn values(&self, alloc: Global, col: usize) -> Result<Vec<Value<'t>>, AllocError>
         requires { col < length self.now.schema.columns }
@@ -144,6 +154,13 @@ impl<'t> Block<'t> {
         ensures { result ≡ self.now.rows }
     {
         self.table.rows_from(self.first, self.rows)
+    }
+
+    /// There are no more rows than a block has.
+    pub fn rows_are_few(&self)
+        ensures { length self.now.rows ≤ BLOCK_ROWS }
+    {
+        let _rows = self.rows; // a look at a field brings the invariant into sight
     }
 
     /// Each value is one that its column may have, no text has more than 2 to the 30 bytes, and there are no more rows than that.

@@ -12,6 +12,7 @@ mod file;
 mod header;
 mod laws;
 mod loading;
+mod parts;
 mod reading;
 mod summaries;
 mod table;

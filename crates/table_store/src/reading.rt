@@ -1,7 +1,7 @@
 //! Loading a table from its file: the header against the columns, and then its rows.
 ghost use Rattle.std.specs.Prelude.{◌≡◌, None, IfOk, IfErr, IfSome};
 ghost use Rattle.csvw_meta.specs.Schema.{schema_view};
-ghost use Rattle.raw_fields.specs.Raw.{RawTable};
+ghost use Rattle.csv_grammar.specs.Raw.{RawTable};
 ghost use Rattle.table_store.specs.Catalog.{HasTableCause};
 ghost use Rattle.table_store.specs.File.{file_bytes};
 ghost use Rattle.table_store.specs.Loading.{table_cause, ArePartsOf, HasFileCause, HasKeyColumns, IsTableAt, IsTableOf};

@@ -27,7 +27,7 @@ use row_keys::{KeyFault, Keys};
 use std::alloc::{AllocError, Global};
 use std::marker::Model;
 use text_columns::TextColumn;
-use typed_columns::TypedColumn;
+use typed_columns::{BlockCells, TypedColumn};
 
 /// A table: the cells of each of its columns, by blocks of rows. Nothing of its file is kept beside them.
 #[derive(Drop)]
@@ -54,7 +54,7 @@ impl Model for Table {
 }
 
 impl Table {
-    ghost use Rattle.table_store.specs.Block.{block_count, block_of, packed_cells, text_cells};
+    ghost use Rattle.table_store.specs.Block.{block_count, block_of, packed_cells, text_cells, typed_cells_of};
 
     /// The name that targets have.
     pub fn name(&self) -> &str
@@ -134,6 +134,16 @@ impl Table {
         ensures { result ≡ text_cells (block_of self.now number) col }
     {
         self.columns[col].texts(number)
+    }
+
+    /// The cells of a column in the block of a number, to be kept beside the table. It takes no memory.
+    pub(crate) fn shared(&self, number: usize, col: usize) -> Result<BlockCells, AllocError>
+        requires number { number < block_count (length self.now.rows) }
+        requires col { col < length self.now.schema.columns }
+        ensures { IfOk result
+            (λ cells. Some cells ≡ typed_cells_of (block_of self.now number) col) }
+    {
+        self.columns[col].shared(number)
     }
 
     /// So many rows, from the one with that number on.

@@ -1,4 +1,7 @@
 mod ListLemmas
+mod ContentLemmas
+mod QuoteLemmas
 mod TextLemmas
+mod CodeLemmas
 mod ReadLemmas
 mod SearchLemmas

@@ -2,3 +2,4 @@ pub mod Texts
 pub mod Places
 pub mod Buffer
 pub mod Search
+pub mod Codes

@@ -1,19 +1,23 @@
 //! The texts of a column, read one after another until they fill a block.
-ghost use Rattle.std.specs.Prelude.{◌≡◌, ◌<◌, [], IfOk, OnOk, OnErr, length};
+ghost use Rattle.std.specs.Prelude.{◌≡◌, ◌<◌, ◌==◌, ◌&&◌, [], IfOk, OnOk, OnErr, IsUtf8, length, string_bytes, take};
 ghost use Rattle.cell_types.specs.Value.{null, text as text_cell};
-ghost use Rattle.text_columns.specs.Buffer.{with_text_cell};
+ghost use Rattle.text_columns.specs.Buffer.{content_cell, field_content, with_text_cell};
 ghost use Rattle.text_columns.specs.Texts.{AreNullMarks};
 
 use crate::block::TextBlock;
+use crate::content::{copy_content, copy_text};
 use crate::places::places_of;
+use crate::room::make_room;
 use std::alloc::{AllocError, Global};
 use std::marker::Model;
 
 /// The texts of a column that are read one after another, until they fill a block.
 #[derive(Drop)]
 pub struct TextBuffer {
-    /// The texts, one after the other.
-    bytes: String,
+    /// The texts, one after the other, and what is still free after them.
+    bytes: Vec<u8>,
+    /// Where the last text ends.
+    at: usize,
     /// Where each text ends.
     ends: Vec<usize>,
     nulls: Vec<bool>,
@@ -28,6 +32,25 @@ impl Model for TextBuffer {
     ghost view = { buffer_view };
 
     ghost invariant = { IsBuffer };
+}
+
+/// Whether a text of so many bytes is null, where an empty one may be.
+#[inline(always)]
+fn is_null(empty_is_null: bool, len: usize) -> bool
+    ensures { result ≡ (empty_is_null && len == 0) }
+{
+    empty_is_null && len == 0
+}
+
+/// A copy of a text.
+fn text_of(alloc: Global, bytes: &[u8]) -> Result<String, AllocError>
+    requires { IsUtf8 bytes.now }
+    ensures { IfOk result (λ text. string_bytes text ≡ bytes.now) }
+{
+    match simdutf8::basic::from_utf8(bytes) {
+        Ok(text) => String::from_str(alloc, text),
+        Err(_) => unreachable!(),
+    }
 }
 
 /// The marks of nulls that are kept: none, where no row is null.
@@ -47,7 +70,8 @@ impl TextBuffer {
         ensures { IfOk result (λ buffer. buffer ≡ record { room = room; cells = [] }) }
     {
         Ok(TextBuffer {
-            bytes: String::new(alloc),
+            bytes: Vec::new(alloc),
+            at: 0,
             ends: Vec::from_elem(alloc, 0, room)?,
             nulls: Vec::from_elem(alloc, false, room)?,
             len: 0,
@@ -69,7 +93,7 @@ impl TextBuffer {
         ensures { self.new ≡ with_text_cell self.old null }
     {
         self.nulls[self.len] = true;
-        self.ends[self.len] = self.bytes.len();
+        self.ends[self.len] = self.at;
         self.len += 1;
     }
 
@@ -80,9 +104,37 @@ impl TextBuffer {
         ensures more { OnOk result (self.new ≡ with_text_cell self.old (text_cell text.now)) }
         ensures err { OnErr result (self.new ≡ self.old) }
     {
-        self.bytes.push_str(text)?;
+        make_room(&mut self.bytes, self.at, text.len())?;
+        copy_text(text.as_bytes(), self.bytes.as_mut_slice(), self.at);
+        let end = self.at + text.len();
         self.nulls[self.len] = false;
-        self.ends[self.len] = self.bytes.len();
+        self.ends[self.len] = end;
+        self.at = end;
+        self.len += 1;
+        Ok(())
+    }
+
+    /// Adds what a field says, which is null where it is empty and an empty text stands for null. `rest` is the file from the field's bytes on:
+    /// where that is long enough, a short field is copied without a loop.
+    #[inline(always)]
+    pub fn push_field(
+        &mut self,
+        text: &str,
+        quoted: bool,
+        rest: &[u8],
+        empty_is_null: bool,
+    ) -> Result<(), AllocError>
+        requires rest { take (length text.now) rest.now ≡ text.now }
+        requires room { length self.old.cells < self.old.room }
+        ensures more { OnOk result (self.new ≡ with_text_cell self.old
+            (content_cell empty_is_null (field_content quoted text.now))) }
+        ensures err { OnErr result (self.new ≡ self.old) }
+    {
+        make_room(&mut self.bytes, self.at, text.len())?;
+        let to = copy_content(text, quoted, rest, self.bytes.as_mut_slice(), self.at);
+        self.nulls[self.len] = is_null(empty_is_null, to - self.at);
+        self.ends[self.len] = to;
+        self.at = to;
         self.len += 1;
         Ok(())
     }
@@ -91,17 +143,24 @@ impl TextBuffer {
     pub fn pack(&self, alloc: Global) -> Result<TextBlock, AllocError>
         ensures { IfOk result (λ block. block ≡ self.now.cells) }
     {
-        let ends = places_of(alloc, &self.ends.as_slice()[..self.len], self.bytes.len())?;
+        let ends = places_of(alloc, &self.ends.as_slice()[..self.len], self.at)?;
         let nulls = marks_of(alloc, &self.nulls.as_slice()[..self.len])?;
-        let bytes = String::from_str(alloc, self.bytes.as_str())?;
-        Ok(TextBlock { bytes, ends, nulls })
+        let bytes = text_of(alloc, &self.bytes.as_slice()[..self.at])?;
+        let plain = TextBlock {
+            bytes,
+            ends,
+            nulls,
+            codes: None,
+        };
+        let block = plain.with_codes(alloc)?;
+        Ok(block)
     }
 
     /// Begins anew.
     pub fn clear(&mut self)
         ensures { self.new ≡ record self.old { cells = [] } }
     {
-        self.bytes.clear();
+        self.at = 0;
         self.len = 0;
     }
 }

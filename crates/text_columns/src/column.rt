@@ -1,7 +1,9 @@
 //! The texts of a column of a block, as they are lent.
-ghost use Rattle.std.specs.Prelude.{◌≡◌, ◌<◌, false, MatchOption, length, slice_index_or};
+ghost use Rattle.std.specs.Prelude.{◌≡◌, ◌<◌, false, IfSome, MatchOption, length, slice_index_or};
 ghost use Rattle.cell_types.specs.Value.{null, text as text_cell, value_view};
+ghost use Rattle.text_columns.specs.Codes.{AreCodes};
 
+use crate::codes::TextCodes;
 use crate::places::{Places, count_of, place_at, start_at};
 use cell_types::Value;
 use std::borrow::CowStr;
@@ -15,6 +17,8 @@ pub struct TextColumn<'t> {
     pub(crate) ends: &'t Places,
     /// Which rows are null; nothing where none is.
     pub(crate) nulls: &'t [bool],
+    /// The codes of the texts, where there are few different ones.
+    pub(crate) codes: Option<&'t TextCodes>,
 }
 
 impl<'t> Model for TextColumn<'t> {
@@ -24,11 +28,14 @@ impl<'t> Model for TextColumn<'t> {
     ghost Value = { List CellValue };
 
     ghost use Rattle.text_columns.specs.Places.{place_list};
-    ghost use Rattle.text_columns.specs.Texts.{text_block_cells, AreTextBytes};
+    ghost use Rattle.text_columns.specs.Codes.{AreCodedTexts};
+    ghost use Rattle.text_columns.specs.Texts.{text_block_cells};
+    ghost use Rattle.std.specs.Option.{option_copied};
 
     ghost view = { λ c. text_block_cells c.nulls.now (place_list c.ends.now) c.bytes.now };
 
-    ghost invariant = { λ c. AreTextBytes c.nulls.now (place_list c.ends.now) c.bytes.now };
+    ghost invariant = { λ c. AreCodedTexts c.nulls.now (place_list c.ends.now) c.bytes.now
+        (option_copied c.codes) };
 }
 
 /// Whether a row is null; none is, past the end of the marks.
@@ -49,6 +56,14 @@ impl<'t> TextColumn<'t> {
         ensures { result ≡ length self.now }
     {
         count_of(self.ends)
+    }
+
+    /// The codes of the texts, where there are few different ones.
+    #[inline(always)]
+    pub fn codes(&self) -> Option<&'t TextCodes>
+        ensures { IfSome result (λ codes. AreCodes codes.now self.now) }
+    {
+        self.codes
     }
 
     /// The text of a row; nothing where it is null.

@@ -1,3 +1,4 @@
 pub mod TypedColumnLemmas
 mod RangeLemmas
 mod BlockLemmas
+pub mod PartLemmas

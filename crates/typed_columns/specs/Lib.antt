@@ -1,3 +1,6 @@
+pub mod ColumnCells
+pub mod BlockCells
 pub mod TypedColumn
 pub mod Readers
 pub mod ColumnReader
+pub mod Parts

@@ -20,7 +20,19 @@ numbers_with reader cell = record reader { cells = reader.cells ++ cell ∷ [] }
 abbrev pub texts_with : TextReaderOf → CellValue → TextReaderOf
 texts_with reader cell = record reader { cells = reader.cells ++ cell ∷ [] }
 
+-- more cells
+abbrev pub numbers_with_cells : NumberReaderOf → List CellValue → NumberReaderOf
+numbers_with_cells reader cells = record reader { cells = reader.cells ++ cells }
+
+abbrev pub texts_with_cells : TextReaderOf → List CellValue → TextReaderOf
+texts_with_cells reader cells = record reader { cells = reader.cells ++ cells }
+
 -- the cell of a text, or a null
 abbrev pub text_or_null : Option (List ℕ) → CellValue
 text_or_null None = null
 text_or_null (Some t) = text t
+
+-- the cell of a text where the empty one alone is null
+abbrev pub plain_cell : List ℕ → CellValue
+plain_cell [] = null
+plain_cell (byte ∷ bytes) = text (byte ∷ bytes)

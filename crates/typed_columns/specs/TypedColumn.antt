@@ -1,18 +1,13 @@
 -- The cells of a column, block by block.
-use Rattle.std.specs.Prelude.{◌≡◌, ◌<◌, ◌≤◌, ℕ, List, [], ◌∷◌, length, Option, None, Some, slice_get}
+pub use Rattle.typed_columns.specs.ColumnCells.{ColumnCells}
+use Rattle.std.specs.Prelude.{◌≡◌, ◌<◌, ◌≤◌, ◌*◌, ℕ, List, [], ◌∷◌, drop, length, map, take, Option, None, Some, slice_get}
 use Rattle.std.specs.List.{flat_map, AllByRecursion}
 use Rattle.block_summary.specs.Ranges.{column_of}
 use Rattle.block_summary.specs.Reading.{packed_type_of}
+use Rattle.block_summary.specs.declared.block.TheConstants.{BLOCK_ROWS}
 use Rattle.block_summary.specs.declared.number.PackedType.{PackedType}
 use Rattle.cell_types.specs.Column.{ColumnOf}
 use Rattle.cell_types.specs.Value.{CellValue}
-use Rattle.typed_columns.specs.declared.typed_column.Blocks.{Blocks}
-use Rattle.typed_columns.specs.declared.typed_column.Blocks.TheVariants.{Numbers, Texts}
-
--- the cells of a column, and what their numbers stand for, where they are no texts
-pub record ColumnCells : Type 0 where
-  pub packed_type : Option PackedType
-  pub cells : List CellValue
 
 -- the cells of blocks, in order
 abbrev pub cells_in : List (List CellValue) → List CellValue
@@ -29,13 +24,20 @@ AreBlocks size (last ∷ []) = (0 < length last) × (length last ≤ size)
 AreBlocks size (block ∷ next ∷ blocks) = (length block ≡ size) × AreBlocks size (next ∷ blocks)
 
 -- the cells of each block
-abbrev pub block_list : Blocks → List (List CellValue)
-block_list (Numbers type blocks) = blocks.items
-block_list (Texts blocks) = blocks.items
+abbrev pub cells_of_each : List ColumnCells → List (List CellValue)
+cells_of_each blocks = map (λ (block : ColumnCells). block.cells) blocks
 
-abbrev pub column_cells : Blocks → ColumnCells
-column_cells (Numbers type blocks) = record { packed_type = Some type; cells = cells_in blocks.items }
-column_cells (Texts blocks) = record { packed_type = None; cells = cells_in blocks.items }
+-- the numbers of each block stand for the same, or each is one of texts
+abbrev pub AreOfType : Option PackedType → List ColumnCells → Type 0
+AreOfType type blocks = AllByRecursion (λ (block : ColumnCells). block.packed_type ≡ type) blocks
+
+-- blocks of these cells, whose numbers stand for that
+abbrev pub blocks_of : Option PackedType → List (List CellValue) → List ColumnCells
+blocks_of type blocks = map (λ (cells : List CellValue). record { packed_type = type; cells = cells }) blocks
+
+-- the block of that number of a column
+abbrev pub block_in : ColumnCells → ℕ → ColumnCells
+block_in column number = record { packed_type = column.packed_type; cells = take BLOCK_ROWS (drop (number * BLOCK_ROWS) column.cells) }
 
 -- cells, where they are texts
 abbrev pub cells_of_texts : Option PackedType → List CellValue → Option (List CellValue)

@@ -1,19 +1,18 @@
-//! The cells of the columns of a table, as the rows of its file are read.
-ghost use Rattle.std.specs.Prelude.{◌≡◌, ◌<◌, ◌⊎◌, Ok, Err, [], IfOk, IfErr, OnOk, length, map};
+//! The cells of the columns of a table, as the rows of its file are read, part by part.
+ghost use Rattle.std.specs.Prelude.{◌≡◌, ◌<◌, ◌≤◌, ◌+◌, ◌⊎◌, [], IfOk, IfErr, OnOk, length, map};
 ghost use Rattle.block_summary.specs.Reading.{packed_type_of as packed_type_of_datatype};
 ghost use Rattle.cell_types.specs.Column.{column_view};
 ghost use Rattle.cell_types.specs.Datatype.{datatype_view};
-ghost use Rattle.cell_types.specs.Value.{value_view};
-ghost use Rattle.raw_fields.specs.Raw.{raw_view};
-ghost use Rattle.raw_fields.specs.Values.{value_in, value_or_null, HasValue};
-ghost use Rattle.typed_columns.specs.ColumnReader.{cells_read, reader_at, with_cell};
+ghost use Rattle.typed_columns.specs.ColumnReader.{cells_read, reader_at, with_cells};
+ghost use Rattle.typed_columns.specs.Parts.{part_cells, HasCellFault, PartHasValues};
 
-use crate::number_reader::{NumberReader, number_value};
+use crate::block_cells::{number_blocks, text_blocks};
+use crate::number_reader::NumberReader;
 use crate::text_reader::TextReader;
-use crate::typed_column::{Blocks, TypedColumn};
+use crate::typed_column::TypedColumn;
 use block_summary::packed_type_of;
-use cell_types::{CellFault, Column, Value};
-use raw_fields::Raw;
+use cell_types::{CellFault, Column};
+use csv_index::Parts;
 use std::alloc::{AllocError, Global};
 use std::marker::Model;
 
@@ -50,52 +49,27 @@ impl ColumnReader {
         Ok(ColumnReader { cells })
     }
 
-    /// Reads the field of the next row.
-    #[inline(always)]
-    pub fn read(&mut self, alloc: Global, column: &Column, raw: Raw<'_>) -> Result<(), CellFault>
-        requires column { packed_type_of_datatype (datatype_view column.now.datatype)
-            ≡ self.old.packed_type }
-        requires room { length self.old.cells < self.old.rows }
-        ensures value { OnOk result (HasValue (column_view column.now) (raw_view raw.entry)) }
-        ensures cells { OnOk result (self.new ≡ with_cell self.old
-            (value_or_null (value_in (column_view column.now, raw_view raw.entry)))) }
-        ensures fault { IfErr result (λ e. (e ≡ CellFault.NoMemory)
-            ⊎ (value_in (column_view column.now, raw_view raw.entry) ≡ Err e)) }
-    {
-        match &mut self.cells {
-            Cells::Numbers(reader) => {
-                reader.read(alloc, column, raw)?;
-                Ok(())
-            }
-            Cells::Texts(reader) => {
-                reader.read(alloc, column, raw)?;
-                Ok(())
-            }
-        }
-    }
-
-    /// Reads the field of the next row, and gives its value.
-    pub fn read_value<'a>(
+    /// Reads the fields of a column in the rows of a part.
+    pub fn read_part(
         &mut self,
         alloc: Global,
-        column: &'a Column,
-        raw: Raw<'a>,
-    ) -> Result<Value<'a>, CellFault>
+        column: &Column,
+        parts: &Parts<'_>,
+        col: usize,
+    ) -> Result<(), CellFault>
         requires column { packed_type_of_datatype (datatype_view column.now.datatype)
             ≡ self.old.packed_type }
-        requires room { length self.old.cells < self.old.rows }
-        ensures value { IfOk result (λ value.
-            value_in (column_view column.now, raw_view raw.entry) ≡ Ok (value_view value)) }
-        ensures cells { IfOk result (λ value. self.new ≡ with_cell self.old (value_view value)) }
+        requires room { length self.old.cells + length parts.now.part ≤ self.old.rows }
+        requires col { col < parts.now.width }
+        ensures values { OnOk result (PartHasValues (column_view column.now) col parts.now.part) }
+        ensures cells { OnOk result (self.new ≡ with_cells self.old
+            (part_cells (column_view column.now) col parts.now.part)) }
         ensures fault { IfErr result (λ e. (e ≡ CellFault.NoMemory)
-            ⊎ (value_in (column_view column.now, raw_view raw.entry) ≡ Err e)) }
+            ⊎ HasCellFault (column_view column.now) col parts.now.part e) }
     {
         match &mut self.cells {
-            Cells::Numbers(reader) => {
-                let number = reader.read(alloc, column, raw)?;
-                Ok(number_value(reader.packed_type(), number))
-            }
-            Cells::Texts(reader) => reader.read(alloc, column, raw),
+            Cells::Numbers(reader) => reader.read_part(alloc, column, parts, col),
+            Cells::Texts(reader) => reader.read_part(alloc, column, parts, col),
         }
     }
 
@@ -103,14 +77,23 @@ impl ColumnReader {
     fn finish(self, alloc: Global) -> Result<TypedColumn, AllocError>
         ensures { IfOk result (λ column. column ≡ cells_read self) }
     {
-        let blocks = match self.cells {
+        match self.cells {
             Cells::Numbers(reader) => {
                 let packed_type = reader.packed_type();
-                Blocks::Numbers(packed_type, reader.finish(alloc)?)
+                let blocks = number_blocks(alloc, packed_type, reader.finish(alloc)?)?;
+                Ok(TypedColumn {
+                    packed_type: Some(packed_type),
+                    blocks,
+                })
             }
-            Cells::Texts(reader) => Blocks::Texts(reader.finish(alloc)?),
-        };
-        Ok(TypedColumn { blocks })
+            Cells::Texts(reader) => {
+                let blocks = text_blocks(alloc, reader.finish(alloc)?)?;
+                Ok(TypedColumn {
+                    packed_type: None,
+                    blocks,
+                })
+            }
+        }
     }
 }
 

@@ -3,10 +3,12 @@
 //! or the range of these.
 #![tactic(auto)]
 
+mod block_cells;
 mod column_reader;
 mod number_reader;
 mod text_reader;
 mod typed_column;
 
+pub use block_cells::BlockCells;
 pub use column_reader::{ColumnReader, column_readers, columns_read};
 pub use typed_column::TypedColumn;

@@ -1,19 +1,20 @@
 //! The cells of a column of numbers, as the rows of a file are read.
-ghost use Rattle.std.specs.Prelude.{◌≡◌, ◌<◌, ◌⊎◌, Some, Ok, Err, [], IfOk, IfErr, OnOk, length};
+ghost use Rattle.std.specs.Prelude.{◌≡◌, ◌<◌, ◌≤◌, ◌+◌, ◌⊎◌, Some, Ok, Err, [], IfOk, IfErr, OnOk, length};
 ghost use Rattle.std.specs.Option.{ForSome};
 ghost use Rattle.block_summary.specs.Reading.{packed_type_of as packed_type_of_datatype};
 ghost use Rattle.block_summary.specs.Types.{cell_of, IsNumberOf};
 ghost use Rattle.block_summary.specs.declared.block.TheConstants.{BLOCK_ROWS};
 ghost use Rattle.cell_types.specs.Column.{column_view};
 ghost use Rattle.cell_types.specs.Datatype.{datatype_view};
-ghost use Rattle.cell_types.specs.Value.{value_view};
 ghost use Rattle.raw_fields.specs.Raw.{raw_view};
-ghost use Rattle.raw_fields.specs.Values.{value_in};
-ghost use Rattle.typed_columns.specs.Readers.{numbers_with};
+ghost use Rattle.raw_fields.specs.Values.{value_in, value_or_null, HasValue};
+ghost use Rattle.typed_columns.specs.Parts.{part_cells, HasCellFault, PartHasValues};
+ghost use Rattle.typed_columns.specs.Readers.{numbers_with, numbers_with_cells};
 ghost use Rattle.typed_columns.specs.TypedColumn.{cells_in, AreBlocks};
 
-use block_summary::{BLOCK_ROWS, CellBuffer, PackedColumn, PackedType, read_number, typed_value};
-use cell_types::{CellFault, Column, Value};
+use block_summary::{BLOCK_ROWS, CellBuffer, PackedColumn, PackedType, read_number};
+use cell_types::{CellFault, Column};
+use csv_index::Parts;
 use raw_fields::Raw;
 use std::alloc::{AllocError, Global};
 use std::marker::Model;
@@ -92,30 +93,50 @@ impl NumberReader {
         Ok(())
     }
 
-    /// Reads the field of the next row: the number of its value, or null.
+    /// Reads the field of the next row.
     #[inline(always)]
-    pub fn read(
-        &mut self,
-        alloc: Global,
-        column: &Column,
-        raw: Raw<'_>,
-    ) -> Result<Option<i64>, CellFault>
+    fn read(&mut self, alloc: Global, column: &Column, raw: Raw<'_>) -> Result<(), CellFault>
         requires column { packed_type_of_datatype (datatype_view column.now.datatype)
             ≡ Some self.old.packed_type }
         requires room { length self.old.cells < self.old.rows }
-        ensures value { IfOk result (λ number. value_in (column_view column.now, raw_view raw.entry)
-            ≡ Ok (cell_of self.old.packed_type number)) }
-        ensures cells { IfOk result
-            (λ number. self.new ≡ numbers_with self.old (cell_of self.old.packed_type number)) }
-        ensures number { IfOk result (λ number. ForSome number (IsNumberOf self.old.packed_type)) }
+        ensures value { OnOk result (HasValue (column_view column.now) (raw_view raw.entry)) }
+        ensures cells { OnOk result (self.new ≡ numbers_with self.old
+            (value_or_null (value_in (column_view column.now, raw_view raw.entry)))) }
         ensures fault { IfErr result (λ e. (e ≡ CellFault.NoMemory)
             ⊎ (value_in (column_view column.now, raw_view raw.entry) ≡ Err e)) }
     {
         let number = field_number(alloc, column, self.packed_type, raw)?;
         match self.push(alloc, number) {
-            Ok(()) => Ok(number),
+            Ok(()) => Ok(()),
             Err(_) => Err(CellFault::NoMemory),
         }
+    }
+
+    /// Reads the fields of a column in the rows of a part.
+    pub fn read_part(
+        &mut self,
+        alloc: Global,
+        column: &Column,
+        parts: &Parts<'_>,
+        col: usize,
+    ) -> Result<(), CellFault>
+        requires column { packed_type_of_datatype (datatype_view column.now.datatype)
+            ≡ Some self.old.packed_type }
+        requires room { length self.old.cells + length parts.now.part ≤ self.old.rows }
+        requires col { col < parts.now.width }
+        ensures values { OnOk result (PartHasValues (column_view column.now) col parts.now.part) }
+        ensures cells { OnOk result (self.new ≡ numbers_with_cells self.old
+            (part_cells (column_view column.now) col parts.now.part)) }
+        ensures fault { IfErr result (λ e. (e ≡ CellFault.NoMemory)
+            ⊎ HasCellFault (column_view column.now) col parts.now.part e) }
+    {
+        for row in 0..parts.rows() {
+            match self.read(alloc, column, parts.field(row, col)) {
+                Ok(()) => {}
+                Err(fault) => return Err(fault),
+            }
+        }
+        Ok(())
     }
 
     /// The blocks of the cells that were read.
@@ -149,16 +170,5 @@ fn field_number(
     match raw.text(alloc) {
         Ok(text) => read_number(alloc, column, packed_type, text.as_str()),
         Err(_) => Err(CellFault::NoMemory),
-    }
-}
-
-/// The value that a number stands for, or null.
-pub fn number_value(packed_type: PackedType, number: Option<i64>) -> Value<'static>
-    requires { ForSome number (IsNumberOf packed_type) }
-    ensures { value_view result ≡ cell_of packed_type number }
-{
-    match number {
-        Some(number) => typed_value(packed_type, number),
-        None => Value::Null,
     }
 }

@@ -1,18 +1,20 @@
 //! The cells of a column of texts, as the rows of a file are read.
-ghost use Rattle.std.specs.Prelude.{◌≡◌, ◌<◌, ◌⊎◌, Ok, Err, [], IfOk, IfErr, OnOk, length, option_map};
+ghost use Rattle.std.specs.Prelude.{◌≡◌, ◌<◌, ◌≤◌, ◌+◌, ◌⊎◌, true, Ok, Err, [], IfOk, IfErr, OnOk, length, option_map};
 ghost use Rattle.std.specs.Cow.{cow_str_bytes};
 ghost use Rattle.block_summary.specs.declared.block.TheConstants.{BLOCK_ROWS};
 ghost use Rattle.cell_types.specs.Column.{column_view};
 ghost use Rattle.cell_types.specs.Datatype as datatype;
 ghost use Rattle.cell_types.specs.Datatype.{datatype_view};
-ghost use Rattle.cell_types.specs.Value.{value_view};
+ghost use Rattle.csv_grammar.specs.Raw.{raw_content};
 ghost use Rattle.raw_fields.specs.Raw.{raw_view};
-ghost use Rattle.raw_fields.specs.Values.{value_in};
-ghost use Rattle.typed_columns.specs.Readers.{text_or_null, texts_with};
+ghost use Rattle.raw_fields.specs.Values.{value_in, value_or_null, HasValue};
+ghost use Rattle.typed_columns.specs.Parts.{part_cells, EmptyIsNull, HasCellFault, PartHasValues};
+ghost use Rattle.typed_columns.specs.Readers.{plain_cell, text_or_null, texts_with, texts_with_cells};
 ghost use Rattle.typed_columns.specs.TypedColumn.{cells_in, AreBlocks};
 
 use block_summary::BLOCK_ROWS;
-use cell_types::{CellFault, Column, Value, string_of};
+use cell_types::{CellFault, Column, string_of};
+use csv_index::Parts;
 use raw_fields::Raw;
 use std::alloc::{AllocError, Global};
 use std::borrow::CowStr;
@@ -82,27 +84,94 @@ impl TextReader {
         }
     }
 
-    /// Reads the field of the next row: its value.
+    /// Reads the field of the next row.
     #[inline(always)]
-    pub fn read<'a>(
-        &mut self,
-        alloc: Global,
-        column: &'a Column,
-        raw: Raw<'a>,
-    ) -> Result<Value<'a>, CellFault>
+    fn read(&mut self, alloc: Global, column: &Column, raw: Raw<'_>) -> Result<(), CellFault>
         requires column { datatype_view column.now.datatype ≡ datatype.text }
         requires room { length self.old.cells < self.old.rows }
-        ensures value { IfOk result (λ value.
-            value_in (column_view column.now, raw_view raw.entry) ≡ Ok (value_view value)) }
-        ensures cells { IfOk result (λ value. self.new ≡ texts_with self.old (value_view value)) }
+        ensures value { OnOk result (HasValue (column_view column.now) (raw_view raw.entry)) }
+        ensures cells { OnOk result (self.new ≡ texts_with self.old
+            (value_or_null (value_in (column_view column.now, raw_view raw.entry)))) }
         ensures fault { IfErr result (λ e. (e ≡ CellFault.NoMemory)
             ⊎ (value_in (column_view column.now, raw_view raw.entry) ≡ Err e)) }
     {
-        let value = field_text(alloc, column, raw)?;
-        match self.push(alloc, &value) {
-            Ok(()) => Ok(text_value(value)),
+        let text = field_text(alloc, column, raw)?;
+        match self.push(alloc, &text) {
+            Ok(()) => Ok(()),
             Err(_) => Err(CellFault::NoMemory),
         }
+    }
+
+    /// Reads the field of the next row, where the empty text alone is null: no text is compared.
+    #[inline(always)]
+    fn read_plain(&mut self, alloc: Global, column: &Column, raw: Raw<'_>) -> Result<(), CellFault>
+        requires column { datatype_view column.now.datatype ≡ datatype.text }
+        requires plain { EmptyIsNull (column_view column.now) }
+        requires room { length self.old.cells < self.old.rows }
+        ensures value { OnOk result (HasValue (column_view column.now) (raw_view raw.entry)) }
+        ensures cells { OnOk result (self.new ≡ texts_with self.old
+            (value_or_null (value_in (column_view column.now, raw_view raw.entry)))) }
+        ensures fault { IfErr result (λ e. e ≡ CellFault.NoMemory) }
+    {
+        let Ok(plain) = plain_text(alloc, raw) else {
+            return Err(CellFault::NoMemory);
+        };
+        match self.push(alloc, &plain) {
+            Ok(()) => Ok(()),
+            Err(_) => Err(CellFault::NoMemory),
+        }
+    }
+
+    /// Reads the fields of a column in the rows of a part, where the empty text alone is null.
+    fn read_plain_part(
+        &mut self,
+        alloc: Global,
+        column: &Column,
+        parts: &Parts<'_>,
+        col: usize,
+    ) -> Result<(), CellFault>
+        requires column { datatype_view column.now.datatype ≡ datatype.text }
+        requires plain { EmptyIsNull (column_view column.now) }
+        requires room { length self.old.cells + length parts.now.part ≤ self.old.rows }
+        requires col { col < parts.now.width }
+        ensures values { OnOk result (PartHasValues (column_view column.now) col parts.now.part) }
+        ensures cells { OnOk result (self.new ≡ texts_with_cells self.old
+            (part_cells (column_view column.now) col parts.now.part)) }
+        ensures fault { IfErr result (λ e. e ≡ CellFault.NoMemory) }
+    {
+        for row in 0..parts.rows() {
+            self.read_plain(alloc, column, parts.field(row, col))?;
+        }
+        Ok(())
+    }
+
+    /// Reads the fields of a column in the rows of a part.
+    pub fn read_part(
+        &mut self,
+        alloc: Global,
+        column: &Column,
+        parts: &Parts<'_>,
+        col: usize,
+    ) -> Result<(), CellFault>
+        requires column { datatype_view column.now.datatype ≡ datatype.text }
+        requires room { length self.old.cells + length parts.now.part ≤ self.old.rows }
+        requires col { col < parts.now.width }
+        ensures values { OnOk result (PartHasValues (column_view column.now) col parts.now.part) }
+        ensures cells { OnOk result (self.new ≡ texts_with_cells self.old
+            (part_cells (column_view column.now) col parts.now.part)) }
+        ensures fault { IfErr result (λ e. (e ≡ CellFault.NoMemory)
+            ⊎ HasCellFault (column_view column.now) col parts.now.part e) }
+    {
+        if empty_is_null(column) {
+            return self.read_plain_part(alloc, column, parts, col);
+        }
+        for row in 0..parts.rows() {
+            match self.read(alloc, column, parts.field(row, col)) {
+                Ok(()) => {}
+                Err(fault) => return Err(fault),
+            }
+        }
+        Ok(())
     }
 
     /// The blocks of the cells that were read.
@@ -116,6 +185,29 @@ impl TextReader {
         }
         Ok(blocks)
     }
+}
+
+/// Whether the empty text alone is null, and no other text and no fault stands for it.
+fn empty_is_null(column: &Column) -> bool
+    ensures { result ≡ true → EmptyIsNull (column_view column.now) }
+{
+    column.nulls.len() == 1
+        && column.nulls[0].is_empty()
+        && column.default.is_empty()
+        && !column.required
+}
+
+/// What a field says; nothing where that is empty.
+#[inline(always)]
+fn plain_text<'a>(alloc: Global, raw: Raw<'a>) -> Result<Option<CowStr<'a>>, AllocError>
+    ensures { IfOk result (λ text. text_or_null (option_map cow_str_bytes text)
+        ≡ plain_cell (raw_content (raw_view raw.entry))) }
+{
+    let text = raw.text(alloc)?;
+    if text.as_str().is_empty() {
+        return Ok(None);
+    }
+    Ok(Some(text))
 }
 
 /// The text of the value of a field in a column of texts; nothing for a null.
@@ -138,16 +230,5 @@ fn field_text<'a>(
         Some(text) => Ok(Some(text)),
         None if column.required => Err(CellFault::Missing),
         None => Ok(None),
-    }
-}
-
-/// The value that a text is, or null.
-#[inline(always)]
-fn text_value<'a>(text: Option<CowStr<'a>>) -> Value<'a>
-    ensures { value_view result ≡ text_or_null (option_map cow_str_bytes text.entry) }
-{
-    match text {
-        Some(text) => Value::Text(text),
-        None => Value::Null,
     }
 }

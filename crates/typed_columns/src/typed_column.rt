@@ -4,82 +4,38 @@ ghost use Rattle.std.specs.Option.{option_copied};
 ghost use Rattle.block_summary.specs.Ranges.{IsRangeOf};
 ghost use Rattle.block_summary.specs.declared.block.TheConstants.{BLOCK_ROWS};
 ghost use Rattle.cell_types.specs.Value.{null, value_view};
-ghost use Rattle.typed_columns.specs.TypedColumn.{cells_in, cells_of_texts, AreBlocks};
+ghost use Rattle.typed_columns.specs.TypedColumn.{block_in, cells_of_texts};
 
-use block_summary::{BLOCK_ROWS, PackedColumn, PackedType, Range, TextRange};
+use crate::block_cells::BlockCells;
+use block_summary::{BLOCK_ROWS, PackedColumn, PackedType, Range};
 use cell_types::Value;
 use std::alloc::{AllocError, Global};
-use std::borrow::CowStr;
 use std::marker::Model;
-use text_columns::{TextBlock, TextColumn};
-
-/// The blocks of a column: of numbers, and what these stand for, or of texts.
-#[derive(Drop)]
-pub(crate) enum Blocks {
-    Numbers(PackedType, Vec<PackedColumn>),
-    Texts(Vec<TextBlock>),
-}
+use text_columns::TextColumn;
 
 /// The cells of a column of a table, block by block.
 #[derive(Drop)]
 pub struct TypedColumn {
-    pub(crate) blocks: Blocks,
+    /// What the numbers of the cells stand for, where they are no texts.
+    pub(crate) packed_type: Option<PackedType>,
+    pub(crate) blocks: Vec<BlockCells>,
 }
 
 impl Model for TypedColumn {
-    ghost use Rattle.typed_columns.specs.TypedColumn.{ColumnCells};
+    ghost use Rattle.typed_columns.specs.ColumnCells.{ColumnCells};
 
     ghost Value = { ColumnCells };
 
     ghost use Rattle.block_summary.specs.declared.block.TheConstants.{BLOCK_ROWS};
-    ghost use Rattle.typed_columns.specs.TypedColumn.{block_list, column_cells, AreBlocks};
+    ghost use Rattle.typed_columns.specs.TypedColumn.{cells_in, cells_of_each, AreBlocks, AreOfType};
 
-    ghost view = { λ c. column_cells c.blocks };
+    ghost view = { λ c. record {
+      packed_type = c.packed_type;
+      cells = cells_in (cells_of_each c.blocks.items);
+    } };
 
-    ghost invariant = { λ c. AreBlocks BLOCK_ROWS (block_list c.blocks) };
-}
-
-/// The value of a row of blocks of numbers; null past the end.
-fn number_at(blocks: &[PackedColumn], row: usize) -> Value<'static>
-    requires { AreBlocks BLOCK_ROWS blocks.now }
-    ensures { value_view result ≡ slice_index_or (cells_in blocks.now) row null }
-{
-    let number = row / BLOCK_ROWS;
-    if number >= blocks.len() {
-        return Value::Null;
-    }
-    blocks[number].value(row % BLOCK_ROWS)
-}
-
-/// The value of a row of blocks of texts; null past the end.
-fn text_at(blocks: &[TextBlock], row: usize) -> Value<'_>
-    requires { AreBlocks BLOCK_ROWS blocks.now }
-    ensures { value_view result ≡ slice_index_or (cells_in blocks.now) row null }
-{
-    let number = row / BLOCK_ROWS;
-    if number >= blocks.len() {
-        return Value::Null;
-    }
-    let column = blocks[number].column();
-    if row % BLOCK_ROWS >= column.len() {
-        return Value::Null;
-    }
-    column.value(row % BLOCK_ROWS)
-}
-
-/// The range of the texts of a block.
-fn text_range(alloc: Global, column: &TextColumn<'_>) -> Result<Range, AllocError>
-    ensures { IfOk result (λ range. IsRangeOf range column.now) }
-{
-    block_summary::ranges_widen();
-    let mut range = TextRange::new();
-    for row in 0..column.len() {
-        match column.text(row) {
-            Some(text) => range.add(alloc, CowStr::Borrowed(text))?,
-            None => range.add_null(),
-        }
-    }
-    range.into_range(alloc)
+    ghost invariant = { λ c. AreBlocks BLOCK_ROWS (cells_of_each c.blocks.items)
+        × AreOfType c.packed_type c.blocks.items };
 }
 
 impl TypedColumn {
@@ -87,10 +43,11 @@ impl TypedColumn {
     pub fn value(&self, row: usize) -> Value<'_>
         ensures { value_view result ≡ slice_index_or self.now.cells row null }
     {
-        match &self.blocks {
-            Blocks::Numbers(_, blocks) => number_at(blocks.as_slice(), row),
-            Blocks::Texts(blocks) => text_at(blocks.as_slice(), row),
+        let number = row / BLOCK_ROWS;
+        if number >= self.blocks.len() {
+            return Value::Null;
         }
+        self.blocks[number].value(row % BLOCK_ROWS)
     }
 
     /// The cells of the block of a number, counted from 0, as they are packed; nothing for texts.
@@ -99,10 +56,7 @@ impl TypedColumn {
         ensures { option_copied result ≡ option_map (λ type.
             take BLOCK_ROWS (drop (number * BLOCK_ROWS) self.now.cells)) self.now.packed_type }
     {
-        match &self.blocks {
-            Blocks::Numbers(_, blocks) => Some(&blocks[number]),
-            Blocks::Texts(_) => None,
-        }
+        self.blocks[number].packed()
     }
 
     /// The texts and nulls of the block of a number, counted from 0; nothing for numbers.
@@ -111,10 +65,15 @@ impl TypedColumn {
         ensures { result ≡ cells_of_texts self.now.packed_type
             (take BLOCK_ROWS (drop (number * BLOCK_ROWS) self.now.cells)) }
     {
-        match &self.blocks {
-            Blocks::Numbers(..) => None,
-            Blocks::Texts(blocks) => Some(blocks[number].column()),
-        }
+        self.blocks[number].texts()
+    }
+
+    /// The cells of the block of a number, counted from 0, for another owner. It takes no memory.
+    pub fn shared(&self, number: usize) -> Result<BlockCells, AllocError>
+        requires { number * BLOCK_ROWS < length self.now.cells }
+        ensures { IfOk result (λ shared. shared ≡ block_in self.now number) }
+    {
+        self.blocks[number].shared()
     }
 
     /// The range of the block of a number, counted from 0.
@@ -123,9 +82,6 @@ impl TypedColumn {
         ensures { IfOk result (λ range. IsRangeOf range
             (take BLOCK_ROWS (drop (number * BLOCK_ROWS) self.now.cells))) }
     {
-        match &self.blocks {
-            Blocks::Numbers(_, blocks) => Ok(Range::of_column(&blocks[number])),
-            Blocks::Texts(blocks) => text_range(alloc, &blocks[number].column()),
-        }
+        self.blocks[number].range(alloc)
     }
 }

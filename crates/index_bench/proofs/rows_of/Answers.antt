@@ -3,7 +3,7 @@ use Rattle.std.proofs.lemmas.List.{length-map}
 use Rattle.std.proofs.lemmas.Int.{to_z_pos}
 use Rattle.std.specs.Int.{w64}
 use Rattle.csv_index.specs.declared.fault.TextFault.TheVariants.{NoMemory}
-use Rattle.raw_fields.specs.Raw.{field_of}
+use Rattle.csv_grammar.specs.Raw.{field_of}
 use Rattle.csv_index.specs.Index.{table_in}
 use Rattle.index_bench.specs.Rows.{table, refused, no_memory}
 use Rattle.index_bench.proofs.RowLemmas.{fault_told}

@@ -3,7 +3,7 @@ use Rattle.std.specs.Str.{IsAscii}
 use Rattle.std.proofs.lemmas.List.{map-append, take_all}
 use Rattle.cell_types.specs.Column.{column_view}
 use Rattle.csvw_guess.specs.Names.{name_items, names_after}
-use Rattle.raw_fields.specs.Raw.{RawTable}
+use Rattle.csv_grammar.specs.Raw.{RawTable}
 use Rattle.column_types.specs.declared.seen.Seen.{Seen}
 use Rattle.column_types.specs.Seen.{EndsAs}
 use Rattle.csvw_guess.specs.Table.{file_cells, file_columns, header_cells}

@@ -1,6 +1,6 @@
 use Rattle.std.proofs.Common.{◌≡◌, ◌<◌, [], ◌∷◌, get_or, length, arith, ap, sym, ◌∙◌}
 use Rattle.std.proofs.lemmas.List.{length-map, map-append}
-use Rattle.raw_fields.specs.Raw.{raw_content}
+use Rattle.csv_grammar.specs.Raw.{raw_content}
 use Rattle.csvw_guess.specs.Names.{name_after, name_items}
 use Rattle.csvw_guess.specs.Table.{header_cells}
 use Rattle.csvw_guess.proofs.PlaceLemmas.{header-says, names-more}

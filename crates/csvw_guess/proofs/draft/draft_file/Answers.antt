@@ -5,7 +5,7 @@ use Rattle.std.specs.Str.{bytes_eq}
 use Rattle.std.proofs.lemmas.List.{length-map}
 use Rattle.std.proofs.lemmas.Option.{IfSome_then}
 use Rattle.std.proofs.lemmas.Result.{err_from_is_err_and}
-use Rattle.raw_fields.specs.Raw.{field_of}
+use Rattle.csv_grammar.specs.Raw.{field_of}
 use Rattle.csvw_meta.specs.Forms.{is_table_url}
 use Rattle.csvw_meta.specs.Limits.{limits_view}
 use Rattle.csvw_meta.specs.Schema.{schema_view}

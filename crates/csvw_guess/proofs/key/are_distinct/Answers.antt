@@ -5,7 +5,8 @@ use Rattle.std.proofs.lemmas.Result.{IfErr-weaker, IfOk-weaker}
 use Rattle.cell_types.specs.Cell.{value_of}
 use Rattle.cell_types.specs.Column.{column_view}
 use Rattle.cell_types.specs.Value.{CellValue, value_view}
-use Rattle.raw_fields.specs.Raw.{RawField, raw_content, raw_view}
+use Rattle.csv_grammar.specs.Raw.{RawField, raw_content}
+use Rattle.raw_fields.specs.Raw.{raw_view}
 use Rattle.row_keys.specs.Key.{row_key}
 use Rattle.row_keys.specs.Keys.{HasRead, TakesKey}
 use Rattle.raw_fields.specs.Values.{value_or_null, values_in}

@@ -2,7 +2,7 @@ use Rattle.std.proofs.Common.{◌≡◌, List, drop, take}
 use Rattle.csv_index.specs.Index.{row_fields}
 use Rattle.cell_types.specs.Column.{column_view}
 use Rattle.csvw_meta.specs.Schema.{schema_view}
-use Rattle.raw_fields.specs.Raw.{RawField}
+use Rattle.csv_grammar.specs.Raw.{RawField}
 use Rattle.row_keys.specs.Key.{row_key}
 use Rattle.row_keys.specs.Keys.{HasRead, TakesKey}
 use Rattle.raw_fields.specs.Values.{values_in}

@@ -1,6 +1,7 @@
 -- A long cell decides, and a short one leaves the question to the rest.
 use Rattle.std.proofs.Common.{◌≡◌, ◌<◌, ◌+◌, [], get_or, length, arith, ap, sym, ◌∙◌}
-use Rattle.raw_fields.specs.Raw.{raw_content, raw_view}
+use Rattle.csv_grammar.specs.Raw.{raw_content}
+use Rattle.raw_fields.specs.Raw.{raw_view}
 use Rattle.csvw_guess.specs.Table.{file_cells}
 use Rattle.csvw_guess.proofs.PlaceLemmas.{not-short, still-short}
 use Rattle.csvw_guess.proofs.RowsLemmas.{first-says, row-at}

@@ -2,7 +2,7 @@ use Rattle.std.proofs.Common.{◌≡◌, ◌<◌, ℕ, [], ◌∷◌, length, ma
 use Rattle.std.specs.Prelude.{slice_get}
 use Rattle.std.proofs.lemmas.List.{length-map}
 use Rattle.cell_types.specs.Column.{column_view}
-use Rattle.raw_fields.specs.Raw.{field_of}
+use Rattle.csv_grammar.specs.Raw.{field_of}
 use Rattle.csvw_guess.specs.Table.{file_columns}
 use Rattle.csvw_guess.proofs.PlaceLemmas.{draft_key-is, length-columns_in, schema-parts}
 use Rattle.csvw_guess.proofs.table.make_schema.Goals as goal

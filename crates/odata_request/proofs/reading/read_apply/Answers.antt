@@ -2,7 +2,8 @@ use Rattle.odata_parse.specs.Depth.{IsTooDeepForApply}
 use Rattle.odata_parse.specs.Apply.{IsApply}
 use Rattle.odata_parse.specs.Tree.{apply_view}
 use Rattle.odata_request.specs.Reading.{ReadsText}
-use Rattle.odata_request.proofs.ReadingLemmas.{passed_on, read_tree, unread_tree}
+use Rattle.odata_request.proofs.ReadingLemmas.{read_tree, unread_tree}
+use Rattle.odata_request.proofs.StepLemmas.{passed_on}
 use Rattle.odata_request.proofs.reading.read_apply.Goals as goal
 
 pub returns-in_err-parse_apply : goal.returns-in_err-parse_apply

@@ -2,7 +2,7 @@
 use Rattle.std.proofs.Common.{◌≡◌, ◌++◌, string_bytes, length}
 use denote.Text.{Utf8}
 use denote.Shadow.{shadow}
-use Rattle.raw_fields.specs.Raw.{halved}
+use Rattle.csv_grammar.specs.Raw.{halved}
 use Rattle.raw_fields.proofs.raw.halved.Given as goal
 
 abbrev pub invariant-loop-front : goal.invariant-loop-front

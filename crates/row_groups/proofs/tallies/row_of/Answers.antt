@@ -30,15 +30,15 @@ loop-i-preserved c = λ rows is.
     let aggregates = c.args.aggregates.now in
     let tallies = c.args.tallies.now.items in
     let i = c.loop-i.i in
-    let v = c.value.result in
+    let copy = c.in_ok-owned-2.field-0 in
     let key = map value_view c.args.key.now in
     let long : length aggregates ≡ length tallies = zip_long (λ a t. IsTally a rows t) aggregates tallies is in
     let its : IsTally (get_or aggregates i Count) rows c.index.result.now =
     subst (λ (t : Tally). IsTally (get_or aggregates i Count) rows t) (sym c.index.ensures)
     (zip_at (λ a t. IsTally a rows t) aggregates tallies i Count c.index.result.now is (omega (arith, c.loop-i-test.true, long))) in
-    ap (map value_view) c.in_ok-push-2.ensures.items ∙ map-append value_view c.loop-i.row.items (v ∷ [])
-    ∙ ap (λ vs. vs ++ value_view v ∷ []) (c.loop-i.invariant rows is)
-    ∙ append_assoc key (map (computed_value rows) (take i aggregates)) (value_view v ∷ [])
-    ∙ ap (λ w. key ++ (map (computed_value rows) (take i aggregates) ++ w ∷ [])) (c.value.ensures rows its)
+    ap (map value_view) c.in_ok-push-2.ensures.items ∙ map-append value_view c.loop-i.row.items (copy ∷ [])
+    ∙ ap (λ vs. vs ++ value_view copy ∷ []) (c.loop-i.invariant rows is)
+    ∙ append_assoc key (map (computed_value rows) (take i aggregates)) (value_view copy ∷ [])
+    ∙ ap (λ w. key ++ (map (computed_value rows) (take i aggregates) ++ w ∷ [])) (c.in_ok-owned-2.ensures ∙ c.value.ensures rows its)
     ∙ sym (ap (λ as_many. key ++ map (computed_value rows) as_many) (take_more aggregates i Count c.loop-i-test.true)
     ∙ ap (λ vs. key ++ vs) (map-append (computed_value rows) (take i aggregates) (get_or aggregates i Count ∷ [])))

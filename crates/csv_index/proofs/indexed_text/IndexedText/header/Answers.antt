@@ -1,5 +1,5 @@
 use Rattle.std.proofs.Common.{◌<◌, length, sym, subst, arith, string_bytes}
-use Rattle.raw_fields.specs.Raw.{RawTable}
+use Rattle.csv_grammar.specs.Raw.{RawTable}
 use Rattle.csv_index.specs.Index.{table_in}
 use Rattle.csv_index.proofs.RowLemmas.{width-table_in}
 use Rattle.csv_index.proofs.indexed_text.IndexedText.header.Goals as goal

@@ -1,7 +1,7 @@
 use Rattle.std.proofs.Common.{◌≡◌, List, length, sym, ap, subst, ◌∙◌, string_bytes}
 use Rattle.std.specs.List.{AllByRecursion}
-use Rattle.raw_fields.specs.Raw.{RawField}
-use Rattle.raw_fields.specs.Raw.{RawTable}
+use Rattle.csv_grammar.specs.Raw.{RawField}
+use Rattle.csv_grammar.specs.Raw.{RawTable}
 use Rattle.csv_index.specs.Index.{table_in}
 use Rattle.csv_index.proofs.RowLemmas.{width-table_in, widths-table_in}
 use Rattle.csv_index.proofs.indexed_text.IndexedText.width.Goals as goal

@@ -1,23 +1,55 @@
-use Rattle.std.proofs.Common.{◌≡◌, Err, None, map, rules, string_bytes, subst}
-use Rattle.query_plan.specs.Plan.{node_view}
-use Rattle.query_exec.specs.Gathers.{GivesOfGathered}
+use Rattle.std.proofs.Common.{◌≡◌, ◌∙◌, Err, None, Some, ap, map, rules, subst, sym}
+use Rattle.query_plan.specs.Fitting.{NodesFit}
+use Rattle.query_plan.specs.Plan.{node_view, nodes_result}
+use Rattle.query_exec.specs.Intermediate.{intermediate_view, GivesIntermediate, Makes}
 use Rattle.query_exec.specs.Run.{wanted_block}
-use Rattle.query_exec.proofs.MadeLemmas.{fault_goes_on}
+use Rattle.query_exec.specs.Sink.{MayFinish, SinkMakes}
+use Rattle.query_exec.proofs.RunLemmas.{answer_made, fault_goes_on, may_finish, steps_fit, sunk_is}
 use Rattle.query_exec.proofs.run.Run.go_on.Goals as goal
+
+pub finish-requires : goal.finish-requires
+finish-requires c =
+    let old = c.args.self.now in
+    let beyond : wanted_block old ≡ None = search rules in
+    let is : c.replace-sink.result ≡ old.sink = search rules in
+    subst MayFinish (sym is) (may_finish old (c.requires beyond) c.if-self.false c.nodes_in_turn.ensures)
+
+pub apply_all-requires-clause-input : goal.apply_all-requires-clause-input
+apply_all-requires-clause-input c =
+    let old = c.args.self.now in
+    let beyond : wanted_block old ≡ None = search rules in
+    let is : c.replace-sink.result ≡ old.sink = search rules in
+    sunk_is old (c.requires beyond) c.if-self.false c.nodes_in_turn.ensures c.in_ok-sunk.sunk (subst (λ s. SinkMakes s c.in_ok-sunk.sunk) is c.in_ok-sunk.ensures)
+
+pub apply_all-requires-clause-fits : goal.apply_all-requires-clause-fits
+apply_all-requires-clause-fits c =
+    let old = c.args.self.now in
+    let beyond : wanted_block old ≡ None = search rules in
+    let is : c.replace-sink.result ≡ old.sink = search rules in
+    let steps_are : c.deref.result.now ≡ old.steps.items = search rules in
+    subst (λ steps. NodesFit (map node_view steps) (intermediate_view c.in_ok-sunk.sunk)) (sym steps_are)
+    (steps_fit old (c.requires beyond) c.if-self.false c.nodes_in_turn.ensures c.in_ok-sunk.sunk (subst (λ s. SinkMakes s c.in_ok-sunk.sunk) is c.in_ok-sunk.ensures))
 
 pub returns-in_err-made : goal.returns-in_err-made
 returns-in_err-made c =
     let old = c.args.self.now in
     let fault = c.in_err-made.field-0.0 in
     let beyond : wanted_block old ≡ None = search rules in
+    let is : c.replace-sink.result ≡ old.sink = search rules in
     let steps_are : c.deref.result.now ≡ old.steps.items = search rules in
-    let names_are : c.replace-names.result.items ≡ old.names.items = search rules in
-    let rows_are : c.replace-kept.result.rows ≡ old.kept.rows = search rules in
-    let gathering_is : c.take-gathering.result ≡ old.gathering = search rules in
-    let each =
-    subst (λ rows. GivesOfGathered (map node_view old.steps.items) (map string_bytes old.names.items) old.gathering rows old.count (Err fault)) rows_are
-    (subst (λ names. GivesOfGathered (map node_view old.steps.items) (map string_bytes names) old.gathering c.replace-kept.result.rows old.count (Err fault)) names_are
-    (subst (λ steps. GivesOfGathered (map node_view steps) (map string_bytes c.replace-names.result.items) old.gathering c.replace-kept.result.rows old.count (Err fault)) steps_are
-    (subst (λ gathering. GivesOfGathered (map node_view c.deref.result.now) (map string_bytes c.replace-names.result.items) gathering c.replace-kept.result.rows old.count (Err fault)) gathering_is
-    c.in_err-made.ensures))) in
-    fault_goes_on old _ fault c.from_residual.result c.from_residual.ensures.1 beyond c.if-self.false each
+    let gives = subst (λ steps. GivesIntermediate (nodes_result (map node_view steps) (intermediate_view c.in_ok-sunk.sunk)) (Err fault)) steps_are c.in_err-made.ensures in
+    fault_goes_on old (c.requires beyond) c.if-self.false c.nodes_in_turn.ensures c.in_ok-sunk.sunk (subst (λ s. SinkMakes s c.in_ok-sunk.sunk) is c.in_ok-sunk.ensures)
+    _ fault c.from_residual-in_err-made.result beyond gives c.from_residual-in_err-made.ensures.1
+
+pub returns : goal.returns
+returns c =
+    let old = c.args.self.now in
+    let beyond : wanted_block old ≡ None = search (rules, c.wanted.ensures, c.is_some.ensures, c.if-is_some.false, c.if-is_some.ensures) in
+    let is : c.replace-sink.result ≡ old.sink = search (rules, c.replace-sink.ensures.value) in
+    let steps_are : c.deref.result.now ≡ old.steps.items = search (rules, c.deref.ensures.value, c.replace-sink.ensures.after) in
+    let makes : Makes (nodes_result (map node_view old.steps.items) (intermediate_view c.in_ok-sunk.sunk)) c.in_ok-made.made =
+    subst (λ steps. Makes (nodes_result (map node_view steps) (intermediate_view c.in_ok-sunk.sunk)) c.in_ok-made.made) steps_are c.in_ok-made.ensures in (
+      beyond,
+      answer_made old (c.requires beyond) c.if-self.false c.nodes_in_turn.ensures c.in_ok-sunk.sunk (subst (λ s. SinkMakes s c.in_ok-sunk.sunk) is c.in_ok-sunk.ensures) _
+          (makes.result ∙ ap Some (sym c.in_ok-into_rows.ensures)),
+    )

@@ -1,10 +1,13 @@
-use Rattle.std.proofs.Common.{◌≡◌, ◌<◌, ◌++◌, ◌∷◌, [], Vec, Global, get_or, length, map, sym, ap, subst, ◌∙◌, arith}
+use Rattle.std.proofs.Common.{◌≡◌, ◌<◌, ◌+◌, ◌++◌, ◌∷◌, [], Vec, Global, get_or, length, map, sym, ap, subst, ◌∙◌, arith}
+use Rattle.std.proofs.lemmas.List.{map_push}
 use Rattle.cell_types.specs.Value.{value_view}
+use Rattle.cell_types.specs.declared.value.Value.{Value}
 use Rattle.query_meaning.specs.Apply.{computed_value}
+use Rattle.row_columns.specs.Store.{value_rows}
 use Rattle.row_groups.specs.declared.tally.Tally.{Tally}
 use Rattle.row_groups.specs.Gathered.{group_keys, part_of}
 use Rattle.row_groups.specs.Tallies.{AreTallies}
-use Rattle.row_groups.proofs.GatheredLemmas.{as_many_keys, key_at, row_kinds, row_more, tallies_at}
+use Rattle.row_groups.proofs.GatheredLemmas.{as_many_keys, key_at, row_more, row_wide, tallies_at, wide_push}
 use Rattle.row_groups.proofs.groups.Groups.rows.Goals as goal
 
 pub index-requires : goal.index-requires
@@ -24,26 +27,24 @@ row_of-requires c =
           (tallies_at places aggregates groups rows c.requires.gathered.2 i c.index.result.now inside),
     )
 
-pub push-requires : goal.push-requires
-push-requires c =
-    let places = c.requires.gathered.0 in
-    let rows = c.requires.gathered.1 in
-    let groups = c.args.self.now in
-    let aggregates = c.args.aggregates.now in
-    let i = c.loop-i.i in
-    let part = part_of places rows (get_or (group_keys places rows) i []) in
-    let inside : i < length groups.tallies.items = omega (arith, c.loop-i-test.true, ap length c.as_slice-keys.ensures.keys, as_many_keys places aggregates groups rows c.requires.gathered.2) in
-    let tallies : AreTallies aggregates part c.index.result.now.items =
-    subst (λ (ts : Vec Tally Global). AreTallies aggregates part ts.items) (sym c.index.ensures) (tallies_at places aggregates groups rows c.requires.gathered.2 i c.index.result.now inside) in
-    let key : map value_view c.as_slice.result.now ≡ get_or (group_keys places rows) i [] =
-    ap (map value_view) c.as_slice.ensures.value ∙ ap (λ k. map value_view k.items) (c.index-keys-i.is ∙ ap (λ ks. get_or ks i c.index-keys-i.result) c.as_slice-keys.ensures.keys)
-    ∙ key_at places aggregates groups rows c.requires.gathered.2 i c.index-keys-i.result inside in
-    let is = ap (map value_view) c.deref.ensures.value ∙ c.in_ok-row.ensures part tallies ∙ ap (λ k. k ++ map (computed_value part) aggregates) key in
-    row_kinds places aggregates groups rows c.requires.gathered.2 i c.args.width c.loop-i.made.kinds (map value_view c.deref.result.now) inside c.requires.gathered.3 c.loop-i.invariant.kinds is
-
 pub loop-i-preserved : goal.loop-i-preserved
 loop-i-preserved c = record {
-  kinds = c.in_ok-push.ensures.kinds ∙ c.loop-i.invariant.kinds;
+  wide =
+      let places = c.requires.gathered.0 in
+      let rows = c.requires.gathered.1 in
+      let groups = c.args.self.now in
+      let aggregates = c.args.aggregates.now in
+      let i = c.loop-i.i in
+      let part = part_of places rows (get_or (group_keys places rows) i []) in
+      let inside : i < length groups.tallies.items = omega (arith, c.loop-i-test.true, ap length c.as_slice-keys.ensures.keys, as_many_keys places aggregates groups rows c.requires.gathered.2) in
+      let tallies : AreTallies aggregates part c.index.result.now.items =
+      subst (λ (ts : Vec Tally Global). AreTallies aggregates part ts.items) (sym c.index.ensures) (tallies_at places aggregates groups rows c.requires.gathered.2 i c.index.result.now inside) in
+      let key : map value_view c.as_slice.result.now ≡ get_or (group_keys places rows) i [] =
+      ap (map value_view) c.as_slice.ensures.value ∙ ap (λ k. map value_view k.items) (c.index-keys-i.is ∙ ap (λ ks. get_or ks i c.index-keys-i.result) c.as_slice-keys.ensures.keys)
+      ∙ key_at places aggregates groups rows c.requires.gathered.2 i c.index-keys-i.result inside in
+      let is = c.in_ok-row_of.ensures part tallies ∙ ap (λ k. k ++ map (computed_value part) aggregates) key in
+      wide_push c.loop-i.rows.items c.in_ok-row_of.field-0 (c.args.width + length aggregates) c.in_ok-push.ensures.items
+      (row_wide places aggregates groups rows c.requires.gathered.2 i c.args.width (map value_view c.in_ok-row_of.field-0.items) inside c.requires.gathered.3 is) c.loop-i.invariant.wide;
   rows = λ places rows has.
       let groups = c.args.self.now in
       let aggregates = c.args.aggregates.now in
@@ -55,7 +56,8 @@ loop-i-preserved c = record {
       let key : map value_view c.as_slice.result.now ≡ get_or (group_keys places rows) i [] =
       ap (map value_view) c.as_slice.ensures.value ∙ ap (λ k. map value_view k.items) (c.index-keys-i.is ∙ ap (λ ks. get_or ks i c.index-keys-i.result) c.as_slice-keys.ensures.keys)
       ∙ key_at places aggregates groups rows has i c.index-keys-i.result inside in
-      let is = ap (map value_view) c.deref.ensures.value ∙ c.in_ok-row.ensures part tallies ∙ ap (λ k. k ++ map (computed_value part) aggregates) key in
-      c.in_ok-push.ensures.rows ∙ ap (λ rs. rs ++ map value_view c.deref.result.now ∷ []) (c.loop-i.invariant.rows places rows has)
-      ∙ sym (row_more places aggregates groups rows has i (map value_view c.deref.result.now) inside is);
+      let is = c.in_ok-row_of.ensures part tallies ∙ ap (λ k. k ++ map (computed_value part) aggregates) key in
+      ap value_rows c.in_ok-push.ensures.items ∙ map_push (λ (r : Vec Value Global). map value_view r.items) c.loop-i.rows.items c.in_ok-row_of.field-0
+      ∙ ap (λ rs. rs ++ map value_view c.in_ok-row_of.field-0.items ∷ []) (c.loop-i.invariant.rows places rows has)
+      ∙ sym (row_more places aggregates groups rows has i (map value_view c.in_ok-row_of.field-0.items) inside is);
 }

@@ -20,7 +20,7 @@ returns-in-None c =
 pub returns-in-Some-integer_in : goal.returns-in-Some-integer_in
 returns-in-Some-integer_in c =
     let key = map value_view c.args.key.now in
-    c.get_index_of.ensures.index ∙ position-view integer_key _ int_eq-view c.in-Some-integer_in.number.now c.in-Integers.keys.keys
+    c.place.ensures.place ∙ position-view integer_key _ int_eq-view c.in-Some-integer_in.number.now c.in-Integers.keys.keys
     ∙ ap (row_of (map integer_key c.in-Integers.keys.keys)) (sym c.in-Some-integer_in.ensures.some) ∙ ap (λ ks. row_of (keys_view ks) key) (sym c.in-Integers.is)
 
 pub returns-in-None-integer_in : goal.returns-in-None-integer_in
@@ -31,5 +31,5 @@ returns-in-None-integer_in c =
 pub returns-in-Values : goal.returns-in-Values
 returns-in-Values c =
     let key = c.args.key.now in
-    c.get_index_of-in-Values.ensures.index ∙ values-row value_view _ c.values_compare_as_their_views.ensures.equal (λ k. k.items) key c.in-Values.keys.keys
+    c.place_of_list.ensures.place ∙ values-row value_view _ c.values_compare_as_their_views.ensures.equal (λ k. k.items) key c.in-Values.keys.keys
     ∙ ap (λ ks. row_of (keys_view ks) (map value_view key)) (sym c.in-Values.is)

@@ -1,6 +1,7 @@
 use Rattle.std.proofs.Common.{◌≡◌, ◌<◌, ℕ, length, ap, sym, subst, ◌∙◌, eqb-true, arith}
 use Rattle.text_columns.specs.Places.{place_list}
 use Rattle.text_columns.specs.Search.{IsRight}
+use Rattle.text_columns.specs.Texts.{EndsRise}
 use Rattle.text_columns.proofs.SearchLemmas.{marks-end, right-empty}
 use Rattle.text_columns.proofs.TextLemmas.{length-text_cells}
 use Rattle.text_columns.proofs.column.TextColumn.mark_containing.Goals as goal
@@ -9,6 +10,11 @@ pub mark_hits-requires-clause-long : goal.mark_hits-requires-clause-long
 mark_hits-requires-clause-long c =
     let b = c.self.inside in
     omega (arith, c.requires, c.fill.ensures.len, ap length c.self.view_is, length-text_cells b.nulls.now (place_list b.ends.now) b.bytes.now)
+
+pub mark_hits-requires-clause-rise : goal.mark_hits-requires-clause-rise
+mark_hits-requires-clause-rise c =
+    let b = c.self.inside in
+    subst (λ bytes. EndsRise (place_list b.ends.now) (length bytes)) (sym c.as_bytes.ensures.value) c.self.invariant.texts.rise
 
 pub returns-then-is_empty : goal.returns-then-is_empty
 returns-then-is_empty c =

@@ -1,18 +1,22 @@
-use Rattle.std.proofs.Common.{◌*◌, None, Some, take, drop, sym, ap, ◌∙◌, arith}
+use Rattle.std.proofs.Common.{◌*◌, ◌<◌, length, ap, ◌∙◌, arith}
 use Rattle.block_summary.specs.declared.block.TheConstants.{BLOCK_ROWS}
-use Rattle.typed_columns.specs.TypedColumn.{cells_of_texts}
-use Rattle.typed_columns.proofs.BlockLemmas.{block_is, block_there, text_blocks}
+use Rattle.typed_columns.specs.TypedColumn.{ColumnCells, block_in, cells_in, cells_of_each, cells_of_texts}
+use Rattle.typed_columns.proofs.BlockLemmas.{block_is, block_there}
 use Rattle.typed_columns.proofs.typed_column.TypedColumn.texts.Goals as goal
 
 pub index-requires : goal.index-requires
 index-requires c =
-    let has = text_blocks BLOCK_ROWS c.self.inside.blocks c.in-Texts.blocks c.args.self.now c.in-Texts.is c.self.view_is c.self.invariant in
-    let there = block_there BLOCK_ROWS None c.in-Texts.blocks.items c.args.self.now c.args.number has (omega arith) c.requires in
-    omega (arith, there, c.in-Texts.blocks.ok.0)
+    let blocks = c.self.inside.blocks.items in
+    let size = ap (λ (column : ColumnCells). length column.cells) c.self.view_is in
+    let within : c.args.number * BLOCK_ROWS < length (cells_in (cells_of_each blocks)) = omega (arith, size, c.requires) in
+    let there = block_there BLOCK_ROWS blocks c.args.number c.self.invariant.0 (omega arith) within in
+    omega (arith, there, c.self.inside.blocks.ok.0)
 
-pub returns-in-Texts : goal.returns-in-Texts
-returns-in-Texts c =
-    let has = text_blocks BLOCK_ROWS c.self.inside.blocks c.in-Texts.blocks c.args.self.now c.in-Texts.is c.self.view_is c.self.invariant in
-    ap (λ cells. Some cells)
-    (c.column.ensures ∙ block_is BLOCK_ROWS None c.in-Texts.blocks.items c.args.self.now c.args.number c.index.result.now has (omega arith) c.requires c.index.ensures)
-    ∙ sym (ap (λ type. cells_of_texts type (take BLOCK_ROWS (drop (c.args.number * BLOCK_ROWS) c.args.self.now.cells))) has.type)
+pub returns : goal.returns
+returns c =
+    let blocks = c.self.inside.blocks.items in
+    let size = ap (λ (column : ColumnCells). length column.cells) c.self.view_is in
+    let within : c.args.number * BLOCK_ROWS < length (cells_in (cells_of_each blocks)) = omega (arith, size, c.requires) in
+    let block = block_is BLOCK_ROWS c.self.inside.packed_type blocks c.args.number c.index.result.now c.self.invariant.0 c.self.invariant.1 (omega arith) within c.index.ensures
+    ∙ ap (λ (column : ColumnCells). block_in column c.args.number) c.self.view_is in
+    c.texts.ensures ∙ ap (λ (b : ColumnCells). cells_of_texts b.packed_type b.cells) block

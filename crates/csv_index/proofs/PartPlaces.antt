@@ -1,0 +1,144 @@
+-- Where the field of a row and a column of a part stands, and the places that a file's first part begins with.
+use Rattle.std.proofs.Common.{◌≡◌, ℕ, ◌+◌, ◌-◌, ◌*◌, ◌<◌, ◌≤◌, List, [], ◌∷◌, ◌++◌, length, length-drop, map, take, drop, min, set, subst, true, Some, add-one, refl, ap, sym, ◌∙◌, arith}
+use Rattle.std.proofs.Math.Nat.{mul-le-mul}
+use Rattle.std.proofs.lemmas.Option.{slice_get-map, slice_get_within}
+use Rattle.std.specs.Prelude.{IsUtf8}
+use Rattle.std.specs.List.{slice_get, slice_index, slice_range}
+use Rattle.std.specs.Option.{option_map}
+use Rattle.std.specs.Str.{is_utf8, IsCharBoundary}
+use Rattle.csv_grammar.specs.Raw.{RawField}
+use Rattle.csv_index.specs.Between.{raw_between}
+use Rattle.csv_index.specs.Fields.{AreLeft}
+use Rattle.csv_index.specs.Index.{Places, cell_at, cut, raws, rows_cut, start_at, table_in, FitsFile}
+use Rattle.csv_index.specs.Parts.{part_ends, part_fields, part_start, parts_of, parts_view, AreParts, PartsOf}
+use Rattle.csv_index.specs.declared.parts.Parts.TheInside.{Inside}
+use Rattle.csv_index.proofs.Boundaries.{boundary_next, end_boundary, start_boundary}
+use Rattle.csv_index.proofs.CellLemmas.{AllByRecursion-at, cell_fits, cut_at, fields_behind, start_before}
+use Rattle.csv_index.proofs.RowLemmas.{cell-rows_of, length-rows_of}
+use Rattle.csv_index.proofs.PartLemmas.{fields_of, place_at, start_past}
+
+-- the number of a field of a row
+pub below_cells : (row rows col width : ℕ) → row < rows → col < width → row * width + col < rows * width
+below_cells row rows col width r c =
+    let more : row + 1 ≤ rows = omega arith in
+    let same : width ≤ width = omega arith in
+    let most : (row + 1) * width ≤ rows * width = mul-le-mul more same in
+    omega (arith, most)
+
+-- ---- the field of a row and a column
+
+-- what is known of the field of a number
+pub record FieldPlace (p : Inside) (n : ℕ) : Type 0 where
+  pub within : n + 1 < length p.places.items
+  pub order : slice_index p.places.items n + 1 ≤ slice_index p.places.items (n + 1)
+  pub size : slice_index p.places.items (n + 1) ≤ length p.text.now
+  pub start : IsCharBoundary p.text.now (slice_index p.places.items n + 1)
+  pub end : IsCharBoundary p.text.now (slice_index p.places.items (n + 1))
+  pub field : slice_get (part_fields p) n ≡ Some (raw_between (slice_range p.text.now (slice_index p.places.items n + 1) (slice_index p.places.items (n + 1))))
+  pub utf8 : is_utf8 (raw_between (slice_range p.text.now (slice_index p.places.items n + 1) (slice_index p.places.items (n + 1)))).bytes ≡ true
+
+field_place : (p : Inside) (n : ℕ) → AreParts p → n < p.rows * p.width → FieldPlace p n
+field_place p n are within =
+    let places = p.places.items in
+    let text = p.text.now in
+    let ends = part_ends p in
+    let size : p.rows * p.width < length places = omega (arith, are.places) in
+    let end : slice_get ends n ≡ Some (slice_index places (n + 1)) =
+    place_at places p.ends (p.rows * p.width) n size within ∙ ap (λ k. Some (slice_index places k)) (sym (add-one n)) in
+    let start : start_at (part_start p) ends n ≡ slice_index places n + 1 = start_past places p.ends (p.rows * p.width) n size within in
+    let some : 0 < length ends = omega (arith, slice_get_within ends n (slice_index places (n + 1)) end) in
+    let order = start_before (part_start p) (length text) ends n (slice_index places (n + 1)) are.ends.rise end in
+    let field : slice_get (part_fields p) n ≡ Some (raw_between (slice_range text (slice_index places n + 1) (slice_index places (n + 1)))) =
+    slice_get-map raw_between (cut (part_start p) ends text) n
+    ∙ ap (option_map raw_between) (cut_at (part_start p) ends text n (slice_index places (n + 1)) end ∙ ap (λ k. Some (slice_range text k (slice_index places (n + 1)))) start) in record {
+      within = omega (arith, within, size);
+      order = subst (λ k. k ≤ slice_index places (n + 1)) start order.0;
+      size = order.1;
+      start = subst (IsCharBoundary text) start
+          (start_boundary (part_start p) ends text n (slice_index places (n + 1)) are.ends.utf8 (are.ends.boundary some) are.ends.rise are.ends.ascii end);
+      end = end_boundary (part_start p) ends text n (slice_index places (n + 1)) are.ends.rise are.ends.ascii end;
+      field = field;
+      utf8 = AllByRecursion-at (λ raw. is_utf8 raw.bytes ≡ true) (part_fields p) n _ are.ends.text field;
+    }
+
+-- of the field of a row and a column
+pub record CellPlace (p : Inside) (parts : PartsOf) (row col : ℕ) : Type 0 where
+  pub row_within : row < p.rows
+  pub col_within : col < p.width
+  pub place : FieldPlace p (row * p.width + col)
+  pub cell : cell_at parts.part row col
+      ≡ Some (raw_between (slice_range p.text.now (slice_index p.places.items (row * p.width + col) + 1) (slice_index p.places.items (row * p.width + col + 1))))
+
+pub cell_place : (p : Inside) (parts : PartsOf) (row col : ℕ) → parts_view p ≡ parts → AreParts p → row < length parts.part → col < parts.width → CellPlace p parts row col
+cell_place p parts row col is are r c =
+    let rows : length parts.part ≡ p.rows = ap (λ (q : PartsOf). length q.part) (sym is) ∙ length-rows_of p.rows p.width (part_fields p) in
+    let wide : parts.width ≡ p.width = ap (λ (q : PartsOf). q.width) (sym is) in
+    let row_within : row < p.rows = omega (arith, rows, r) in
+    let col_within : col < p.width = omega (arith, wide, c) in
+    let place = field_place p (row * p.width + col) are (below_cells row p.rows col p.width row_within col_within) in record {
+      row_within = row_within;
+      col_within = col_within;
+      place = place;
+      cell = ap (λ (q : PartsOf). cell_at q.part row col) (sym is)
+          ∙ cell-rows_of p.rows p.width (part_fields p) row col _ row_within col_within place.field;
+    }
+
+-- ---- the first rows
+
+-- there are fewer fields than bytes
+pub part_room : (places : Places) (bytes : List ℕ) (most more rows width : ℕ) → FitsFile places bytes → rows ≡ places.rows → width ≡ places.width
+    → more ≡ min rows most → more * width ≤ length bytes
+part_room places bytes most more rows width fits r w is =
+    let f = cell_fits places bytes places.rows fits (omega arith) in
+    let cells : rows * width + width ≤ length bytes + 1 = rw (r, w) (omega (arith, f.1, f.2)) in
+    let fewer : more ≤ rows = omega arith in
+    let same : width ≤ width = omega arith in
+    let less : more * width ≤ rows * width = mul-le-mul fewer same in
+    omega (arith, cells, less, fits.width, w)
+
+pub first_left : (items ends bytes : List ℕ) (width end : ℕ) → 0 < length items → AreLeft (end + 1) ends bytes
+    → AreLeft (slice_index (set items 0 end) 0 + 1) (take (0 * width) (drop 1 (set items 0 end)) ++ ends) bytes
+first_left [] ends bytes width end some left = absurd (omega arith)
+first_left (item ∷ items) ends bytes width end some left = let none : 0 * width ≡ 0 = omega arith in rw none left
+
+first_fields : (items ends bytes : List ℕ) (width end : ℕ) → 0 < length items
+    → drop (0 * width) (fields_of bytes (set items 0 end) (0 * width) ends) ≡ map raw_between (cut (end + 1) ends bytes)
+first_fields [] ends bytes width end some = absurd (omega arith)
+first_fields (item ∷ items) ends bytes width end some = let none : 0 * width ≡ 0 = omega arith in rw none refl
+
+-- the places after the header's fields
+pub record AreRowEnds (places : Places) (bytes : List ℕ) (rows width end : ℕ) (ends : List ℕ) : Type 0 where
+  pub left : AreLeft (end + 1) ends bytes
+  pub fields : map raw_between (cut (end + 1) ends bytes) ≡ drop places.width (raws places bytes)
+  pub count : length ends ≡ rows * width
+
+pub row_ends : (places : Places) (bytes : List ℕ) (rows width end : ℕ) (ends : List ℕ) → IsUtf8 bytes → FitsFile places bytes → rows ≡ places.rows → width ≡ places.width
+    → slice_get places.ends (width - 1) ≡ Some end → ends ≡ drop (width - 1 + 1) places.ends → AreRowEnds places bytes rows width end ends
+row_ends places bytes rows width end ends utf8 fits r w e is =
+    let number : (0 + 1) * places.width ≡ width - 1 + 1 = omega (arith, fits.width, w) in
+    let one : (0 + 1) * places.width ≡ places.width = omega arith in
+    let b = fields_behind places bytes 0 (width - 1) end ends fits number e is in
+    let size : length ends ≡ length places.ends - (width - 1 + 1) = ap length is ∙ length-drop (width - 1 + 1) places.ends in
+    let cells : places.rows * places.width ≡ rows * width = ap (λ k. k * places.width) (sym r) ∙ ap (λ k. rows * k) (sym w) in record {
+      left = record {
+        rise = b.rise;
+        text = b.text;
+        utf8 = utf8;
+        boundary = λ some. boundary_next places.start places.ends bytes (width - 1) end utf8 fits.rise fits.ascii e
+            (subst (λ l. 0 < length l) (is ∙ ap (λ k. drop k places.ends) (add-one (width - 1))) some);
+        ascii = b.ascii;
+      };
+      fields = b.are ∙ ap (λ k. drop k (raws places bytes)) one;
+      count = omega (arith, size, fits.count, number, one, cells);
+    }
+
+abbrev pub made_parts : List ℕ → ℕ → ℕ → List RawField → PartsOf
+made_parts bytes rows width fields = record { bytes = bytes; width = width; part = []; left = rows_cut rows width fields }
+
+pub parts_are : (places : Places) (bytes items ends : List ℕ) (rows width end : ℕ) → 0 < length items → rows ≡ places.rows → width ≡ places.width
+    → AreRowEnds places bytes rows width end ends
+    → made_parts bytes rows width (drop (0 * width) (fields_of bytes (set items 0 end) (0 * width) ends)) ≡ parts_of bytes places.width (table_in places bytes).rows
+parts_are places bytes items ends rows width end some r w are =
+    ap (made_parts bytes rows width) (first_fields items ends bytes width end some ∙ are.fields)
+    ∙ ap (λ n. made_parts bytes n width (drop places.width (raws places bytes))) r
+    ∙ ap (λ k. made_parts bytes places.rows k (drop places.width (raws places bytes))) w

@@ -1,0 +1,161 @@
+-- Aggregates of rows, or of groups of them.
+use Rattle.std.proofs.Common.{◌≡◌, ℕ, ◌<◌, ◌^◌, Option, Some, None, List, [], ◌∷◌, ◌++◌, length, map, refl, sym, ap, ◌∙◌, subst}
+use Rattle.std.specs.Prelude.{Err, IfOk, IfSome, Ok, Result, option_and_then}
+use Rattle.std.specs.Borrow.{Bor}
+use Rattle.std.specs.List.{All}
+use Rattle.std.proofs.lemmas.List.{length-append, length-map}
+use Rattle.cell_types.specs.Value.{CellValue}
+use Rattle.odata_query.specs.declared.aggregate.Aggregate.{Aggregate}
+use Rattle.odata_query.specs.declared.aggregate.Aggregate.TheVariants.{Count, SumOfIntegers, SumOfDecimals, Min, Max, CountDistinct}
+use Rattle.odata_query.specs.Aggregate.{NamedAggregateOf, aggregates_view}
+use Rattle.odata_query.specs.Query.{optional_numbers}
+use Rattle.query_meaning.specs.Meaning.{ResultOf}
+use Rattle.query_plan.specs.Fitting.{AggregateFits, IsFitNode}
+use Rattle.query_plan.specs.Plan.{node_names, node_result, nodes_result}
+use Rattle.table_store.specs.Table.{TableOf}
+use Rattle.row_columns.specs.Picked.{numbered}
+use Rattle.row_groups.specs.declared.gathering.Gathering.{Gathering}
+use Rattle.row_groups.specs.Gathered.{gathered_rows, gathered_width, lent_places, Adjoins, Gathers, HasGatheredRows, MayJoin}
+use Rattle.row_groups.specs.Tallies.{FitsAll}
+use Rattle.block_filter.specs.declared.block.Passed.{Passed}
+use Rattle.query_exec.specs.declared.aggregate.AggregateSink.{AggregateSink}
+use Rattle.query_exec.specs.declared.intermediate.Intermediate.{Intermediate}
+use Rattle.query_exec.specs.declared.kept.Kept.{Kept}
+use Rattle.query_exec.specs.declared.sink.Sink.TheVariants as sink
+use Rattle.query_exec.specs.Intermediate.{aggregate_node, intermediate_view, without_count, AreAllNumbers, IsIntermediate, Makes}
+use Rattle.query_exec.specs.Kept.{kept_names, kept_places, HasKept, HasSameColumns}
+use Rattle.query_exec.specs.Picked.{selected_rows}
+use Rattle.query_exec.specs.Sink.{MayPush, PushesOn, SinkMakes}
+use Rattle.query_exec.proofs.KeptLemmas.{as_many}
+use Rattle.query_exec.proofs.StepLemmas.{all_numbered}
+
+-- ---- the step
+
+-- a column for each name
+pub names_wide : (places : Option (List ℕ)) (aggregates : List NamedAggregateOf) (names : List (List ℕ))
+    → length (node_names (aggregate_node places aggregates) names) ≡ gathered_width places aggregates
+names_wide None aggregates names = length-map aggregates (λ a. a.alias)
+names_wide (Some places) aggregates names = simp (length-append, length-map) refl
+
+pub names_as_wide : {S : Type 0} (view : S → List ℕ) (places : Option (List ℕ)) (aggregates : List NamedAggregateOf) (names : List (List ℕ)) (made : List S)
+    → map view made ≡ node_names (aggregate_node places aggregates) names → gathered_width places aggregates ≡ length made
+names_as_wide view places aggregates names made is = sym (names_wide places aggregates names) ∙ sym (ap length is) ∙ length-map made view
+
+-- what it makes of a result
+pub aggregate_made : (places : Option (List ℕ)) (aggregates : List NamedAggregateOf) (r : ResultOf)
+    → node_result (aggregate_node places aggregates) r
+    ≡ Some (record r { names = node_names (aggregate_node places aggregates) r.names; rows = gathered_rows places aggregates r.rows })
+aggregate_made None aggregates r = refl
+aggregate_made (Some places) aggregates r = refl
+
+-- and where it is made
+pub aggregate_makes : (places : Option (List ℕ)) (aggregates : List NamedAggregateOf) (r : ResultOf) (names : List (List ℕ)) (rows : List (List CellValue)) (made : Intermediate)
+    → names ≡ node_names (aggregate_node places aggregates) r.names → rows ≡ gathered_rows places aggregates r.rows
+    → intermediate_view made ≡ record { names = names; rows = rows; count = r.count } → IsIntermediate made → Makes (node_result (aggregate_node places aggregates) r) made
+aggregate_makes places aggregates r names rows made n w view is =
+    let whole : intermediate_view made ≡ record r { names = node_names (aggregate_node places aggregates) r.names; rows = gathered_rows places aggregates r.rows } =
+    view ∙ ap (λ ns. record r { names = ns; rows = rows }) n ∙ ap (λ rs. record r { names = node_names (aggregate_node places aggregates) r.names; rows = rs }) w in
+    record { result = aggregate_made places aggregates r ∙ ap Some (sym whole); intermediate = is }
+
+-- it fits a result of so many columns
+aggregate_fits : (r : ResultOf) (width : ℕ) → length r.names ≡ width → length r.rows < 2 ^ 64 → (a : Aggregate) → AggregateFits r a → FitsAll width r.rows a
+aggregate_fits r width long few Count fit = few
+aggregate_fits r width long few (SumOfIntegers place) fit = (subst (λ n. place < n) long fit.0, fit.1)
+aggregate_fits r width long few (SumOfDecimals place) fit = (subst (λ n. place < n) long fit.0, fit.1)
+aggregate_fits r width long few (Min place) fit = subst (λ n. place < n) long fit
+aggregate_fits r width long few (Max place) fit = subst (λ n. place < n) long fit
+aggregate_fits r width long few (CountDistinct place) fit = subst (λ n. place < n) long fit
+
+module _ (r : ResultOf) (width : ℕ) (long : length r.names ≡ width) where
+  pub aggregates_fit : (places : Option (List ℕ)) (aggregates : List NamedAggregateOf) → length r.rows < 2 ^ 64 → IsFitNode (aggregate_node places aggregates) r
+      → All (λ a. FitsAll width r.rows a.aggregate) aggregates
+  aggregates_fit None aggregates few fit = λ k d h. aggregate_fits r width long few _ (fit k d h)
+  aggregates_fit (Some places) aggregates few fit = λ k d h. aggregate_fits r width long few _ (fit.1 k d h)
+
+  pub places_fit : (places : Option (List ℕ)) (aggregates : List NamedAggregateOf) → IsFitNode (aggregate_node places aggregates) r
+      → IfSome places (All (λ place. place < width))
+  places_fit None aggregates fit = tt
+  places_fit (Some places) aggregates fit = subst (λ n. All (λ place. place < n) places) long fit.0
+
+  pub lent_fit : (places : Option (Bor (List ℕ))) (aggregates : List NamedAggregateOf) → IsFitNode (aggregate_node (lent_places places) aggregates) r
+      → IfSome places (λ ps. All (λ place. place < width) ps.now)
+  lent_fit None aggregates fit = tt
+  lent_fit (Some places) aggregates fit = subst (λ n. All (λ place. place < n) places.now) long fit.0
+
+-- ---- rows that are gathered
+
+-- rows may join those that were, where it fits all of them
+pub may_join : (places : Option (List ℕ)) (aggregates : List NamedAggregateOf) (g : Gathering) (before more : List (List CellValue)) (names : List (List ℕ)) (width : ℕ)
+    → Gathers g places aggregates before → length names ≡ width → length (before ++ more) < 2 ^ 64
+    → IsFitNode (aggregate_node places aggregates) (without_count names (before ++ more)) → MayJoin g width more
+may_join places aggregates g before more names width gathers long few fit = record {
+  places = places;
+  aggregates = aggregates;
+  rows = before;
+  gathers = gathers;
+  within = places_fit (without_count names (before ++ more)) width long places aggregates fit;
+  fits = aggregates_fit (without_count names (before ++ more)) width long places aggregates few fit;
+}
+
+-- the rows of a block join them, and none is kept
+pub aggregate_pushed : (old new : AggregateSink) (rows more : List (List CellValue)) (found : Passed) → new.places ≡ old.places → new.aggregates ≡ old.aggregates
+    → HasSameColumns old.kept new.kept → new.kept.columns.rows ≡ [] → more ≡ selected_rows (kept_places old.kept) (numbered found.numbers.items rows)
+    → Adjoins old.gathering new.gathering more → PushesOn (sink.Aggregate old) (sink.Aggregate new) rows found
+aggregate_pushed old new rows more found places aggregates columns none more_is joins =
+    let node_is : aggregate_node (optional_numbers new.places) (aggregates_view new.aggregates) ≡ aggregate_node (optional_numbers old.places) (aggregates_view old.aggregates) =
+    ap (λ (ps : _). aggregate_node (optional_numbers ps) (aggregates_view new.aggregates)) places ∙ ap (λ (as_many : _). aggregate_node (optional_numbers old.places) (aggregates_view as_many)) aggregates in
+    record {
+      nodes = ap (λ n. n ∷ []) node_is;
+      columns = columns;
+      pushed = λ before passing are has.
+          let all : before ++ more ≡ before ++ selected_rows (kept_places old.kept) passing = ap (λ rs. before ++ rs) (more_is ∙ ap (selected_rows (kept_places old.kept)) are.first) in
+          record {
+            gathers =
+                subst (λ (ps : _). Gathers new.gathering (optional_numbers ps) (aggregates_view new.aggregates) (before ++ selected_rows (kept_places old.kept) passing)) (sym places)
+                (subst (λ (as_many : _). Gathers new.gathering (optional_numbers old.places) (aggregates_view as_many) (before ++ selected_rows (kept_places old.kept) passing)) (sym aggregates)
+                (subst (Gathers new.gathering (optional_numbers old.places) (aggregates_view old.aggregates)) all
+                (joins (optional_numbers old.places) (aggregates_view old.aggregates) before has.gathers)));
+            none = none;
+          };
+    }
+
+-- ---- the rows of a block, and the end
+
+module _ (old : AggregateSink) (kept : Kept) (block : TableOf) (found : Passed) (numbers : List ℕ) (may : MayPush (sink.Aggregate old) block found)
+    (has : HasKept old.kept kept (selected_rows (kept_places old.kept) (numbered found.numbers.items block.rows))) (all : AreAllNumbers numbers (length kept.columns.rows)) where
+  -- no other row was kept
+  pub block_rows : numbered numbers kept.columns.rows ≡ selected_rows (kept_places old.kept) (numbered found.numbers.items block.rows)
+  block_rows =
+      all_numbered numbers kept.columns.rows all ∙ has.rows
+      ∙ ap (λ rs. rs ++ selected_rows (kept_places old.kept) (numbered found.numbers.items block.rows)) may.pushed.none
+
+  pub block_may_join : MayJoin old.gathering (length kept.columns.kinds) (numbered numbers kept.columns.rows)
+  block_may_join =
+      let more = selected_rows (kept_places old.kept) may.passing in
+      let rows_are : numbered numbers kept.columns.rows ≡ more = block_rows ∙ ap (selected_rows (kept_places old.kept)) may.are_found.first in
+      subst (MayJoin old.gathering (length kept.columns.kinds)) (sym rows_are)
+      (may_join (optional_numbers old.places) (aggregates_view old.aggregates) old.gathering may.before more (kept_names old.kept) (length kept.columns.kinds) may.pushed.gathers
+      (sym (as_many old.kept block.schema may.columns) ∙ sym (ap length has.same.kinds)) may.few may.fits.0)
+
+-- what is gathered of all rows that joined, under its names
+pub gathered_finishes : (s : AggregateSink) (names : List (List ℕ)) (rows : List (List CellValue)) (made : Intermediate)
+    → names ≡ node_names (aggregate_node (optional_numbers s.places) (aggregates_view s.aggregates)) (kept_names s.kept) → HasGatheredRows s.gathering rows
+    → intermediate_view made ≡ without_count names rows → IsIntermediate made → SinkMakes (sink.Aggregate s) made
+gathered_finishes s names rows made names_are gathered view is = record {
+  makes = λ all has.
+      let places = optional_numbers s.places in
+      let aggregates = aggregates_view s.aggregates in
+      record {
+        result =
+            ap (option_and_then (nodes_result [])) (aggregate_made places aggregates (without_count (kept_names s.kept) all))
+            ∙ ap (λ ns. Some (without_count ns (gathered_rows places aggregates all))) (sym names_are)
+            ∙ ap (λ rs. Some (without_count names rs)) (sym (gathered places aggregates all has.gathers)) ∙ ap (λ r. Some r) (sym view);
+        intermediate = is;
+      };
+}
+
+-- ---- what an answer has
+
+pub both_ok : {X E : Type 0} (r : Result X E) (P Q R : X → Type 0) → ((x : X) → P x → Q x → R x) → IfOk r P → IfOk r Q → IfOk r R
+both_ok (Ok x) P Q R f p q = f x p q
+both_ok (Err e) P Q R f p q = tt

@@ -1,0 +1,280 @@
+-- The first rows of an order that never divides by zero.
+use Rattle.std.proofs.Common.{◌≡◌, ℕ, ℤ, pos, suc, ◌+◌, ◌<◌, Bool, true, false, ◌||◌, ◌&&◌, cond, Option, Some, None, List, [], ◌∷◌, ◌++◌, append-nil, get_or, length, map, take, refl, sym, ap, ◌∙◌, subst, arith}
+use Rattle.std.specs.Prelude.{IfOk, Result, Ok, Err, is_none, is_some, not, option_and_then, option_map, slice_get}
+use Rattle.std.specs.List.{All, AllByRecursion, list_any}
+use Rattle.std.proofs.lemmas.Bool.{and_parts}
+use Rattle.std.proofs.lemmas.List.{get_or-map, get_or-append-add, length-append, length-map}
+use Rattle.std.proofs.lemmas.List.Elements.{All-append, All-from_recursion, recursion_from_All}
+use Rattle.block_filter.specs.Columns.{unless_null}
+use Rattle.block_filter.specs.Lanes.{AreKeysAt, StandAt}
+use Rattle.block_filter.specs.declared.block.Passed.{Passed}
+use Rattle.block_summary.specs.Cells.{number_or_null}
+use Rattle.block_summary.specs.Types.{cell_of}
+use Rattle.block_summary.specs.declared.number.PackedType.{PackedType}
+use Rattle.cell_types.specs.Value.{CellValue, null}
+use Rattle.typed_trees.specs.TypedTree as typed
+use Rattle.typed_trees.specs.TypedTree.{TypedExprOf}
+use Rattle.row_eval.specs.Bounds.{NumbersFit}
+use Rattle.row_eval.specs.Laws.{FaultsAreForeseen}
+use Rattle.row_eval.specs.Outcome.{outcome}
+use Rattle.table_store.specs.Table.{TableOf}
+use Rattle.typed_trees.specs.CanFault.{can_fault}
+use Rattle.odata_query.specs.Query.{order_view}
+use Rattle.query_meaning.specs.Order.{Item, are_plain, order_faults, plain_column, rows_cmp, sorted}
+use Rattle.query_plan.specs.Plan.{choosing, nodes_result}
+use Rattle.row_columns.specs.Picked.{numbered, values_at}
+use Rattle.row_columns.specs.declared.keys.KeyColumn.{KeyColumn}
+use Rattle.row_columns.specs.declared.keys.Keys.{Keys}
+use Rattle.row_order.specs.Best.{best_rows, BestInPieces}
+use Rattle.row_order.specs.InTime.{key_at, AreEnoughByKeys, HaveKeys, NeverFault}
+use Rattle.query_exec.specs.declared.intermediate.Intermediate.{Intermediate}
+use Rattle.query_exec.specs.declared.sink.Sink.TheVariants as sink
+use Rattle.query_exec.specs.declared.top_n.TopNSink.{TopNSink}
+use Rattle.query_exec.specs.Intermediate.{without_count, AreAllNumbers, Makes}
+use Rattle.query_exec.specs.Items.{none_can_fault, ItemsFit}
+use Rattle.query_exec.specs.Kept.{kept_names, kept_places, HasKept, HasReduced}
+use Rattle.query_exec.specs.declared.kept.Kept.{Kept}
+use Rattle.query_exec.specs.Picked.{selected_rows}
+use Rattle.query_exec.specs.Sink.{sink_items, MayPush, PushesOn, SinkMakes}
+use Rattle.query_exec.specs.TopN.{AreBestOf, AreTimely, HasCutRows, IsSourceOf}
+use Rattle.query_exec.proofs.CountLemmas.{selected_long}
+use Rattle.query_exec.proofs.StepLemmas.{all_numbered}
+
+-- ---- items that are columns alone
+
+pub plain_fits : (e : TypedExprOf) (row : List CellValue) → is_some (plain_column e) ≡ true → NumbersFit e row
+plain_fits (typed.integer (typed.integer_column place) bound) row h = tt
+plain_fits (typed.text (typed.text_column place)) row h = tt
+plain_fits (typed.truth (typed.truth_column place)) row h = tt
+plain_fits (typed.date (typed.date_column place)) row h = tt
+plain_fits (typed.decimal (typed.decimal_column place) bound) row h = tt
+plain_fits e row h = absurd (cc)
+
+items_fit : (items : List Item) (row : List CellValue) → are_plain items ≡ true → AllByRecursion (λ item. NumbersFit item.0 row) items
+items_fit [] row h = tt
+items_fit (item ∷ items) row h = (
+  plain_fits item.0 row (and_parts (is_some (plain_column item.0)) (are_plain items) h).0,
+  items_fit items row (and_parts (is_some (plain_column item.0)) (are_plain items) h).1,
+)
+
+-- and each of them fits any row
+pub plain_rows_fit : (items : List Item) (rows : List (List CellValue)) → are_plain items ≡ true → All (λ row. All (λ item. NumbersFit item.0 row) items) rows
+plain_rows_fit items rows h = λ k d inside. All-from_recursion (λ item. NumbersFit item.0 (get_or rows k d)) items (items_fit items (get_or rows k d) h)
+
+-- ---- items that never divide by zero
+
+some_is : (o : Option CellValue) → is_some o ≡ true → is_none o ≡ false
+some_is None h = absurd (cc)
+some_is (Some v) h = refl
+
+safe_row : FaultsAreForeseen → (items : List Item) (row : List CellValue) → none_can_fault items ≡ true → order_faults items row ≡ false
+safe_row law [] row h = refl
+safe_row law (item ∷ items) row h =
+    let parts = and_parts (not (can_fault item.0)) (none_can_fault items) h in
+    ap (λ b. b || order_faults items row) (some_is (outcome item.0 row) (law.expressions item.0 row (not_not (can_fault item.0) parts.0))) ∙ safe_row law items row parts.1
+  where
+    not_not : (b : Bool) → not b ≡ true → b ≡ false
+    not_not true e = absurd (cc)
+    not_not false e = refl
+
+none_faults : FaultsAreForeseen → (items : List Item) (rows : List (List CellValue)) → none_can_fault items ≡ true → list_any (order_faults items) rows ≡ false
+none_faults law items [] h = refl
+none_faults law items (row ∷ rows) h = ap (λ b. b || list_any (order_faults items) rows) (safe_row law items row h) ∙ none_faults law items rows h
+
+-- the rows have an order by them
+pub safe_never_faults : FaultsAreForeseen → (items : List Item) → none_can_fault items ≡ true → NeverFault items
+safe_never_faults law items safe rows = ap (λ b. cond b None (Some (sorted (rows_cmp items) rows))) (none_faults law items rows safe)
+
+safe_best : FaultsAreForeseen → (items : List Item) (most : ℕ) (rows : List (List CellValue)) → none_can_fault items ≡ true
+    → best_rows items most rows ≡ Some (take most (sorted (rows_cmp items) rows))
+safe_best law items most rows h = ap (option_map (take most)) (safe_never_faults law items h rows)
+
+pub never_faults : FaultsAreForeseen → (items : List Item) (most : ℕ) (rows : List (List CellValue)) → none_can_fault items ≡ true → best_rows items most rows ≡ None → ⊥
+never_faults law items most rows safe e = let is = sym (safe_best law items most rows safe) ∙ e in cc
+
+pub plain_is_safe : (items : List Item) → are_plain items ≡ true → none_can_fault items ≡ true
+plain_is_safe [] plain = refl
+plain_is_safe (item ∷ items) plain =
+    let parts = and_parts (is_some (plain_column item.0)) (are_plain items) plain in
+    ap (λ b. not b && none_can_fault items) (column_is_safe item.0 parts.0) ∙ plain_is_safe items parts.1
+  where
+    column_is_safe : (e : TypedExprOf) → is_some (plain_column e) ≡ true → can_fault e ≡ false
+    column_is_safe (typed.integer (typed.integer_column place) bound) h = refl
+    column_is_safe (typed.text (typed.text_column place)) h = refl
+    column_is_safe (typed.truth (typed.truth_column place)) h = refl
+    column_is_safe (typed.date (typed.date_column place)) h = refl
+    column_is_safe (typed.decimal (typed.decimal_column place) bound) h = refl
+    column_is_safe e h = absurd (cc)
+
+-- of rows that the items fit, those with some numbers
+pub numbered_fit : (P : List CellValue → Type 0) (rows : List (List CellValue)) (numbers : List ℕ) → All P rows → All (λ n. n < length rows) numbers → All P (numbered numbers rows)
+numbered_fit P rows numbers fit within = λ k d h.
+    let long = length-map numbers (λ n. get_or rows n []) in
+    let inside : k < length numbers = omega (arith, h, long) in
+    subst P (sym (get_or-map (λ n. get_or rows n []) numbers k 0 d inside)) (fit (get_or numbers k 0) [] (within k 0 inside))
+
+-- behind rows of which the first are the same the first are the same
+best_behind : FaultsAreForeseen → BestInPieces → (items : List Item) (most : ℕ) (xs ys more : List (List CellValue)) → none_can_fault items ≡ true → best_rows items most xs ≡ best_rows items most ys
+    → best_rows items most (xs ++ more) ≡ best_rows items most (ys ++ more)
+best_behind faults law items most xs ys more safe e =
+    let best = safe_best faults items most ys safe in
+    sym (law.front items most xs more _ (e ∙ best)) ∙ law.front items most ys more _ best
+
+-- ---- keys of rows
+
+cell_is : (b : Bool) (n : ℤ) → unless_null b n ≡ number_or_null b n
+cell_is true n = refl
+cell_is false n = refl
+
+there : (xs : List CellValue) (i : ℕ) (v : CellValue) → slice_get xs i ≡ Some v → get_or xs i null ≡ v
+there [] i v e = absurd (cc)
+there (x ∷ xs) ℕ.zero v e = cc
+there (x ∷ xs) (suc i) v e = there xs i v e
+
+have_keys : (rows : List (List CellValue)) (col : ℕ) (type : PackedType) (numbers : List ℤ) (nulls : List Bool) → StandAt rows col type numbers nulls
+    → HaveKeys col type (key_at numbers nulls) rows
+have_keys rows col type numbers nulls stand n inside =
+    there (get_or rows n []) col (cell_of type (unless_null (get_or nulls n true) (get_or numbers n (pos 0)))) (stand n inside)
+    ∙ ap (cell_of type) (cell_is (get_or nulls n true) (get_or numbers n (pos 0)))
+
+-- the keys of a column are those of where it is kept
+kept_keys : (places : Option (List ℕ)) (place col : ℕ) (type : PackedType) (key : ℕ → Option ℤ) (rows : List (List CellValue)) → IsSourceOf places place col
+    → HaveKeys col type key rows → HaveKeys place type key (selected_rows places rows)
+kept_keys None place col type key rows is have n inside = subst (λ p. HaveKeys p type key rows) is have n inside
+kept_keys (Some places) place col type key rows is have n inside =
+    let long = length-map rows (values_at places) in
+    let within : n < length rows = omega (arith, inside, long) in
+    let row = get_or rows n [] in
+    ap (λ vs. get_or vs place null) (get_or-map (values_at places) rows n [] [] within)
+    ∙ value_at places place col row is ∙ have n within
+  where
+    value_at : (ps : List ℕ) (p c : ℕ) (row : List CellValue) → slice_get ps p ≡ Some c → get_or (values_at ps row) p null ≡ get_or row c null
+    value_at [] p c row e = absurd (cc)
+    value_at (q ∷ ps) ℕ.zero c row e = let same : q ≡ c = cc in ap (λ k. get_or row k null) same
+    value_at (q ∷ ps) (suc p) c row e = value_at ps p c row e
+
+-- rows by their numbers, in the columns that are picked
+selected_numbered : (places : Option (List ℕ)) (rows : List (List CellValue)) (numbers : List ℕ) → AllByRecursion (λ n. n < length rows) numbers
+    → numbered numbers (selected_rows places rows) ≡ selected_rows places (numbered numbers rows)
+selected_numbered None rows numbers within = refl
+selected_numbered (Some places) rows [] within = refl
+selected_numbered (Some places) rows (n ∷ numbers) within =
+    ap (λ v. v ∷ numbered numbers (map (values_at places) rows)) (get_or-map (values_at places) rows n [] [] within.0)
+    ∙ ap (λ vs. values_at places (get_or rows n []) ∷ vs) (selected_numbered (Some places) rows numbers within.1)
+
+-- ---- rows of a block
+
+-- what is enough for the order by the keys of a column is so behind the rows that are kept
+pub enough_is_timely : (s : TopNSink) (rows : List (List CellValue)) (numbers made : List ℕ) (col : ℕ) (column : KeyColumn) (keys : Keys)
+    → are_plain (sink_items s) ≡ true → IsSourceOf (kept_places s.kept) column.place col → AreKeysAt rows col column keys → All (λ n. n < length rows) numbers
+    → AreEnoughByKeys (sink_items s) s.most keys s.kept.columns.rows numbers made → AreTimely s rows numbers made
+enough_is_timely s rows numbers made col column keys plain source are within enough =
+    let places = kept_places s.kept in
+    let picked = selected_rows places rows in
+    let long = selected_long places rows in
+    let have = kept_keys places column.place col column.packed_type (key_at keys.numbers.now keys.nulls.now) rows source
+    (have_keys rows col column.packed_type keys.numbers.now keys.nulls.now are.stand) in
+    let here : HaveKeys keys.column.place keys.column.packed_type (key_at keys.numbers.now keys.nulls.now) picked =
+    subst (λ (c : KeyColumn). HaveKeys c.place c.packed_type (key_at keys.numbers.now keys.nulls.now) picked) (sym are.column_is) have in
+    let found = enough picked (long ∙ sym are.long) here in
+    let inside : All (λ n. n < length rows) made = subst (λ k. All (λ n. n < k) made) long found.within in
+    let as_picked : (numbers : List ℕ) → All (λ n. n < length rows) numbers → numbered numbers picked ≡ selected_rows places (numbered numbers rows) =
+    λ ns all. selected_numbered places rows ns (recursion_from_All (λ n. n < length rows) ns all) in
+    record {
+      within = inside;
+      first = ap (λ rs. best_rows (sink_items s) s.most (s.kept.columns.rows ++ rs)) (sym (as_picked made inside)) ∙ found.first
+          ∙ ap (λ rs. best_rows (sink_items s) s.most (s.kept.columns.rows ++ rs)) (as_picked numbers within);
+      fit = λ before. plain_rows_fit (sink_items s) (selected_rows places (numbered made rows)) plain;
+    }
+
+-- ---- the rows that are kept
+
+-- the first of them in their place
+pub best_cut : BestInPieces → (items : List Item) (most : ℕ) (rows best : List (List CellValue)) → best_rows items most rows ≡ Some best
+    → best_rows items most best ≡ best_rows items most rows
+best_cut law items most rows best is =
+    ap (best_rows items most) (sym (append-nil best)) ∙ law.front items most rows [] best is ∙ ap (best_rows items most) (append-nil rows)
+
+pub best_of : (s : TopNSink) (all numbers : List ℕ) → AreAllNumbers all (length s.kept.columns.rows) → All (λ n. n < length s.kept.columns.rows) numbers
+    → best_rows (sink_items s) s.most (numbered all s.kept.columns.rows) ≡ Some (numbered numbers s.kept.columns.rows) → AreBestOf s numbers
+best_of s all numbers are within made = record {
+  within = within;
+  rows = ap (best_rows (sink_items s) s.most) (sym (all_numbered all s.kept.columns.rows are)) ∙ made;
+}
+
+pub cut_to : BestInPieces → (s : TopNSink) (kept : Kept) (numbers : List ℕ) → ItemsFit (sink_items s) s.kept.columns.rows → AreBestOf s numbers → HasReduced s.kept kept numbers → HasCutRows s (record s { kept = kept })
+cut_to law s kept numbers fit best has = record {
+  items = refl;
+  most = refl;
+  columns = has.same;
+  fit =
+      subst (ItemsFit (sink_items s)) (sym has.rows)
+      (numbered_fit (λ row. All (λ item. NumbersFit item.0 row) (sink_items s)) s.kept.columns.rows numbers fit best.within);
+  first = ap (best_rows (sink_items s) s.most) has.rows ∙ best_cut law (sink_items s) s.most s.kept.columns.rows (numbered numbers s.kept.columns.rows) best.rows;
+}
+
+-- what the items compute on rows of a block that may be among the first fits, behind rows where it does
+pub block_fits : (old : TopNSink) (mid : Kept) (block : TableOf) (found : Passed) (numbers : List ℕ) → MayPush (sink.TopN old) block found
+    → AreTimely old block.rows found.numbers.items numbers → HasKept old.kept mid (selected_rows (kept_places old.kept) (numbered numbers block.rows))
+    → ItemsFit (sink_items old) mid.columns.rows
+block_fits old mid block found numbers may timely kept =
+    let P : List CellValue → Type 0 = λ row. All (λ item. NumbersFit item.0 row) (sink_items old) in
+    let more = selected_rows (kept_places old.kept) may.passing in
+    let new : ItemsFit (sink_items old) more = back_fits P may.before more may.fits.0.numbers in
+    let found_fit : ItemsFit (sink_items old) (selected_rows (kept_places old.kept) (numbered found.numbers.items block.rows)) =
+    subst (λ rs. ItemsFit (sink_items old) (selected_rows (kept_places old.kept) rs)) (sym may.are_found.first) new in
+    subst (ItemsFit (sink_items old)) (sym kept.rows)
+    (All-append P old.kept.columns.rows (selected_rows (kept_places old.kept) (numbered numbers block.rows)) may.pushed.fit (timely.fit found_fit))
+  where
+    back_fits : (P : List CellValue → Type 0) (xs ys : List (List CellValue)) → All P (xs ++ ys) → All P ys
+    back_fits P xs ys all = λ k d h.
+        let long = length-append xs ys in
+        subst P (get_or-append-add xs ys k d) (all (length xs + k) d (omega (arith, h, long)))
+
+-- rows of a block that may be among the first join them, and then rows that are not are let go
+pub top_n_pushed : FaultsAreForeseen → BestInPieces → (old new : TopNSink) (mid : Kept) (rows : List (List CellValue)) (found : Passed) (numbers : List ℕ) → none_can_fault (sink_items old) ≡ true
+    → AreTimely old rows found.numbers.items numbers → HasKept old.kept mid (selected_rows (kept_places old.kept) (numbered numbers rows))
+    → HasCutRows (record old { kept = mid }) new → PushesOn (sink.TopN old) (sink.TopN new) rows found
+top_n_pushed faults law old new mid rows found numbers safe timely kept cut = record {
+  nodes =
+      ap (λ (items : _). choosing (map order_view items.items) new.most ∷ []) cut.items
+      ∙ ap (λ most. choosing (sink_items old) most ∷ []) cut.most;
+  columns = record {
+    places = cut.columns.places ∙ kept.same.places;
+    names = cut.columns.names ∙ kept.same.names;
+    kinds = cut.columns.kinds ∙ kept.same.kinds;
+  };
+  pushed = λ before passing are has.
+      let best = best_rows (sink_items old) old.most in
+      let picked = kept_places old.kept in
+      let front = old.kept.columns.rows in
+      let more = selected_rows picked passing in
+      let same : best new.kept.columns.rows ≡ best (before ++ more) =
+      cut.first ∙ ap best kept.rows ∙ timely.first ∙ ap (λ rs. best (front ++ selected_rows picked rs)) are.first
+      ∙ best_behind faults law (sink_items old) old.most front before more safe has.first in
+      record {
+        safe = ap (λ (items : _). none_can_fault (map order_view items.items)) cut.items ∙ safe;
+        fit = subst (λ (items : _). ItemsFit (map order_view items.items) new.kept.columns.rows) (sym cut.items) cut.fit;
+        first =
+            subst (λ (items : _). best_rows (map order_view items.items) new.most new.kept.columns.rows ≡ best_rows (map order_view items.items) new.most (before ++ more)) (sym cut.items)
+            (subst (λ most. best_rows (sink_items old) most new.kept.columns.rows ≡ best_rows (sink_items old) most (before ++ more)) (sym cut.most) same);
+      };
+}
+
+-- the first of those that are kept are the first of all
+pub top_n_finishes : (s : TopNSink) (numbers : List ℕ) (made : Intermediate) → AreBestOf s numbers
+    → Makes (Some (without_count (kept_names s.kept) (numbered numbers s.kept.columns.rows))) made → SinkMakes (sink.TopN s) made
+top_n_finishes s numbers made are makes = record {
+  makes = λ rows has. record {
+    result =
+        ap (λ best. option_and_then (nodes_result []) (option_map (λ rs. without_count (kept_names s.kept) rs) best)) (sym has.first ∙ are.rows)
+        ∙ makes.result;
+    intermediate = makes.intermediate;
+  };
+}
+
+-- ---- what an answer has
+
+pub if_ok : {X E : Type 0} (r : Result X E) (P Q : X → Type 0) → ((x : X) → P x → Q x) → IfOk r P → IfOk r Q
+if_ok (Ok x) P Q f h = f x h
+if_ok (Err e) P Q f h = tt

@@ -1,0 +1,36 @@
+use Rattle.std.proofs.Common.{◌≡◌, ap, map, rules, string_bytes, ◌∙◌}
+use Rattle.odata_query.specs.Aggregate.{aggregates_view, named_view}
+use Rattle.odata_query.specs.Query.{optional_numbers}
+use Rattle.query_plan.specs.Plan.{node_names}
+use Rattle.row_groups.specs.Gathered.{lent_places}
+use Rattle.query_exec.specs.Intermediate.{aggregate_node}
+use Rattle.query_exec.specs.Kept.{kept_names}
+use Rattle.query_exec.proofs.AggregateLemmas.{both_ok, gathered_finishes, names_as_wide}
+use Rattle.query_exec.proofs.aggregate.AggregateSink.finish.Goals as goal
+
+pub whole-requires : goal.whole-requires
+whole-requires c =
+    let places = optional_numbers c.args.self.places in
+    let aggregates = aggregates_view c.args.self.aggregates in
+    let lent : lent_places c.as_deref.result ≡ places = search rules in
+    let named : map string_bytes c.in_ok-names.names.items ≡ node_names (aggregate_node places aggregates) (kept_names c.args.self.kept) =
+    c.in_ok-names.ensures
+    ∙ ap (λ ps. node_names (aggregate_node ps (map named_view c.as_slice-2.result.now)) (map string_bytes c.as_slice.result.now)) lent
+    ∙ ap (λ as_many. node_names (aggregate_node places (map named_view as_many)) (map string_bytes c.as_slice.result.now)) c.as_slice-2.ensures.value
+    ∙ ap (λ ns. node_names (aggregate_node places aggregates) (map string_bytes ns)) c.as_slice.ensures.value in
+    c.in_ok-columns.ensures.width places aggregates c.requires.rows c.requires.pushed.gathers
+    ∙ names_as_wide string_bytes places aggregates (kept_names c.args.self.kept) c.in_ok-names.names.items named
+
+pub returns : goal.returns
+returns c =
+    let places = optional_numbers c.args.self.places in
+    let aggregates = aggregates_view c.args.self.aggregates in
+    let lent : lent_places c.as_deref.result ≡ places = search rules in
+    let named : map string_bytes c.in_ok-names.names.items ≡ node_names (aggregate_node places aggregates) (kept_names c.args.self.kept) =
+    c.in_ok-names.ensures
+    ∙ ap (λ ps. node_names (aggregate_node ps (map named_view c.as_slice-2.result.now)) (map string_bytes c.as_slice.result.now)) lent
+    ∙ ap (λ as_many. node_names (aggregate_node places (map named_view as_many)) (map string_bytes c.as_slice.result.now)) c.as_slice-2.ensures.value
+    ∙ ap (λ ns. node_names (aggregate_node places aggregates) (map string_bytes ns)) c.as_slice.ensures.value in
+    both_ok c.whole.result _ _ _
+    (λ made view is. gathered_finishes c.args.self (map string_bytes c.in_ok-names.names.items) c.in_ok-columns.columns.rows made named c.in_ok-columns.ensures.rows view is)
+    c.whole.ensures.result c.whole.ensures.intermediate

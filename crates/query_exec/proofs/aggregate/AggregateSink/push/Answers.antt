@@ -1,0 +1,26 @@
+use Rattle.std.proofs.Common.{length, refl, rules, subst}
+use Rattle.row_columns.specs.Picked.{numbered}
+use Rattle.query_exec.specs.Intermediate.{AreAllNumbers}
+use Rattle.query_exec.specs.Kept.{kept_places, HasKept}
+use Rattle.query_exec.specs.Picked.{selected_rows}
+use Rattle.query_exec.proofs.AggregateLemmas.{aggregate_pushed, block_may_join, block_rows}
+use Rattle.query_exec.proofs.KeptLemmas.{same_then}
+use Rattle.query_exec.proofs.aggregate.AggregateSink.push.Goals as goal
+
+pub join-requires-clause-joins : goal.join-requires-clause-joins
+join-requires-clause-joins c =
+    let old = c.args.self.now in
+    let all : AreAllNumbers c.deref.result.now (length c.take.new.self.columns.rows) = search rules in
+    let has : HasKept old.kept c.take.new.self (selected_rows (kept_places old.kept) (numbered c.args.found.numbers.items c.args.block.now.rows)) =
+    subst (λ ns. HasKept old.kept c.take.new.self (selected_rows (kept_places old.kept) (numbered ns c.args.block.now.rows))) c.as_slice.ensures.value c.in_ok-take.ensures in
+    block_may_join old c.take.new.self c.args.block.now c.args.found c.deref.result.now c.requires has all
+
+pub returns : goal.returns
+returns c =
+    let old = c.args.self.now in
+    let all : AreAllNumbers c.deref.result.now (length c.take.new.self.columns.rows) = search rules in
+    let has : HasKept old.kept c.take.new.self (selected_rows (kept_places old.kept) (numbered c.args.found.numbers.items c.args.block.now.rows)) =
+    subst (λ ns. HasKept old.kept c.take.new.self (selected_rows (kept_places old.kept) (numbered ns c.args.block.now.rows))) c.as_slice.ensures.value c.in_ok-take.ensures in
+    aggregate_pushed old _ c.args.block.now.rows (numbered c.deref.result.now c.take.new.self.columns.rows) c.args.found refl refl
+    (same_then old.kept c.take.new.self c.reduce.new.self has.same c.in_ok-reduce.ensures.same) c.in_ok-reduce.ensures.rows
+    (block_rows old c.take.new.self c.args.block.now c.args.found c.deref.result.now c.requires has all) c.in_ok-join.ensures

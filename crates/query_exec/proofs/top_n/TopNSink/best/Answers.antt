@@ -1,0 +1,30 @@
+use Rattle.std.proofs.Common.{ap, length, map, subst, sym, ◌∙◌}
+use Rattle.odata_query.specs.Query.{order_view}
+use Rattle.row_columns.specs.Picked.{numbered}
+use Rattle.row_order.specs.Best.{best_rows}
+use Rattle.query_exec.specs.Items.{none_can_fault, ItemsFit}
+use Rattle.query_exec.specs.Intermediate.{AreAllNumbers}
+use Rattle.query_exec.proofs.StepLemmas.{all_numbered}
+use Rattle.query_exec.proofs.TopNLemmas.{best_of, never_faults}
+use Rattle.query_exec.proofs.top_n.TopNSink.best.Goals as goal
+
+pub best_numbers-requires-clause-fits : goal.best_numbers-requires-clause-fits
+best_numbers-requires-clause-fits c =
+    let s = c.args.self.now in
+    let all : AreAllNumbers c.in_ok-all.all.items (length s.kept.columns.rows) = rw c.len.ensures at c.in_ok-all.ensures in
+    subst (λ (is : _). ItemsFit (map order_view is) (numbered c.in_ok-all.all.items s.kept.columns.rows)) (sym c.deref.ensures.value)
+    (subst (ItemsFit (map order_view s.items.items)) (sym (all_numbered c.in_ok-all.all.items s.kept.columns.rows all)) c.requires.fit)
+
+pub unreachable-requires : goal.unreachable-requires
+unreachable-requires c =
+    let s = c.args.self.now in
+    let fault = rw c.in-Err-DivisionByZero.field-0-is at c.in-Err-DivisionByZero.ensures in
+    never_faults c.faults_are_foreseen.ensures (map order_view c.deref.result.now) s.most (numbered c.in_ok-all.all.items s.kept.columns.rows)
+    (ap (λ is. none_can_fault (map order_view is)) c.deref.ensures.value ∙ c.requires.safe) fault
+
+pub returns-in-Ok : goal.returns-in-Ok
+returns-in-Ok c =
+    let s = c.args.self.now in
+    let all = rw c.len.ensures at c.in_ok-all.ensures in
+    best_of s c.in_ok-all.all.items c.in-Ok.best.items all c.in-Ok.ensures.within
+    (ap (λ is. best_rows (map order_view is) s.most (numbered c.in_ok-all.all.items s.kept.columns.rows)) (sym c.deref.ensures.value) ∙ c.in-Ok.ensures.made)

@@ -1,0 +1,116 @@
+-- What takes in the rows that pass the conditions of a plan. The law of a sink: where rows are pushed, piece by piece, what it finishes with is what its step
+-- makes of all of them.
+use Rattle.std.specs.Prelude.{◌≡◌, ◌<◌, ◌-◌, ◌^◌, ◌++◌, ℕ, true, false, List, [], ◌∷◌, Option, Some, None, drop, length, map}
+use Rattle.std.specs.List.{All}
+use Rattle.cell_types.specs.Value.{CellValue}
+use Rattle.odata_query.specs.Aggregate.{aggregates_view}
+use Rattle.odata_query.specs.Query.{optional_numbers, order_view}
+use Rattle.table_store.specs.Table.{TableOf}
+use Rattle.row_columns.specs.Picked.{numbered}
+use Rattle.row_order.specs.Best.{best_rows}
+use Rattle.row_groups.specs.Gathered.{Gathers}
+use Rattle.block_filter.specs.declared.block.Passed.{Passed}
+use Rattle.query_meaning.specs.Meaning.{first_rows}
+use Rattle.query_meaning.specs.Order.{Item}
+use Rattle.query_plan.specs.Fitting.{NodesFit}
+use Rattle.query_plan.specs.Plan.{NodeOf, choosing, nodes_result, slice_view, slicing}
+use Rattle.query_plan.specs.Push.{room_of}
+use Rattle.query_exec.specs.declared.aggregate.AggregateSink.{AggregateSink}
+use Rattle.query_exec.specs.declared.intermediate.Intermediate.{Intermediate}
+use Rattle.query_exec.specs.declared.kept.Kept.{Kept}
+use Rattle.query_exec.specs.declared.sink.Sink.{Sink}
+use Rattle.query_exec.specs.declared.sink.Sink.TheVariants.{Aggregate, Collect, Slice, TopN}
+use Rattle.query_exec.specs.declared.slice.SliceSink.{SliceSink}
+use Rattle.query_exec.specs.declared.top_n.TopNSink.{TopNSink}
+use Rattle.query_exec.specs.Intermediate.{aggregate_node, without_count, Makes}
+use Rattle.query_exec.specs.Items.{none_can_fault, ItemsFit}
+use Rattle.query_exec.specs.Kept.{kept_names, kept_places, AreKeptOf, HasSameColumns}
+use Rattle.query_exec.specs.Picked.{selected_rows}
+
+abbrev pub sink_items : TopNSink → List Item
+sink_items sink = map order_view sink.items.items
+
+abbrev pub sink_kept : Sink → Kept
+sink_kept (Collect kept) = kept
+sink_kept (Slice sink) = sink.kept
+sink_kept (TopN sink) = sink.kept
+sink_kept (Aggregate sink) = sink.kept
+
+-- the step that it does, where it does one
+abbrev pub sink_nodes : Sink → List NodeOf
+sink_nodes (Collect kept) = []
+sink_nodes (Slice sink) = slicing (slice_view sink.slice) ∷ []
+sink_nodes (TopN sink) = choosing (sink_items sink) sink.most ∷ []
+sink_nodes (Aggregate sink) = aggregate_node (optional_numbers sink.places) (aggregates_view sink.aggregates) ∷ []
+
+-- ---- the rows that were pushed
+
+-- the rows of a piece are kept, and all are counted
+pub record HasPiece (sink : SliceSink) (rows : List (List CellValue)) : Type 0 where
+  pub piece : sink.kept.columns.rows ≡ first_rows sink.slice.top (drop sink.slice.skip rows)
+  pub count : sink.count ≡ length rows
+
+-- of an order that never divides by zero, rows are kept of which the first ones are those of all
+pub record HasBest (sink : TopNSink) (rows : List (List CellValue)) : Type 0 where
+  pub safe : none_can_fault (sink_items sink) ≡ true
+  pub fit : ItemsFit (sink_items sink) sink.kept.columns.rows
+  pub first : best_rows (sink_items sink) sink.most sink.kept.columns.rows ≡ best_rows (sink_items sink) sink.most rows
+
+-- for aggregates none is kept
+pub record HasGathered (sink : AggregateSink) (rows : List (List CellValue)) : Type 0 where
+  pub gathers : Gathers sink.gathering (optional_numbers sink.places) (aggregates_view sink.aggregates) rows
+  pub none : sink.kept.columns.rows ≡ []
+
+abbrev pub HasPushed : Sink → List (List CellValue) → Type 0
+HasPushed (Collect kept) rows = kept.columns.rows ≡ rows
+HasPushed (Slice sink) rows = HasPiece sink rows
+HasPushed (TopN sink) rows = HasBest sink rows
+HasPushed (Aggregate sink) rows = HasGathered sink rows
+
+-- ---- a push
+
+-- how many rows are looked for after so many
+abbrev pub room_behind : Option ℕ → ℕ → Option ℕ
+room_behind None passed = None
+room_behind (Some room) passed = Some (room - passed)
+
+-- how many more rows a sink takes in by their numbers, where that is limited
+abbrev pub spare_of : Sink → Option ℕ
+spare_of (Slice sink) = room_behind (room_of sink.slice.skip sink.slice.top false) sink.count
+spare_of sink = None
+
+-- of these rows of a block the first ones were found by their numbers, so many where that is limited, and how many they are
+pub record AreFound (spare : Option ℕ) (rows : List (List CellValue)) (found : Passed) (passing : List (List CellValue)) : Type 0 where
+  pub within : All (λ n. n < length rows) found.numbers.items
+  pub first : numbered found.numbers.items rows ≡ first_rows spare passing
+  pub count : found.count ≡ length passing
+
+-- the rows that were found in a block may be pushed after others: the step fits all of them
+pub record MayPush (sink : Sink) (block : TableOf) (found : Passed) : Type 0 where
+  pub passing : List (List CellValue)
+  pub are_found : AreFound (spare_of sink) block.rows found passing
+  pub columns : AreKeptOf (sink_kept sink) block.schema
+  pub before : List (List CellValue)
+  pub pushed : HasPushed sink before
+  pub few : length (before ++ selected_rows (kept_places (sink_kept sink)) passing) < 2 ^ 64
+  pub fits : NodesFit (sink_nodes sink) (without_count (kept_names (sink_kept sink)) (before ++ selected_rows (kept_places (sink_kept sink)) passing))
+
+-- they are pushed, in the columns that are picked
+pub record PushesOn (old new : Sink) (rows : List (List CellValue)) (found : Passed) : Type 0 where
+  pub nodes : sink_nodes new ≡ sink_nodes old
+  pub columns : HasSameColumns (sink_kept old) (sink_kept new)
+  pub pushed : (before passing : List (List CellValue)) → AreFound (spare_of old) rows found passing → HasPushed old before
+      → HasPushed new (before ++ selected_rows (kept_places (sink_kept old)) passing)
+
+-- ---- the finish
+
+-- the step fits the rows that were pushed
+pub record MayFinish (sink : Sink) : Type 0 where
+  pub width : length (sink_kept sink).columns.kinds ≡ length (kept_names (sink_kept sink))
+  pub rows : List (List CellValue)
+  pub pushed : HasPushed sink rows
+  pub fits : NodesFit (sink_nodes sink) (without_count (kept_names (sink_kept sink)) rows)
+
+-- that is what its step makes of the rows that were pushed
+pub record SinkMakes (sink : Sink) (made : Intermediate) : Type 0 where
+  pub makes : (rows : List (List CellValue)) → HasPushed sink rows → Makes (nodes_result (sink_nodes sink) (without_count (kept_names (sink_kept sink)) rows)) made

@@ -1,0 +1,111 @@
+//! What takes in the rows that pass the conditions of a plan: it does the step after them.
+ghost use Rattle.std.specs.Prelude.{◌≡◌, ◌++◌, [], IfOk, OnOk, map};
+ghost use Rattle.query_plan.specs.Plan.{node_view};
+ghost use Rattle.query_exec.specs.Sink.{sink_kept, sink_nodes, spare_of, SinkMakes, HasPushed, MayFinish, MayPush, PushesOn};
+
+use crate::aggregate::AggregateSink;
+use crate::intermediate::Intermediate;
+use crate::kept::Kept;
+use crate::slice::SliceSink;
+use crate::top_n::{TopNSink, none_can_fault};
+use block_filter::{Lanes, Passed};
+use query_plan::Node;
+use std::alloc::{AllocError, Global};
+use table_store::Block;
+
+/// What takes in rows, a piece of them at a time.
+#[derive(Drop)]
+pub(crate) enum Sink {
+    /// All rows, for the steps after it.
+    Collect(Kept),
+    Slice(SliceSink),
+    TopN(TopNSink),
+    Aggregate(AggregateSink),
+}
+
+impl Sink {
+    /// The sink that does the first of some steps, where there is one, and the steps after it.
+    pub(crate) fn of(
+        alloc: Global,
+        kept: Kept,
+        steps: Vec<Node>,
+    ) -> Result<(Sink, Vec<Node>), AllocError>
+        requires { kept.columns.rows ≡ [] }
+        ensures nodes { IfOk result (λ made.
+            sink_nodes made.0 ++ map node_view made.1.items ≡ map node_view steps.items) }
+        ensures kept { IfOk result (λ made. sink_kept made.0 ≡ kept) }
+        ensures none { IfOk result (λ made. HasPushed made.0 []) }
+    {
+        let mut steps = steps;
+        if steps.is_empty() {
+            return Ok((Sink::Collect(kept), steps));
+        }
+        match steps.remove(0) {
+            Node::Slice(slice) => {
+                let count = 0;
+                Ok((Sink::Slice(SliceSink { kept, slice, count }), steps))
+            }
+            Node::Best(items, most) => {
+                if none_can_fault(&items) {
+                    return Ok((Sink::TopN(TopNSink { kept, items, most }), steps));
+                }
+                steps.insert(0, Node::Best(items, most))?;
+                Ok((Sink::Collect(kept), steps))
+            }
+            Node::Aggregate(aggregates) => {
+                let sink = AggregateSink::new(alloc, kept, None, aggregates)?;
+                Ok((Sink::Aggregate(sink), steps))
+            }
+            Node::Group(places, aggregates) => {
+                let sink = AggregateSink::new(alloc, kept, Some(places), aggregates)?;
+                Ok((Sink::Aggregate(sink), steps))
+            }
+            node => {
+                steps.insert(0, node)?;
+                Ok((Sink::Collect(kept), steps))
+            }
+        }
+    }
+
+    /// How many more rows it takes in by their numbers, where that is limited: of the others it takes in how many they are.
+    pub(crate) fn spare(&self) -> Option<u64>
+        ensures { result ≡ spare_of self.now }
+    {
+        match self {
+            Sink::Slice(sink) => sink.spare(),
+            Sink::Collect(_) | Sink::TopN(_) | Sink::Aggregate(_) => None,
+        }
+    }
+
+    /// Takes in the rows of a block that were found, after those before them.
+    pub(crate) fn push(
+        &mut self,
+        alloc: Global,
+        block: &Block<'_>,
+        found: Passed,
+        lanes: &mut Lanes,
+    ) -> Result<(), AllocError>
+        requires { MayPush self.old block.now found }
+        ensures { OnOk result (PushesOn self.old self.new block.now.rows found) }
+    {
+        match self {
+            Sink::Collect(kept) => kept.take(alloc, block, found.numbers.as_slice()),
+            Sink::Slice(sink) => sink.push(alloc, block, found),
+            Sink::TopN(sink) => sink.push(alloc, block, found, lanes),
+            Sink::Aggregate(sink) => sink.push(alloc, block, found),
+        }
+    }
+
+    /// What its step makes of all rows that it took in.
+    pub(crate) fn finish(self, alloc: Global) -> Result<Intermediate, AllocError>
+        requires { MayFinish self }
+        ensures { IfOk result (SinkMakes self) }
+    {
+        match self {
+            Sink::Collect(kept) => kept.whole(alloc, None),
+            Sink::Slice(sink) => sink.finish(alloc),
+            Sink::TopN(sink) => sink.finish(alloc),
+            Sink::Aggregate(sink) => sink.finish(alloc),
+        }
+    }
+}

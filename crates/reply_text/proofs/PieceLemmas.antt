@@ -1,0 +1,104 @@
+-- The pieces of bodies of rows: which is at a place, and that all of them are the body.
+use Rattle.std.proofs.Common.{◌≡◌, ℕ, zero, suc, ◌+◌, ◌<◌, List, [], ◌∷◌, ◌++◌, codes, get_or, length, map, refl, sym, ap, ◌∙◌, add-one, arith, tests, append_assoc, length-append}
+use Rattle.std.specs.List.{AllByRecursion, concat, flat_map, join_with_byte}
+use Rattle.std.proofs.lemmas.List.{append-nil, get_or-map, length-map}
+use Rattle.cell_types.specs.Value.{CellValue}
+use Rattle.query_rows.specs.Rows.{RowsOf}
+use Rattle.reply_text.specs.Body.{rows_text}
+use Rattle.reply_text.specs.Csv.{csv_line, csv_text, row_line}
+use Rattle.reply_text.specs.Json.{comma_before, json_row}
+use Rattle.reply_text.specs.Pieces.{csv_pieces, json_items, json_opening, json_pieces}
+use Rattle.reply_values.specs.Csv.{csv_value}
+
+-- ---- which is at a place
+
+item_at : (names : List (List ℕ)) (place : ℕ) (rows : List (List CellValue)) (n : ℕ) → n < length rows
+    → get_or (json_items names place rows) n [] ≡ comma_before (place + n) ++ json_row names (get_or rows n [])
+item_at names place [] n inside = absurd (omega (arith, inside))
+item_at names place (row ∷ rows) zero inside = let same : place ≡ place + 0 = omega arith in ap (λ k. comma_before k ++ json_row names row) same
+item_at names place (row ∷ rows) (suc n) inside =
+    let same : place + 1 + n ≡ place + suc n = omega arith in
+    item_at names (place + 1) rows n (omega (arith, inside)) ∙ ap (λ k. comma_before k ++ json_row names (get_or rows n [])) same
+
+end_at : (names : List (List ℕ)) (place : ℕ) (rows : List (List CellValue)) → get_or (json_items names place rows) (length rows) [] ≡ codes "]}"
+end_at names place [] = refl
+end_at names place (row ∷ rows) = end_at names (place + 1) rows
+
+pub items_count : (names : List (List ℕ)) (place : ℕ) (rows : List (List CellValue)) → length (json_items names place rows) ≡ length rows + 1
+items_count names place [] = refl
+items_count names place (row ∷ rows) = omega (arith, items_count names (place + 1) rows)
+
+pub json_at : (rows : RowsOf) (row : ℕ) → row < length rows.rows → get_or (json_pieces rows) (row + 1) [] ≡ comma_before row ++ json_row rows.names (get_or rows.rows row [])
+json_at rows row inside =
+    let same : 0 + row ≡ row = omega arith in
+    ap (λ n. get_or (json_pieces rows) n []) (add-one row) ∙ item_at rows.names 0 rows.rows row inside
+    ∙ ap (λ k. comma_before k ++ json_row rows.names (get_or rows.rows row [])) same
+
+pub json_end : (rows : RowsOf) → get_or (json_pieces rows) (length rows.rows + 1) [] ≡ codes "]}"
+json_end rows = ap (λ n. get_or (json_pieces rows) n []) (add-one (length rows.rows)) ∙ end_at rows.names 0 rows.rows
+
+pub csv_at : (rows : RowsOf) (row : ℕ) → row < length rows.rows → get_or (csv_pieces rows) (row + 1) [] ≡ row_line (get_or rows.rows row [])
+csv_at rows row inside = ap (λ n. get_or (csv_pieces rows) n []) (add-one row) ∙ get_or-map row_line rows.rows row [] [] inside
+
+pub csv_count : (rows : RowsOf) → length (csv_pieces rows) ≡ length rows.rows + 1
+csv_count rows = omega (arith, length-map rows.rows row_line)
+
+-- ---- none is empty
+
+some_items : (names : List (List ℕ)) (place : ℕ) (rows : List (List CellValue)) → AllByRecursion (λ piece. 0 < length piece) (json_items names place rows)
+some_items names place [] = (omega arith, tt)
+some_items names place (row ∷ rows) =
+    (omega (arith, length-append (comma_before place) (json_row names row)), some_items names (place + 1) rows)
+
+some_lines : (rows : List (List CellValue)) → AllByRecursion (λ piece. 0 < length piece) (map row_line rows)
+some_lines [] = tt
+some_lines (row ∷ rows) = (omega (arith, length-append (join_with_byte 44 (map csv_value row)) (13 ∷ 10 ∷ [])), some_lines rows)
+
+pub some_json : (rows : RowsOf) → AllByRecursion (λ piece. 0 < length piece) (json_pieces rows)
+some_json rows = (omega arith, some_items rows.names 0 rows.rows)
+
+pub some_csv : (rows : RowsOf) → AllByRecursion (λ piece. 0 < length piece) (csv_pieces rows)
+some_csv rows = (omega (arith, length-append (join_with_byte 44 rows.names) (13 ∷ 10 ∷ [])), some_lines rows.rows)
+
+-- ---- all of them
+
+-- each after a comma
+abbrev after_commas : List (List ℕ) → List ℕ
+after_commas [] = []
+after_commas (piece ∷ pieces) = 44 ∷ (piece ++ after_commas pieces)
+
+join_is : (piece : List ℕ) (pieces : List (List ℕ)) → join_with_byte 44 (piece ∷ pieces) ≡ piece ++ after_commas pieces
+join_is piece [] = sym (append-nil piece)
+join_is piece (next ∷ pieces) = ap (λ l. piece ++ (44 ∷ l)) (join_is next pieces)
+
+comma_there : (place : ℕ) → 0 < place → comma_before place ≡ 44 ∷ []
+comma_there zero some = absurd (omega (arith, some))
+comma_there (suc place) some = grind (arith, tests)
+
+later_items : (names : List (List ℕ)) (place : ℕ) (rows : List (List CellValue)) → 0 < place
+    → concat (json_items names place rows) ≡ after_commas (map (json_row names) rows) ++ codes "]}"
+later_items names place [] some = refl
+later_items names place (row ∷ rows) some =
+    let behind = later_items names (place + 1) rows (omega arith) in
+    ap (λ a. (a ++ json_row names row) ++ concat (json_items names (place + 1) rows)) (comma_there place some)
+    ∙ ap (λ b. 44 ∷ (json_row names row ++ b)) behind
+    ∙ ap (λ l. 44 ∷ l) (sym (append_assoc (json_row names row) (after_commas (map (json_row names) rows)) (codes "]}")))
+
+first_items : (names : List (List ℕ)) (rows : List (List CellValue)) → concat (json_items names 0 rows) ≡ join_with_byte 44 (map (json_row names) rows) ++ codes "]}"
+first_items names [] = refl
+first_items names (row ∷ rows) =
+    ap (λ b. json_row names row ++ b) (later_items names 1 rows (omega arith))
+    ∙ sym (append_assoc (json_row names row) (after_commas (map (json_row names) rows)) (codes "]}"))
+    ∙ ap (λ l. l ++ codes "]}") (sym (join_is (json_row names row) (map (json_row names) rows)))
+
+pub json_is_pieces : (rows : RowsOf) → concat (json_pieces rows) ≡ rows_text rows
+json_is_pieces rows =
+    ap (λ l. json_opening rows.count ++ l) (first_items rows.names rows.rows)
+    ∙ sym (append_assoc (json_opening rows.count) (join_with_byte 44 (map (json_row rows.names) rows.rows)) (codes "]}"))
+
+lines_are : (rows : List (List CellValue)) → concat (map row_line rows) ≡ flat_map row_line rows
+lines_are [] = refl
+lines_are (row ∷ rows) = ap (λ l. row_line row ++ l) (lines_are rows)
+
+pub csv_is_pieces : (rows : RowsOf) → concat (csv_pieces rows) ≡ csv_text rows
+csv_is_pieces rows = ap (λ l. csv_line rows.names ++ l) (lines_are rows.rows)

@@ -1,0 +1,103 @@
+-- Lengths as 64 bits tell them, and lengths of texts that are laid down piece by piece.
+use Rattle.std.proofs.Common.{◌≡◌, ◌<◌, ℕ, suc, ◌+◌, ◌-◌, List, [], ◌∷◌, ◌++◌, length, map, take, get_or, codes, refl, ap, ◌∙◌, arith, length-append}
+use Rattle.std.specs.List.{concat, flat_map, join_with_byte, zip}
+use Rattle.std.proofs.lemmas.List.{take_more}
+use Rattle.reply_text.specs.Csv.{csv_line, row_line}
+use Rattle.reply_values.specs.Csv.{csv_value}
+use Rattle.cell_types.specs.Value.{CellValue}
+use Rattle.reply_text.specs.Json.{json_member, json_row}
+use Rattle.reply_values.specs.Json.{json_text, json_value}
+use Rattle.reply_text.specs.Size.{member_name, row_frame}
+use Rattle.reply_values.specs.Size.{told}
+
+-- ---- sums that stop at the greatest number, by parts that did
+
+pub told_one : (size v n after : ℕ) → v ≡ told n → after ≡ told (size + v) → after ≡ told (size + n)
+told_one size v n after e f = omega (arith, e, f)
+
+pub told_frame : (v n commas first after whole : ℕ) → v ≡ told n → first ≡ told (v + commas) → after ≡ told (first + 2) → whole ≡ n + commas + 2 → after ≡ told whole
+told_frame v n commas first after whole e f g h = omega (arith, e, f, g, h)
+
+-- ---- items
+
+pub length-flat_push : {X Y : Type 0} (f : X → List Y) (xs : List X) (x : X) → length (flat_map f (xs ++ x ∷ [])) ≡ length (flat_map f xs) + length (f x)
+length-flat_push f [] x = omega (arith, length-append (f x) [])
+length-flat_push f (first ∷ xs) x =
+    let behind = length-flat_push f xs x in
+    omega (arith, length-append (f first) (flat_map f (xs ++ x ∷ [])), length-append (f first) (flat_map f xs), behind)
+
+-- one item more, of so many bytes
+one_longer : {X : Type 0} (f : X → List ℕ) (xs : List X) (d : X) (place n : ℕ) → place < length xs → length (f (get_or xs place d)) ≡ n
+    → length (flat_map f (take (place + 1) xs)) ≡ length (flat_map f (take place xs)) + n
+one_longer f xs d place n within is =
+    ap (λ l. length (flat_map f l)) (take_more xs place d within) ∙ length-flat_push f (take place xs) (get_or xs place d) ∙ ap (λ k. length (flat_map f (take place xs)) + k) is
+
+pub item_told : {X : Type 0} (f : X → List ℕ) (xs : List X) (d : X) (place size after n : ℕ) → place < length xs → size ≡ told (length (flat_map f (take place xs))) → length (f (get_or xs place d)) ≡ n
+    → after ≡ told (size + n) → after ≡ told (length (flat_map f (take (place + 1) xs)))
+item_told f xs d place size after n within so_far is after_is = omega (arith, one_longer f xs d place n within is, so_far, after_is)
+
+-- the same behind a start
+pub item_after : {X : Type 0} (f : X → List ℕ) (xs : List X) (d : X) (start place size after n : ℕ) → place < length xs → size ≡ told (start + length (flat_map f (take place xs))) → length (f (get_or xs place d)) ≡ n
+    → after ≡ told (size + n) → after ≡ told (start + length (flat_map f (take (place + 1) xs)))
+item_after f xs d start place size after n within so_far is after_is = omega (arith, one_longer f xs d place n within is, so_far, after_is)
+
+-- ---- commas
+
+pub length-join : (c : ℕ) (pieces : List (List ℕ)) → length (join_with_byte c pieces) ≡ length (concat pieces) + (length pieces - 1)
+length-join c [] = refl
+length-join c (piece ∷ []) = omega (arith, length-append piece [])
+length-join c (piece ∷ next ∷ pieces) =
+    let behind = length-join c (next ∷ pieces) in
+    omega (arith, length-append piece (c ∷ join_with_byte c (next ∷ pieces)), length-append piece (concat (next ∷ pieces)), behind)
+
+pub flat_is_concat : {X : Type 0} (f : X → List ℕ) (xs : List X) → concat (map f xs) ≡ flat_map f xs
+flat_is_concat f [] = refl
+flat_is_concat f (x ∷ xs) = ap (λ l. f x ++ l) (flat_is_concat f xs)
+
+pub length_mapped : {X Y : Type 0} (f : X → Y) (xs : List X) → length (map f xs) ≡ length xs
+length_mapped f [] = refl
+length_mapped f (x ∷ xs) = ap suc (length_mapped f xs)
+
+-- items with a comma between each two
+pub length-joined : {X : Type 0} (f : X → List ℕ) (xs : List X) → length (join_with_byte 44 (map f xs)) ≡ length (flat_map f xs) + (length xs - 1)
+length-joined f xs = length-join 44 (map f xs) ∙ ap (λ l. length l + (length (map f xs) - 1)) (flat_is_concat f xs) ∙ ap (λ n. length (flat_map f xs) + (n - 1)) (length_mapped f xs)
+
+-- ---- rows
+
+one_member : (t k v a b d : List ℕ) → length a ≡ length b + length d → length ((t ++ k ++ v) ++ a) ≡ length ((t ++ k) ++ b) + length (v ++ d)
+one_member t k v a b d e = omega (arith, e, length-append (t ++ k ++ v) a, length-append (t ++ k) v, length-append (t ++ k) b, length-append v d)
+
+members : (names : List (List ℕ)) (values : List CellValue) → length values ≡ length names
+    → length (flat_map json_member (zip names values)) ≡ length (flat_map member_name names) + length (flat_map json_value values)
+members [] [] e = refl
+members [] (value ∷ values) e = absurd (omega arith)
+members (name ∷ names) [] e = absurd (omega arith)
+members (name ∷ names) (value ∷ values) e =
+    one_member (json_text name) (codes ":") (json_value value) (flat_map json_member (zip names values)) (flat_map member_name names) (flat_map json_value values) (members names values (omega arith))
+
+zipped : (names : List (List ℕ)) (values : List CellValue) → length values ≡ length names → length (zip names values) ≡ length names
+zipped [] [] e = refl
+zipped [] (value ∷ values) e = absurd (omega arith)
+zipped (name ∷ names) [] e = absurd (omega arith)
+zipped (name ∷ names) (value ∷ values) e = ap suc (zipped names values (omega arith))
+
+-- braces around a text
+braced : (inside : List ℕ) → length (codes "{" ++ inside ++ codes "}") ≡ length inside + 2
+braced inside = omega (arith, length-append inside (codes "}"))
+
+pub length-frame : (names : List (List ℕ)) → length (row_frame names) ≡ length (flat_map member_name names) + (length names - 1) + 2
+length-frame names = omega (arith, braced (join_with_byte 44 (map member_name names)), length-joined member_name names)
+
+pub length-row : (names : List (List ℕ)) (values : List CellValue) → length values ≡ length names
+    → length (json_row names values) ≡ length (row_frame names) + length (flat_map json_value values)
+length-row names values e =
+    omega (arith, braced (join_with_byte 44 (map json_member (zip names values))), length-joined json_member (zip names values), members names values e, zipped names values e, length-frame names)
+
+-- ---- lines
+
+pub length-line : (values : List CellValue) (width : ℕ) → length values ≡ width → length (row_line values) ≡ length (flat_map csv_value values) + (width - 1) + 2
+length-line values width e =
+    omega (arith, length-append (join_with_byte 44 (map csv_value values)) (13 ∷ 10 ∷ []), length-joined csv_value values, e)
+
+pub length-name_line : (names : List (List ℕ)) → length (csv_line names) ≡ length (concat names) + (length names - 1) + 2
+length-name_line names = omega (arith, length-append (join_with_byte 44 names) (13 ∷ 10 ∷ []), length-join 44 names)

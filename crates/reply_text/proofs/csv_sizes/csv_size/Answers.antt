@@ -1,0 +1,7 @@
+use Rattle.std.proofs.Common.{length, ap, ◌∙◌}
+use Rattle.reply_values.specs.Size.{told}
+use Rattle.reply_text.proofs.PieceLemmas.{csv_is_pieces}
+use Rattle.reply_text.proofs.csv_sizes.csv_size.Goals as goal
+
+pub returns : goal.returns
+returns c = c.csv_sizes.ensures.counted ∙ ap (λ l. told (length l)) (csv_is_pieces c.args.rows.now)

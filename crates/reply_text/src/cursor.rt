@@ -1,0 +1,145 @@
+//! Bodies that are laid down piece by piece, within room that was reserved.
+ghost use Rattle.std.specs.Prelude.{◌≡◌, ◌+◌, ◌==◌, ◌≤◌, IfOk, length, vec_capacity, vec_len};
+ghost use Rattle.std.specs.List.{concat};
+ghost use Rattle.reply_text.specs.Body.{row_text, rows_text};
+ghost use Rattle.reply_text.specs.Csv.{csv_text};
+ghost use Rattle.reply_text.specs.Cursor.{LaysNext};
+ghost use Rattle.reply_text.specs.Inside.{body_pieces, MayLay};
+ghost use Rattle.reply_text.specs.Pieces.{csv_pieces, json_pieces, longest_of, AreSizesOf};
+
+use crate::body::row_body;
+use crate::csv_sizes::csv_sizes;
+use crate::json_rows::heads_of;
+use crate::json_sizes::json_sizes;
+use crate::pieces::Pieces;
+use crate::sizes::Sizes;
+use query_rows::Rows;
+use std::alloc::{AllocError, Global};
+use std::marker::Model;
+
+/// A body of which some pieces were laid down. It is seen as the bytes that are left, and a number of bytes that no piece passes.
+#[derive(Drop)]
+pub struct BodyCursor {
+    pieces: Pieces,
+    /// The number of the next piece.
+    next: usize,
+    /// How many bytes are left.
+    size: usize,
+    longest: usize,
+}
+
+impl Model for BodyCursor {
+    ghost use Rattle.reply_text.specs.Cursor.{BodyRest};
+
+    ghost Value = { BodyRest };
+
+    ghost use Rattle.reply_text.specs.Inside.{rest_view, IsAtPiece};
+
+    ghost view = { rest_view };
+
+    ghost invariant = { IsAtPiece };
+}
+
+/// A body of pieces that take so many bytes. At an `Err` these are more than 64 bits tell.
+fn of_pieces(pieces: Pieces, sizes: Sizes) -> Result<BodyCursor, AllocError>
+    requires lays { MayLay pieces }
+    requires sizes { AreSizesOf (body_pieces pieces) sizes.all sizes.longest }
+    ensures bytes { IfOk result (λ body. body.bytes ≡ concat (body_pieces pieces)) }
+    ensures longest { IfOk result (λ body. body.longest ≡ longest_of (body_pieces pieces)) }
+{
+    if sizes.all == usize::MAX {
+        return Err(AllocError);
+    }
+    Ok(BodyCursor {
+        pieces,
+        next: 0,
+        size: sizes.all,
+        longest: sizes.longest,
+    })
+}
+
+impl BodyCursor {
+    /// Rows as a JSON object whose member `value` has an object for each row (OData 4.01 JSON Format, section 13): what stands before the rows, each row,
+    /// what stands after them. At an `Err` memory ran out, or the body has more bytes than 64 bits tell.
+    pub fn json(alloc: Global, rows: Rows) -> Result<BodyCursor, AllocError>
+        ensures bytes { IfOk result (λ body. body.bytes ≡ rows_text rows) }
+        ensures longest { IfOk result (λ body. body.longest ≡ longest_of (json_pieces rows)) }
+    {
+        let heads = heads_of(alloc, rows.names())?;
+        let sizes = json_sizes(&rows);
+        let body = of_pieces(Pieces::Json(rows, heads), sizes)?;
+        Ok(body)
+    }
+
+    /// Rows as CSV: the line of the names, and a line for each row. At an `Err` the body has more bytes than 64 bits tell.
+    pub fn csv(rows: Rows) -> Result<BodyCursor, AllocError>
+        ensures bytes { IfOk result (λ body. body.bytes ≡ csv_text rows) }
+        ensures longest { IfOk result (λ body. body.longest ≡ longest_of (csv_pieces rows)) }
+    {
+        let sizes = csv_sizes(&rows);
+        let body = of_pieces(Pieces::Csv(rows), sizes)?;
+        Ok(body)
+    }
+
+    /// The one row as a JSON object (OData 4.01 JSON Format, section 6).
+    pub fn row(alloc: Global, rows: &Rows) -> Result<BodyCursor, AllocError>
+        requires { length rows.now.rows ≡ 1 }
+        ensures bytes { IfOk result (λ body. body.bytes ≡ row_text rows.now) }
+        ensures longest { IfOk result (λ body. body.longest ≡ length (row_text rows.now)) }
+    {
+        let bytes = row_body(alloc, rows)?;
+        Ok(BodyCursor::of_bytes(bytes))
+    }
+
+    /// Bytes that are there, as one piece.
+    pub fn of_bytes(bytes: Vec<u8>) -> BodyCursor
+        ensures bytes { result.bytes ≡ bytes.items }
+        ensures longest { result.longest ≡ length bytes.items }
+    {
+        let size = bytes.len();
+        BodyCursor {
+            pieces: Pieces::Bytes(bytes),
+            next: 0,
+            size,
+            longest: size,
+        }
+    }
+
+    /// How many bytes are left.
+    pub fn size(&self) -> usize
+        ensures { result ≡ length self.now.bytes }
+    {
+        self.size
+    }
+
+    /// Whether no byte is left.
+    pub fn is_empty(&self) -> bool
+        ensures { result ≡ (length self.now.bytes == 0) }
+    {
+        self.size == 0
+    }
+
+    /// A number of bytes that no piece passes.
+    pub fn longest(&self) -> usize
+        ensures { result ≡ self.now.longest }
+    {
+        self.longest
+    }
+
+    /// Lays down one more piece, within room that is there. It takes no memory.
+    pub fn push_next(&mut self, out: &mut Vec<u8>)
+        requires { vec_len out.old + self.old.longest ≤ vec_capacity out.old }
+        ensures next { LaysNext self.old self.new out.old.items out.new.items }
+        ensures room { vec_capacity out.old ≤ vec_capacity out.new }
+    {
+        if self.size == 0 {
+            return;
+        }
+        let before = out.len();
+        let Ok(()) = self.pieces.push(out, self.next) else {
+            return;
+        };
+        self.size -= out.len() - before;
+        self.next += 1;
+    }
+}

@@ -1,0 +1,4 @@
+pub mod Value
+pub mod Json
+pub mod Csv
+pub mod Size

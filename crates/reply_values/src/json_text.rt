@@ -1,0 +1,177 @@
+//! The texts of values in JSON (RFC 8259), appended to one buffer.
+ghost use Rattle.jiff.specs.Words.{date_text};
+ghost use Rattle.std.specs.Prelude.{◌≡◌, ◌+◌, ◌++◌, ◌∷◌, [], ◌<◌, ◌≤◌, OnErr, OnOk, length, position, unwrap_or, vec_capacity, vec_len};
+ghost use Rattle.std.specs.List.{flat_map};
+ghost use Rattle.std.specs.Fmt.{decimal};
+ghost use Rattle.cell_types.specs.Value.{value_view};
+ghost use Rattle.reply_values.specs.Json.{hex_digit, json_escaped, json_text, json_text_member, json_value, needs_escape, quote};
+
+use crate::decimal::push_decimal;
+use crate::lanes::unescaped_in;
+use crate::value::{push_bool, push_date, push_integer};
+use cell_types::Value;
+use itoa::Buffer;
+use jiff::civil::Date;
+use std::alloc::AllocError;
+
+/// A hexadecimal digit in lower case.
+fn hex_digit(n: u8) -> u8
+    requires { n < 16 }
+    ensures { result ≡ hex_digit n }
+{
+    if n < 10 { b'0' + n } else { b'a' - 10 + n }
+}
+
+/// Appends what stands for a byte in a text.
+fn push_escaped(out: &mut Vec<u8>, byte: u8) -> Result<(), AllocError>
+    ensures bytes { OnOk result (out.new.items ≡ out.old.items ++ json_escaped byte) }
+    ensures room { vec_capacity out.old ≤ vec_capacity out.new }
+    ensures full { OnErr result
+        (vec_capacity out.old < vec_len out.old + length (json_escaped byte)) }
+{
+    match byte {
+        b'"' => out.extend_from_slice(b"\\\""),
+        b'\\' => out.extend_from_slice(b"\\\\"),
+        0x08 => out.extend_from_slice(b"\\b"),
+        0x0c => out.extend_from_slice(b"\\f"),
+        b'\n' => out.extend_from_slice(b"\\n"),
+        b'\r' => out.extend_from_slice(b"\\r"),
+        b'\t' => out.extend_from_slice(b"\\t"),
+        0x00..=0x1f => {
+            out.extend_from_slice(b"\\u00")?;
+            out.extend_from_slice(&[hex_digit(byte / 16), hex_digit(byte % 16)])
+        }
+        _ => out.extend_from_slice(&[byte]),
+    }
+}
+
+/// Whether another text stands for a byte.
+fn needs_escape(byte: u8) -> bool
+    ensures { result ≡ needs_escape byte }
+{
+    byte == b'"' || byte == b'\\' || byte < 0x20
+}
+
+/// How many bytes at the front of a text shorter than a block stand for themselves.
+fn short_run_len(text: &[u8]) -> usize
+    ensures { result ≡ unwrap_or (position needs_escape text.now) (length text.now) }
+{
+    text.iter()
+        .position(|byte| needs_escape(*byte))
+        .unwrap_or(text.len())
+}
+
+/// How many bytes at the front of a text stand for themselves, a block at a time. The last block ends where the text does, over bytes that were seen.
+#[inline(always)]
+fn run_len_by<const N: usize>(text: &[u8]) -> usize
+    requires some { 0 < N }
+    requires most { N ≤ 64 }
+    requires block { N ≤ length text.now }
+    ensures { result ≡ unwrap_or (position needs_escape text.now) (length text.now) }
+{
+    let last = text.len() - N;
+    let mut at = 0;
+    while at < last {
+        let run = unescaped_in::<N>(text, at);
+        if run < N {
+            return at + run;
+        }
+        at += N;
+    }
+    last + unescaped_in::<N>(text, last)
+}
+
+/// How many bytes at the front stand for themselves.
+pub fn run_len(text: &[u8]) -> usize
+    ensures { result ≡ unwrap_or (position needs_escape text.now) (length text.now) }
+{
+    match text.len() {
+        0..8 => short_run_len(text),
+        8..16 => run_len_by::<8>(text),
+        _ => run_len_by::<16>(text),
+    }
+}
+
+/// Appends the inside of a text, whole runs at a time.
+fn push_inside(out: &mut Vec<u8>, text: &[u8]) -> Result<(), AllocError>
+    ensures bytes { OnOk result (out.new.items ≡ out.old.items ++ flat_map json_escaped text.now) }
+    ensures room { vec_capacity out.old ≤ vec_capacity out.new }
+    ensures full { OnErr result
+        (vec_capacity out.old < vec_len out.old + length (flat_map json_escaped text.now)) }
+{
+    let mut rest = text;
+    loop {
+        let (run, tail) = rest.split_at(run_len(rest));
+        out.extend_from_slice(run)?;
+        let Some((byte, others)) = tail.split_first() else {
+            return Ok(());
+        };
+        push_escaped(out, *byte)?;
+        rest = others;
+    }
+}
+
+/// Appends a text in quotes.
+pub fn push_text(out: &mut Vec<u8>, text: &[u8]) -> Result<(), AllocError>
+    ensures bytes { OnOk result (out.new.items ≡ out.old.items ++ json_text text.now) }
+    ensures room { vec_capacity out.old ≤ vec_capacity out.new }
+    ensures full { OnErr result
+        (vec_capacity out.old < vec_len out.old + length (json_text text.now)) }
+{
+    out.extend_from_slice(b"\"")?;
+    push_inside(out, text)?;
+    out.extend_from_slice(b"\"")
+}
+
+/// Appends a member whose value is a text.
+pub fn push_text_member(out: &mut Vec<u8>, name: &[u8], text: &[u8]) -> Result<(), AllocError>
+    ensures bytes { OnOk result
+        (out.new.items ≡ out.old.items ++ json_text_member name.now text.now) }
+    ensures room { vec_capacity out.old ≤ vec_capacity out.new }
+    ensures full { OnErr result
+        (vec_capacity out.old < vec_len out.old + length (json_text_member name.now text.now)) }
+{
+    push_text(out, name)?;
+    out.extend_from_slice(b":")?;
+    push_text(out, text)
+}
+
+/// Appends a date in quotes.
+fn push_quoted_date(out: &mut Vec<u8>, date: Date) -> Result<(), AllocError>
+    ensures bytes { OnOk result
+        (out.new.items ≡ out.old.items ++ (quote ∷ [] ++ date_text date ++ quote ∷ [])) }
+    ensures room { vec_capacity out.old ≤ vec_capacity out.new }
+    ensures full { OnErr result (vec_capacity out.old
+        < vec_len out.old + length (quote ∷ [] ++ date_text date ++ quote ∷ [])) }
+{
+    out.extend_from_slice(b"\"")?;
+    push_date(out, date)?;
+    out.extend_from_slice(b"\"")
+}
+
+/// Appends a value.
+pub fn push_json_value(out: &mut Vec<u8>, value: &Value<'_>) -> Result<(), AllocError>
+    ensures bytes { OnOk result
+        (out.new.items ≡ out.old.items ++ json_value (value_view value.now)) }
+    ensures room { vec_capacity out.old ≤ vec_capacity out.new }
+    ensures full { OnErr result
+        (vec_capacity out.old < vec_len out.old + length (json_value (value_view value.now))) }
+{
+    match value {
+        Value::Null => out.extend_from_slice(b"null"),
+        Value::Int(number) => push_integer(out, *number),
+        Value::Text(text) => push_text(out, text.as_str().as_bytes()),
+        Value::Bool(truth) => push_bool(out, *truth),
+        Value::Date(date) => push_quoted_date(out, *date),
+        Value::Decimal(millionths) => push_decimal(out, *millionths),
+    }
+}
+
+/// Appends a number in decimal digits.
+pub fn push_number(out: &mut Vec<u8>, number: u64) -> Result<(), AllocError>
+    ensures bytes { OnOk result (out.new.items ≡ out.old.items ++ decimal number) }
+    ensures room { vec_capacity out.old ≤ vec_capacity out.new }
+    ensures full { OnErr result (vec_capacity out.old < vec_len out.old + length (decimal number)) }
+{
+    out.extend_from_slice(Buffer::new().format(number).as_bytes())
+}

@@ -1,0 +1,174 @@
+-- Where rows stand.
+use Rattle.std.proofs.Common.{◌≡◌, ℕ, zero, suc, ◌+◌, ◌*◌, ◌/◌, ◌%◌, ◌<◌, ◌≤◌, List, [], ◌∷◌, ◌++◌, Option, None, Some, Vec, Global, length, map, take, get_or, refl, sym, ap, ◌∙◌, subst, arith}
+use Rattle.std.specs.Prelude.{replicate}
+use Rattle.std.specs.List.{All, AllByRecursion}
+use Rattle.std.proofs.lemmas.List.{get_or-map, get_or-replicate, get_or_past, get_or_read, length-map, length-replicate, map_more, map_push}
+use Rattle.std.proofs.lemmas.List.Elements.{All-from_recursion}
+use Rattle.std.proofs.Math.ListN.{get_or-map as get_or-map_default}
+use Rattle.block_summary.specs.Reading.{packed_type_of}
+use Rattle.block_summary.specs.declared.block.TheConstants.{BLOCK_ROWS}
+use Rattle.block_summary.specs.declared.number.PackedType.{PackedType}
+use Rattle.cell_types.specs.Column.{column_view, ColumnOf}
+use Rattle.cell_types.specs.Datatype as datatype
+use Rattle.cell_types.specs.Datatype.{datatype_view, DatatypeOf}
+use Rattle.cell_types.specs.Value.{CellValue, null, value_view}
+use Rattle.cell_types.specs.declared.column.Column.{Column}
+use Rattle.cell_types.specs.declared.value.Value.{Value}
+use Rattle.typed_columns.specs.ColumnCells.{ColumnCells}
+use Rattle.row_columns.specs.declared.store.Store.{Store}
+use Rattle.row_columns.specs.declared.store.Store.TheVariants.{Blocks, Values}
+use Rattle.row_columns.specs.Kinds.{any, kind_of_datatype, kinds_of, KindOf}
+use Rattle.row_columns.specs.Picked.{kinds_at, values_at}
+use Rattle.row_columns.specs.Piece.{piece_at, piece_row}
+use Rattle.row_columns.specs.Store.{end_of, kind_of_type, numbered_row, value_rows, stored_kinds, stored_row, IsPicked, IsStoredWide}
+use Rattle.row_columns.proofs.PieceLemmas.{picked_row}
+
+-- ---- the kinds of columns
+
+pub type_kind : (d : DatatypeOf) → kind_of_type (packed_type_of d) ≡ kind_of_datatype d
+type_kind datatype.integer = refl
+type_kind datatype.text = refl
+type_kind (datatype.boolean of_true of_false) = refl
+type_kind (datatype.date form) = refl
+type_kind datatype.decimal = refl
+
+-- one column more
+pub kind_more : (columns : List Column) (i : ℕ) (column : Column) (made : List (Option PackedType)) (type : Option PackedType) → i < length columns → column ≡ get_or columns i column
+    → type ≡ packed_type_of (datatype_view column.datatype) → map kind_of_type made ≡ kinds_of (map column_view (take i columns))
+    → map kind_of_type (made ++ type ∷ []) ≡ kinds_of (map column_view (take (i + 1) columns))
+kind_more columns i column made type h at is so_far =
+    let kind : ColumnOf → KindOf = λ (c : ColumnOf). kind_of_datatype c.datatype in
+    let here : kind_of_type type ≡ kind (column_view column) = ap kind_of_type is ∙ type_kind (datatype_view column.datatype) in
+    map_push kind_of_type made type
+    ∙ ap (λ ks. ks ++ kind_of_type type ∷ []) so_far
+    ∙ ap (λ k. kinds_of (map column_view (take i columns)) ++ k ∷ []) here
+    ∙ sym (map_push kind (map column_view (take i columns)) (column_view column))
+    ∙ ap (map kind) (sym (map_more column_view columns i column h ∙ ap (λ c. map column_view (take i columns) ++ column_view c ∷ []) (sym at)))
+
+-- one of those with places more
+pub kind_at_more : (columns : List Column) (places : List ℕ) (i : ℕ) (column : Column) (made : List (Option PackedType)) (type : Option PackedType) → i < length places
+    → get_or places i 0 < length columns → column ≡ get_or columns (get_or places i 0) column → type ≡ packed_type_of (datatype_view column.datatype)
+    → map kind_of_type made ≡ kinds_at (take i places) (kinds_of (map column_view columns))
+    → map kind_of_type (made ++ type ∷ []) ≡ kinds_at (take (i + 1) places) (kinds_of (map column_view columns))
+kind_at_more columns places i column made type h within at is so_far =
+    let kinds = kinds_of (map column_view columns) in
+    let place = get_or places i 0 in
+    let kind : ColumnOf → KindOf = λ (c : ColumnOf). kind_of_datatype c.datatype in
+    let here : kind_of_type type ≡ get_or kinds place any =
+    ap kind_of_type is ∙ type_kind (datatype_view column.datatype) ∙ ap (λ (c : Column). kind (column_view c)) at
+    ∙ sym (get_or-map (λ (c : Column). kind_of_datatype (datatype_view c.datatype)) columns place column any within) ∙ ap (λ ks. get_or ks place any) (both columns) in
+    map_push kind_of_type made type
+    ∙ ap (λ ks. ks ++ kind_of_type type ∷ []) so_far
+    ∙ ap (λ k. kinds_at (take i places) kinds ++ k ∷ []) here
+    ∙ sym (map_more (λ place. get_or kinds place any) places i 0 h)
+  where
+    both : (cs : List Column) → map (λ (c : Column). kind_of_datatype (datatype_view c.datatype)) cs ≡ kinds_of (map column_view cs)
+    both [] = refl
+    both (c ∷ cs) = ap (λ ks. kind_of_datatype (datatype_view c.datatype) ∷ ks) (both cs)
+
+-- one of the types more
+pub type_more : (types : List (Option PackedType)) (places : List ℕ) (i : ℕ) (made : List (Option PackedType)) (type : Option PackedType) → i < length places
+    → get_or places i 0 < length types → type ≡ get_or types (get_or places i 0) type → map kind_of_type made ≡ kinds_at (take i places) (map kind_of_type types)
+    → map kind_of_type (made ++ type ∷ []) ≡ kinds_at (take (i + 1) places) (map kind_of_type types)
+type_more types places i made type h within at so_far =
+    let kinds = map kind_of_type types in
+    let here : kind_of_type type ≡ get_or kinds (get_or places i 0) any = ap kind_of_type at ∙ sym (get_or-map kind_of_type types (get_or places i 0) type any within) in
+    map_push kind_of_type made type
+    ∙ ap (λ ks. ks ++ kind_of_type type ∷ []) so_far
+    ∙ ap (λ k. kinds_at (take i places) kinds ++ k ∷ []) here
+    ∙ sym (map_more (λ place. get_or kinds place any) places i 0 h)
+
+-- ---- a row
+
+pub row_of_piece : (pieces : List (List ColumnCells)) (number : ℕ) (piece : List ColumnCells) → number / BLOCK_ROWS < length pieces → piece ≡ get_or pieces (number / BLOCK_ROWS) piece
+    → piece_row piece (number % BLOCK_ROWS) ≡ numbered_row pieces number
+row_of_piece pieces number piece h at =
+    let none : List ColumnCells = [] in
+    ap (λ (p : List ColumnCells). piece_row p (number % BLOCK_ROWS)) (get_or_read pieces (number / BLOCK_ROWS) piece h at none)
+
+pub piece_wide : (pieces : List (List ColumnCells)) (width number : ℕ) (piece : List ColumnCells) → AllByRecursion (λ (p : List ColumnCells). length p ≡ width) pieces
+    → number < length pieces → piece ≡ get_or pieces number piece → length piece ≡ width
+piece_wide pieces width number piece wide h at =
+    ap (λ (p : List ColumnCells). length p) at ∙ All-from_recursion (λ (p : List ColumnCells). length p ≡ width) pieces wide number piece h
+
+pub row_of_values : (rows : List (Vec Value Global)) (number : ℕ) (row : Vec Value Global) → number < length rows → row ≡ get_or rows number row
+    → map value_view row.items ≡ get_or (value_rows rows) number []
+row_of_values rows number row h at =
+    let none : List CellValue = [] in
+    ap (λ (r : Vec Value Global). map value_view r.items) at ∙ sym (get_or-map (λ (r : Vec Value Global). map value_view r.items) rows number row none h)
+
+pub row_long : (width : ℕ) (rows : List (Vec Value Global)) (number : ℕ) (row : Vec Value Global) → AllByRecursion (λ (r : List CellValue). length r ≡ width) (value_rows rows)
+    → number < length rows → row ≡ get_or rows number row → length row.items ≡ width
+row_long width rows number row wide h at =
+    let none : List CellValue = [] in
+    let inside : number < length (value_rows rows) = omega (arith, h, length-map rows (λ (r : Vec Value Global). map value_view r.items)) in
+    sym (length-map row.items value_view) ∙ ap (λ (r : List CellValue). length r) (row_of_values rows number row h at)
+    ∙ All-from_recursion (λ (r : List CellValue). length r ≡ width) (value_rows rows) wide number none inside
+
+-- each row is as wide as there are columns
+pub stored_wide : (store : Store) (number : ℕ) → IsStoredWide store → number < end_of store → length (stored_row store number) ≡ length (stored_kinds store)
+stored_wide (Blocks types pieces) number wide h =
+    let none : List ColumnCells = [] in
+    let inside : number / BLOCK_ROWS < length pieces.items = omega (arith, h) in
+    let piece = get_or pieces.items (number / BLOCK_ROWS) none in
+    length-map piece (λ (c : ColumnCells). get_or c.cells (number % BLOCK_ROWS) null)
+    ∙ All-from_recursion (λ (p : List ColumnCells). length p ≡ length types.items) pieces.items wide (number / BLOCK_ROWS) none inside
+    ∙ sym (length-map types.items kind_of_type)
+stored_wide (Values width rows) number wide h =
+    let none : List CellValue = [] in
+    let inside : number < length (value_rows rows.items) = omega (arith, h, length-map rows.items (λ (r : Vec Value Global). map value_view r.items)) in
+    All-from_recursion (λ (r : List CellValue). length r ≡ width) (value_rows rows.items) wide number none inside ∙ sym (length-replicate width any)
+
+-- ---- some columns
+
+any_at : (width place : ℕ) → get_or (replicate width any) place any ≡ any
+any_at zero place = refl
+any_at (suc width) zero = refl
+any_at (suc width) (suc place) = any_at width place
+
+any_kinds : (width : ℕ) (places : List ℕ) → replicate (length places) any ≡ kinds_at places (replicate width any)
+any_kinds width [] = refl
+any_kinds width (place ∷ places) = ap (λ k. k ∷ replicate (length places) any) (sym (any_at width place)) ∙ ap (λ ks. get_or (replicate width any) place any ∷ ks) (any_kinds width places)
+
+pieces_wide : (width : ℕ) (places : List ℕ) (pieces : List (List ColumnCells)) → length places ≡ width → AllByRecursion (λ (p : List ColumnCells). length p ≡ width) (map (piece_at places) pieces)
+pieces_wide width places [] e = tt
+pieces_wide width places (piece ∷ pieces) e = (length-map places _ ∙ e, pieces_wide width places pieces e)
+
+pub rows_wide : (places : List ℕ) (rows : List (List CellValue)) → AllByRecursion (λ (r : List CellValue). length r ≡ length places) (map (values_at places) rows)
+rows_wide places [] = tt
+rows_wide places (row ∷ rows) = (length-map places _, rows_wide places rows)
+
+pub blocks_picked : (places : List ℕ) (types made : Vec (Option PackedType) Global) (pieces new : Vec (List ColumnCells) Global)
+    → map kind_of_type made.items ≡ kinds_at places (map kind_of_type types.items) → new.items ≡ map (piece_at places) pieces.items
+    → IsPicked places (Blocks types pieces) (Blocks made new)
+blocks_picked places types made pieces new kinds is = record {
+  kinds = kinds;
+  end = ap (λ (ps : List (List ColumnCells)). length ps * BLOCK_ROWS) is ∙ ap (λ n. n * BLOCK_ROWS) (length-map pieces.items (piece_at places));
+  wide = subst (AllByRecursion (λ (p : List ColumnCells). length p ≡ length made.items)) (sym is)
+      (pieces_wide (length made.items) places pieces.items (sym (length-map places _) ∙ sym (ap length kinds) ∙ length-map made.items kind_of_type));
+  rows = λ number h. row number (omega (arith, h));
+}
+  where
+    row : (number : ℕ) → number / BLOCK_ROWS < length pieces.items → numbered_row new.items number ≡ values_at places (numbered_row pieces.items number)
+    row number h =
+        let none : List ColumnCells = [] in
+        ap (λ (ps : List (List ColumnCells)). piece_row (get_or ps (number / BLOCK_ROWS) none) (number % BLOCK_ROWS)) is
+        ∙ ap (λ (p : List ColumnCells). piece_row p (number % BLOCK_ROWS)) (get_or-map (piece_at places) pieces.items (number / BLOCK_ROWS) none none h)
+        ∙ picked_row places (get_or pieces.items (number / BLOCK_ROWS) none) (number % BLOCK_ROWS)
+
+pub values_picked : (places : List ℕ) (width : ℕ) (rows new : Vec (Vec Value Global) Global) → value_rows new.items ≡ map (values_at places) (value_rows rows.items)
+    → IsPicked places (Values width rows) (Values (length places) new)
+values_picked places width rows new is = record {
+  kinds = any_kinds width places;
+  end = sym (many new.items) ∙ ap length is ∙ length-map (value_rows rows.items) (values_at places) ∙ many rows.items;
+  wide = subst (AllByRecursion (λ (r : List CellValue). length r ≡ length places)) (sym is) (rows_wide places (value_rows rows.items));
+  rows = λ number h. row number (omega (arith, h, many rows.items));
+}
+  where
+    many : (rs : List (Vec Value Global)) → length (value_rows rs) ≡ length rs
+    many rs = length-map rs (λ (r : Vec Value Global). map value_view r.items)
+
+    row : (number : ℕ) → number < length (value_rows rows.items) → get_or (value_rows new.items) number [] ≡ values_at places (get_or (value_rows rows.items) number [])
+    row number h =
+        let none : List CellValue = [] in
+        ap (λ (rs : List (List CellValue)). get_or rs number none) is ∙ get_or-map (values_at places) (value_rows rows.items) number none none h

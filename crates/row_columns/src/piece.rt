@@ -1,0 +1,89 @@
+//! The cells of some columns of a block, which are shared with its table.
+ghost use Rattle.std.specs.Prelude.{◌≡◌, ◌<◌, ℕ, [], IfOk, get_or, length, map, option_map, slice_index_or};
+ghost use Rattle.std.specs.List.{All};
+ghost use Rattle.cell_types.specs.Value.{null, value_view};
+ghost use Rattle.row_columns.specs.Picked.{values_at};
+ghost use Rattle.row_columns.specs.Piece.{piece_at, piece_row};
+ghost use Rattle.row_columns.specs.Text.{text_of_cell};
+
+use cell_types::Value;
+use std::alloc::{AllocError, Global};
+use std::marker::Model;
+use table_store::Block;
+use typed_columns::BlockCells;
+
+/// The cells of some columns of a block.
+#[derive(Drop)]
+pub(crate) struct Piece {
+    columns: Vec<BlockCells>,
+}
+
+impl Model for Piece {
+    ghost use Rattle.std.specs.Prelude.{List};
+    ghost use Rattle.typed_columns.specs.ColumnCells.{ColumnCells};
+
+    ghost Value = { List ColumnCells };
+
+    ghost use Rattle.row_columns.specs.Piece.{HaveTextsAlone};
+
+    ghost view = { λ piece. piece.columns.items };
+
+    ghost invariant = { λ piece. HaveTextsAlone piece.columns.items };
+}
+
+impl Piece {
+    /// Those of the columns of a block that have these places.
+    pub(crate) fn of_places(
+        alloc: Global,
+        block: &Block<'_>,
+        places: &[usize],
+    ) -> Result<Piece, AllocError>
+        requires { All (λ place. place < length block.now.schema.columns) places.now }
+        ensures wide { IfOk result (λ piece. length piece ≡ length places.now) }
+        ensures rows { IfOk result (λ piece. (row : ℕ) → row < length block.now.rows
+            → piece_row piece row ≡ values_at places.now (slice_index_or block.now.rows row [])) }
+    {
+        block.values_fit();
+        let mut columns = Vec::with_capacity(alloc, places.len())?;
+        for place in places {
+            columns.push(block.shared(*place)?)?;
+        }
+        Ok(Piece { columns })
+    }
+
+    /// The value of a row and a column; null past the rows.
+    #[inline(always)]
+    pub(crate) fn value(&self, row: usize, col: usize) -> Value<'_>
+        requires { col < length self.now }
+        ensures { value_view result ≡ slice_index_or (piece_row self.now row) col null }
+    {
+        self.columns[col].value(row)
+    }
+
+    /// The text of a row and a column; nothing where the value is null, or no text, and past the rows.
+    #[inline(always)]
+    pub(crate) fn text(&self, row: usize, col: usize) -> Option<&str>
+        requires { col < length self.now }
+        ensures { option_map (λ t. t.now) result
+            ≡ text_of_cell (slice_index_or (piece_row self.now row) col null) }
+    {
+        let texts = self.columns[col].texts()?;
+        if row >= texts.len() {
+            return None;
+        }
+        texts.text(row)
+    }
+
+    /// The columns with these places.
+    pub(crate) fn picked(&self, alloc: Global, places: &[usize]) -> Result<Piece, AllocError>
+        requires { All (λ place. place < length self.now) places.now }
+        ensures { IfOk result (λ piece.
+            piece ≡ piece_at places.now self.now) }
+    {
+        let mut columns = Vec::with_capacity(alloc, places.len())?;
+        for place in places {
+            columns.push(self.columns[*place].shared()?)?;
+        }
+        Ok(Piece { columns })
+    }
+}

@@ -1,0 +1,211 @@
+//! Where rows stand.
+ghost use Rattle.std.specs.Prelude.{◌≡◌, ◌<◌, [], IfOk, length, map, option_map, slice_index_or};
+ghost use Rattle.std.specs.List.{All};
+ghost use Rattle.cell_types.specs.Column.{column_view};
+ghost use Rattle.cell_types.specs.Value.{null, value_view};
+ghost use Rattle.row_columns.specs.Kinds.{kinds_of};
+ghost use Rattle.row_columns.specs.Picked.{kinds_at, numbered, values_at};
+ghost use Rattle.row_columns.specs.Piece.{piece_at};
+ghost use Rattle.row_columns.specs.Store.{end_of, kind_of_type, stored_kinds, stored_row, IsPicked, IsStoredWide, HasTakenRows};
+ghost use Rattle.row_columns.specs.Text.{text_of_cell};
+
+use crate::numbers::{numbers_after, numbers_between};
+use crate::piece::Piece;
+use crate::value_rows::{rows_picked, rows_taken, text_of};
+use crate::values::lent;
+use block_summary::{BLOCK_ROWS, PackedType, packed_type_of};
+use cell_types::{Column, Value};
+use std::alloc::{AllocError, Global};
+use table_store::Block;
+
+/// The rows of so many blocks have numbers.
+const MOST_PIECES: usize = 1 << 20;
+
+/// Where rows stand.
+#[derive(Drop)]
+pub(crate) enum Store {
+    /// In blocks that are shared with their table. Of each column it is told what its numbers stand for; nothing of texts.
+    Blocks(Vec<Option<PackedType>>, Vec<Piece>),
+    /// Beside one another, each of so many values of any kind.
+    Values(usize, Vec<Vec<Value<'static>>>),
+}
+
+/// What the numbers of each column stand for; nothing for texts.
+pub(crate) fn types_of(
+    alloc: Global,
+    columns: &[Column],
+) -> Result<Vec<Option<PackedType>>, AllocError>
+    ensures { IfOk result
+        (λ made. map kind_of_type made.items ≡ kinds_of (map column_view columns.now)) }
+{
+    let mut made = Vec::with_capacity(alloc, columns.len())?;
+    for column in columns {
+        made.push(packed_type_of(&column.datatype))?;
+    }
+    Ok(made)
+}
+
+/// What the numbers of those of the columns stand for that have these places; nothing for texts.
+pub(crate) fn types_at(
+    alloc: Global,
+    columns: &[Column],
+    places: &[usize],
+) -> Result<Vec<Option<PackedType>>, AllocError>
+    requires { All (λ place. place < length columns.now) places.now }
+    ensures { IfOk result (λ made. map kind_of_type made.items
+        ≡ kinds_at places.now (kinds_of (map column_view columns.now))) }
+{
+    let mut made = Vec::with_capacity(alloc, places.len())?;
+    for place in places {
+        made.push(packed_type_of(&columns[*place].datatype))?;
+    }
+    Ok(made)
+}
+
+/// Those of the types that have these places.
+fn types_picked(
+    alloc: Global,
+    types: &[Option<PackedType>],
+    places: &[usize],
+) -> Result<Vec<Option<PackedType>>, AllocError>
+    requires { All (λ place. place < length types.now) places.now }
+    ensures { IfOk result (λ made.
+        map kind_of_type made.items ≡ kinds_at places.now (map kind_of_type types.now)) }
+{
+    let mut made = Vec::with_capacity(alloc, places.len())?;
+    for place in places {
+        made.push(types[*place])?;
+    }
+    Ok(made)
+}
+
+/// The pieces with only the columns that have these places.
+fn pieces_picked(
+    alloc: Global,
+    pieces: &[Piece],
+    places: &[usize],
+) -> Result<Vec<Piece>, AllocError>
+    requires { All (λ piece. All (λ place. place < length piece) places.now) pieces.now }
+    ensures { IfOk result (λ made. made.items ≡ map (piece_at places.now) pieces.now) }
+{
+    let mut made = Vec::with_capacity(alloc, pieces.len())?;
+    for piece in pieces {
+        made.push(piece.picked(alloc, places)?)?;
+    }
+    Ok(made)
+}
+
+impl Store {
+    /// No columns, and no rows.
+    pub(crate) fn none(alloc: Global) -> Store
+        ensures kinds { stored_kinds result ≡ [] }
+        ensures end { end_of result ≡ 0 }
+        ensures wide { IsStoredWide result }
+    {
+        Store::Blocks(Vec::new(alloc), Vec::new(alloc))
+    }
+
+    /// How many columns there are.
+    pub(crate) fn width(&self) -> usize
+        ensures { result ≡ length (stored_kinds self.now) }
+    {
+        match self {
+            Store::Blocks(types, _) => types.len(),
+            Store::Values(width, _) => *width,
+        }
+    }
+
+    /// The value of the row with a number.
+    #[inline(always)]
+    pub(crate) fn value(&self, number: usize, col: usize) -> Value<'_>
+        requires wide { IsStoredWide self.now }
+        requires number { number < end_of self.now }
+        requires col { col < length (stored_kinds self.now) }
+        ensures { value_view result ≡ slice_index_or (stored_row self.now number) col null }
+    {
+        match self {
+            Store::Blocks(_, pieces) => pieces[number / BLOCK_ROWS].value(number % BLOCK_ROWS, col),
+            Store::Values(_, rows) => lent(&rows[number][col]),
+        }
+    }
+
+    /// The text of the row with a number; nothing where the value is null, or no text.
+    #[inline(always)]
+    pub(crate) fn text(&self, number: usize, col: usize) -> Option<&str>
+        requires wide { IsStoredWide self.now }
+        requires number { number < end_of self.now }
+        requires col { col < length (stored_kinds self.now) }
+        ensures { option_map (λ t. t.now) result
+            ≡ text_of_cell (slice_index_or (stored_row self.now number) col null) }
+    {
+        match self {
+            Store::Blocks(_, pieces) => pieces[number / BLOCK_ROWS].text(number % BLOCK_ROWS, col),
+            Store::Values(_, rows) => text_of(&rows[number][col]),
+        }
+    }
+
+    /// The rows under the same numbers, in the columns with these places.
+    pub(crate) fn picked(&self, alloc: Global, places: &[usize]) -> Result<Store, AllocError>
+        requires wide { IsStoredWide self.now }
+        requires places { All (λ place. place < length (stored_kinds self.now)) places.now }
+        ensures { IfOk result (IsPicked places.now self.now) }
+    {
+        match self {
+            Store::Blocks(types, pieces) => {
+                let types = types_picked(alloc, types.as_slice(), places)?;
+                Ok(Store::Blocks(types, pieces_picked(alloc, pieces.as_slice(), places)?))
+            }
+            Store::Values(width, rows) => {
+                let rows = rows_picked(alloc, *width, rows.as_slice(), places)?;
+                Ok(Store::Values(places.len(), rows))
+            }
+        }
+    }
+
+    /// Takes the values that the rows of a block with these numbers have in the columns with these places: the numbers of these rows among all.
+    pub(crate) fn take(
+        &mut self,
+        alloc: Global,
+        block: &Block<'_>,
+        places: &[usize],
+        numbers: &[usize],
+    ) -> Result<Vec<u32>, AllocError>
+        requires wide { IsStoredWide self.old }
+        requires width { length (stored_kinds self.old) ≡ length places.now }
+        requires places { All (λ place. place < length block.now.schema.columns) places.now }
+        requires within { All (λ number. number < length block.now.rows) numbers.now }
+        ensures { IfOk result (λ made. HasTakenRows self.old self.new
+            (map (values_at places.now) (numbered numbers.now block.now.rows)) made.items) }
+    {
+        block.rows_are_few();
+        if numbers.is_empty() {
+            return Ok(Vec::new(alloc));
+        }
+        match self {
+            Store::Blocks(_, pieces) => {
+                if pieces.len() >= MOST_PIECES {
+                    return Err(AllocError);
+                }
+                let start = pieces.len() * BLOCK_ROWS;
+                pieces.push(Piece::of_places(alloc, block, places)?)?;
+                numbers_after(alloc, start, numbers)
+            }
+            Store::Values(_, rows) => {
+                let start = rows.len();
+                rows_taken(alloc, rows, block, places, numbers)?;
+                numbers_between(alloc, start, rows.len())
+            }
+        }
+    }
+
+    /// Lets go of all rows.
+    pub(crate) fn clear(&mut self)
+        ensures kinds { stored_kinds self.new ≡ stored_kinds self.old }
+        ensures wide { IsStoredWide self.new }
+    {
+        match self {
+            Store::Blocks(_, pieces) => pieces.clear(),
+            Store::Values(_, rows) => rows.clear(),
+        }
+    }
+}

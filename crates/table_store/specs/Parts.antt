@@ -1,0 +1,58 @@
+-- What is read of the rows of a part of a file.
+use Rattle.std.specs.Prelude.{◌≡◌, ◌⊎◌, ◌+◌, ◌≤◌, ℕ, List, [], ◌++◌, length, map, Option, Some, slice_get, slice_index_or}
+use Rattle.std.specs.Result.{result_err}
+use Rattle.cell_types.specs.declared.fault.CellFault.{CellFault}
+use Rattle.cell_types.specs.declared.fault.CellFault.TheVariants.{NoMemory}
+use Rattle.cell_types.specs.declared.column.Column.{Column}
+use Rattle.cell_types.specs.Column.{column_view, ColumnOf}
+use Rattle.cell_types.specs.Value.{CellValue}
+use Rattle.row_keys.specs.declared.keys.KeyReader.{KeyReader}
+use Rattle.row_keys.specs.Key.{row_keys}
+use Rattle.row_keys.specs.Keys.{HasRead}
+use Rattle.block_summary.specs.Reading.{packed_type_of}
+use Rattle.csv_grammar.specs.Raw.{RawField, field_of}
+use Rattle.typed_columns.specs.ColumnReader.{ReaderOf, with_cells}
+use Rattle.typed_columns.specs.Parts.{part_cells, PartHasValues}
+use Rattle.table_store.specs.declared.loading.BadCell.{BadCell}
+use Rattle.table_store.specs.Table.{rows_from, values_from}
+
+-- each field of the rows has a value in its column
+abbrev pub AllColumnsHaveValues : List ColumnOf → List (List RawField) → Type 0
+AllColumnsHaveValues columns rows = (col : ℕ) (column : ColumnOf) → slice_get columns col ≡ Some column → PartHasValues column col rows
+
+-- a reader of the column with room for so many cells
+pub record HasPartReader (column : ColumnOf) (reader : ReaderOf) (rows : ℕ) : Type 0 where
+  pub type : packed_type_of column.datatype ≡ reader.packed_type
+  pub room : length reader.cells + rows ≤ reader.rows
+
+-- each column has one
+pub record HavePartReaders (columns : List ColumnOf) (readers : List ReaderOf) (rows : ℕ) : Type 0 where
+  pub count : length readers ≡ length columns
+  pub each : (col : ℕ) (column : ColumnOf) (reader : ReaderOf) → slice_get columns col ≡ Some column → slice_get readers col ≡ Some reader → HasPartReader column reader rows
+
+-- each reader with the cells of the rows
+pub record ArePartReadOn (columns : List ColumnOf) (rows : List (List RawField)) (readers new : List ReaderOf) : Type 0 where
+  pub count : length new ≡ length readers
+  pub each : (col : ℕ) (column : ColumnOf) (reader : ReaderOf) → slice_get columns col ≡ Some column → slice_get readers col ≡ Some reader
+      → slice_get new col ≡ Some (with_cells reader (part_cells column col rows))
+
+-- what is wrong with rows of fields, the first of which has that number
+abbrev pub wrong_of : ℕ → List ColumnOf → List (List RawField) → Option (ℕ × ℕ × CellFault)
+wrong_of first columns rows = result_err (rows_from first columns (map (map field_of) rows))
+
+-- what is wrong with a row of fields
+abbrev pub wrong_in_row : List ColumnOf → List RawField → Option (ℕ × CellFault)
+wrong_in_row columns fields = result_err (values_from 0 columns (map field_of fields))
+
+-- and with the row of a number
+abbrev pub wrong_at : List Column → List (List RawField) → ℕ → Option (ℕ × CellFault)
+wrong_at columns rows row = wrong_in_row (map column_view columns) (slice_index_or rows row [])
+
+-- a reader of keys has read those of some rows, the first of which has that number, wherever it had read those of the rows before them
+abbrev pub ReadsKeysOn : KeyReader → List ℕ → ℕ → List (List CellValue) → KeyReader → Type 0
+ReadsKeysOn old places first more new =
+    (rows : List (List CellValue)) → first ≡ length rows → HasRead old (row_keys places rows) → HasRead new (row_keys places (rows ++ more))
+
+-- this is the first cell of the rows, row by row, that has no value, or memory ran out
+abbrev pub IsFirstBadIn : ℕ → List ColumnOf → List (List RawField) → BadCell → Type 0
+IsFirstBadIn first columns rows bad = (bad.fault ≡ NoMemory) ⊎ (wrong_of first columns rows ≡ Some (bad.row, bad.col, bad.fault))

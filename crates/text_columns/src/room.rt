@@ -1,0 +1,38 @@
+//! Room for texts that are written one after another.
+ghost use Rattle.std.specs.Prelude.{◌≡◌, ◌+◌, ◌≤◌, OnOk, OnErr, length, take};
+ghost use Rattle.text_columns.specs.declared.content.TheConstants.{LANES};
+
+use crate::content::LANES;
+use std::alloc::AllocError;
+
+/// Makes room for so many bytes from a place on, and a few more.
+#[inline(always)]
+pub fn make_room(bytes: &mut Vec<u8>, at: usize, more: usize) -> Result<(), AllocError>
+    requires { at ≤ length bytes.old.items }
+    ensures room { OnOk result (at + more + LANES ≤ length bytes.new.items) }
+    ensures kept { OnOk result (take at bytes.new.items ≡ take at bytes.old.items) }
+    ensures err { OnErr result (bytes.new.items ≡ bytes.old.items) }
+{
+    let free = bytes.len() - at;
+    if more < free && LANES <= free - more {
+        return Ok(());
+    }
+    grow(bytes, at, more)
+}
+
+/// Makes the room where there is too little.
+#[inline(never)]
+fn grow(bytes: &mut Vec<u8>, at: usize, more: usize) -> Result<(), AllocError>
+    requires { at ≤ length bytes.old.items }
+    ensures room { OnOk result (at + more + LANES ≤ length bytes.new.items) }
+    ensures kept { OnOk result (take at bytes.new.items ≡ take at bytes.old.items) }
+    ensures err { OnErr result (bytes.new.items ≡ bytes.old.items) }
+{
+    let Some(needed) = at.checked_add(more) else {
+        return Err(AllocError);
+    };
+    let Some(needed) = needed.checked_add(LANES) else {
+        return Err(AllocError);
+    };
+    bytes.resize(needed.max(bytes.len().saturating_mul(2)), 0)
+}
