@@ -9,7 +9,7 @@ use Rattle.std.specs.declared.cmp.Ordering.TheVariants.{Less, Equal, Greater}
 use Rattle.std.proofs.lemmas.Cmp.{int_ranked, ranked}
 use Rattle.std.proofs.lemmas.Int.{ints}
 use denote.Ref.{Bor}
-use Rattle.jiff.specs.Words.{days_in_month}
+use Rattle.jiff_core.specs.Calendar.{days_in_month}
 use Rattle.cell_types.specs.Value.{CellValue}
 use Rattle.typed_trees.specs.declared.operator.ComparisonOperator.{ComparisonOperator}
 use Rattle.typed_trees.specs.TypedTree.{DayOf}
@@ -113,7 +113,7 @@ days-give o f g cs wanted l r ts left right has =
     ∙ ap (λ c. Some (truth_of (holds o c))) (compared-days (number_lane l row) (number_lane r row)))
 
 -- ---- the days of a column
-day-cell : (n : Option ℤ) → day_in (cell_of Date n) ≡ option_map day_of n
+pub day-cell : (n : Option ℤ) → day_in (cell_of Date n) ≡ option_map day_of n
 day-cell None = refl
 day-cell (Some n) = refl
 

@@ -1,10 +1,9 @@
 pub mod LogicLemmas
 pub mod NumberLemmas
 pub mod TextLemmas
-pub mod PartLemmas
 pub mod DateLemmas
 pub mod ListLemmas
-pub mod CodeLemmas
 pub mod TruthLemmas
 pub mod ArithmeticLemmas
 pub mod BoundLemmas
+pub mod PackedLemmas

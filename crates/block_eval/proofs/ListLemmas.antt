@@ -14,10 +14,11 @@ use Rattle.row_eval.specs.Comparison.{compared, day_cmp, is_among, is_equal}
 use Rattle.row_eval.specs.Logic.{greatest, truth_of}
 use Rattle.block_eval.specs.declared.columns.Column.{Column}
 use Rattle.block_lanes.specs.declared.numbers.Numbers.{Numbers}
-use Rattle.block_eval.specs.declared.texts.Texts.{Texts}
+use Rattle.text_lanes.specs.declared.texts.Texts.{Texts}
 use Rattle.block_eval.specs.Dates.{day_of, GivesDays}
 use Rattle.block_eval.specs.Lanes.{comparison, number_lane, truth_lane, GivesNumbers, GivesTruths, HasTruths}
-use Rattle.block_eval.specs.Texts.{AreAmong, GivesTexts}
+use Rattle.text_lanes.specs.Texts.{AreAmong}
+use Rattle.block_eval.specs.Texts.{GivesTexts}
 use Rattle.block_eval.proofs.DateLemmas.{day-order}
 use Rattle.block_eval.proofs.LogicLemmas.{all-gives, wanted_within}
 

@@ -44,11 +44,11 @@ number-within columns place row type values nulls bounds cells e at =
     let is = at.each place (Numbers type values nulls bounds) e in
     is.1
 
-integer-cell : (n : Option ℤ) → integer_in (cell_of Integer n) ≡ n
+pub integer-cell : (n : Option ℤ) → integer_in (cell_of Integer n) ≡ n
 integer-cell None = refl
 integer-cell (Some n) = refl
 
-decimal-cell : (n : Option ℤ) → decimal_in (cell_of Decimal n) ≡ n
+pub decimal-cell : (n : Option ℤ) → decimal_in (cell_of Decimal n) ≡ n
 decimal-cell None = refl
 decimal-cell (Some n) = refl
 

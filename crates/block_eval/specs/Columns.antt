@@ -5,12 +5,13 @@ use Rattle.cell_types.specs.Value.{CellValue, null}
 use Rattle.block_summary.specs.Types.{cell_of, number_of}
 use Rattle.block_eval.specs.Bounds.{LiesWithin}
 use Rattle.block_eval.specs.declared.columns.Column.{Column}
-use Rattle.block_eval.specs.declared.columns.Column.TheVariants.{Numbers, Texts, Unread}
+use Rattle.block_eval.specs.declared.columns.Column.TheVariants.{Numbers, Packed, Texts, Unread}
 
 -- the cell of a row, in a column that was read
 abbrev pub cell_in_column : Column → ℕ → CellValue
 cell_in_column Unread row = null
 cell_in_column (Numbers type values nulls bounds) row = cell_of type (number_at values.now nulls.now row)
+cell_in_column (Packed column) row = slice_index_or column.now row null
 cell_in_column (Texts texts) row = slice_index_or texts.now row null
 
 -- what stands in a row at the place of a column: any cell, where the column was not read; a number is between the bounds of its column

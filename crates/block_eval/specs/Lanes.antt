@@ -6,6 +6,7 @@ use Rattle.row_eval.specs.declared.truth.Truth.{Truth}
 use Rattle.typed_trees.specs.TypedTree.{DecimalExprOf, IntegerExprOf, TruthExprOf}
 use Rattle.row_eval.specs.Outcome.{decimal_outcome, integer_outcome, truth_outcome}
 use Rattle.block_eval.specs.declared.columns.Column.{Column}
+use Rattle.block_eval.specs.declared.columns.WantedRows.{WantedRows}
 use Rattle.block_lanes.specs.declared.numbers.Numbers.{Numbers}
 use Rattle.block_eval.specs.Columns.{IsRowAt}
 use Rattle.summary_eval.specs.Known.{IsRowWithin}
@@ -34,6 +35,10 @@ pub record GivesTruths (f : List CellValue → Option Truth) (columns : List Col
 -- for each wanted row the lane is the outcome of the condition, which is no fault
 abbrev pub AreOutcomes : TruthExprOf → List Column → List Bool → List Truth → Type 0
 AreOutcomes e columns wanted truths = GivesTruths (truth_outcome e) columns wanted truths
+
+-- and so it is for rows that are handed with their columns
+abbrev pub AreOutcomesOf : TruthExprOf → WantedRows → List Truth → Type 0
+AreOutcomesOf e rows truths = AreOutcomes e rows.columns.now rows.wanted.now truths
 
 -- for each wanted row the lane is what f makes of its cells, which is no fault, where the columns of the block have these ranges
 pub record GivesTruthsWithin (f : List CellValue → Option Truth) (ranges : List RangeOf) (columns : List Column) (wanted : List Bool) (truths : List Truth) : Type 0 where

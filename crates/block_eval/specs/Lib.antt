@@ -10,4 +10,5 @@ pub mod Lanes
 pub mod Bounded
 pub mod Texts
 pub mod Dates
+pub mod Packed
 pub mod Truths

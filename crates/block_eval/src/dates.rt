@@ -4,12 +4,13 @@ ghost use Rattle.std.specs.Prelude.{◌≡◌, IfOk};
 ghost use Rattle.typed_trees.specs.TypedTree.{compare_dates as dates_compared, date_view, day_view};
 ghost use Rattle.row_eval.specs.Row.{cell, day_in};
 ghost use Rattle.block_eval.specs.Dates.{day_of, AreDays, GivesDays};
-ghost use Rattle.block_eval.specs.Lanes.{AreOutcomes};
+ghost use Rattle.block_eval.specs.Lanes.{AreOutcomesOf};
 
-use crate::columns::Column;
+use crate::columns::{Column, WantedRows};
+use crate::packed::{ColumnTest, compare_packed};
 use block_lanes::{Fallback, Numbers, cells, compare};
 use block_summary::{PackedType, day_number};
-use jiff::civil::Date;
+use jiff_core::civil::Date;
 use row_eval::Truth;
 use std::alloc::Global;
 use typed_trees::{ComparisonOperator, DateExpr};
@@ -48,10 +49,7 @@ pub fn eval_dates<'a>(
 {
     match expr {
         DateExpr::Null => Ok(Numbers::Null),
-        DateExpr::Column(place) => {
-            let numbers = days_in(columns, *place, wanted)?;
-            Ok(numbers)
-        }
+        DateExpr::Column(place) => days_in(columns, *place, wanted),
         DateExpr::Literal(day) => Ok(Numbers::Same(number_of(*day))),
     }
 }
@@ -62,13 +60,24 @@ pub fn compare_dates(
     operator: ComparisonOperator,
     left: &DateExpr,
     right: &DateExpr,
-    columns: &[Column<'_>],
-    wanted: &[bool],
+    rows: WantedRows<'_, '_>,
 ) -> Result<Vec<Truth>, Fallback>
-    ensures { IfOk result (λ truths. AreOutcomes
-        (dates_compared operator (date_view left.now) (date_view right.now)) columns.now wanted.now
+    ensures { IfOk result (λ truths. AreOutcomesOf
+        (dates_compared operator (date_view left.now) (date_view right.now)) rows.entry
         truths.items) }
 {
+    let WantedRows { columns, wanted } = rows;
+    if let (DateExpr::Column(place), DateExpr::Literal(day)) = (left, right) {
+        let test = ColumnTest {
+            operator,
+            place: *place,
+            packed_type: PackedType::Date,
+            number: i128::from(number_of(*day)),
+        };
+        if let Some(truths) = compare_packed(alloc, test, columns, wanted.len())? {
+            return Ok(truths);
+        }
+    }
     let left = eval_dates(left, columns, wanted)?;
     let right = eval_dates(right, columns, wanted)?;
     let truths = compare(alloc, operator, &left, &right, wanted.len())?;

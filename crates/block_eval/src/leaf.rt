@@ -4,7 +4,7 @@ ghost use Rattle.std.specs.Prelude.{IfOk};
 ghost use Rattle.typed_trees.specs.TypedTree.{truth_view};
 ghost use Rattle.block_eval.specs.Lanes.{AreOutcomes};
 
-use crate::columns::Column;
+use crate::columns::{Column, WantedRows};
 use crate::comparison::{compare_decimals, compare_integers};
 use crate::dates::compare_dates;
 use crate::lists::{dates_in, decimals_in, integers_in, texts_in};
@@ -25,6 +25,7 @@ pub fn eval_leaf(
     ensures { IfOk result
         (λ truths. AreOutcomes (truth_view expr.now) columns.now wanted.now truths.items) }
 {
+    let rows = WantedRows { columns, wanted };
     match expr {
         TruthExpr::Null => {
             let truths = same_truth(alloc, Truth::Null, wanted)?;
@@ -36,20 +37,18 @@ pub fn eval_leaf(
         }
         TruthExpr::Column(place) => truths_in(alloc, columns, *place, wanted),
         TruthExpr::CompareIntegers(operator, left, right) => {
-            compare_integers(alloc, *operator, left, right, columns, wanted)
+            compare_integers(alloc, *operator, left, right, rows)
         }
         TruthExpr::CompareDecimals(operator, left, right) => {
-            compare_decimals(alloc, *operator, left, right, columns, wanted)
+            compare_decimals(alloc, *operator, left, right, rows)
         }
         TruthExpr::CompareTexts(operator, left, right) => {
-            compare_texts(alloc, *operator, left, right, columns, wanted)
+            compare_texts(alloc, *operator, left, right, rows)
         }
         TruthExpr::CompareDates(operator, left, right) => {
-            compare_dates(alloc, *operator, left, right, columns, wanted)
+            compare_dates(alloc, *operator, left, right, rows)
         }
-        TruthExpr::TestText(test, text, part) => {
-            test_texts(alloc, *test, text, part, columns, wanted)
-        }
+        TruthExpr::TestText(test, text, part) => test_texts(alloc, *test, text, part, rows),
         TruthExpr::IntegerIn(operand, items) => integers_in(alloc, operand, items, columns, wanted),
         TruthExpr::DecimalIn(operand, items) => decimals_in(alloc, operand, items, columns, wanted),
         TruthExpr::TextIn(operand, items) => texts_in(alloc, operand, items, columns, wanted),

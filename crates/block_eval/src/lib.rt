@@ -5,15 +5,14 @@
 mod block;
 mod bounded;
 mod bounds;
-mod codes;
 mod columns;
 mod comparison;
 mod dates;
 mod leaf;
 mod lists;
 mod numbers;
+mod packed;
 mod relation;
-mod search;
 mod texts;
 mod truths;
 

@@ -1,28 +1,23 @@
 //! Lists of values on the rows of a block (`in`, OData 4.01 URL Conventions, section 5.1.1.1.11): a value is in a list where it equals one
 //! of the items. The value is evaluated once.
 
-ghost use Rattle.std.specs.Prelude.{◌≡◌, ◌<◌, ℕ, Option, IfOk, IsTrue, length, map, option_map};
-ghost use Rattle.std.specs.Cmp.Lexicographic.{slice_cmp};
-ghost use Rattle.std.specs.Ordering.{int_cmp, nat_cmp};
-ghost use Rattle.text_columns.specs.Codes.{AreCodes};
+ghost use Rattle.std.specs.Prelude.{◌≡◌, ℕ, IfOk, length, map, option_map};
+ghost use Rattle.std.specs.Ordering.{int_cmp};
 ghost use Rattle.typed_trees.specs.TypedTree.{date_in as date_in_of, date_view, decimal_in as decimal_in_of, decimal_view, integer_in as integer_in_of, integer_view, optional_day, optional_text, text_in as text_in_of, text_view};
 ghost use Rattle.row_eval.specs.Comparison.{is_among};
 ghost use Rattle.row_eval.specs.Logic.{greatest, truth_of as truth_of_bool};
 ghost use Rattle.block_eval.specs.Dates.{day_of};
-ghost use Rattle.block_eval.specs.Lanes.{comparison, number_lane, truth_lane, AreLong, AreOutcomes, HasTruths, IsWanted};
-ghost use Rattle.block_eval.specs.Texts.{text_at, text_lane, AreAmong, AreTextsLong};
+ghost use Rattle.block_eval.specs.Lanes.{comparison, number_lane, truth_lane, AreLong, AreOutcomes, HasTruths};
 
-use crate::codes::spread;
 use crate::columns::Column;
 use crate::dates::{eval_dates, number_of};
 use crate::numbers::{eval_decimals, eval_integers};
-use crate::relation::are_same;
-use crate::texts::{Texts, eval_texts};
+use crate::texts::eval_texts;
 use block_lanes::{Fallback, Numbers, compare, disjunction};
-use jiff::civil::Date;
-use row_eval::{Truth, truth_of};
+use jiff_core::civil::Date;
+use row_eval::Truth;
 use std::alloc::Global;
-use text_columns::{TextCodes, TextColumn};
+use text_lanes::texts_among;
 use typed_trees::{ComparisonOperator, DateExpr, DecimalExpr, IntegerExpr, TextExpr};
 
 /// An item on each row.
@@ -173,111 +168,6 @@ pub fn dates_in(
     let items = day_items(alloc, items)?;
     let numbers = eval_dates(operand, columns, wanted)?;
     let truths = among(alloc, &numbers, items.as_slice(), wanted.len())?;
-    Ok(truths)
-}
-
-/// The text of an item.
-fn item_text(item: &Option<String>) -> Option<&str>
-    ensures { option_map (λ t. t.now) result ≡ optional_text item.now }
-{
-    match item {
-        Some(text) => Some(text.as_str()),
-        None => None,
-    }
-}
-
-/// Whether a text is one of the items.
-fn is_item(text: Option<&str>, items: &[Option<String>]) -> bool
-    ensures { result ≡ is_among (slice_cmp nat_cmp) (option_map (λ t. t.now) text.entry)
-        (map optional_text items.now) }
-{
-    for item in items {
-        if are_same(text, item_text(item)) {
-            return true;
-        }
-    }
-    false
-}
-
-/// Whether the text of a row is one of the items, where it is wanted.
-#[inline(always)]
-fn among_at(is_wanted: bool, texts: Texts<'_>, items: &[Option<String>], row: usize) -> Truth
-    requires { (rows : ℕ) × (row < rows) × AreTextsLong rows texts }
-    ensures { IsTrue is_wanted → result ≡ truth_of_bool (is_among (slice_cmp nat_cmp)
-        (text_lane texts.entry row) (map optional_text items.now)) }
-{
-    if !is_wanted {
-        return Truth::False;
-    }
-    truth_of(is_item(texts.at(row), items))
-}
-
-/// Which texts of the wanted rows are in a list.
-fn among_each(texts: Texts<'_>, items: &[Option<String>], wanted: &[bool], out: &mut [Truth])
-    requires texts { AreTextsLong (length out.old) texts }
-    requires wanted { length wanted.now ≡ length out.old }
-    ensures { (i : ℕ) → i < length out.new → IsWanted wanted.now i → truth_lane out.new i
-        ≡ truth_of_bool (is_among (slice_cmp nat_cmp) (text_lane texts.entry i)
-        (map optional_text items.now)) }
-{
-    for i in 0..out.len() {
-        out[i] = among_at(wanted[i], texts, items, i);
-    }
-}
-
-/// Which texts of the wanted rows are in a list, in a list of its own, one text after another.
-fn among_texts(
-    alloc: Global,
-    texts: Texts<'_>,
-    items: &[Option<String>],
-    wanted: &[bool],
-) -> Result<Vec<Truth>, Fallback>
-    requires { AreTextsLong (length wanted.now) texts }
-    ensures { IfOk result
-        (λ truths. AreAmong texts.entry (map optional_text items.now) wanted.now truths.items) }
-{
-    let mut truths = Vec::from_elem(alloc, Truth::False, wanted.len())?;
-    among_each(texts, items, wanted, truths.as_mut_slice());
-    Ok(truths)
-}
-
-/// Which texts of a block with codes are in a list. It is asked once for each code.
-fn among_codes<'a>(
-    alloc: Global,
-    texts: &'a TextColumn<'a>,
-    codes: &'a TextCodes,
-    items: &[Option<String>],
-) -> Result<Vec<Truth>, Fallback>
-    requires { AreCodes codes.now texts.now }
-    ensures { IfOk result (λ truths. HasTruths (length texts.now)
-        (λ row. truth_of_bool (is_among (slice_cmp nat_cmp) (text_at texts.now row)
-        (map optional_text items.now))) truths.items) }
-{
-    let wanted = Vec::from_elem(alloc, true, codes.rows.len())?;
-    let rows = Texts::Rows(texts, codes.rows.as_slice());
-    let answers = among_texts(alloc, rows, items, wanted.as_slice())?;
-    let truths = spread(alloc, codes.codes.as_slice(), answers.as_slice())?;
-    Ok(truths)
-}
-
-/// Which texts of the wanted rows are in a list, in a list of its own.
-fn texts_among(
-    alloc: Global,
-    texts: Texts<'_>,
-    items: &[Option<String>],
-    wanted: &[bool],
-) -> Result<Vec<Truth>, Fallback>
-    requires { AreTextsLong (length wanted.now) texts }
-    ensures { IfOk result
-        (λ truths. AreAmong texts.entry (map optional_text items.now) wanted.now truths.items) }
-{
-    if let Texts::Cells(column) = texts {
-        if let Some(codes) = column.codes() {
-            let truths = among_codes(alloc, column, codes, items)?;
-            return Ok(truths);
-        }
-    }
-    let truths = among_texts(alloc, texts, items, wanted)?;
     Ok(truths)
 }
 

@@ -1,45 +1,17 @@
-//! Texts on the rows of a block.
+//! The texts of expressions on the rows of a block.
 
-ghost use Rattle.std.specs.Prelude.{◌≡◌, ◌<◌, ℕ, Option, IfOk, option_and_then, option_map};
+ghost use Rattle.std.specs.Prelude.{◌≡◌, ℕ, Option, IfOk, option_and_then};
 ghost use Rattle.cell_types.specs.Value.{CellValue};
 ghost use Rattle.typed_trees.specs.TypedTree.{text_view};
 ghost use Rattle.row_eval.specs.Row.{cell, text_in as text_in_cell};
 ghost use Rattle.block_eval.specs.Columns.{IsCell};
-ghost use Rattle.block_eval.specs.Texts.{text_lane, AreTexts, AreTextsLong, GivesTexts};
+ghost use Rattle.text_lanes.specs.Texts.{text_lane, AreTextsLong};
+ghost use Rattle.block_eval.specs.Texts.{AreTexts, GivesTexts};
 
 use crate::columns::Column;
 use block_lanes::Fallback;
-use text_columns::TextColumn;
+use text_lanes::Texts;
 use typed_trees::TextExpr;
-
-/// A text or null for each row of a block.
-#[derive(Clone, Copy)]
-pub enum Texts<'a> {
-    /// Null on each row.
-    Null,
-    /// The same text on each row.
-    Same(&'a str),
-    /// The texts of a column and its nulls.
-    Cells(&'a TextColumn<'a>),
-    /// The texts of some rows of a column and their nulls.
-    Rows(&'a TextColumn<'a>, &'a [usize]),
-}
-
-impl<'a> Texts<'a> {
-    /// The text of a row.
-    #[inline(always)]
-    pub fn at(self, row: usize) -> Option<&'a str>
-        requires { (rows : ℕ) × (row < rows) × AreTextsLong rows self }
-        ensures { option_map (λ t. t.now) result ≡ text_lane self.entry row }
-    {
-        match self {
-            Texts::Null => None,
-            Texts::Same(text) => Some(text),
-            Texts::Cells(texts) => texts.text(row),
-            Texts::Rows(texts, rows) => texts.text(rows[row]),
-        }
-    }
-}
 
 /// The texts of a column of that many rows.
 fn texts_of<'a>(column: Column<'a>, rows: usize) -> Result<Texts<'a>, Fallback>
@@ -79,10 +51,7 @@ pub fn eval_texts<'a>(
 {
     match expr {
         TextExpr::Null => Ok(Texts::Null),
-        TextExpr::Column(place) => {
-            let texts = texts_in(columns, *place, wanted)?;
-            Ok(texts)
-        }
+        TextExpr::Column(place) => texts_in(columns, *place, wanted),
         TextExpr::Literal(text) => Ok(Texts::Same(text.as_str())),
         TextExpr::Concat(_, _) => Err(Fallback::Rows),
     }

@@ -1,12 +1,12 @@
 -- The numbers of a column stand for its cells.
 use Rattle.std.proofs.Common.{◌≡◌, inl, inr, ℕ, zero, suc, ◌+◌, ◌*◌, ◌/◌, ◌%◌, ◌<◌, ◌≤◌, Bool, true, false, Option, Some, None, List, [], ◌∷◌, ◌++◌, length, map, get_or, refl, sym, ap, ◌∙◌, subst, arith}
-use Rattle.std.specs.Prelude.{ℤ, pos, ◌+ℤ◌, ◌*ℤ◌, MatchOption, set, option_and_then, if◌then◌else◌, slice_get, unsigned_abs}
+use Rattle.std.specs.Prelude.{ℤ, pos, ◌+ℤ◌, ◌*ℤ◌, MatchOption, set, option_and_then, option_map, if◌then◌else◌, slice_get, unsigned_abs}
 use Rattle.std.specs.Int.{int_div_euclid, int_rem_euclid}
 use Rattle.std.proofs.lemmas.Bool.{cases_eq, cases_lt}
 use Rattle.std.proofs.lemmas.List.{get_or_past, get_or_push, get_or_append_left, get_or-map, get_or-set_other, get_or-set_same, length-map, length_push, length-set}
 use Rattle.std.proofs.lemmas.Option.{slice_get-get_or}
 use Rattle.block_eval.specs.declared.columns.Column.{Column}
-use Rattle.block_eval.specs.declared.columns.Column.TheVariants.{Numbers}
+use Rattle.block_eval.specs.declared.columns.Column.TheVariants.{Numbers, Packed, Texts}
 use Rattle.block_eval.specs.Bounds.{LiesWithin}
 use Rattle.block_eval.specs.Columns.{number_at, unless_null, IsCell}
 use Rattle.block_summary.specs.declared.bounds.Bounds.{Bounds}
@@ -25,7 +25,7 @@ use Rattle.cell_types.specs.Value.{CellValue, null, integer, text, boolean, date
 use Rattle.odata_types.specs.Schema.{input_of, type_of_datatype}
 use Rattle.odata_types.specs.Input.{IsOfType, IsRowOf}
 use Rattle.odata_types.specs.Laws.{TablesAreInputs}
-use Rattle.table_store.specs.Block.{text_cells}
+use Rattle.table_store.specs.Block.{packed_cells, text_cells}
 use Rattle.table_store.specs.Fits.{HasTableRows, IsTableRow}
 use Rattle.table_store.specs.Table.{TableOf}
 use Rattle.block_filter.specs.declared.lanes.Lane.{Lane}
@@ -147,13 +147,22 @@ cell_within rows place row bounds v (Some n) e h lie is =
     lie row n (number ∙ ap number_of same ∙ sym e)
 
 -- a column of numbers is made of a lane
-pub numbers_made : (lane : Lane) (values : Option (List CellValue)) (type : PackedType) (numbers : Bor (List ℤ)) (nulls : Bor (List Bool)) → lane.packed_type ≡ Some type
-    → numbers.now ≡ lane.numbers.items → nulls.now ≡ lane.nulls.items → IsMadeOf lane values (Numbers type numbers nulls lane.bounds)
-numbers_made lane values type numbers nulls p ns ms rows place is those row h =
+pub numbers_made : (lane : Lane) (kept : Column) (type : PackedType) (numbers : Bor (List ℤ)) (nulls : Bor (List Bool)) → lane.packed_type ≡ Some type
+    → numbers.now ≡ lane.numbers.items → nulls.now ≡ lane.nulls.items → IsMadeOf lane kept (Numbers type numbers nulls lane.bounds)
+numbers_made lane kept type numbers nulls p ns ms rows place is those row h =
     let at = with_type lane.packed_type type (λ t. StandAt rows place t lane.numbers.items lane.nulls.items × LieBetween rows place lane.bounds) p is in
     let stands : slice_get (get_or rows row []) place ≡ Some (cell_of type (number_at numbers.now nulls.now row)) =
     at.0 row h ∙ ap (λ xs. Some (cell_of type (number_at xs lane.nulls.items row))) (sym ns) ∙ ap (λ ys. Some (cell_of type (number_at numbers.now ys row))) (sym ms) in
     (stands, cell_within rows place row lane.bounds (cell_of type (number_at numbers.now nulls.now row)) _ refl h at.1 stands)
+
+-- a column is as a block keeps it
+pub packed_kept : (rows : List (List CellValue)) (packed : List (Option (List CellValue))) (place : ℕ) (column : Bor (List CellValue)) → AreTextsOf rows packed
+    → get_or packed place None ≡ Some column.now → IsColumnOf rows place (Packed column)
+packed_kept rows packed place column are e = λ row h. subst (AreValuesOf rows place) e (are place) row h
+
+pub texts_kept : (rows : List (List CellValue)) (texts : List (Option (List CellValue))) (place : ℕ) (column : Bor (List CellValue)) → AreTextsOf rows texts
+    → get_or texts place None ≡ Some column.now → IsColumnOf rows place (Texts column)
+texts_kept rows texts place column are e = λ row h. subst (AreValuesOf rows place) e (are place) row h
 
 -- ---- the columns of a block
 
@@ -183,37 +192,37 @@ lane_more rows lanes i y is are place lane inside =
     ]
 
 -- the columns so far are those of the first lanes, or of the texts
-pub record AreOfLanes (lanes : List Lane) (texts : List (Option (List CellValue))) (columns : List Column) (i : ℕ) : Type 0 where
+pub record AreOfLanes (lanes : List Lane) (packed texts : List (Option (List CellValue))) (columns : List Column) (i : ℕ) : Type 0 where
   pub long : length columns ≡ i
-  pub each : (rows : List (List CellValue)) → AreLanesOf rows lanes → AreTextsOf rows texts → (place : ℕ) (column : Column) → place < i → IsColumnOf rows place (get_or columns place column)
+  pub each : (rows : List (List CellValue)) → AreLanesOf rows lanes → AreTextsOf rows packed → AreTextsOf rows texts → (place : ℕ) (column : Column) → place < i → IsColumnOf rows place (get_or columns place column)
 
-pub none_of_lanes : (lanes : List Lane) (texts : List (Option (List CellValue))) → AreOfLanes lanes texts [] 0
-none_of_lanes lanes texts = record { long = refl; each = λ rows are those place column h. absurd (omega arith) }
+pub none_of_lanes : (lanes : List Lane) (packed texts : List (Option (List CellValue))) → AreOfLanes lanes packed texts [] 0
+none_of_lanes lanes packed texts = record { long = refl; each = λ rows are these those place column h. absurd (omega arith) }
 
-pub one_of_lanes : (lanes : List Lane) (texts : List (Option (List CellValue))) (columns : List Column) (i : ℕ) (lane : Lane) (values : Option (List CellValue)) (column : Column)
-    → i < length lanes → lane ≡ get_or lanes i lane → ((rows : List (List CellValue)) → AreTextsOf rows texts → AreValuesOf rows i values)
-    → ((rows : List (List CellValue)) (place : ℕ) → IsLaneOf rows place lane → AreValuesOf rows place values → IsColumnOf rows place column)
-    → AreOfLanes lanes texts columns i → AreOfLanes lanes texts (columns ++ column ∷ []) (i + 1)
-one_of_lanes lanes texts columns i lane values column h at read is so_far = record {
+pub one_of_lanes : (lanes : List Lane) (packed texts : List (Option (List CellValue))) (columns : List Column) (i : ℕ) (lane : Lane) (kept column : Column)
+    → i < length lanes → lane ≡ get_or lanes i lane → ((rows : List (List CellValue)) → AreTextsOf rows packed → AreTextsOf rows texts → IsColumnOf rows i kept)
+    → IsMadeOf lane kept column
+    → AreOfLanes lanes packed texts columns i → AreOfLanes lanes packed texts (columns ++ column ∷ []) (i + 1)
+one_of_lanes lanes packed texts columns i lane kept column h at read is so_far = record {
   long = length_push columns column ∙ ap (λ k. k + 1) so_far.long;
-  each = λ rows are those place d within. elim (cases_eq place i) [
+  each = λ rows are these those place d within. elim (cases_eq place i) [
     | inl same ↦
         let new : column ≡ get_or (columns ++ column ∷ []) i d = sym (get_or_push columns column d i so_far.long) in
-        let here : IsColumnOf rows i column = is rows i (subst (IsLaneOf rows i) (sym at) (are i lane h)) (read rows those) in
+        let here : IsColumnOf rows i column = is rows i (subst (IsLaneOf rows i) (sym at) (are i lane h)) (read rows these those) in
         subst (λ j. IsColumnOf rows j (get_or (columns ++ column ∷ []) j d)) (sym same) (subst (IsColumnOf rows i) new here)
     | inr other ↦
         let inside : place < length columns = omega (arith, so_far.long) in
-        subst (IsColumnOf rows place) (sym (get_or_append_left columns (column ∷ []) d place inside)) (so_far.each rows are those place d (omega arith))
+        subst (IsColumnOf rows place) (sym (get_or_append_left columns (column ∷ []) d place inside)) (so_far.each rows are these those place d (omega arith))
   ];
 }
 
-pub columns_are : (rows : List (List CellValue)) (lanes : List Lane) (texts : List (Option (List CellValue))) (columns : List Column) (i : ℕ) → AreOfLanes lanes texts columns i
-    → AreLanesOf rows lanes → AreTextsOf rows texts → AreColumnsOf rows columns
-columns_are rows lanes texts columns i is are those row h =
+pub columns_are : (rows : List (List CellValue)) (lanes : List Lane) (packed texts : List (Option (List CellValue))) (columns : List Column) (i : ℕ) → AreOfLanes lanes packed texts columns i
+    → AreLanesOf rows lanes → AreTextsOf rows packed → AreTextsOf rows texts → AreColumnsOf rows columns
+columns_are rows lanes packed texts columns i is are these those row h =
     record {
       each = λ place column at.
           let there = got columns place column at in
-          subst (λ k. IsCell k row (slice_get (get_or rows row []) place)) there.1 (is.each rows are those place column (omega (arith, there.0, is.long)) row h);
+          subst (λ k. IsCell k row (slice_get (get_or rows row []) place)) there.1 (is.each rows are these those place column (omega (arith, there.0, is.long)) row h);
     }
 
 -- ---- the texts of a block
@@ -246,6 +255,20 @@ texts_stand block col (Some values) fit h are = values_stand block col values fi
         of_text : (b : Bool) → Some values ≡ (if b then Some (column_of block.rows col) else None) → values ≡ column_of block.rows col
         of_text true e = cc
         of_text false e = absurd (cc)
+
+pub packed_stand : (block : TableOf) (col : ℕ) (packed : Option (List CellValue)) → HasTableRows block → col < length block.schema.columns → packed ≡ packed_cells block col
+    → AreValuesOf block.rows col packed
+packed_stand block col None fit h are = tt
+packed_stand block col (Some values) fit h are = values_stand block col values fit h (by (slice_get block.schema.columns col) are)
+  where
+    by : (o : Option ColumnOf) → Some values ≡ option_and_then (λ (column : ColumnOf). option_map (λ type. column_of block.rows col) (packed_type_of column.datatype)) o
+        → values ≡ column_of block.rows col
+    by None e = absurd (cc)
+    by (Some column) e = of_type (packed_type_of column.datatype) e
+      where
+        of_type : (t : Option PackedType) → Some values ≡ option_map (λ type. column_of block.rows col) t → values ≡ column_of block.rows col
+        of_type None e = absurd (cc)
+        of_type (Some type) e = cc
 
 -- the columns of texts so far
 pub record AreTextsTo (rows : List (List CellValue)) (texts : List (Option (List CellValue))) (i : ℕ) : Type 0 where

@@ -1,7 +1,8 @@
 -- Rows that are marked, and those that pass a step.
-use Rattle.std.proofs.Common.{◌≡◌, ℕ, zero, suc, ◌+◌, ◌<◌, Bool, true, false, ◌&&◌, cond, Some, List, [], ◌∷◌, ◌++◌, length, map, take, drop, replicate, get_or, refl, sym, ap, ◌∙◌, arith}
+use Rattle.std.proofs.Common.{◌≡◌, inl, inr, ℕ, zero, suc, ◌+◌, ◌-◌, ◌<◌, ◌≤◌, Bool, true, false, ◌&&◌, cond, Some, List, [], ◌∷◌, ◌++◌, length, map, take, drop, replicate, get_or, refl, sym, ap, ◌∙◌, subst, arith}
 use Rattle.std.specs.Prelude.{Box, count_by, filter, option_and_then}
 use Rattle.std.specs.List.{All}
+use Rattle.std.proofs.lemmas.Bool.{cases_lt}
 use Rattle.std.proofs.lemmas.List.{append-nil, drop_more, map_push, nil_from_length}
 use Rattle.std.proofs.lemmas.List.Elements.{All-push}
 use Rattle.std.proofs.lemmas.List.Sums.{length-filter}
@@ -19,7 +20,7 @@ use Rattle.query_meaning.specs.Laws.{TrueRowsPass}
 use Rattle.block_filter.specs.Lanes.{AreColumnsOf}
 use Rattle.row_columns.specs.Picked.{numbered}
 use Rattle.block_filter.specs.Conditions.{passing_all}
-use Rattle.block_filter.specs.Marks.{is_marked, keeps_row, marked}
+use Rattle.block_filter.specs.Marks.{is_marked, keeps_row, marked, IsFirstMarked}
 use Rattle.block_filter.proofs.ConditionLemmas.{none_pass}
 
 -- ---- a filter on the rows that are marked
@@ -128,6 +129,43 @@ unmarked_row marks i numbers h at so_far = record {
       ∙ sym (marked_more marks rows i [] h long);
   within = so_far.within;
 }
+
+-- none of more rows is marked
+pub unmarked_more : (marks : List Bool) (from i j : ℕ) → ((k : ℕ) → from ≤ k → k < i → get_or marks k false ≡ false) → ((k : ℕ) → i ≤ k → k < j → get_or marks k false ≡ false)
+    → (k : ℕ) → from ≤ k → k < j → get_or marks k false ≡ false
+unmarked_more marks from i j before here k low high = elim (cases_lt k i) [
+  | inl h ↦ before k low h
+  | inr h ↦ here k (omega (arith, h)) high
+]
+
+-- and so on, up to a row
+unmarked_run : (d : ℕ) (marks : List Bool) (i j : ℕ) (numbers : List ℕ) → j ≡ i + d → j ≤ length marks → ((k : ℕ) → i ≤ k → k < j → get_or marks k false ≡ false) → AreNumbers marks i numbers
+    → AreNumbers marks j numbers
+unmarked_run zero marks i j numbers e h none so_far =
+    let same : i ≡ j = omega (arith, e) in
+    subst (λ n. AreNumbers marks n numbers) same so_far
+unmarked_run (suc d) marks i j numbers e h none so_far =
+    unmarked_run d marks (i + 1) j numbers (omega (arith, e)) h (λ k low high. none k (omega (arith, low)) high)
+    (unmarked_row marks i numbers (omega (arith, e, h)) (none i (omega arith) (omega (arith, e))) so_far)
+
+pub up_to_first : (marks : List Bool) (i first : ℕ) (numbers : List ℕ) → IsFirstMarked marks i first → AreNumbers marks i numbers → AreNumbers marks first numbers
+up_to_first marks i first numbers is so_far =
+    unmarked_run (first - i) marks i first numbers (omega (arith, is.from_there)) is.within is.none_before so_far
+
+pub first-here : (marks : List Bool) (from : ℕ) → from < length marks → get_or marks from false ≡ true → IsFirstMarked marks from from
+first-here marks from h at = record {
+  from_there = omega arith;
+  within = omega (arith, h);
+  none_before = λ k low high. absurd (omega (arith, low, high));
+  marked_there = λ inside. at;
+}
+
+pub first-after : (marks : List Bool) (from first : ℕ) → from ≤ first → first < length marks → ((k : ℕ) → from ≤ k → k < first → get_or marks k false ≡ false) → get_or marks first false ≡ true
+    → IsFirstMarked marks from first
+first-after marks from first low h none at = record { from_there = low; within = omega (arith, h); none_before = none; marked_there = λ inside. at }
+
+pub first-nowhere : (marks : List Bool) (from : ℕ) → from ≤ length marks → ((k : ℕ) → from ≤ k → k < length marks → get_or marks k false ≡ false) → IsFirstMarked marks from (length marks)
+first-nowhere marks from low none = record { from_there = low; within = omega arith; none_before = none; marked_there = λ inside. absurd (omega (arith, inside)) }
 
 -- ---- how many are marked
 

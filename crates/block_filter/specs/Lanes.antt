@@ -44,13 +44,17 @@ AreLanesOf rows lanes = (place : ℕ) (lane : Lane) → place < length lanes →
 abbrev pub AreValuesOf : List (List CellValue) → ℕ → Option (List CellValue) → Type 0
 AreValuesOf rows place values = MatchOption values (Unit {0}) (λ vs. (row : ℕ) → row < length rows → slice_get (slice_index_or rows row []) place ≡ Some (slice_index_or vs row null))
 
--- and of each column of texts
+-- and of each column
 abbrev pub AreTextsOf : List (List CellValue) → List (Option (List CellValue)) → Type 0
 AreTextsOf rows texts = (place : ℕ) → AreValuesOf rows place (slice_index_or texts place None)
 
--- a column is made of what was read, numbers and nulls, or of texts
-abbrev pub IsMadeOf : Lane → Option (List CellValue) → Column → Type 0
-IsMadeOf lane values column = (rows : List (List CellValue)) (place : ℕ) → IsLaneOf rows place lane → AreValuesOf rows place values → IsColumnOf rows place column
+-- of each column of numbers, and of each of texts
+abbrev pub AreAsKept : List (List CellValue) → List (Option (List CellValue)) → List (Option (List CellValue)) → Type 0
+AreAsKept rows packed texts = AreTextsOf rows packed × AreTextsOf rows texts
+
+-- a column is made of what was read, numbers and nulls, or is as the block keeps it
+abbrev pub IsMadeOf : Lane → Column → Column → Type 0
+IsMadeOf lane kept column = (rows : List (List CellValue)) (place : ℕ) → IsLaneOf rows place lane → IsColumnOf rows place kept → IsColumnOf rows place column
 
 -- the numbers of a column as keys of so many rows
 pub record AreKeysIn (lane : Lane) (column : KeyColumn) (rows : ℕ) (keys : Keys) : Type 0 where

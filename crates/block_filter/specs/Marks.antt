@@ -1,5 +1,5 @@
 -- Rows that are marked.
-use Rattle.std.specs.Prelude.{Bool, true, false, List, [], ◌∷◌}
+use Rattle.std.specs.Prelude.{◌≡◌, ◌<◌, ◌≤◌, ℕ, Bool, true, false, List, [], ◌∷◌, length, slice_index_or}
 use Rattle.row_eval.specs.declared.truth.Truth.{Truth}
 use Rattle.row_eval.specs.declared.truth.Truth.TheVariants.{True}
 
@@ -18,3 +18,10 @@ marked [] xs = []
 marked (mark ∷ marks) [] = []
 marked (true ∷ marks) (x ∷ xs) = x ∷ marked marks xs
 marked (false ∷ marks) (x ∷ xs) = marked marks xs
+
+-- the first place from one on that is marked, or the end
+pub record IsFirstMarked (marks : List Bool) (from first : ℕ) : Type 0 where
+  pub from_there : from ≤ first
+  pub within : first ≤ length marks
+  pub none_before : (k : ℕ) → from ≤ k → k < first → slice_index_or marks k false ≡ false
+  pub marked_there : first < length marks → slice_index_or marks first false ≡ true

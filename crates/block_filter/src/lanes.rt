@@ -1,12 +1,13 @@
 //! The columns of a block that are read for conditions, or for an order.
-ghost use Rattle.std.specs.Prelude.{◌≡◌, ◌<◌, ℕ, List, Some, OnOk, IfOk, IfSome, IsSome, length, option_map};
+ghost use Rattle.std.specs.Prelude.{◌≡◌, ◌<◌, ℕ, List, Some, OnOk, IfOk, IfSome, IsSome, length, map};
+ghost use Rattle.std.specs.Option.{option_copied};
 ghost use Rattle.cell_types.specs.Value.{CellValue};
 ghost use Rattle.table_store.specs.Block.{HasNumbers};
-ghost use Rattle.block_filter.specs.Lanes.{type_at, AreColumnsOf, AreKeysIn, AreKeysAt, AreLanesOf, AreTextsOf, AreValuesOf, AreWide, HoldsKeys, IsKeyType, IsLaneOf, IsMadeOf, IsReadOf, LieBetween};
+ghost use Rattle.block_filter.specs.Lanes.{type_at, AreColumnsOf, AreAsKept, AreKeysIn, AreKeysAt, AreLanesOf, AreTextsOf, AreWide, HoldsKeys, IsColumnOf, IsKeyType, IsLaneOf, IsMadeOf, IsReadOf, LieBetween};
 
 use crate::named::is_marked;
 use block_eval::Column;
-use block_summary::{Bounds, PackedType, packed_type_of};
+use block_summary::{Bounds, PackedColumn, PackedType, packed_type_of};
 use odata_types::tables_are_inputs;
 use row_columns::{KeyColumn, Keys};
 use std::alloc::{AllocError, Global};
@@ -86,16 +87,15 @@ impl Lane {
         Ok(())
     }
 
-    /// The column of these numbers, or else of the texts, or one that was not read.
-    fn column<'a, 't>(&'a self, texts: Option<&'a TextColumn<'t>>) -> Column<'a>
-        ensures { IsMadeOf self.now (option_map (λ texts. texts.now) texts.entry) result }
+    /// The column of these numbers, or else as the block keeps it.
+    fn column<'a>(&'a self, kept: Column<'a>) -> Column<'a>
+        ensures { IsMadeOf self.now kept.entry result }
     {
-        match (self.packed_type, texts) {
-            (Some(packed_type), _) => {
+        match self.packed_type {
+            Some(packed_type) => {
                 Column::Numbers(packed_type, &self.numbers, &self.nulls, self.bounds)
             }
-            (None, Some(texts)) => Column::Texts(texts),
-            (None, None) => Column::Unread,
+            None => kept,
         }
     }
 
@@ -135,14 +135,38 @@ pub(crate) fn block_texts<'t>(
     Ok(texts)
 }
 
-/// The texts of a column, if it has texts.
-fn texts_at<'a, 't>(texts: &'a [Option<TextColumn<'t>>], place: usize) -> Option<&'a TextColumn<'t>>
-    ensures { (rows : List (List CellValue)) → AreTextsOf rows texts.now
-        → AreValuesOf rows place (option_map (λ texts. texts.now) result) }
+/// The columns of numbers of a block, each at its place.
+pub(crate) fn block_numbers<'t>(
+    alloc: Global,
+    block: &Block<'t>,
+) -> Result<Vec<Option<&'t PackedColumn>>, AllocError>
+    ensures { IfOk result
+        (λ packed. AreTextsOf block.now.rows (map option_copied packed.items)) }
 {
+    block.values_fit();
+    let width = block.schema().columns.len();
+    let mut packed = Vec::with_capacity(alloc, width)?;
+    for col in 0..width {
+        packed.push(block.packed(col))?;
+    }
+    Ok(packed)
+}
+
+/// The cells of a column as the block keeps them.
+fn kept_at<'a, 't>(
+    packed: &'a [Option<&'t PackedColumn>],
+    texts: &'a [Option<TextColumn<'t>>],
+    place: usize,
+) -> Column<'a>
+    ensures { (rows : List (List CellValue))
+        → AreAsKept rows (map option_copied packed.now) texts.now → IsColumnOf rows place result }
+{
+    if let Some(Some(column)) = packed.get(place) {
+        return Column::Packed(column);
+    }
     match texts.get(place) {
-        Some(Some(texts)) => Some(texts),
-        Some(None) | None => None,
+        Some(Some(texts)) => Column::Texts(texts),
+        Some(None) | None => Column::Unread,
     }
 }
 
@@ -222,15 +246,17 @@ impl Lanes {
     pub(crate) fn columns<'a, 't>(
         &'a self,
         alloc: Global,
+        packed: &'a [Option<&'t PackedColumn>],
         texts: &'a [Option<TextColumn<'t>>],
     ) -> Result<Vec<Column<'a>>, AllocError>
         ensures { IfOk result (λ columns. (rows : List (List CellValue))
-            → AreLanesOf rows self.now.lanes.items → AreTextsOf rows texts.now
+            → AreLanesOf rows self.now.lanes.items
+            → AreAsKept rows (map option_copied packed.now) texts.now
             → AreColumnsOf rows columns.items) }
     {
         let mut columns = Vec::with_capacity(alloc, self.lanes.len())?;
         for (place, lane) in self.lanes.iter().enumerate() {
-            columns.push(lane.column(texts_at(texts, place)))?;
+            columns.push(lane.column(kept_at(packed, texts, place)))?;
         }
         Ok(columns)
     }

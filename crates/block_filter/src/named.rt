@@ -70,7 +70,32 @@ fn mark_decimal(expr: &DecimalExpr, named: &mut [bool]) {
     }
 }
 
-/// Marks the columns that a condition names, by their numbers, on a block with these ranges: those of a part whose truth the ranges tell are
+/// Marks what a comparison names; a column that is compared with a literal is not unpacked.
+fn mark_integers(left: &IntegerExpr, right: &IntegerExpr, named: &mut [bool]) {
+    if let (IntegerExpr::Column(_), IntegerExpr::Literal(_)) = (left, right) {
+        return;
+    }
+    mark_integer(left, named);
+    mark_integer(right, named);
+}
+
+fn mark_decimals(left: &DecimalExpr, right: &DecimalExpr, named: &mut [bool]) {
+    if let (DecimalExpr::Column(_), DecimalExpr::Literal(_)) = (left, right) {
+        return;
+    }
+    mark_decimal(left, named);
+    mark_decimal(right, named);
+}
+
+fn mark_dates(left: DateExpr, right: DateExpr, named: &mut [bool]) {
+    if let (DateExpr::Column(_), DateExpr::Literal(_)) = (left, right) {
+        return;
+    }
+    mark_date(&left, named);
+    mark_date(&right, named);
+}
+
+/// Marks the columns that a condition names and that are unpacked for it, by their numbers, on a block with these ranges: those of a part whose truth the ranges tell are
 /// not looked at.
 pub(crate) fn mark_truth(expr: &TruthExpr, summary: &Summary, named: &mut [bool]) {
     if known_truth(expr, summary).is_some() {
@@ -86,22 +111,13 @@ pub(crate) fn mark_truth(expr: &TruthExpr, summary: &Summary, named: &mut [bool]
             mark_truth(left, summary, named);
             mark_truth(right, summary, named);
         }
-        TruthExpr::CompareIntegers(_, left, right) => {
-            mark_integer(left, named);
-            mark_integer(right, named);
-        }
-        TruthExpr::CompareDecimals(_, left, right) => {
-            mark_decimal(left, named);
-            mark_decimal(right, named);
-        }
+        TruthExpr::CompareIntegers(_, left, right) => mark_integers(left, right, named),
+        TruthExpr::CompareDecimals(_, left, right) => mark_decimals(left, right, named),
         TruthExpr::CompareTexts(_, left, right) | TruthExpr::TestText(_, left, right) => {
             mark_text(left, named);
             mark_text(right, named);
         }
-        TruthExpr::CompareDates(_, left, right) => {
-            mark_date(left, named);
-            mark_date(right, named);
-        }
+        TruthExpr::CompareDates(_, left, right) => mark_dates(*left, *right, named),
         TruthExpr::IntegerIn(operand, _) => mark_integer(operand, named),
         TruthExpr::DecimalIn(operand, _) => mark_decimal(operand, named),
         TruthExpr::TextIn(operand, _) => mark_text(operand, named),

@@ -1,5 +1,5 @@
 //! The rows of a block that pass the conditions of a plan, found a column at a time.
-ghost use Rattle.std.specs.Prelude.{◌≡◌, ◌<◌, ◌&&◌, ℕ, List, Some, OnOk, IfOk, length, map, replicate, slice_index_or, take, false, true};
+ghost use Rattle.std.specs.Prelude.{◌≡◌, ◌+◌, ◌<◌, ◌≤◌, ◌&&◌, ℕ, List, Some, OnOk, IfOk, IsTrue, length, map, replicate, slice_index_or, take, false, true};
 ghost use Rattle.std.specs.List.{All, count_by};
 ghost use Rattle.cell_types.specs.Value.{CellValue};
 ghost use Rattle.block_eval.specs.Lanes.{truth_lane};
@@ -8,9 +8,9 @@ ghost use Rattle.query_meaning.specs.Filter.{passing};
 ghost use Rattle.row_columns.specs.Picked.{numbered};
 ghost use Rattle.block_filter.specs.Conditions.{passing_all};
 ghost use Rattle.block_filter.specs.Lanes.{AreColumnsOf, AreLanesOf};
-ghost use Rattle.block_filter.specs.Marks.{is_marked, keeps_row, marked};
+ghost use Rattle.block_filter.specs.Marks.{is_marked, keeps_row, marked, IsFirstMarked};
 
-use crate::lanes::{Lanes, block_texts};
+use crate::lanes::{Lanes, block_numbers, block_texts};
 use crate::named::mark_truth;
 use block_eval::{Column, Fallback, eval_block};
 use query_meaning::true_rows_pass;
@@ -64,6 +64,55 @@ fn narrow_by(
     Ok(())
 }
 
+/// How many rows are looked at together.
+const GROUP_ROWS: usize = 64;
+
+/// Whether none of a group of rows from one on is wanted. All are looked at, so that it runs in lanes.
+fn are_unwanted(wanted: &[bool], from: usize) -> bool
+    requires { from + GROUP_ROWS ≤ length wanted.now }
+    ensures { IsTrue result → (k : ℕ) → from ≤ k → k < from + GROUP_ROWS
+        → slice_index_or wanted.now k false ≡ false }
+{
+    let mut any = false;
+    for row in from..from + GROUP_ROWS {
+        any = any | wanted[row];
+    }
+    !any
+}
+
+/// How many rows from one on are passed over in whole groups of which none is wanted.
+fn passed_from(wanted: &[bool], from: usize) -> usize
+    requires { from ≤ length wanted.now }
+    ensures from { from ≤ result }
+    ensures within { result ≤ length wanted.now }
+    ensures none { (k : ℕ) → from ≤ k → k < result → slice_index_or wanted.now k false ≡ false }
+{
+    let mut row = from;
+    while wanted.len() - row >= GROUP_ROWS {
+        if !are_unwanted(wanted, row) {
+            return row;
+        }
+        row += GROUP_ROWS;
+    }
+    row
+}
+
+/// The first row from one on that is wanted; the number of all rows, where none is.
+fn first_wanted(wanted: &[bool], from: usize) -> usize
+    requires { from ≤ length wanted.now }
+    ensures { IsFirstMarked wanted.now from result }
+{
+    if from < wanted.len() && wanted[from] {
+        return from;
+    }
+    for row in passed_from(wanted, from)..wanted.len() {
+        if wanted[row] {
+            return row;
+        }
+    }
+    wanted.len()
+}
+
 /// The numbers of the first rows that are wanted, no more than so many.
 pub(crate) fn numbers_of(
     alloc: Global,
@@ -76,13 +125,13 @@ pub(crate) fn numbers_of(
     ensures within { IfOk result (λ numbers. All (λ n. n < length wanted.now) numbers.items) }
 {
     let mut numbers = Vec::new(alloc);
-    for (row, is_wanted) in wanted.iter().enumerate() {
+    let mut row = first_wanted(wanted, 0);
+    while row < wanted.len() {
         if numbers.len() >= most {
             return Ok(numbers);
         }
-        if *is_wanted {
-            numbers.push(row)?;
-        }
+        numbers.push(row)?;
+        row = first_wanted(wanted, row + 1);
     }
     Ok(numbers)
 }
@@ -93,9 +142,7 @@ pub(crate) fn count_of(wanted: &[bool]) -> usize
 {
     let mut count = 0;
     for is_wanted in wanted {
-        if *is_wanted {
-            count += 1;
-        }
+        count += usize::from(*is_wanted);
     }
     count
 }
@@ -118,13 +165,14 @@ pub(crate) fn passing_rows(
     if conditions.is_empty() {
         return Ok(wanted);
     }
+    let packed = block_numbers(alloc, block)?;
     let texts = block_texts(alloc, block)?;
     for condition in conditions {
         if count_of(&wanted) == 0 {
             return Ok(wanted);
         }
         read_named(alloc, condition, block, lanes)?;
-        let columns = lanes.columns(alloc, texts.as_slice())?;
+        let columns = lanes.columns(alloc, packed.as_slice(), texts.as_slice())?;
         narrow_by(alloc, condition, block, &columns, wanted.as_mut_slice())?;
     }
     Ok(wanted)

@@ -8,6 +8,7 @@ use Rattle.row_eval.specs.declared.truth.Truth.{Truth}
 use Rattle.row_eval.specs.Outcome.{computed, operation}
 use Rattle.block_lanes.specs.declared.arithmetic.ExactOperator.{ExactOperator}
 use Rattle.block_lanes.specs.declared.arithmetic.ExactOperator.TheVariants.{Add, Sub, Mul}
+use Rattle.block_lanes.specs.declared.division.DivisionSides.{DivisionSides}
 use Rattle.block_lanes.specs.declared.division.QuotientOperator.{QuotientOperator}
 use Rattle.block_lanes.specs.declared.numbers.Numbers.{Numbers}
 use Rattle.block_lanes.specs.declared.operand.Operand.{Operand}
@@ -91,11 +92,14 @@ quotient-lanes o true false n lv rv v e h = ap (λ b. Some (unless_null b v)) (s
 quotient-lanes o false true n lv rv v e h = ap (λ b. Some (unless_null b v)) (sym e)
 quotient-lanes o false false n lv rv v e h = ap (option_map (λ x. Some x)) (h e) ∙ ap (λ b. Some (unless_null b v)) (sym e)
 
-pub operands-divided : (o : QuotientOperator) (wanted : List Bool) (l r v : Numbers) (a b : Operand) (nulls : List Bool) (values : List ℤ)
-    → IsOperandOf l a → IsOperandOf r b → HasNulls (length wanted) a b nulls → HasQuotients o a b wanted nulls values
-    → AreLong (length wanted) v → ((row : ℕ) → number_lane v row ≡ number_at values nulls row) → AreComputed (operator_of_quotient o) l r wanted v
-operands-divided o wanted l r v a b nulls values is_left is_right has_nulls has long is =
-    let op = operator_of_quotient o in record {
+pub operands-divided : (o : QuotientOperator) (wanted : List Bool) (l r v : Numbers) (sides : DivisionSides) (values : List ℤ)
+    → IsOperandOf l sides.left → IsOperandOf r sides.right → HasNulls (length wanted) sides.left sides.right sides.nulls.now → HasQuotients o sides wanted values
+    → AreLong (length wanted) v → ((row : ℕ) → number_lane v row ≡ number_at values sides.nulls.now row) → AreComputed (operator_of_quotient o) l r wanted v
+operands-divided o wanted l r v sides values is_left is_right has_nulls has long is =
+    let op = operator_of_quotient o in
+    let a = sides.left in
+    let b = sides.right in
+    let nulls = sides.nulls.now in record {
       each = λ row h.
           let within = wanted_within wanted row h in
           let inside : row < length values = omega (arith, within, has.long) in

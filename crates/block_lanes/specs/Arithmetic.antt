@@ -7,10 +7,11 @@ use Rattle.block_lanes.specs.declared.arithmetic.ExactOperator.{ExactOperator}
 use Rattle.block_lanes.specs.declared.arithmetic.ExactOperator.TheVariants.{Add, Sub, Mul}
 use Rattle.block_lanes.specs.declared.operand.Operand.{Operand}
 use Rattle.row_eval.specs.Outcome.{operation}
+use Rattle.block_lanes.specs.declared.division.DivisionSides.{DivisionSides}
 use Rattle.block_lanes.specs.declared.division.QuotientOperator.{QuotientOperator}
 use Rattle.block_lanes.specs.declared.division.QuotientOperator.TheVariants.{Div, Mod}
 use Rattle.block_lanes.specs.Lanes.{IsWanted}
-use Rattle.block_lanes.specs.Operands.{null_at, lane_value}
+use Rattle.block_lanes.specs.Operands.{null_at, lane_value, IsLong}
 
 abbrev pub exact : ExactOperator → ℤ → ℤ → ℤ
 exact Add a b = a +ℤ b
@@ -45,12 +46,18 @@ abbrev pub operator_of_quotient : QuotientOperator → ArithmeticOperator
 operator_of_quotient Div = operators.Div
 operator_of_quotient Mod = operators.Mod
 
+-- both sides, and the marks of nulls, are there for each row
+pub record AreSidesLong (rows : ℕ) (sides : DivisionSides) : Type 0 where
+  pub left : IsLong rows sides.left
+  pub right : IsLong rows sides.right
+  pub nulls : length sides.nulls.now ≡ rows
+
 -- the quotients or remainders of the wanted rows that have no null
-abbrev pub AreQuotients : QuotientOperator → Operand → Operand → List Bool → List Bool → List ℤ → Type 0
-AreQuotients o left right wanted nulls values = (row : ℕ) → row < length values → IsWanted wanted row → slice_index_or nulls row true ≡ false
-    → operation (operator_of_quotient o) (lane_value left row) (lane_value right row) ≡ Some (slice_index_or values row (pos 0))
+abbrev pub AreQuotients : QuotientOperator → DivisionSides → List Bool → List ℤ → Type 0
+AreQuotients o sides wanted values = (row : ℕ) → row < length values → IsWanted wanted row → slice_index_or sides.nulls.now row true ≡ false
+    → operation (operator_of_quotient o) (lane_value sides.left row) (lane_value sides.right row) ≡ Some (slice_index_or values row (pos 0))
 
 -- and there are as many as rows
-pub record HasQuotients (o : QuotientOperator) (left right : Operand) (wanted nulls : List Bool) (values : List ℤ) : Type 0 where
-  pub each : AreQuotients o left right wanted nulls values
+pub record HasQuotients (o : QuotientOperator) (sides : DivisionSides) (wanted : List Bool) (values : List ℤ) : Type 0 where
+  pub each : AreQuotients o sides wanted values
   pub long : length values ≡ length wanted

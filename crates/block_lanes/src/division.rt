@@ -3,9 +3,8 @@
 
 ghost use Rattle.std.specs.Prelude.{◌≡◌, Some, IfOk, IfSome, IsTrue, OnOk, length};
 ghost use Rattle.row_eval.specs.Outcome.{operation};
-ghost use Rattle.block_lanes.specs.Arithmetic.{operator_of_quotient, AreQuotients, HasQuotients};
+ghost use Rattle.block_lanes.specs.Arithmetic.{operator_of_quotient, AreQuotients, AreSidesLong, HasQuotients};
 ghost use Rattle.block_lanes.specs.Lanes.{AreComputed, AreLong};
-ghost use Rattle.block_lanes.specs.Operands.{IsLong};
 
 use crate::arithmetic::nulls_of;
 use crate::fallback::Fallback;
@@ -42,26 +41,30 @@ fn quotient_where(is_asked: bool, operator: QuotientOperator, left: i64, right: 
     quotient(operator, left, right)
 }
 
+/// The two sides of a division, and which rows have a null on one of them.
+#[derive(Clone, Copy)]
+pub struct DivisionSides<'v> {
+    left: Operand<'v>,
+    right: Operand<'v>,
+    nulls: &'v [bool],
+}
+
 /// Quotients or remainders of the wanted rows that have no null, unless a divisor is zero or one may not fit.
 fn divide_each(
     operator: QuotientOperator,
-    left: Operand<'_>,
-    right: Operand<'_>,
+    sides: DivisionSides<'_>,
     wanted: &[bool],
-    nulls: &[bool],
     out: &mut [i64],
 ) -> Result<(), Fallback>
-    requires left { IsLong (length out.old) left }
-    requires right { IsLong (length out.old) right }
+    requires sides { AreSidesLong (length out.old) sides }
     requires wanted { length wanted.now ≡ length out.old }
-    requires nulls { length nulls.now ≡ length out.old }
-    ensures { OnOk result
-        (AreQuotients operator left.entry right.entry wanted.now nulls.now out.new) }
+    ensures { OnOk result (AreQuotients operator sides.entry wanted.now out.new) }
 {
     for i in 0..out.len() {
-        let left_value = left.value(i);
-        let right_value = right.value(i);
-        match quotient_where(wanted[i] & !nulls[i], operator, left_value, right_value) {
+        let left_value = sides.left.value(i);
+        let right_value = sides.right.value(i);
+        let is_asked = wanted[i] & !sides.nulls[i];
+        match quotient_where(is_asked, operator, left_value, right_value) {
             Some(number) => out[i] = number,
             None => return Err(Fallback::Rows),
         }
@@ -73,19 +76,14 @@ fn divide_each(
 fn quotients(
     alloc: Global,
     operator: QuotientOperator,
-    left: Operand<'_>,
-    right: Operand<'_>,
+    sides: DivisionSides<'_>,
     wanted: &[bool],
-    nulls: &[bool],
 ) -> Result<Vec<i64>, Fallback>
-    requires left { IsLong (length wanted.now) left }
-    requires right { IsLong (length wanted.now) right }
-    requires nulls { length nulls.now ≡ length wanted.now }
-    ensures { IfOk result
-        (λ values. HasQuotients operator left.entry right.entry wanted.now nulls.now values.items) }
+    requires { AreSidesLong (length wanted.now) sides }
+    ensures { IfOk result (λ values. HasQuotients operator sides.entry wanted.now values.items) }
 {
     let mut values = Vec::from_elem(alloc, 0i64, wanted.len())?;
-    divide_each(operator, left, right, wanted, nulls, values.as_mut_slice())?;
+    divide_each(operator, sides, wanted, values.as_mut_slice())?;
     Ok(values)
 }
 
@@ -105,6 +103,11 @@ pub fn divide<'a>(
     let left = left.operand();
     let right = right.operand();
     let nulls = nulls_of(alloc, left, right, wanted.len())?;
-    let values = quotients(alloc, operator, left, right, wanted, nulls.as_slice())?;
+    let sides = DivisionSides {
+        left,
+        right,
+        nulls: nulls.as_slice(),
+    };
+    let values = quotients(alloc, operator, sides, wanted)?;
     Ok(Numbers::Computed(values, nulls))
 }

@@ -1,7 +1,7 @@
 -- The values of a column, and the numbers that stand for them.
 use Rattle.std.proofs.Common.{◌≡◌, ℕ, Option, Some, None, refl, sym, ap, ◌∙◌, subst}
 use Rattle.std.specs.Prelude.{ℤ, pos}
-use Rattle.jiff.specs.Words.{IsDate}
+use Rattle.jiff_core.specs.Calendar.{IsDate}
 use Rattle.cell_types.specs.Column.{ColumnOf}
 use Rattle.cell_types.specs.Datatype as datatype
 use Rattle.cell_types.specs.Datatype.{DatatypeOf}

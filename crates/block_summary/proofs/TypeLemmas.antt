@@ -3,7 +3,7 @@ use Rattle.std.proofs.Common.{◌≡◌, ℕ, suc, zero, ◌+◌, ◌-◌, ◌*�
 use Rattle.std.specs.Prelude.{ℤ, pos, negsuc, ◌+ℤ◌, ◌*ℤ◌, unsigned_abs}
 use Rattle.std.specs.Int.{int_div_euclid, int_rem_euclid}
 use Rattle.std.proofs.lemmas.Int.{ints}
-use Rattle.jiff.specs.Words.{IsDate, days_in_month}
+use Rattle.jiff_core.specs.Calendar.{IsDate, IsYear, days_in_month}
 use Rattle.cell_types.specs.Value.{date}
 use Rattle.block_summary.specs.Cells.{cells_of}
 use Rattle.block_summary.specs.Types.{cells_of_type, day_number, number_of, numbers_of, place_in_year, typed_cell, AllNumbersOf, AreNumbersOf, IsNumberOf}
@@ -84,8 +84,18 @@ all-numbers type nulls values are = λ i number e.
     let at = number_at nulls values i number e in
     subst (IsNumberOf type) at.2 (are i at.0 at.1)
 
-pub date-same : (year : ℤ) (month day : ℕ) (y m d : ℤ) → y ≡ year → m ≡ pos month → d ≡ pos day → IsDate year (pos month) (pos day) → IsDate y m d
-date-same year month day y m d e f g is = subst (λ x. IsDate x m d) (sym e) (subst (λ x. IsDate year x d) (sym f) (subst (λ x. IsDate year (pos month) x) (sym g) is))
+pub year-fits : (year : ℤ) (month day : ℕ) (y : ℤ) → y ≡ year → IsDate year (pos month) (pos day) → IsYear y
+year-fits year month day y e is = subst IsYear (sym e) is.0
+
+pub month-fits : (year : ℤ) (month day m : ℕ) → m ≡ month → IsDate year (pos month) (pos day) → (1 ≤ m) × (m ≤ 12)
+month-fits year month day m f is = (omega (arith, ints, is.1.0), omega (arith, ints, is.1.1))
+
+pub day-fits : (year : ℤ) (month day : ℕ) (y : ℤ) (m d : ℕ) → y ≡ year → m ≡ month → d ≡ day → IsDate year (pos month) (pos day)
+    → (1 ≤ d) × (d ≤ days_in_month y m)
+day-fits year month day y m d e f g is =
+    let within : (1 ≤ day) × (day ≤ days_in_month year month) = (omega (arith, ints, is.2.0), omega (arith, ints, is.2.1)) in
+    subst (λ x. (1 ≤ x) × (x ≤ days_in_month y m)) (sym g)
+    (subst (λ x. (1 ≤ day) × (day ≤ days_in_month y x)) (sym f) (subst (λ x. (1 ≤ day) × (day ≤ days_in_month x month)) (sym e) within))
 
 pos-same : (m n : ℕ) → pos m ≡ pos n → m ≡ n
 pos-same m n e = omega (arith, ints)

@@ -2,7 +2,7 @@
 use Rattle.std.specs.Prelude.{ℕ, pos, List, [], ◌∷◌, ◌++◌, Option, Some, None}
 use Rattle.std.specs.Int.{w64}
 use Rattle.std.specs.Int.RustNames.{FitsSigned}
-use Rattle.jiff.specs.Words.{IsDate}
+use Rattle.jiff_core.specs.Calendar.{IsDate}
 use Rattle.cell_types.specs.Datatype as datatype
 use Rattle.cell_types.specs.Datatype.{DatatypeOf}
 use Rattle.cell_types.specs.Value.{CellValue, null, integer, boolean, date, decimal}

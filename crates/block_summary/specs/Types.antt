@@ -2,7 +2,7 @@
 use Rattle.std.specs.Prelude.{◌≡◌, ◌⊎◌, ℕ, ℤ, pos, ◌+◌, ◌*◌, ◌/◌, ◌%◌, ◌<◌, ◌+ℤ◌, ◌*ℤ◌, Bool, false, if◌then◌else◌, List, length, map, Option, None, Some, unsigned_abs, slice_index_or}
 use Rattle.std.specs.Int.{int_div_euclid, int_rem_euclid}
 use Rattle.std.specs.Ordering.{int_eq}
-use Rattle.jiff.specs.Words.{IsDate}
+use Rattle.jiff_core.specs.Calendar.{IsDate}
 use Rattle.cell_types.specs.Value.{CellValue, null, integer, text, boolean, date, decimal}
 use Rattle.block_summary.specs.Cells.{cells_of}
 use Rattle.block_summary.specs.declared.number.PackedType.{PackedType}

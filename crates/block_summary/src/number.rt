@@ -5,7 +5,7 @@ ghost use Rattle.cell_types.specs.Value.{value_view};
 ghost use Rattle.block_summary.specs.Types.{day_number as day_number_of, typed_cell, IsNumberOf};
 
 use cell_types::Value;
-use jiff::civil::{Date, date};
+use jiff_core::civil::Date;
 
 /// What the numbers of a column stand for.
 #[derive(Clone, Copy)]
@@ -25,7 +25,7 @@ pub fn day_number(date: Date) -> i64
     ensures value { result ≡ day_number_of date.year date.month date.day }
     ensures stands { IsNumberOf PackedType.Date result }
 {
-    i64::from(date.year()) * 512 + i64::from(date.month()) * 32 + i64::from(date.day())
+    i64::from(date.year) * 512 + i64::from(date.month) * 32 + i64::from(date.day)
 }
 
 /// The day of a number.
@@ -34,11 +34,11 @@ fn day_of(number: i64) -> Date
     ensures { number ≡ day_number_of result.year result.month result.day }
 {
     let place = number.rem_euclid(512) as u64;
-    date(
-        number.div_euclid(512) as i16,
-        (place / 32) as i8,
-        (place % 32) as i8,
-    )
+    Date {
+        year: number.div_euclid(512) as i16,
+        month: (place / 32) as u8,
+        day: (place % 32) as u8,
+    }
 }
 
 /// The value that a number of a type stands for.

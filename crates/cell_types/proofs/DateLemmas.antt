@@ -8,7 +8,7 @@ use Rattle.std.proofs.lemmas.Bool.Decides.{nat_tests}
 use Rattle.std.proofs.lemmas.Int.{ints}
 use Rattle.std.proofs.lemmas.Slice.Eq.{bytes_eq-Decides}
 use Rattle.std.proofs.lemmas.List.{append_assoc, length-append}
-use Rattle.jiff.specs.Words.{IsBetween, IsDate, IsYear, days_in_month}
+use Rattle.jiff_core.specs.Calendar.{IsBetween, IsDate, IsYear, days_in_month}
 use Rattle.cell_types.specs.declared.fault.CellFault.TheVariants.{NotDate}
 use Rattle.cell_types.specs.declared.datatype.DateForm.{DateForm}
 use Rattle.cell_types.specs.declared.datatype.DateForm.TheVariants.{YearMonthDay, Compact, DayMonthYear, MonthDayYear, Dotted}
@@ -84,7 +84,7 @@ pub no_day : (form : DateForm) (bytes y m d : List ℕ) → HasParts form bytes 
 no_day form bytes y m d has none = λ z n e is.
     none e is.2 (laid_out_injective form y m d (four_digits z) (two_digits n) (two_digits e) has.0 has.1 has.2 (sym has.3 ∙ is.3)).2
 
--- the calendar's days, as numbers and as jiff has them
+-- the calendar's days, as numbers and as `jiff_core` has them
 abbrev is_within : ℕ → ℕ → ℕ → ℕ → Bool
 is_within last y m d = is_in_range 1 9999 y && is_in_range 1 12 m && is_in_range 1 last d
 
@@ -175,7 +175,7 @@ date_of-none form bytes none =
       | false ↦ λ _. refl
     ] refl
 
--- a date that jiff makes of the numbers, or none
+-- a date that `jiff_core` makes of the numbers, or none
 pub made_date : {D E : Type 0} (year : D → ℤ) (month day : D → ℕ) (form : DateForm) (bytes : List ℕ) (y m d : ℕ) (r : Result D E)
     → HasDateNumbers form bytes y m d → 0 < y → IsOk r ↔ IsDate (pos y) (pos m) (pos d)
     → IfOk r (λ x. (year x ≡ pos y) × (pos (month x) ≡ pos m) × (pos (day x) ≡ pos d))

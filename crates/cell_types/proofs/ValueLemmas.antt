@@ -12,9 +12,9 @@ use Rattle.std.proofs.lemmas.Bool.Decides.{Decides-int_eq, nat_tests}
 use Rattle.std.proofs.lemmas.Cmp.{int_ranked, int_cmp_total, ranked, lists_total, on_total, tied_itself}
 use Rattle.std.proofs.lemmas.Int.{ints}
 use Rattle.std.proofs.lemmas.Map.Text.{is_eq-slice_cmp}
-use Rattle.jiff.specs.declared.civil.dates.Date.{Date}
-use Rattle.jiff.specs.Words.{epoch_day}
-use Rattle.jiff.proofs.Family.{epoch_day_injective, epoch_day_same, epoch_day-lt}
+use Rattle.jiff_core.specs.declared.civil.date.Date.{Date}
+use Rattle.jiff_core.specs.Date.{epoch_day}
+use Rattle.jiff_core.proofs.DateLemmas.{epoch_day_injective, epoch_day_same, epoch_day-lt}
 use Rattle.cell_types.specs.Value.{CellValue, null, integer, text, boolean, date, decimal, value_cmp, value_eq, value_view}
 use Rattle.cell_types.specs.declared.value.Value.{Value}
 use Rattle.cell_types.specs.declared.value.Value.TheVariants as V

@@ -2,7 +2,7 @@
 use Rattle.std.specs.Prelude.{◌≡◌, ℕ, List, length, [], ◌∷◌, ◌++◌, ◌+◌, ◌-◌, ◌*◌, ◌/◌, ◌%◌, ◌<◌, ◌&&◌, Bool, true, ℤ, pos, fold, take, drop, codes, if◌then◌else◌, Result, Ok, Err}
 use Rattle.std.specs.Int.{is_in_range}
 use Rattle.std.specs.Str.{bytes_eq}
-use Rattle.jiff.specs.Words.{days_in_month}
+use Rattle.jiff_core.specs.Calendar.{days_in_month}
 use Rattle.cell_types.specs.declared.fault.CellFault.{CellFault}
 use Rattle.cell_types.specs.declared.fault.CellFault.TheVariants.{NotDate}
 use Rattle.cell_types.specs.declared.datatype.DateForm.{DateForm}

@@ -8,7 +8,7 @@ use Rattle.std.specs.Int.RustNames.{FitsSigned}
 use Rattle.std.specs.Ordering.{nat_cmp}
 use Rattle.std.specs.Str.{IsUtf8, chars}
 use Rattle.std.specs.declared.cmp.Ordering.TheVariants.{Equal, Less}
-use Rattle.jiff.specs.Words.{IsDate}
+use Rattle.jiff_core.specs.Calendar.{IsDate}
 use Rattle.cell_types.specs.declared.fault.CellFault.TheVariants.{NoMemory}
 use Rattle.cell_types.specs.declared.datatype.DateForm.{DateForm}
 use Rattle.cell_types.specs.Cell.{value_of}

@@ -7,7 +7,7 @@ ghost use Rattle.cell_types.specs.Date.{HasDate, HasNoDate, HasNoNumbers, HasNoP
 use crate::datatype::DateForm;
 use crate::fault::CellFault;
 use crate::value::Value;
-use jiff::civil::Date;
+use jiff_core::civil::Date;
 
 /// The digits of the year, the month and the day in a text of a form.
 fn parts(form: DateForm, text: &[u8]) -> Option<([u8; 4], [u8; 2], [u8; 2])>

@@ -14,7 +14,7 @@ use crate::datatype::{BooleanForm, DateForm};
 use crate::date::date_in;
 use crate::decimal::millionths_of;
 use crate::white_space::is_normal;
-use jiff::civil::Date;
+use jiff_core::civil::Date;
 
 /// The day of a text in a column of dates of a form, where it says one as it stands.
 pub fn read_plain_date(column: &Column, form: DateForm, text: &str) -> Option<Date>

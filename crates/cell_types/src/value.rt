@@ -1,6 +1,6 @@
 //! The values of cells.
 
-use jiff::civil::Date;
+use jiff_core::civil::Date;
 use std::borrow::CowStr;
 
 /// The value of a cell. Null comes before all values, then integers, texts, truth values, dates and decimals; texts are in the order of

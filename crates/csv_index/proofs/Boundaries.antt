@@ -1,13 +1,10 @@
 -- No character is cut at the places of an index.
-use Rattle.std.proofs.Common.{◌≡◌, ℕ, zero, suc, ◌+◌, ◌<◌, ◌≤◌, List, [], ◌∷◌, ◌++◌, length, drop, get_or, take, max, true, ◌-◌, Some, refl, subst, sym, ap, ◌∙◌, arith}
+use Rattle.std.proofs.Common.{◌≡◌, ℕ, zero, suc, ◌+◌, ◌<◌, ◌≤◌, List, [], ◌∷◌, ◌++◌, length, drop, get_or, Some, refl, subst, sym, ap, ◌∙◌, arith}
 use Rattle.std.specs.Prelude.{IsUtf8}
-use Rattle.std.specs.List.{slice_get, slice_index, slice_range}
-use Rattle.std.specs.Str.{is_utf8, IsCharBoundary}
+use Rattle.std.specs.List.{slice_get, slice_index}
+use Rattle.std.specs.Str.{IsCharBoundary}
 use Rattle.std.proofs.lemmas.List.{get_or-drop, get_or_at, get_or_past}
-use Rattle.std.proofs.lemmas.Str.{IsCharBoundary-after_ascii, IsCharBoundary-from_take, IsUtf8-append, IsUtf8-from_ascii, IsUtf8-from_is_utf8}
-use Rattle.std.proofs.lemmas.Str.Ascii.{IsAscii-cons, IsAscii-nil}
-use Rattle.csv_grammar.specs.Bytes.{double_quote}
-use Rattle.csv_index.specs.Between.{raw_between, unwrapped, without_return}
+use Rattle.std.proofs.lemmas.Str.{IsCharBoundary-after_ascii}
 use Rattle.csv_index.specs.Index.{AreAscii, Rise, start_at}
 use Rattle.csv_index.specs.Fields.{AreLeft}
 use Rattle.csv_index.proofs.CellLemmas.{AllByRecursion-at, start_before}
@@ -66,26 +63,3 @@ start_boundary start (place ∷ ends) bytes zero end utf8 first rise ascii e = f
 start_boundary start (place ∷ []) bytes (suc n) end utf8 first rise ascii e = absurd (cc)
 start_boundary start (place ∷ next ∷ ends) bytes (suc n) end utf8 first rise ascii e =
     start_boundary (place + 1) (next ∷ ends) bytes n end utf8 (boundary_behind start place (next ∷ ends) bytes utf8 rise ascii (omega arith)) rise.2 ascii.1 e
-
--- ---- the double quotes of a field
-
--- a text that begins with a double quote is one and a text
-pub behind_quote : (field : List ℕ) → IsUtf8 field → get_or field 0 0 ≡ double_quote → IsCharBoundary field 1
-behind_quote [] utf8 first = absurd (omega (arith, first))
-behind_quote (b ∷ bytes) utf8 first = IsCharBoundary-after_ascii (b ∷ bytes) 0 utf8 (omega arith) (omega (arith, first))
-
--- what is between the double quotes is text, so the last of them is a character of its own
-pub before_quote : (field piece : List ℕ) (end : ℕ) → IsUtf8 field → get_or field 0 0 ≡ double_quote → end ≡ max (length field - 1) 1
-    → is_utf8 (raw_between piece).bytes ≡ true → field ≡ without_return piece → IsCharBoundary field end
-before_quote [] piece end utf8 first at text is = absurd (omega (arith, first))
-before_quote (b ∷ []) piece end utf8 first at text is = (omega (arith, at), λ within. absurd (omega (arith, at, within)))
-before_quote (b ∷ c ∷ bytes) piece end utf8 first at text is =
-    let whole : (unwrapped (b ∷ c ∷ bytes)).bytes ≡ slice_range (b ∷ c ∷ bytes) 1 (length (b ∷ c ∷ bytes) - 1) = rw first refl in
-    let inner : is_utf8 (slice_range (b ∷ c ∷ bytes) 1 (length (b ∷ c ∷ bytes) - 1)) ≡ true =
-    subst (λ t. is_utf8 t ≡ true) whole (subst (λ t. is_utf8 (unwrapped t).bytes ≡ true) (sym is) text) in
-    let same : slice_range (b ∷ c ∷ bytes) 1 (length (b ∷ c ∷ bytes) - 1) ≡ take (length bytes) (c ∷ bytes) = ap (λ k. take k (c ∷ bytes)) (omega arith) in
-    let front : IsUtf8 (b ∷ take (length bytes) (c ∷ bytes)) =
-    IsUtf8-append (b ∷ []) (take (length bytes) (c ∷ bytes)) (IsUtf8-from_ascii (b ∷ []) (IsAscii-cons b [] (omega (arith, first)) IsAscii-nil))
-    (subst IsUtf8 same (IsUtf8-from_is_utf8 _ inner)) in
-    let here : end ≡ suc (length bytes) = omega (arith, at) in
-    IsCharBoundary-from_take (b ∷ c ∷ bytes) end utf8 (omega (arith, here)) (subst (λ k. IsUtf8 (take k (b ∷ c ∷ bytes))) (sym here) front)

@@ -5,8 +5,8 @@ use Rattle.std.specs.List.{slice_get, slice_index, slice_range, AllByRecursion}
 use Rattle.std.specs.Option.{option_map}
 use Rattle.std.proofs.lemmas.Option.{slice_get-map}
 use Rattle.std.specs.Str.{is_utf8}
-use Rattle.csv_index.specs.Between.{raw_between}
-use Rattle.csv_index.specs.Index.{Places, cut, raws, start_at, Rise, AreAscii, FitsFile}
+use Rattle.raw_fields.specs.Between.{cut, raw_between}
+use Rattle.csv_index.specs.Index.{Places, raws, start_at, Rise, AreAscii, FitsFile}
 
 -- what is in a list behind a front
 pub slice_get-behind : {A : Type 0} (xs ys : List A) (n k : ℕ) → n ≡ length xs + k → slice_get (xs ++ ys) n ≡ slice_get ys k

@@ -1,43 +1,28 @@
--- Where the field of a row and a column of a part stands, and the places that a file's first part begins with.
-use Rattle.std.proofs.Common.{◌≡◌, ℕ, ◌+◌, ◌-◌, ◌*◌, ◌<◌, ◌≤◌, List, [], ◌∷◌, ◌++◌, length, length-drop, map, take, drop, min, set, subst, true, Some, add-one, refl, ap, sym, ◌∙◌, arith}
+-- The rows of a part stand between its places, and the places that a file's first part begins with.
+use Rattle.std.proofs.Common.{◌≡◌, ℕ, zero, suc, ◌+◌, ◌-◌, ◌*◌, ◌<◌, ◌≤◌, List, [], ◌∷◌, ◌++◌, length, length-drop, map, take, drop, min, set, subst, true, Some, add-one, refl, ap, sym, ◌∙◌, arith}
 use Rattle.std.proofs.Math.Nat.{mul-le-mul}
+use Rattle.std.proofs.lemmas.List.{drop-take, length-take, take-map}
 use Rattle.std.proofs.lemmas.Option.{slice_get-map, slice_get_within}
 use Rattle.std.specs.Prelude.{IsUtf8}
 use Rattle.std.specs.List.{slice_get, slice_index, slice_range}
 use Rattle.std.specs.Option.{option_map}
 use Rattle.std.specs.Str.{is_utf8, IsCharBoundary}
 use Rattle.csv_grammar.specs.Raw.{RawField}
-use Rattle.csv_index.specs.Between.{raw_between}
+use Rattle.raw_fields.specs.Between.{cut, raw_between}
+use Rattle.raw_fields.specs.Part.{fields_between, part_between, PartOf, StandBetween, StandsBetween}
+use Rattle.raw_fields.specs.Rows.{rows_cut}
 use Rattle.csv_index.specs.Fields.{AreLeft}
-use Rattle.csv_index.specs.Index.{Places, cell_at, cut, raws, rows_cut, start_at, table_in, FitsFile}
+use Rattle.csv_index.specs.Index.{Places, raws, start_at, table_in, FitsFile}
 use Rattle.csv_index.specs.Parts.{part_ends, part_fields, part_start, parts_of, parts_view, AreParts, PartsOf}
 use Rattle.csv_index.specs.declared.parts.Parts.TheInside.{Inside}
 use Rattle.csv_index.proofs.Boundaries.{boundary_next, end_boundary, start_boundary}
 use Rattle.csv_index.proofs.CellLemmas.{AllByRecursion-at, cell_fits, cut_at, fields_behind, start_before}
-use Rattle.csv_index.proofs.RowLemmas.{cell-rows_of, length-rows_of}
 use Rattle.csv_index.proofs.PartLemmas.{fields_of, place_at, start_past}
 
--- the number of a field of a row
-pub below_cells : (row rows col width : ℕ) → row < rows → col < width → row * width + col < rows * width
-below_cells row rows col width r c =
-    let more : row + 1 ≤ rows = omega arith in
-    let same : width ≤ width = omega arith in
-    let most : (row + 1) * width ≤ rows * width = mul-le-mul more same in
-    omega (arith, most)
+-- ---- the rows of the part
 
--- ---- the field of a row and a column
-
--- what is known of the field of a number
-pub record FieldPlace (p : Inside) (n : ℕ) : Type 0 where
-  pub within : n + 1 < length p.places.items
-  pub order : slice_index p.places.items n + 1 ≤ slice_index p.places.items (n + 1)
-  pub size : slice_index p.places.items (n + 1) ≤ length p.text.now
-  pub start : IsCharBoundary p.text.now (slice_index p.places.items n + 1)
-  pub end : IsCharBoundary p.text.now (slice_index p.places.items (n + 1))
-  pub field : slice_get (part_fields p) n ≡ Some (raw_between (slice_range p.text.now (slice_index p.places.items n + 1) (slice_index p.places.items (n + 1))))
-  pub utf8 : is_utf8 (raw_between (slice_range p.text.now (slice_index p.places.items n + 1) (slice_index p.places.items (n + 1)))).bytes ≡ true
-
-field_place : (p : Inside) (n : ℕ) → AreParts p → n < p.rows * p.width → FieldPlace p n
+-- the field of a number stands between its places
+field_place : (p : Inside) (n : ℕ) → AreParts p → n < p.rows * p.width → StandsBetween p.text.now (slice_index p.places.items n) (slice_index p.places.items (n + 1))
 field_place p n are within =
     let places = p.places.items in
     let text = p.text.now in
@@ -51,37 +36,61 @@ field_place p n are within =
     let field : slice_get (part_fields p) n ≡ Some (raw_between (slice_range text (slice_index places n + 1) (slice_index places (n + 1)))) =
     slice_get-map raw_between (cut (part_start p) ends text) n
     ∙ ap (option_map raw_between) (cut_at (part_start p) ends text n (slice_index places (n + 1)) end ∙ ap (λ k. Some (slice_range text k (slice_index places (n + 1)))) start) in record {
-      within = omega (arith, within, size);
       order = subst (λ k. k ≤ slice_index places (n + 1)) start order.0;
       size = order.1;
       start = subst (IsCharBoundary text) start
           (start_boundary (part_start p) ends text n (slice_index places (n + 1)) are.ends.utf8 (are.ends.boundary some) are.ends.rise are.ends.ascii end);
       end = end_boundary (part_start p) ends text n (slice_index places (n + 1)) are.ends.rise are.ends.ascii end;
-      field = field;
       utf8 = AllByRecursion-at (λ raw. is_utf8 raw.bytes ≡ true) (part_fields p) n _ are.ends.text field;
     }
 
--- of the field of a row and a column
-pub record CellPlace (p : Inside) (parts : PartsOf) (row col : ℕ) : Type 0 where
-  pub row_within : row < p.rows
-  pub col_within : col < p.width
-  pub place : FieldPlace p (row * p.width + col)
-  pub cell : cell_at parts.part row col
-      ≡ Some (raw_between (slice_range p.text.now (slice_index p.places.items (row * p.width + col) + 1) (slice_index p.places.items (row * p.width + col + 1))))
+pub fields_stand : (p : Inside) → AreParts p → StandBetween p.text.now p.places.items (p.rows * p.width)
+fields_stand p are = record {
+  within = omega (arith, are.places);
+  each = λ n within. field_place p n are within;
+}
 
-pub cell_place : (p : Inside) (parts : PartsOf) (row col : ℕ) → parts_view p ≡ parts → AreParts p → row < length parts.part → col < parts.width → CellPlace p parts row col
-cell_place p parts row col is are r c =
-    let rows : length parts.part ≡ p.rows = ap (λ (q : PartsOf). length q.part) (sym is) ∙ length-rows_of p.rows p.width (part_fields p) in
-    let wide : parts.width ≡ p.width = ap (λ (q : PartsOf). q.width) (sym is) in
-    let row_within : row < p.rows = omega (arith, rows, r) in
-    let col_within : col < p.width = omega (arith, wide, c) in
-    let place = field_place p (row * p.width + col) are (below_cells row p.rows col p.width row_within col_within) in record {
-      row_within = row_within;
-      col_within = col_within;
-      place = place;
-      cell = ap (λ (q : PartsOf). cell_at q.part row col) (sym is)
-          ∙ cell-rows_of p.rows p.width (part_fields p) row col _ row_within col_within place.field;
-    }
+-- the pieces between the first of the places
+cut_front : (start : ℕ) (ends more bytes : List ℕ) → take (length ends) (cut start (ends ++ more) bytes) ≡ cut start ends bytes
+cut_front start [] more bytes = refl
+cut_front start (end ∷ ends) more bytes = ap (λ rest. slice_range bytes start end ∷ rest) (cut_front (end + 1) ends more bytes)
+
+take_front : {X : Type 0} (n m : ℕ) (xs : List X) → take n (take (n + m) xs) ≡ take n xs
+take_front zero m xs = refl
+take_front (suc n) m [] =
+    let more : suc n + m ≡ suc (n + m) = omega arith in
+    ap (λ k. take (suc n) (take k [])) more
+take_front (suc n) m (x ∷ xs) =
+    let more : suc n + m ≡ suc (n + m) = omega arith in
+    ap (λ k. take (suc n) (take k (x ∷ xs))) more ∙ ap (λ rest. x ∷ rest) (take_front n m xs)
+
+-- rows are cut from so many fields
+rows_cut_front : (n width : ℕ) (fields : List RawField) → rows_cut n width (take (n * width) fields) ≡ rows_cut n width fields
+rows_cut_front zero width fields = refl
+rows_cut_front (suc n) width fields =
+    let more : suc n * width ≡ width + n * width = omega arith in
+    ap (λ k. rows_cut (suc n) width (take k fields)) more
+    ∙ ap (λ row. row ∷ rows_cut n width (drop width (take (width + n * width) fields))) (take_front width (n * width) fields)
+    ∙ ap (λ rest. take width fields ∷ rows_cut n width rest) (drop-take width (n * width) fields)
+    ∙ ap (λ rows. take width fields ∷ rows) (rows_cut_front n width (drop width fields))
+
+abbrev pub made_part : ℕ → List (List RawField) → PartOf
+made_part width rows = record { width = width; rows = rows }
+
+-- so the part is that between its own places
+pub part_is : (p : Inside) (parts : PartsOf) → parts_view p ≡ parts → AreParts p
+    → part_between p.text.now p.width p.rows p.places.items ≡ made_part parts.width parts.part
+part_is p parts is are =
+    let count = p.rows * p.width in
+    let front = take count (drop 1 p.places.items) in
+    let size : length front ≡ count = omega (arith, are.places, length-take count (drop 1 p.places.items), length-drop 1 p.places.items) in
+    let pieces : cut (part_start p) front p.text.now ≡ take count (cut (part_start p) (part_ends p) p.text.now) =
+    sym (cut_front (part_start p) front p.ends p.text.now) ∙ ap (λ k. take k (cut (part_start p) (part_ends p) p.text.now)) size in
+    let fields : fields_between p.text.now p.places.items count ≡ take count (part_fields p) =
+    ap (map raw_between) pieces ∙ sym (take-map raw_between count (cut (part_start p) (part_ends p) p.text.now)) in
+    ap (λ fs. made_part p.width (rows_cut p.rows p.width fs)) fields
+    ∙ ap (made_part p.width) (rows_cut_front p.rows p.width (part_fields p))
+    ∙ ap (λ (q : PartsOf). made_part q.width q.part) is
 
 -- ---- the first rows
 

@@ -7,9 +7,10 @@ use Rattle.csv_grammar.specs.Records.{Field}
 use Rattle.csv_grammar.specs.Files.{HasWidth, IsTable}
 use Rattle.raw_fields.specs.Laws.{FieldsStandSo}
 use Rattle.csv_grammar.specs.Raw.{RawField, raw_of, field_of}
-use Rattle.csv_index.specs.Between.{raw_between}
+use Rattle.raw_fields.specs.Between.{cut, raw_between}
 use Rattle.csv_grammar.specs.Raw.{RawTable}
-use Rattle.csv_index.specs.Index.{raw_table, Places, cut, raws, rows_cut, row_fields, table_in, cell_at, FitsFile, IsRawTable}
+use Rattle.csv_index.specs.Index.{raw_table, Places, raws, row_fields, table_in, FitsFile, IsRawTable}
+use Rattle.raw_fields.specs.Rows.{rows_cut, cell_at}
 
 -- there is a field for each place
 pub length-cut : (start : ℕ) (ends : List ℕ) (file : List ℕ) → length (cut start ends file) ≡ length ends
@@ -43,13 +44,6 @@ slice_get-rows_of (suc n) width fields (suc row) h =
     let e : width + row * width ≡ suc row * width = omega arith in
     slice_get-rows_of n width (drop width fields) row (omega arith)
     ∙ ap (λ rest. Some (take width rest)) (drop-drop (row * width) width fields ∙ ap (λ k. drop k fields) e)
-
--- a field of a row
-pub cell-rows_of : (n width : ℕ) (fields : List RawField) (row col : ℕ) (raw : RawField) → row < n → col < width
-    → slice_get fields (row * width + col) ≡ Some raw → cell_at (rows_cut n width fields) row col ≡ Some raw
-cell-rows_of n width fields row col raw r c e =
-    ap (option_and_then (λ row_fields. slice_get row_fields col)) (slice_get-rows_of n width fields row r)
-    ∙ slice_get-take width (drop (row * width) fields) col c ∙ slice_get-drop (row * width) fields col ∙ e
 
 -- the rows, one after another, are the fields
 no_fields : (fields : List RawField) → length fields ≡ 0 → [] ≡ fields

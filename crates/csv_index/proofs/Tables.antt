@@ -9,8 +9,8 @@ use Rattle.csv_grammar.specs.Faults.{HasFault}
 use Rattle.csv_grammar.specs.Files.{mark_len, text_of, HasWidth}
 use Rattle.raw_fields.specs.Laws.{FieldsStandSo}
 use Rattle.csv_grammar.specs.Raw.{raw_of}
-use Rattle.csv_index.specs.Between.{raw_between}
-use Rattle.csv_index.specs.Index.{Places, cut, Rise, FitsFile, IsIndexOf}
+use Rattle.raw_fields.specs.Between.{cut, raw_between}
+use Rattle.csv_index.specs.Index.{Places, Rise, FitsFile, IsIndexOf}
 use Rattle.csv_index.specs.declared.blocks.Block.{Block}
 use Rattle.csv_index.specs.declared.widths.Widths.{Widths}
 use Rattle.csv_index.specs.Fault.{IsTextFault}

@@ -2,8 +2,8 @@
 use Rattle.std.specs.Prelude.{◌≡◌, ℕ, ◌<◌, true, List, length, map, IsUtf8}
 use Rattle.std.specs.List.{AllByRecursion}
 use Rattle.std.specs.Str.{is_utf8, IsCharBoundary}
-use Rattle.csv_index.specs.Between.{raw_between}
-use Rattle.csv_index.specs.Index.{AreAscii, cut, Rise}
+use Rattle.raw_fields.specs.Between.{cut, raw_between}
+use Rattle.csv_index.specs.Index.{AreAscii, Rise}
 
 -- the places part the text from a place on: they rise, each field is text, and no character is cut
 pub record AreLeft (start : ℕ) (ends bytes : List ℕ) : Type 0 where

@@ -1,12 +1,13 @@
 -- A table as it stands in its file, and what an index knows of that: the structural places, which are the comma or the LF behind each
 -- field, or the end of the file (RFC 4180, section 2).
-use Rattle.std.specs.Prelude.{◌≡◌, ℕ, zero, suc, ◌+◌, ◌*◌, ◌<◌, ◌≤◌, true, List, [], ◌∷◌, length, map, take, drop, slice_get, slice_index, slice_range, Option, option_and_then}
+use Rattle.std.specs.Prelude.{◌≡◌, ℕ, zero, suc, ◌+◌, ◌*◌, ◌<◌, ◌≤◌, true, List, [], ◌∷◌, length, map, take, drop, slice_index}
 use Rattle.std.specs.List.{flat_map, AllByRecursion}
 use Rattle.std.specs.Str.{is_utf8, IsCharBoundary}
 use Rattle.csv_grammar.specs.Records.{Field}
 use Rattle.csv_grammar.specs.Files.{IsTable}
 use Rattle.csv_grammar.specs.Raw.{RawField, RawTable, raw_of, field_of}
-use Rattle.csv_index.specs.Between.{raw_between}
+use Rattle.raw_fields.specs.Between.{cut, raw_between}
+use Rattle.raw_fields.specs.Rows.{rows_cut}
 
 -- how a header and rows stand
 abbrev pub raw_table : List Field → List (List Field) → RawTable
@@ -17,18 +18,9 @@ pub record IsRawTable (bytes : List ℕ) (table : RawTable) : Type 0 where
   pub is : IsTable bytes (map field_of table.header) (map (map field_of) table.rows)
   pub stands : table ≡ raw_table (map field_of table.header) (map (map field_of) table.rows)
 
--- the field of a row and a column
-abbrev pub cell_at : List (List RawField) → ℕ → ℕ → Option RawField
-cell_at rows row col = option_and_then (λ fields. slice_get fields col) (slice_get rows row)
-
 -- the fields of rows, one row after another
 abbrev pub row_fields : List (List RawField) → List RawField
 row_fields rows = flat_map (λ fields. fields) rows
-
--- fields cut into so many rows of one width
-abbrev pub rows_cut : ℕ → ℕ → List RawField → List (List RawField)
-rows_cut zero width fields = []
-rows_cut (suc n) width fields = take width fields ∷ rows_cut n width (drop width fields)
 
 -- ---- the index
 pub record Places : Type 0 where
@@ -40,11 +32,6 @@ pub record Places : Type 0 where
   pub rows : ℕ
   -- the place behind each field, record after record, the header first
   pub ends : List ℕ
-
--- the bytes between the places
-abbrev pub cut : ℕ → List ℕ → List ℕ → List (List ℕ)
-cut start [] bytes = []
-cut start (end ∷ ends) bytes = slice_range bytes start end ∷ cut (end + 1) ends bytes
 
 -- the fields between the places
 abbrev pub raws : Places → List ℕ → List RawField

@@ -1,4 +1,3 @@
-pub mod Between
 pub mod Index
 pub mod Fields
 pub mod Parts

@@ -6,8 +6,8 @@ use Rattle.csv_grammar.specs.Records.{Field, AreRecords}
 use Rattle.csv_grammar.specs.Faults.{Cause, HasFault}
 use Rattle.csv_grammar.specs.Files.{malformed}
 use Rattle.csv_grammar.specs.Raw.{raw_of}
-use Rattle.csv_index.specs.Between.{raw_between}
-use Rattle.csv_index.specs.Index.{cut, Rise, AreAscii}
+use Rattle.raw_fields.specs.Between.{cut, raw_between}
+use Rattle.csv_index.specs.Index.{Rise, AreAscii}
 use Rattle.csv_index.specs.Blocks.{block_places, AreRanked}
 use Rattle.csv_index.specs.Widths.{CountsWidths}
 use Rattle.csv_index.specs.Fault.{text_cause}

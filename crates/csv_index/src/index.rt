@@ -1,8 +1,8 @@
 //! The places of a file's fields.
-ghost use Rattle.std.specs.Prelude.{◌≡◌, ◌≤◌, ◌<◌, ◌+◌, Some, IfOk, IfErr, IsUtf8, slice_get, slice_range, length, drop};
-ghost use Rattle.std.specs.Str.{IsCharBoundary};
+ghost use Rattle.std.specs.Prelude.{◌≡◌, ◌≤◌, ◌<◌, ◌+◌, Some, IfOk, IfErr, IsUtf8, slice_get, length, drop};
 ghost use Rattle.raw_fields.specs.Raw.{raw_view};
-ghost use Rattle.csv_index.specs.Index.{FitsFile, IsIndexOf, table_in, cell_at, row_fields, raws, start_at};
+ghost use Rattle.csv_index.specs.Index.{FitsFile, IsIndexOf, table_in, row_fields, raws, start_at};
+ghost use Rattle.raw_fields.specs.Rows.{cell_at};
 ghost use Rattle.csv_index.specs.Fault.{IsTextFault};
 
 use crate::blocks::{Block, find};
@@ -10,12 +10,11 @@ use crate::ends::Ends;
 use crate::fault::TextFault;
 use crate::fields::Fields;
 use crate::parts::{PART_ROWS, Parts};
-use crate::raw::between;
 use crate::structure::Structure;
 use crate::utf8::check_text;
 use csv_grammar::mark_len;
 use lane_class::BLOCK;
-use raw_fields::Raw;
+use raw_fields::{Raw, between, piece};
 use std::alloc::{AllocError, Global};
 use std::marker::Model;
 
@@ -224,15 +223,4 @@ impl Index {
             },
         }
     }
-}
-
-/// The text from a place up to another.
-#[inline(always)]
-pub(crate) fn piece(bytes: &str, start: usize, end: usize) -> &str
-    requires order { start ≤ end }
-    requires start { IsCharBoundary bytes.now start }
-    requires end { IsCharBoundary bytes.now end }
-    ensures { result.now ≡ slice_range bytes.now start end }
-{
-    &bytes[start..end]
 }

@@ -2,7 +2,8 @@
 ghost use Rattle.std.specs.Prelude.{◌≡◌, ◌≤◌, ◌<◌, [], Some, IfOk, IfErr, slice_get, length, drop};
 ghost use Rattle.std.specs.List.{AllByRecursion};
 ghost use Rattle.raw_fields.specs.Raw.{raw_view};
-ghost use Rattle.csv_index.specs.Index.{IsRawTable, cell_at, row_fields};
+ghost use Rattle.csv_index.specs.Index.{IsRawTable, row_fields};
+ghost use Rattle.raw_fields.specs.Rows.{cell_at};
 ghost use Rattle.csv_index.specs.Fault.{IsTextFault};
 
 use crate::fault::TextFault;

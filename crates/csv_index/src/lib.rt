@@ -11,7 +11,6 @@ mod fields;
 mod index;
 mod indexed_text;
 mod parts;
-mod raw;
 mod reading;
 mod structure;
 mod utf8;

@@ -1,18 +1,14 @@
-//! The fields of the rows of a file, so many rows at a time.
-ghost use Rattle.std.specs.Prelude.{◌≡◌, ◌<◌, Some, length, take, drop};
-ghost use Rattle.raw_fields.specs.Raw.{raw_view};
-ghost use Rattle.csv_index.specs.Index.{cell_at};
+//! The rows of a file, so many at a time.
+ghost use Rattle.std.specs.Prelude.{◌≡◌};
 
 use crate::ends::Ends;
-use crate::index::piece;
-use crate::raw::between;
-use raw_fields::Raw;
+use raw_fields::Part;
 use std::marker::Model;
 
 /// How many rows a part has; the last may have fewer.
 pub const PART_ROWS: usize = 128;
 
-/// The rows of a file by parts, one part after another. Any field of the part is found with no search.
+/// The rows of a file by parts, one part after another.
 #[derive(Drop)]
 pub struct Parts<'i> {
     /// The file.
@@ -42,20 +38,12 @@ impl<'i> Model for Parts<'i> {
 impl<'i> Parts<'i> {
     ghost use Rattle.csv_index.specs.Parts.{next_part};
 
-    /// The file.
+    /// The part. Any field of it is found with no search.
     #[inline(always)]
-    pub fn text(&self) -> &'i str
-        ensures { result.now ≡ self.now.bytes }
+    pub fn part(&self) -> Part<'i, '_>
+        ensures { result ≡ record { width = self.now.width; rows = self.now.part } }
     {
-        self.text
-    }
-
-    /// How many rows the part has.
-    #[inline(always)]
-    pub fn rows(&self) -> usize
-        ensures { result ≡ length self.now.part }
-    {
-        self.rows
+        Part::new(self.text, self.width, self.rows, self.places.as_slice())
     }
 
     /// Goes on to the next part.
@@ -69,40 +57,4 @@ impl<'i> Parts<'i> {
         self.rows = rows;
         self.left -= rows;
     }
-
-    /// The field of a row of the part and a column, both counted from 0.
-    #[inline(always)]
-    pub fn field(&self, row: usize, col: usize) -> Raw<'i>
-        requires row { row < length self.now.part }
-        requires col { col < self.now.width }
-        ensures { cell_at self.now.part row col ≡ Some (raw_view result) }
-    {
-        let n = row * self.width + col;
-        between(piece(self.text, self.places[n] + 1, self.places[n + 1]))
-    }
-
-    /// A field, as [`Parts::field`] gives it, and the file from the field's bytes on.
-    #[inline(always)]
-    pub fn field_and_rest(&self, row: usize, col: usize) -> (Raw<'i>, &'i [u8])
-        requires row { row < length self.now.part }
-        requires col { col < self.now.width }
-        ensures field { cell_at self.now.part row col ≡ Some (raw_view result.0) }
-        ensures rest { take (length result.0.bytes.now) result.1.now ≡ result.0.bytes.now }
-    {
-        let raw = self.field(row, col);
-        let start = self.places[row * self.width + col] + 1;
-        if raw.quoted {
-            return (raw, bytes_from(self.text, start + 1));
-        }
-        (raw, bytes_from(self.text, start))
-    }
-}
-
-/// The bytes of a text from a place on; none past its end.
-#[inline(always)]
-fn bytes_from(text: &str, start: usize) -> &[u8]
-    ensures { result.now ≡ drop start text.now }
-{
-    let bytes = text.as_bytes();
-    &bytes[start.min(bytes.len())..]
 }

@@ -16,7 +16,7 @@ use Rattle.csv_grammar.specs.Records.{Field, content}
 use Rattle.cell_types.specs.Column.{ColumnOf}
 use Rattle.cell_types.specs.Value.{CellValue, null}
 use Rattle.cell_types.specs.Cell.{value_of}
-use Rattle.csv_index.specs.Index.{cell_at}
+use Rattle.raw_fields.specs.Rows.{cell_at}
 use Rattle.csv_grammar.specs.Raw.{RawField, RawTable, field_of, raw_content}
 use Rattle.row_keys.specs.Key.{null_row, repeated_row, row_key, row_keys}
 use Rattle.raw_fields.specs.Values.{value_in, value_or_null, values_in}

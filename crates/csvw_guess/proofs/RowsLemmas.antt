@@ -9,7 +9,8 @@ use Rattle.std.proofs.lemmas.List.{append-nil, drop_more, drop_at, get_or_append
 use Rattle.std.proofs.lemmas.List.Elements.{All-filter, All-from_recursion}
 use Rattle.std.proofs.lemmas.Option.{get_or_from_slice_get, slice_get-get_or}
 use Rattle.csv_grammar.specs.Raw.{RawField, RawTable, field_of, raw_content}
-use Rattle.csv_index.specs.Index.{cell_at, row_fields}
+use Rattle.csv_index.specs.Index.{row_fields}
+use Rattle.raw_fields.specs.Rows.{cell_at}
 use Rattle.cell_types.specs.Datatype.{text}
 use Rattle.column_types.specs.declared.seen.Seen.{Seen}
 use Rattle.column_types.specs.Reading.{fits_at, IsDatatypePlace}

@@ -1,4 +1,4 @@
 pub mod Slow
 pub mod Sockets
-pub mod Desk
+pub mod Server
 pub mod Sights

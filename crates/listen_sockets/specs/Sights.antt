@@ -1,7 +1,7 @@
--- What rounds see of a desk.
+-- What rounds see of a server.
 use Rattle.odata_rounds.specs.Rounds.{SightOf, sight}
-use Rattle.listen_sockets.specs.declared.desk.Desk.{Desk}
+use Rattle.listen_sockets.specs.declared.server.Server.{Server}
 use Rattle.listen_sockets.specs.Sockets.{wire_at}
 
-abbrev pub sight_of : Desk → SightOf
-sight_of desk = sight desk.hub desk.seats.items (wire_at desk.sockets.slots.items)
+abbrev pub sight_of : Server → SightOf
+sight_of server = sight server.hub server.slots.items (wire_at server.sockets.wires.items)

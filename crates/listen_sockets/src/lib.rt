@@ -2,15 +2,15 @@
 //! are held open for a while once their connections are over.
 #![tactic(auto)]
 
-mod desk;
-mod gate;
-mod partings;
+mod lingering;
 mod peer;
+mod poller;
+mod server;
 mod slow;
 mod sockets;
 
-pub use desk::Desk;
-pub use gate::Gate;
 pub use peer::Peer;
+pub use poller::Poller;
+pub use server::Server;
 pub use slow::{Due, Limits, Times};
-pub use sockets::{Slot, Sockets};
+pub use sockets::{Sockets, Wire};

@@ -11,19 +11,19 @@ use std::alloc::{AllocError, Global};
 
 /// A place, and what is counted there.
 #[derive(Drop)]
-pub struct Slot {
+pub struct Wire {
     pub peer: Option<Peer>,
     pub waits: u64,
     pub losses: u64,
 }
 
-impl Slot {
+impl Wire {
     ghost use Rattle.odata_rounds.specs.Peers.{CountsFault, IsRead, IsWrite};
-    ghost use Rattle.listen_sockets.specs.Sockets.{is_ended_peer, is_lost_peer, peer_times, slot_wire};
+    ghost use Rattle.listen_sockets.specs.Sockets.{is_ended_peer, is_lost_peer, peer_times, untold_wire};
 
     /// Counts what a socket answered.
     fn count(&mut self, answer: Result<usize, PeerFault>)
-        ensures { CountsFault (slot_wire self.old) (slot_wire self.new) answer }
+        ensures { CountsFault (untold_wire self.old) (untold_wire self.new) answer }
     {
         match answer {
             Ok(_) => {}
@@ -36,7 +36,7 @@ impl Slot {
     fn write_peer(&mut self, bytes: &[u8]) -> Result<usize, PeerFault>
         ensures bound { WritesAtMost result bytes.now }
         ensures some { TakesSome bytes.now result }
-        ensures counts { slot_wire self.new ≡ slot_wire self.old }
+        ensures counts { untold_wire self.new ≡ untold_wire self.old }
     {
         match &mut self.peer {
             Some(peer) => peer.write(bytes),
@@ -47,7 +47,7 @@ impl Slot {
     /// Takes bytes of the socket, where there is one.
     fn read_peer(&mut self, buf: &mut [u8]) -> Result<usize, PeerFault>
         ensures bound { ReadsAtMost result buf.new }
-        ensures counts { slot_wire self.new ≡ slot_wire self.old }
+        ensures counts { untold_wire self.new ≡ untold_wire self.old }
     {
         match &mut self.peer {
             Some(peer) => peer.read(buf),
@@ -94,7 +94,7 @@ impl Slot {
     }
 
     fn write(&mut self, bytes: &[u8]) -> Result<usize, PeerFault>
-        ensures { IsWrite (slot_wire self.old) (slot_wire self.new) bytes.now result }
+        ensures { IsWrite (untold_wire self.old) (untold_wire self.new) bytes.now result }
     {
         let answer = self.write_peer(bytes);
         self.count(answer);
@@ -102,7 +102,7 @@ impl Slot {
     }
 
     fn read(&mut self, buf: &mut [u8]) -> Result<usize, PeerFault>
-        ensures { IsRead (slot_wire self.old) (slot_wire self.new) buf.new result }
+        ensures { IsRead (untold_wire self.old) (untold_wire self.new) buf.new result }
     {
         let answer = self.read_peer(buf);
         self.count(answer);
@@ -113,53 +113,53 @@ impl Slot {
 /// The sockets of so many places.
 #[derive(Drop)]
 pub struct Sockets {
-    pub slots: Vec<Slot>,
+    pub wires: Vec<Wire>,
 }
 
 impl Sockets {
     ghost use Rattle.std.specs.Prelude.{IfOk, replicate};
-    ghost use Rattle.listen_sockets.specs.Sockets.{EndsStream, IsPut, KeepsStreams, free_slot, is_lost_at, times_at};
+    ghost use Rattle.listen_sockets.specs.Sockets.{EndsStream, IsPut, KeepsStreams, free_wire, is_lost_at, times_at};
 
     /// So many places, at none of which is a socket.
     pub fn new(alloc: Global, places: u32) -> Result<Sockets, AllocError>
-        ensures { IfOk result (λ sockets. sockets.slots.items ≡ replicate places free_slot) }
+        ensures { IfOk result (λ sockets. sockets.wires.items ≡ replicate places free_wire) }
     {
-        let mut slots = Vec::with_capacity(alloc, places as usize)?;
+        let mut wires = Vec::with_capacity(alloc, places as usize)?;
         for _place in 0..places {
-            slots.push(Slot {
+            wires.push(Wire {
                 peer: None,
                 waits: 0,
                 losses: 0,
             })?;
         }
-        Ok(Sockets { slots })
+        Ok(Sockets { wires })
     }
 
     /// Puts a socket at a place.
     pub fn put(&mut self, place: u32, peer: Peer)
-        ensures { IsPut place peer self.old.slots.items self.new.slots.items }
+        ensures { IsPut place peer self.old.wires.items self.new.wires.items }
     {
         let place = place as usize;
-        if place < self.slots.len() {
-            self.slots[place].peer = Some(peer);
+        if place < self.wires.len() {
+            self.wires[place].peer = Some(peer);
         }
     }
 
     /// Takes the socket of a place from there, where there is one.
     fn take(&mut self, place: u32) -> Option<Peer>
-        ensures { EndsStream place self.old.slots.items self.new.slots.items }
+        ensures { EndsStream place self.old.wires.items self.new.wires.items }
     {
         let place = place as usize;
-        if place >= self.slots.len() {
+        if place >= self.wires.len() {
             return None;
         }
-        self.slots[place].peer.take()
+        self.wires[place].peer.take()
     }
 
     /// Sends no more to the socket at a place, and gives it where its peer may still send. No other stream ends by that.
     pub fn close(&mut self, place: u32, room: &mut [u8]) -> Option<Peer>
         ensures len { length room.new ≡ length room.old }
-        ensures streams { EndsStream place self.old.slots.items self.new.slots.items }
+        ensures streams { EndsStream place self.old.wires.items self.new.wires.items }
     {
         let mut peer = self.take(place)?;
         if peer.close(room) {
@@ -170,13 +170,13 @@ impl Sockets {
 
     /// Whether there is a place with no socket.
     pub fn has_free(&self) -> bool {
-        self.slots.iter().any(|slot| slot.peer.is_none())
+        self.wires.iter().any(|wire| wire.peer.is_none())
     }
 
     /// Has the system report the socket at a place under its number.
     pub fn register(&mut self, poll: &Poll, place: u32) -> bool {
-        match self.slots.get_mut(place as usize) {
-            Some(slot) => match &mut slot.peer {
+        match self.wires.get_mut(place as usize) {
+            Some(wire) => match &mut wire.peer {
                 Some(peer) => peer.register(poll, place),
                 None => false,
             },
@@ -186,8 +186,8 @@ impl Sockets {
 
     /// Has the next write to each socket tried.
     pub fn try_writes(&mut self) {
-        for slot in &mut self.slots {
-            if let Some(peer) = &mut slot.peer {
+        for wire in &mut self.wires {
+            if let Some(peer) = &mut wire.peer {
                 peer.try_write();
             }
         }
@@ -195,42 +195,42 @@ impl Sockets {
 
     /// Whether the system said that the connection at a place is lost.
     pub fn is_lost(&self, place: u32) -> bool
-        ensures { result ≡ is_lost_at self.now.slots.items place }
+        ensures { result ≡ is_lost_at self.now.wires.items place }
     {
-        match self.slots.get(place as usize) {
-            Some(slot) => slot.is_lost(),
+        match self.wires.get(place as usize) {
+            Some(wire) => wire.is_lost(),
             None => false,
         }
     }
 
     /// Notes what a visit that worked did at a place.
     pub fn note_work(&mut self, place: u32, now: u64)
-        ensures { KeepsStreams self.old.slots.items self.new.slots.items }
+        ensures { KeepsStreams self.old.wires.items self.new.wires.items }
     {
         let place = place as usize;
-        if place >= self.slots.len() {
+        if place >= self.wires.len() {
             return;
         }
-        self.slots[place].note_work(now);
+        self.wires[place].note_work(now);
     }
 
     /// Ends the stream of the socket at a place.
     pub fn end_stream(&mut self, place: u32, now: u64)
-        ensures { EndsStream place self.old.slots.items self.new.slots.items }
+        ensures { EndsStream place self.old.wires.items self.new.wires.items }
     {
         let place = place as usize;
-        if place >= self.slots.len() {
+        if place >= self.wires.len() {
             return;
         }
-        self.slots[place].end(now);
+        self.wires[place].end(now);
     }
 
     /// The times of the socket at a place.
     pub fn times(&self, place: u32) -> Option<Times>
-        ensures { result ≡ times_at self.now.slots.items place }
+        ensures { result ≡ times_at self.now.wires.items place }
     {
-        match self.slots.get(place as usize) {
-            Some(slot) => slot.times(),
+        match self.wires.get(place as usize) {
+            Some(wire) => wire.times(),
             None => None,
         }
     }
@@ -239,21 +239,21 @@ impl Sockets {
 impl Peers for Sockets {
     ghost use Rattle.listen_sockets.specs.Sockets.{wire_at};
 
-    ghost wires = { λ s place. wire_at s.slots.items place };
+    ghost wires = { λ s place. wire_at s.wires.items place };
 
     fn write(&mut self, place: u32, bytes: &[u8]) -> Result<usize, PeerFault> {
         let place = place as usize;
-        if place >= self.slots.len() {
+        if place >= self.wires.len() {
             return Err(PeerFault::Lost);
         }
-        self.slots[place].write(bytes)
+        self.wires[place].write(bytes)
     }
 
     fn read(&mut self, place: u32, buf: &mut [u8]) -> Result<usize, PeerFault> {
         let place = place as usize;
-        if place >= self.slots.len() {
+        if place >= self.wires.len() {
             return Err(PeerFault::Lost);
         }
-        self.slots[place].read(buf)
+        self.wires[place].read(buf)
     }
 }

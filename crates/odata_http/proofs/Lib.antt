@@ -3,6 +3,7 @@ pub mod LengthLemmas
 pub mod ReadingLemmas
 pub mod FindingLemmas
 pub mod WorkLemmas
+pub mod LazyLemmas
 pub mod ReplyLemmas
 pub mod RepliesLemmas
 pub mod AnswerLemmas

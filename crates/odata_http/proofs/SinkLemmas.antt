@@ -1,5 +1,6 @@
 -- Answers that go to a device.
-use Rattle.std.proofs.Common.{◌≡◌, ◌+◌, inl, inr, ℕ, Bool, false, List, [], ◌∷◌, ◌++◌, length, take, Result, Ok, Err, refl, sym, ap, ◌∙◌, subst, append-nil}
+use Rattle.std.proofs.Common.{◌≡◌, ◌≤◌, ◌+◌, inl, inr, ℕ, Bool, false, List, [], ◌∷◌, ◌++◌, length, take, drop, min, Result, Ok, Err, refl, sym, ap, ◌∙◌, subst, arith, append-nil, append_assoc, length-append}
+use Rattle.std.proofs.lemmas.List.{drop_at, nil_from_length, take-append-le}
 use Rattle.std.proofs.KnownBytes.{Appends-nil, Appends-trans}
 use Rattle.std.proofs.Math.Seq.{take-append-add}
 use Rattle.std.specs.List.{concat}
@@ -24,6 +25,36 @@ written_step {a} {b} {d} {xs} {ys} p q =
 pub failed_step : {a b d : SinkOf} {xs ys : List ℕ} → HasWritten a b xs → HasFailed b d ys → HasFailed a d (xs ++ ys)
 failed_step {a} {b} {d} {xs} {ys} p q =
     record { gained = Appends-trans a.taken b.taken d.taken xs ys p.gained q.gained; failed = rw p.failed at q.failed }
+
+-- ---- one reply, piece by piece
+
+pub sent_more : (sent piece behind reply after all : List ℕ) (n : ℕ) → sent ++ reply ≡ all → piece ++ behind ≡ reply → n ≡ min (length piece) (length reply)
+    → after ≡ drop n reply → (sent ++ piece) ++ after ≡ all
+sent_more sent piece behind reply after all n s whole count left =
+    let long : length reply ≡ length (piece ++ behind) = ap length (sym whole) in
+    let same : length piece ≡ n = omega (arith, count, long, length-append piece behind) in
+    let rest : after ≡ behind = left ∙ ap (λ (l : List ℕ). drop n l) (sym whole) ∙ drop_at piece behind n same in
+    append_assoc sent piece after ∙ ap (λ (l : List ℕ). sent ++ (piece ++ l)) rest ∙ ap (λ (l : List ℕ). sent ++ l) whole ∙ s
+
+pub written_all : (a b : SinkOf) (sent reply all : List ℕ) → length reply ≡ 0 → sent ++ reply ≡ all → HasWritten a b sent → HasWritten a b all
+written_all a b sent reply all none s h =
+    let P : List ℕ → Type 0 = λ l. HasWritten a b l in
+    subst P (sym (append-nil sent) ∙ ap (λ (l : List ℕ). sent ++ l) (sym (nil_from_length reply none)) ∙ s) h
+
+-- a front of a piece was taken, and then a write failed
+pub failed_front : (a b d : SinkOf) (sent reply piece behind all : List ℕ) (n : ℕ) → sent ++ reply ≡ all → piece ++ behind ≡ reply → HasWritten a b sent
+    → n ≤ length piece → HasFailed b d (take n piece) → (m : ℕ) × (m ≤ length all) × HasFailed a d (take m all)
+failed_front a b d sent reply piece behind all n s whole h few f =
+    let long : length all ≡ length (sent ++ reply) = ap length (sym s) in
+    let longer : length reply ≡ length (piece ++ behind) = ap length (sym whole) in
+    let front : take (length sent + n) all ≡ sent ++ take n piece =
+    ap (λ (l : List ℕ). take (length sent + n) l) (sym s) ∙ take-append-add sent reply n
+    ∙ ap (λ (l : List ℕ). sent ++ take n l) (sym whole) ∙ ap (λ (l : List ℕ). sent ++ l) (take-append-le n piece behind few) in
+    let P : List ℕ → Type 0 = λ l. HasFailed a d l in (
+      length sent + n,
+      omega (arith, long, longer, few, length-append sent reply, length-append piece behind),
+      subst P (sym front) (failed_step h f),
+    )
 
 -- what giving a reply to a device makes of it
 abbrev pub Sends : {S : Type 0} → (S → SinkOf) → S → List ℕ → Result (Unit {0}) AnswerFault → S → Type 0

@@ -3,6 +3,7 @@ pub mod Counted
 pub mod Media
 pub mod Reply
 pub mod Exchange
+pub mod Lazy
 pub mod Work
 pub mod Replies
 pub mod Laws
@@ -18,5 +19,5 @@ pub use Rattle.http_heads.specs.Head
 pub use Rattle.http_heads.specs.Checks
 pub use Rattle.http_heads.specs.Cut
 pub use Rattle.odata_request.specs.Request
-pub use Rattle.reply_output.specs.Waiting
+pub use Rattle.reply_text.specs.Waiting
 pub use Rattle.query_exec.specs.Run as RunsOfPlans

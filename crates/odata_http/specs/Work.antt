@@ -17,12 +17,12 @@ use Rattle.odata_http.specs.declared.reading.Reading.{Reading}
 use Rattle.odata_http.specs.declared.reading.Reached.{Reached}
 use Rattle.odata_http.specs.declared.reading.Reached.TheVariants.{On, Over}
 use Rattle.odata_http.specs.declared.work.Work.{Work}
-use Rattle.odata_http.specs.declared.work.Work.TheVariants.{Find, Read, Replied}
+use Rattle.odata_http.specs.declared.work.Work.TheVariants.{Find, Read, Replied, Waits}
 use Rattle.odata_http.specs.Exchange.{IsFinding, IsReading, IsWork, RequestTakes, TakesRunCalls}
 use Rattle.odata_http.specs.Reply.{ResponseOf, RespondsWith, RespondsWithRows, reply_of}
 
 abbrev pub response_view : Response → ResponseOf
-response_view response = record { status = response.status; media = response.media; body = response.body.items }
+response_view response = record { status = response.status; media = response.media; body = response.body.bytes }
 
 -- some head asks for it
 abbrev pub IsAskedFor : CatalogOf → RequestOf → Type 0
@@ -62,13 +62,14 @@ MayWork catalog (Find finding) = MayFind catalog finding
 MayWork catalog (Read reading) = MayRead catalog reading
 MayWork catalog work = ⊤
 
--- the work goes on, or it was the last call, and the reply is there
+-- the work goes on, or it was the last call, and the reply waits
 abbrev pub WorksOn : CatalogOf → Option Method → Bool → RequestOf → ℕ → Work → Type 0
-WorksOn catalog method closing request left (Replied bytes) =
-    (left ≡ 1) × (response : ResponseOf) × RespondsWith catalog request response × (bytes.items ≡ reply_of method response closing)
+WorksOn catalog method closing request left (Waits bytes) =
+    (left ≡ 1) × (response : ResponseOf) × RespondsWith catalog request response × (bytes ≡ reply_of method response closing)
 WorksOn catalog method closing request left work = (1 < left) × IsWork catalog request (left - 1) work
 
 -- what a call answers that leaves this work
 abbrev pub step_of : Work → Step
+step_of (Waits bytes) = Done
 step_of (Replied bytes) = Done
 step_of work = More

@@ -5,12 +5,12 @@ ghost use Rattle.odata_http.specs.Answer.{AreSmall, IsAnswered, IsRestAnswered, 
 ghost use Rattle.odata_http.specs.Output.{IsAddedReply};
 ghost use Rattle.odata_http.specs.Reply.{IsReply};
 
-use crate::device::{Sink, send};
-use crate::exchange::reply_to;
+use crate::device::{DeviceFault, Sink, send};
 use crate::laws::cuts_are_small;
+use crate::lazy::lazy_reply_to;
 use crate::reply::reply_to_rest;
 use http_heads::{CheckedHead, Splitter, Unreadable, one_cut};
-use reply_output::Output;
+use reply_text::{Output, Reply};
 use std::alloc::{AllocError, Global};
 use table_store::Catalog;
 
@@ -33,34 +33,55 @@ impl From<AllocError> for AnswerFault {
     }
 }
 
+impl From<DeviceFault> for AnswerFault {
+    ghost use Rattle.odata_http.specs.declared.answer.AnswerFault.TheVariants.{Write};
+
+    ghost from_gives = { λ _ fault. fault ≡ Write };
+
+    fn from(_fault: DeviceFault) -> AnswerFault {
+        AnswerFault::Write
+    }
+}
+
 /// Where replies go, one after another.
 pub(crate) trait Outlet {
     /// What giving it a reply makes of it, by how that ended.
     ghost takes: { Self → List ℕ → Result ⊤ AnswerFault → Self → Type 0 };
 
     /// Gives it a reply.
-    fn put(&mut self, reply: Vec<u8>) -> Result<(), AnswerFault>
-        ensures { takes self.old reply.items result self.new };
+    fn put(&mut self, reply: Reply) -> Result<(), AnswerFault>
+        ensures { takes self.old reply result self.new };
 }
 
 impl<W: Sink> Outlet for W {
     ghost takes = { λ old reply result new. IsSent (W.sink old) reply result (W.sink new) };
 
-    fn put(&mut self, reply: Vec<u8>) -> Result<(), AnswerFault> {
-        match send(self, reply.as_slice()) {
-            Ok(()) => Ok(()),
-            Err(_) => Err(AnswerFault::Write),
-        }
+    fn put(&mut self, reply: Reply) -> Result<(), AnswerFault> {
+        send_reply(self, reply)
     }
 }
 
 impl Outlet for Output {
     ghost takes = { λ old reply result new. IsAddedReply old reply result new };
 
-    fn put(&mut self, reply: Vec<u8>) -> Result<(), AnswerFault> {
-        self.give(reply)?;
+    fn put(&mut self, reply: Reply) -> Result<(), AnswerFault> {
+        self.give_reply(reply)?;
         Ok(())
     }
+}
+
+/// Writes a reply, as it is laid down.
+fn send_reply<W: Sink>(out: &mut W, reply: Reply) -> Result<(), AnswerFault>
+    ensures { IsSent (W.sink out.old) reply result (W.sink out.new) }
+{
+    let mut reply = reply;
+    while !reply.is_empty() {
+        let piece = reply.waiting();
+        let count = piece.len();
+        send(out, piece)?;
+        let _count = reply.took(count);
+    }
+    Ok(())
 }
 
 /// Answers heads in turn.
@@ -74,7 +95,7 @@ fn answer_heads<O: Outlet>(
     ensures { IsAnswered (IsReply catalog.now) O.takes heads.now out.old out.new result }
 {
     for head in heads {
-        let reply = reply_to(alloc, catalog, head)?;
+        let reply = lazy_reply_to(alloc, catalog, head)?;
         out.put(reply)?;
     }
     Ok(())
@@ -111,7 +132,7 @@ pub(crate) fn answer_rest<O: Outlet>(
         None => Ok(false),
         Some(Unreadable) => {
             let reply = reply_to_rest(alloc)?;
-            out.put(reply)?;
+            out.put(Reply::of_bytes(alloc, reply))?;
             Ok(true)
         }
     }

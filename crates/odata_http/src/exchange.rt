@@ -1,11 +1,14 @@
 //! The exchange of a head for its reply, block by block.
-ghost use Rattle.std.specs.Prelude.{◌≡◌, ◌≤◌, ℕ, List, IfOk, IsErr, Ok, OnErr, length};
+ghost use Rattle.std.specs.Prelude.{◌≡◌, ◌≤◌, ℕ, List, IfOk, IsErr, IsOk, Ok, OnErr, OnOk, length};
 ghost use Rattle.query_exec.specs.declared.run.Step.TheVariants.{Done};
 ghost use Rattle.http_heads.specs.Checks.{checks_of};
 ghost use Rattle.http_heads.specs.Head.{HeadOf, head_view};
 ghost use Rattle.odata_http.specs.Exchange.{Answers, Begins, GivesReply, GoesOn, HasFailed, IsDone, MayGoOn};
+ghost use Rattle.odata_http.specs.Lazy.{GoesUnlaid, IsWaiting};
 ghost use Rattle.odata_http.specs.Reply.{IsReply};
+ghost use Rattle.odata_http.specs.Work.{MayWork};
 
+use crate::lazy::lazy_reply_to;
 use crate::work::Work;
 use http_heads::{CheckedHead, Checks, Head, Method, check_head};
 use odata_request::request_of;
@@ -20,7 +23,7 @@ pub struct Exchange {
     /// None where another method is refused.
     method: Option<Method>,
     closes: bool,
-    work: Work,
+    pub(crate) work: Work,
 }
 
 impl Exchange {
@@ -66,6 +69,39 @@ impl Exchange {
         })
     }
 
+    /// One call, before the reply is laid down.
+    pub(crate) fn go_on(&mut self, alloc: Global, catalog: &Catalog) -> Result<Step, AllocError>
+        requires { MayWork catalog.now self.old.work }
+        ensures goes_on { (head : HeadOf) (left : ℕ) → Answers catalog.now head left self.old
+            → GoesUnlaid catalog.now head left self.new result }
+        ensures waiting { (reply : List ℕ) → IsWaiting self.old.work reply
+            → (result ≡ Ok Done) × IsWaiting self.new.work reply }
+        ensures replied { (reply : List ℕ) → GivesReply self.old reply
+            → (result ≡ Ok Done) × GivesReply self.new reply }
+        ensures failed { HasFailed self.old → IsErr result }
+        ensures refused { OnErr result (HasFailed self.new) }
+    {
+        let work = mem::replace(&mut self.work, Work::Failed);
+        let work = work.go_on(alloc, catalog, self.method, self.closes)?;
+        let step = work.step();
+        let _failed = mem::replace(&mut self.work, work);
+        Ok(step)
+    }
+
+    /// The reply that waits is laid down.
+    fn lay_down(&mut self) -> Result<(), AllocError>
+        ensures waiting { (reply : List ℕ) → IsWaiting self.old.work reply
+            → OnOk result (GivesReply self.new reply) }
+        ensures replied { (reply : List ℕ) → GivesReply self.old reply
+            → IsOk result × GivesReply self.new reply }
+        ensures refused { OnErr result (HasFailed self.new) }
+    {
+        let work = mem::replace(&mut self.work, Work::Failed);
+        let work = work.lay_down()?;
+        let _failed = mem::replace(&mut self.work, work);
+        Ok(())
+    }
+
     /// Reads one block of the table at most. It answers Done at the call of the length that a head has, when the reply is there, and after that
     /// always; and where memory ran out, in this call or before, it says so.
     pub fn advance(&mut self, alloc: Global, catalog: &Catalog) -> Result<Step, AllocError>
@@ -77,11 +113,13 @@ impl Exchange {
         ensures failed { HasFailed self.old → IsErr result }
         ensures refused { OnErr result (HasFailed self.new) }
     {
-        let work = mem::replace(&mut self.work, Work::Failed);
-        let work = work.go_on(alloc, catalog, self.method, self.closes)?;
-        let step = work.step();
-        let _failed = mem::replace(&mut self.work, work);
-        Ok(step)
+        match self.go_on(alloc, catalog)? {
+            Step::More => Ok(Step::More),
+            Step::Done => {
+                self.lay_down()?;
+                Ok(Step::Done)
+            }
+        }
     }
 
     /// The reply of an exchange that answered Done. It takes no memory.
@@ -97,17 +135,11 @@ impl Exchange {
     }
 }
 
-/// The reply to a head: what the engine calls, head by head.
+/// The reply to a head, laid down whole.
 pub fn reply_to(alloc: Global, catalog: &Catalog, head: &CheckedHead) -> Result<Vec<u8>, AllocError>
     requires { length head.now.target ≤ 8192 }
     ensures { IfOk result (λ reply. IsReply catalog.now head.now reply.items) }
 {
-    let mut exchange = Exchange::begin_checked(alloc, catalog, head)?;
-    for _call in 0..exchange.work.most_calls() {
-        match exchange.advance(alloc, catalog)? {
-            Step::More => {}
-            Step::Done => return Ok(exchange.reply()),
-        }
-    }
-    unreachable!()
+    let reply = lazy_reply_to(alloc, catalog, head)?;
+    reply.into_bytes()
 }

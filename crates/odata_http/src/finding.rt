@@ -68,7 +68,7 @@ impl Finding {
             Some(row) => {
                 let values = row_values(alloc, table, row)?;
                 let rows = Rows::of_row(alloc, table.schema(), &values, self.selected())?;
-                row_response(alloc, &rows, self.format)
+                row_response(alloc, rows, self.format)
             }
             None => error_response(alloc, Code::NoSuchRow),
         }

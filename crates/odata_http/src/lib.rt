@@ -8,6 +8,7 @@ mod device;
 mod exchange;
 mod finding;
 mod laws;
+mod lazy;
 mod media;
 mod reading;
 mod reply;
@@ -23,8 +24,9 @@ pub use http_heads::{CheckedHead, Field, Head, MAX_FIELDS, MAX_HEAD, Splitter, U
 pub use laws::{
     cuts_are_small, hopeless_ends, joins, one_length, one_reading, one_reply, statuses,
 };
+pub use lazy::LazyExchange;
 pub use query_exec::Step;
 pub use reply::reply_to_rest;
-pub use reply_output::Output;
+pub use reply_text::{Output, Reply};
 pub use runs::{RunFault, run};
 pub use session::{Session, SessionFault};

@@ -103,7 +103,7 @@ impl Reading {
             })),
             Ok(Step::Done) => Ok(Reached::Over(answer_response(
                 alloc,
-                &run.finish(),
+                run.finish(),
                 self.counting,
                 self.format,
             )?)),

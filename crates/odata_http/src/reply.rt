@@ -1,11 +1,10 @@
-//! Replies: the lines and the body.
+//! The lines of replies.
 ghost use Rattle.std.specs.Prelude.{◌≡◌, ◌++◌, IfOk, OnOk, codes, decimal, unwrap_or};
 ghost use Rattle.http.specs.StatusCode.{IsStatusCode, reason_phrase};
-ghost use Rattle.odata_http.specs.Reply.{allow_line, body_for, closing_line, field_line, first_lines, reply_lines, reply_with, rest_reply, status_line};
+ghost use Rattle.odata_http.specs.Reply.{allow_line, closing_line, field_line, first_lines, reply_lines, rest_reply, status_line};
 
 use crate::media::Media;
 use http::StatusCode;
-use http_heads::Method;
 use itoa::Buffer;
 use reply_text::{Code, error_body};
 use std::alloc::{AllocError, Global};
@@ -93,7 +92,7 @@ fn push_first_lines(out: &mut Vec<u8>, status: u16, media: Media) -> Result<(), 
 }
 
 /// The lines before a body of so many bytes.
-fn lines_before(
+pub(crate) fn lines_before(
     alloc: Global,
     status: u16,
     media: Media,
@@ -112,55 +111,19 @@ fn lines_before(
     Ok(head)
 }
 
-/// A head and the body behind it, in the body's buffer, so that no row is copied a second time.
-fn laid_before(head: &[u8], body: Vec<u8>) -> Result<Vec<u8>, AllocError>
-    ensures { IfOk result (λ reply. reply.items ≡ head.now ++ body.items) }
-{
-    let mut reply = body;
-    reply.extend_from_slice(head)?;
-    reply.rotate_right(head.len());
-    Ok(reply)
-}
-
-/// The body, which is left out if the method is HEAD (RFC 9110, section 9.3.2).
-fn body_for(alloc: Global, method: Option<Method>, body: Vec<u8>) -> Vec<u8>
-    ensures { result.items ≡ body_for method body.items }
-{
-    match method {
-        Some(Method::Head) => Vec::new(alloc),
-        Some(Method::Get) | None => body,
-    }
-}
-
-/// The reply with that status and a body of that media type, to a request of that method, where it is a served one.
-pub(crate) fn reply_with(
-    alloc: Global,
-    method: Option<Method>,
-    status: u16,
-    media: Media,
-    body: Vec<u8>,
-    closes: bool,
-) -> Result<Vec<u8>, AllocError>
-    requires { IsStatusCode status }
-    ensures { IfOk result
-        (λ reply. reply.items ≡ reply_with method status media body.items closes) }
-{
-    let head = lines_before(alloc, status, media, body.len(), closes)?;
-    laid_before(head.as_slice(), body_for(alloc, method, body))
-}
-
 /// The reply to a rest of a stream that is no head. It closes.
 #[tactic(auto, unfolding(crate::specs::Reply::rest_reply))]
 pub fn reply_to_rest(alloc: Global) -> Result<Vec<u8>, AllocError>
     ensures { IfOk result (λ reply. reply.items ≡ rest_reply) }
 {
     let body = error_body(alloc, Code::BadRequest)?;
-    reply_with(
+    let mut reply = lines_before(
         alloc,
-        None,
         Code::BadRequest.status(),
         Media::Json,
-        body,
+        body.len(),
         true,
-    )
+    )?;
+    reply.extend_from_slice(&body)?;
+    Ok(reply)
 }

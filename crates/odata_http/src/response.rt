@@ -4,15 +4,15 @@ ghost use Rattle.cell_types.specs.Value.{CellValue};
 ghost use Rattle.http.specs.StatusCode.{IsStatusCode};
 ghost use Rattle.query_plan.specs.Plan.{answer_of};
 ghost use Rattle.reply_codes.specs.Code.{status_of};
-ghost use Rattle.odata_http.specs.Reply.{error_response, list_response, meaning_response, number_response, one_row, reply_of, row_body, row_response, rows_body, service_response};
+ghost use Rattle.odata_http.specs.Reply.{body_for, error_response, list_response, meaning_response, number_response, one_row, reply_of, row_body, row_response, rows_body, service_response};
 ghost use Rattle.odata_http.specs.Work.{response_view};
 
 use crate::media::Media;
-use crate::reply::reply_with;
+use crate::reply::lines_before;
 use http_heads::Method;
 use odata_parse::Format;
 use query_exec::Rows;
-use reply_text::{Code, csv_body, error_body, json_body, number_body, row_body, service_body};
+use reply_text::{BodyCursor, Code, Reply, error_body, number_body, service_body};
 use std::alloc::{AllocError, Global};
 use table_store::Catalog;
 
@@ -24,7 +24,7 @@ pub const OK: u16 = 200;
 pub(crate) struct Response {
     pub(crate) status: u16,
     pub(crate) media: Media,
-    pub(crate) body: Vec<u8>,
+    pub(crate) body: BodyCursor,
 }
 
 /// The status of an error.
@@ -44,7 +44,7 @@ pub(crate) fn error_response(alloc: Global, code: Code) -> Result<Response, Allo
     Ok(Response {
         status: error_status(code),
         media: Media::Json,
-        body,
+        body: BodyCursor::of_bytes(body),
     })
 }
 
@@ -58,24 +58,24 @@ pub(crate) fn service_response(alloc: Global, catalog: &Catalog) -> Result<Respo
     Ok(Response {
         status: OK,
         media: Media::Json,
-        body,
+        body: BodyCursor::of_bytes(body),
     })
 }
 
 /// The body of rows in a format.
-fn rows_body(alloc: Global, rows: &Rows, format: Format) -> Result<Vec<u8>, AllocError>
-    ensures { IfOk result (λ body. body.items ≡ rows_body rows.now format) }
+fn rows_body(alloc: Global, rows: Rows, format: Format) -> Result<BodyCursor, AllocError>
+    ensures { IfOk result (λ body. body.bytes ≡ rows_body rows format) }
 {
     match format {
-        Format::Json => json_body(alloc, rows),
-        Format::Csv => csv_body(alloc, rows),
+        Format::Json => BodyCursor::json(alloc, rows),
+        Format::Csv => BodyCursor::csv(rows),
     }
 }
 
 /// Rows in a format.
-fn list_response(alloc: Global, rows: &Rows, format: Format) -> Result<Response, AllocError>
+fn list_response(alloc: Global, rows: Rows, format: Format) -> Result<Response, AllocError>
     ensures response { IfOk result
-        (λ response. response_view response ≡ list_response format rows.now) }
+        (λ response. response_view response ≡ list_response format rows) }
     ensures known { IfOk result (λ response. IsStatusCode response.status) }
 {
     let body = rows_body(alloc, rows, format)?;
@@ -95,19 +95,19 @@ fn number_response(alloc: Global, number: u64) -> Result<Response, AllocError>
     Ok(Response {
         status: OK,
         media: Media::Plain,
-        body,
+        body: BodyCursor::of_bytes(body),
     })
 }
 
 /// What the rows of a run answer: where their number alone is asked for, it is their count.
 pub(crate) fn answer_response(
     alloc: Global,
-    rows: &Rows,
+    rows: Rows,
     counting: bool,
     format: Format,
 ) -> Result<Response, AllocError>
     ensures response { IfOk result (λ response. response_view response
-        ≡ meaning_response format (answer_of counting rows.now)) }
+        ≡ meaning_response format (answer_of counting rows)) }
     ensures known { IfOk result (λ response. IsStatusCode response.status) }
 {
     if counting {
@@ -118,26 +118,26 @@ pub(crate) fn answer_response(
 }
 
 /// The body of one row in a format.
-fn single_body(alloc: Global, rows: &Rows, format: Format) -> Result<Vec<u8>, AllocError>
-    requires { length rows.now.rows ≡ 1 }
+fn single_body(alloc: Global, rows: Rows, format: Format) -> Result<BodyCursor, AllocError>
+    requires { length rows.rows ≡ 1 }
     ensures { IfOk result (λ body. (names : List (List ℕ)) (row : List CellValue)
-        → rows.now ≡ one_row names row → body.items ≡ row_body names row format) }
+        → rows ≡ one_row names row → body.bytes ≡ row_body names row format) }
 {
     match format {
-        Format::Json => row_body(alloc, rows),
-        Format::Csv => csv_body(alloc, rows),
+        Format::Json => BodyCursor::row(alloc, &rows),
+        Format::Csv => BodyCursor::csv(rows),
     }
 }
 
 /// One row in a format.
 pub(crate) fn row_response(
     alloc: Global,
-    rows: &Rows,
+    rows: Rows,
     format: Format,
 ) -> Result<Response, AllocError>
-    requires { length rows.now.rows ≡ 1 }
+    requires { length rows.rows ≡ 1 }
     ensures response { IfOk result (λ response. (names : List (List ℕ)) (row : List CellValue)
-        → rows.now ≡ one_row names row → response_view response ≡ row_response format names row) }
+        → rows ≡ one_row names row → response_view response ≡ row_response format names row) }
     ensures known { IfOk result (λ response. IsStatusCode response.status) }
 {
     let body = single_body(alloc, rows, format)?;
@@ -148,23 +148,27 @@ pub(crate) fn row_response(
     })
 }
 
-/// The reply with that response, to a request of that method.
+/// The body, which is left out if the method is HEAD (RFC 9110, section 9.3.2).
+fn body_for(alloc: Global, method: Option<Method>, body: BodyCursor) -> BodyCursor
+    ensures { result.bytes ≡ body_for method body.bytes }
+{
+    match method {
+        Some(Method::Head) => BodyCursor::of_bytes(Vec::new(alloc)),
+        Some(Method::Get) | None => body,
+    }
+}
+
+/// The reply with that response, to a request of that method. Here the bytes of its body are counted; they are laid down as they are taken.
 pub(crate) fn reply_of(
     alloc: Global,
     method: Option<Method>,
     response: Response,
     closes: bool,
-) -> Result<Vec<u8>, AllocError>
+) -> Result<Reply, AllocError>
     requires { IsStatusCode response.status }
-    ensures { IfOk result
-        (λ reply. reply.items ≡ reply_of method (response_view response) closes) }
+    ensures { IfOk result (λ reply. reply ≡ reply_of method (response_view response) closes) }
 {
-    reply_with(
-        alloc,
-        method,
-        response.status,
-        response.media,
-        response.body,
-        closes,
-    )
+    let size = response.body.size();
+    let lines = lines_before(alloc, response.status, response.media, size, closes)?;
+    Reply::start(lines, body_for(alloc, method, response.body))
 }

@@ -5,7 +5,7 @@ ghost use Rattle.odata_http.specs.Session.{IsEnded, IsFedSession, IsLiveOr, Take
 
 use crate::answer::{answer_rest, take_in};
 use http_heads::Splitter;
-use reply_output::Output;
+use reply_text::Output;
 use std::alloc::Global;
 use std::marker::Model;
 use table_store::Catalog;

@@ -2,6 +2,7 @@
 ghost use Rattle.std.specs.Prelude.{◌≡◌, ℕ, List, IfOk, IsErr, IsOkAnd};
 ghost use Rattle.odata_request.specs.Request.{IsInside, IsRowsInside, RequestOf, request_view, rows, rows_request_view};
 ghost use Rattle.odata_http.specs.Exchange.{IsReplied, IsWork, most_calls};
+ghost use Rattle.odata_http.specs.Lazy.{IsWaiting};
 ghost use Rattle.odata_http.specs.declared.work.Work.TheVariants.{Failed};
 ghost use Rattle.odata_http.specs.Work.{IsAskedFor, MayWork, StartsWork, WorksOn, step_of};
 
@@ -11,7 +12,7 @@ use crate::response::{error_response, reply_of, service_response};
 use http_heads::Method;
 use odata_request::{Request, RowsRequest, keys_stand_alone};
 use query_exec::Step;
-use reply_text::Code;
+use reply_text::{Code, Reply};
 use std::alloc::{AllocError, Global};
 use table_store::Catalog;
 
@@ -26,7 +27,9 @@ pub(crate) enum Work {
     Find(Finding),
     /// A query is under way.
     Read(Reading),
-    /// Nothing: this is the reply.
+    /// Nothing: this is the reply, whose body is laid down as it is taken.
+    Waits(Reply),
+    /// Nothing: this is the reply, laid down.
     Replied(Vec<u8>),
     /// Nothing: memory ran out.
     Failed,
@@ -85,7 +88,7 @@ impl Work {
         ensures { result ≡ step_of self.now }
     {
         match self {
-            Work::Replied(_) => Step::Done,
+            Work::Waits(_) | Work::Replied(_) => Step::Done,
             Work::Refuse(_) | Work::ListTables | Work::Find(_) => Step::More,
             Work::Read(_) | Work::Failed => Step::More,
         }
@@ -98,7 +101,7 @@ impl Work {
         match self {
             Work::Read(reading) => reading.most,
             Work::Refuse(_) | Work::ListTables | Work::Find(_) => 1,
-            Work::Replied(_) | Work::Failed => 1,
+            Work::Waits(_) | Work::Replied(_) | Work::Failed => 1,
         }
     }
 
@@ -114,6 +117,8 @@ impl Work {
         ensures works { (request : RequestOf) (left : ℕ)
             → IsWork catalog.now request left self
             → IfOk result (WorksOn catalog.now method closes request left) }
+        ensures waiting { (reply : List ℕ) → IsWaiting self reply
+            → IsOkAnd result (λ work. IsWaiting work reply) }
         ensures replied { (reply : List ℕ) → IsReplied self reply
             → IsOkAnd result (λ work. IsReplied work reply) }
         ensures failed { self ≡ Failed → IsErr result }
@@ -121,24 +126,39 @@ impl Work {
         match self {
             Work::Refuse(code) => {
                 let response = error_response(alloc, code)?;
-                Ok(Work::Replied(reply_of(alloc, method, response, closes)?))
+                Ok(Work::Waits(reply_of(alloc, method, response, closes)?))
             }
             Work::ListTables => {
                 let response = service_response(alloc, catalog)?;
-                Ok(Work::Replied(reply_of(alloc, method, response, closes)?))
+                Ok(Work::Waits(reply_of(alloc, method, response, closes)?))
             }
             Work::Find(finding) => {
                 let response = finding.answer(alloc, catalog)?;
-                Ok(Work::Replied(reply_of(alloc, method, response, closes)?))
+                Ok(Work::Waits(reply_of(alloc, method, response, closes)?))
             }
             Work::Read(reading) => match reading.read_on(alloc, catalog)? {
                 Reached::On(reading) => Ok(Work::Read(reading)),
                 Reached::Over(response) => {
-                    Ok(Work::Replied(reply_of(alloc, method, response, closes)?))
+                    Ok(Work::Waits(reply_of(alloc, method, response, closes)?))
                 }
             },
+            Work::Waits(reply) => Ok(Work::Waits(reply)),
             Work::Replied(reply) => Ok(Work::Replied(reply)),
             Work::Failed => Err(AllocError),
+        }
+    }
+
+    /// The reply of work that waits is laid down.
+    pub(crate) fn lay_down(self) -> Result<Work, AllocError>
+        ensures waiting { (reply : List ℕ) → IsWaiting self reply
+            → IfOk result (λ work. IsReplied work reply) }
+        ensures replied { (reply : List ℕ) → IsReplied self reply
+            → IsOkAnd result (λ work. IsReplied work reply) }
+    {
+        match self {
+            Work::Waits(reply) => Ok(Work::Replied(reply.into_bytes()?)),
+            Work::Replied(reply) => Ok(Work::Replied(reply)),
+            work => Ok(work),
         }
     }
 }

@@ -1,5 +1,5 @@
 -- What a turn makes of a connection.
-use Rattle.std.proofs.Common.{◌≡◌, ◌<◌, ◌-◌, ℕ, Bool, true, false, List, [], ◌∷◌, ◌++◌, length, Option, Some, None, Result, Ok, Err, Vec, Global, refl, sym, ap, subst, ◌∙◌, arith}
+use Rattle.std.proofs.Common.{◌≡◌, ◌<◌, ◌-◌, ℕ, Bool, true, false, List, [], ◌∷◌, ◌++◌, length, Option, Some, None, Result, Ok, Err, refl, sym, ap, subst, ◌∙◌, arith}
 use Rattle.std.specs.Prelude.{IfOk, MatchBool, OnErr, nat_le, if◌then◌else◌}
 use Rattle.std.specs.declared.alloc.AllocError.{AllocError}
 use Rattle.std.proofs.lemmas.Bool.Decides.{nat_tests}
@@ -26,8 +26,8 @@ worked_on old held gone f goes e =
     record { next = Some next; stands = on.1; turned = subst M (sym more) refl; went_is = refl }
 
 -- its last call: the reply is added to the output
-pub worked_over : (old : Connection) (gone : Gone) (reply : Vec ℕ Global) (output : List ℕ) (f : FlightOf) → GoesOnTo f gone
-    → gone ≡ Replied reply → output ≡ old.output ++ reply.items
+pub worked_over : (old : Connection) (gone : Gone) (reply : List ℕ) (output : List ℕ) (f : FlightOf) → GoesOnTo f gone
+    → gone ≡ Replied reply → output ≡ old.output ++ reply
     → IsWorked old (Some f) Worked (record old { flight = None; output = output })
 worked_over old gone reply output f goes e added =
     let P : Gone → Type 0 = λ g. GoesOnTo f g in
@@ -36,7 +36,7 @@ worked_over old gone reply output f goes e added =
     let was : ConnOf = conn_of old (Some f) in
     let now : ConnOf = record was { flight = None; output = output } in
     let adds : AddsReply was f.asked now = record {
-      reply = reply.items;
+      reply = reply;
       is = over.1;
       new_is = ap (λ (o : List ℕ). record was { flight = None; output = o }) added;
     } in

@@ -1,19 +1,19 @@
 -- What a connection holds of an exchange in flight.
 use Rattle.std.specs.Prelude.{◌≡◌, ⊤, Option, Some, None}
 use Rattle.table_store.specs.Catalog.{CatalogOf}
-use Rattle.odata_http.specs.declared.exchange.Exchange.{Exchange}
-use Rattle.odata_http.specs.Exchange.{Answers}
+use Rattle.odata_http.specs.declared.lazy.LazyExchange.{LazyExchange}
+use Rattle.odata_http.specs.Lazy.{AnswersLazily}
 use Rattle.odata_hub.specs.Connections.{FlightOf}
 
 -- the exchange, and the tables that it goes on under
 pub record FlightHeld : Type 0 where
   pub catalog : CatalogOf
-  pub exchange : Exchange
+  pub exchange : LazyExchange
 
 -- It stands for this exchange in flight: for that head under its tables, so many calls before its reply.
 pub record IsFlight (held : FlightHeld) (f : FlightOf) : Type 0 where
   pub tables : held.catalog ≡ f.asked.catalog
-  pub answers : Answers held.catalog f.asked.head f.left held.exchange
+  pub answers : AnswersLazily held.catalog f.asked.head f.left held.exchange
 
 -- the same where there may be none
 abbrev pub IsInFlight : Option FlightHeld → Option FlightOf → Type 0

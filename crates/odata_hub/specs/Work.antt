@@ -29,7 +29,7 @@ pub record BeginsFlight (a : Asked) (held : FlightHeld) : Type 0 where
 -- one call was made, or it was the last, and this is the reply
 abbrev pub GoesOnTo : FlightOf → Gone → Type 0
 GoesOnTo f (On held) = (1 < f.left) × IsFlight held (record { asked = f.asked; left = f.left - 1 })
-GoesOnTo f (Replied bytes) = (f.left ≡ 1) × IsReplyTo f.asked bytes.items
+GoesOnTo f (Replied bytes) = (f.left ≡ 1) × IsReplyTo f.asked bytes
 
 -- one turn was made of the connection, where what it held of an exchange stood for this one
 pub record IsWorked (old : Connection) (f : Option FlightOf) (went : Turned) (new : Connection) : Type 0 where

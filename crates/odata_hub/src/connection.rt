@@ -109,7 +109,7 @@ impl Connection {
         match flight.go_on(alloc)? {
             Gone::On(flight) => self.flight = Some(flight),
             Gone::Replied(reply) => {
-                self.output.give(reply)?;
+                self.output.give_reply(reply)?;
                 self.flight = None;
             }
         }

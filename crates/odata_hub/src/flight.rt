@@ -8,7 +8,7 @@ ghost use Rattle.odata_hub.specs.Streams.{asked};
 ghost use Rattle.odata_hub.specs.Work.{BeginsFlight, GoesOnTo};
 
 use http_heads::{CheckedHead, Splitter};
-use odata_http::{Exchange, Step, cuts_are_small};
+use odata_http::{LazyExchange, Reply, Step, cuts_are_small};
 use std::alloc::{AllocError, Global};
 use std::collections::VecDeque;
 use std::marker::Model;
@@ -36,27 +36,27 @@ impl Model for Waiting {
 /// The exchange in flight, and the tables that were current as the last byte of its head came.
 #[derive(Drop)]
 pub(crate) struct Flight {
-    exchange: Exchange,
+    exchange: LazyExchange,
     catalog: Rc<Catalog>,
 }
 
 impl Model for Flight {
     ghost use Rattle.std.specs.Coded.{codes};
-    ghost use Rattle.indexmap.specs.Layout.{hash_set_code};
+    ghost use Rattle.key_places.specs.Places.{keys_of_code};
     ghost use Rattle.typed_trees.specs.contracts.tree.DecimalExpr as decimals;
     ghost use Rattle.typed_trees.specs.contracts.tree.IntegerExpr as integers;
     ghost use Rattle.typed_trees.specs.contracts.tree.TextExpr as texts;
     ghost use Rattle.typed_trees.specs.contracts.tree.TruthExpr as truths;
-    ghost use Rattle.odata_http.specs.Exchange.{MayGoOn};
+    ghost use Rattle.odata_http.specs.Lazy.{MayGoOnLazily};
     ghost use Rattle.odata_hub.specs.Held.{FlightHeld};
 
     ghost Value = { FlightHeld };
 
-    ghost coded = { Prim.hlevel (codes, hash_set_code, texts.the_row.coded, integers.the_row.coded, decimals.the_row.coded, truths.the_row.coded) };
+    ghost coded = { Prim.hlevel (codes, keys_of_code, texts.the_row.coded, integers.the_row.coded, decimals.the_row.coded, truths.the_row.coded) };
 
     ghost view = { λ flight. record { catalog = flight.catalog.value; exchange = flight.exchange } };
 
-    ghost invariant = { λ flight. MayGoOn flight.catalog.value flight.exchange };
+    ghost invariant = { λ flight. MayGoOnLazily flight.catalog.value flight.exchange };
 }
 
 /// How far one call of an exchange came.
@@ -65,7 +65,7 @@ pub(crate) enum Gone {
     /// Calls are left.
     On(Flight),
     /// This is the reply.
-    Replied(Vec<u8>),
+    Replied(Reply),
 }
 
 impl Waiting {
@@ -74,7 +74,7 @@ impl Waiting {
         ensures { IfOk result (BeginsFlight self) }
     {
         let Waiting { head, catalog } = self;
-        let exchange = Exchange::begin_checked(alloc, &catalog, &head)?;
+        let exchange = LazyExchange::begin_checked(alloc, &catalog, &head)?;
         Ok(Flight { exchange, catalog })
     }
 }

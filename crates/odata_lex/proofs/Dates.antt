@@ -5,8 +5,10 @@ use Rattle.std.proofs.lemmas.Int.{ints}
 use Rattle.std.specs.Bool.{Decides}
 use Rattle.std.specs.Result.{result_ok}
 use Rattle.std.specs.Int.{IsInRange, is_in_range}
-use Rattle.jiff.specs.Words.{IsDate, IsYmd, days_in_month, Error}
-use Rattle.jiff.specs.declared.civil.dates.Date.{Date}
+use Rattle.jiff_core.specs.Calendar.{IsDate, days_in_month}
+use Rattle.jiff_core.specs.Date.{IsYmd}
+use Rattle.jiff_core.specs.declared.error.Error.{Error}
+use Rattle.jiff_core.specs.declared.civil.date.Date.{Date}
 use Rattle.odata_lex.specs.Token.{IsDateForm, IsDayFromOne, IsDateToken, year_of, month_of, day_digits}
 use Rattle.odata_lex.specs.First.{is_date_form, is_day}
 use Rattle.odata_lex.proofs.Digits.{Decides-digits, value_whole, take_short}

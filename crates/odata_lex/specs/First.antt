@@ -5,7 +5,7 @@ use Rattle.std.specs.List.{slice_range, list_all, prefix_len}
 use Rattle.std.specs.Option.{option_map}
 use Rattle.std.specs.Int.{is_in_range}
 use Rattle.std.specs.Char.{is_ascii_digit}
-use Rattle.jiff.specs.Words.{days_in_month}
+use Rattle.jiff_core.specs.Calendar.{days_in_month}
 use Rattle.odata_lex.specs.Token.{apostrophe, minus, point, dollar, begins_word, is_word_byte, year_of, month_of, day_digits}
 use Rattle.odata_lex.specs.declared.token.TheConstants.{MAX_DIGITS, MAX_WHOLE_DIGITS, MAX_FRACTION_DIGITS}
 use Rattle.odata_lex.specs.declared.token.TokenKind.{TokenKind}

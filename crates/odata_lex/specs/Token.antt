@@ -4,8 +4,9 @@ use Rattle.std.specs.Prelude.{◌≡◌, ℕ, ◌≤◌, ◌<◌, Bool, true, �
 use Rattle.std.specs.List.{AllByRecursion, slice_range}
 use Rattle.std.specs.Char.{is_ascii_alphabetic, is_ascii_alphanumeric}
 use Rattle.std.specs.Str.Parse.{AllDigits, digits_value}
-use Rattle.jiff.specs.Words.{IsDate, IsYmd}
-use Rattle.jiff.specs.declared.civil.dates.Date.{Date as Day}
+use Rattle.jiff_core.specs.Calendar.{IsDate}
+use Rattle.jiff_core.specs.Date.{IsYmd}
+use Rattle.jiff_core.specs.declared.civil.date.Date.{Date as Day}
 use Rattle.odata_lex.specs.declared.token.TheConstants.{MAX_DIGITS, MAX_WHOLE_DIGITS, MAX_FRACTION_DIGITS}
 use Rattle.odata_lex.specs.declared.token.Token.{Token}
 use Rattle.odata_lex.specs.declared.token.TokenKind.{TokenKind}

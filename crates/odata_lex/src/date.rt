@@ -8,7 +8,7 @@ ghost use Rattle.std.specs.Str.Parse.{digits_value};
 ghost use Rattle.odata_lex.specs.Token.{AreDigits, IsDayOrNone, IsDayOfText};
 ghost use Rattle.odata_lex.specs.First.{is_date_form};
 
-use jiff::civil::Date;
+use jiff_core::civil::Date;
 
 /// How many bytes a date has.
 pub const DATE_LEN: usize = 10;

@@ -4,9 +4,9 @@ use Rattle.message_text.specs.Laws.{IsOneLine}
 use Rattle.table_store.specs.Catalog.{FolderOf}
 use Rattle.program_ends.specs.declared.fault.ProgramFault.{ProgramFault}
 use Rattle.program_ends.specs.Laws.{IsMet}
-use Rattle.odata_listen.specs.declared.journal.Why.{Why}
+use Rattle.odata_listen.specs.declared.log.CloseReason.{CloseReason}
 use Rattle.odata_listen.specs.declared.words.TheConstants.{ADDRESS, HEAD_SECONDS, IDLE_SECONDS, MOST_PLACES, PLACES}
-use Rattle.odata_listen.specs.Journal.{ended_text, opened_text, refused_text, why_text}
+use Rattle.odata_listen.specs.Log.{ended_text, opened_text, refused_text, reason_text}
 
 pub record ListenSizes : Type 0 where
   pub address : ADDRESS.now ≡ codes "127.0.0.1"
@@ -18,5 +18,5 @@ pub record ListenSizes : Type 0 where
 -- each line that the service tells of itself is one line, whatever the metadata has
 pub record TellsLines : Type 0 where
   pub opened : (place : ℕ) → IsOneLine (opened_text place)
-  pub ended : (place : ℕ) (why : Why) → IsOneLine (ended_text place (why_text why))
+  pub ended : (place : ℕ) (reason : CloseReason) → IsOneLine (ended_text place (reason_text reason))
   pub refused : (taken : Option FolderOf) (fault : ProgramFault) → IsMet taken fault → IsOneLine (refused_text fault)

@@ -1,60 +1,61 @@
--- What the service does with its desk.
+-- What the service does with its places and sockets.
 use Rattle.std.specs.Prelude.{◌≡◌, ◌⊎◌, ℕ, Bool, true, false, List, Option, slice_set}
 use Rattle.table_store.specs.Catalog.{CatalogOf}
 use Rattle.odata_hub.specs.declared.hub.Hub.{Hub}
 use Rattle.odata_hub.specs.Connections.{Answer, ConnOf, Done}
 use Rattle.odata_hub.specs.Schedules.{Drop, HubOf, Reload, conn_at}
 use Rattle.odata_hub.specs.Stands.{IsHubStep, Models}
-use Rattle.odata_rounds.specs.declared.answers.Stepped.{Stepped}
-use Rattle.odata_rounds.specs.declared.answers.Stepped.TheVariants.{Free, Rests, Worked, Answered, Lost, Failed}
-use Rattle.odata_rounds.specs.declared.seat.Seat.{Seat}
-use Rattle.odata_rounds.specs.Lives.{AreSettled, Deed, Lives, free_seat}
-use Rattle.listen_sockets.specs.declared.desk.Desk.{Desk}
+use Rattle.odata_rounds.specs.declared.answers.SlotState.{SlotState}
+use Rattle.odata_rounds.specs.declared.answers.SlotState.TheVariants.{Free, Rests, Worked, Answered, Lost, Failed}
+use Rattle.odata_rounds.specs.declared.slot.Slot.{Slot}
+use Rattle.odata_rounds.specs.Lives.{AreSettled, Deed, Lives, free_slot}
+use Rattle.listen_sockets.specs.declared.server.Server.{Server}
 use Rattle.listen_sockets.specs.declared.slow.Due.{Due}
 use Rattle.listen_sockets.specs.declared.slow.Due.TheVariants as due
-use Rattle.listen_sockets.specs.Desk.{EndsHopeless, IsEndedIfHopeless, stepped_at}
+use Rattle.listen_sockets.specs.declared.slow.Limits.{Limits}
+use Rattle.listen_sockets.specs.Server.{EndsHopeless, IsDueAt, IsEndedIfHopeless, state_at}
 use Rattle.listen_sockets.specs.Sights.{sight_of}
 use Rattle.listen_sockets.specs.Sockets.{EndsStream, KeepsStreams, is_ended_at}
 
--- a life leads from one desk to the other: what holds of each connection in every life holds there
-pub record RunsTo (old new : Desk) : Type 0 where
+-- a life leads from the server as it was to the server as it is: what holds of each connection in every life holds there
+pub record RunsTo (old new : Server) : Type 0 where
   pub deeds : List Deed
   pub life : Lives (sight_of old) deeds (sight_of new)
 
 -- the same where each place was given back whose connection is over, lost or failed; and that is so again
-pub record RunsOn (old new : Desk) : Type 0 where
-  pub runs : AreSettled old.seats.items → RunsTo old new
-  pub settled : AreSettled old.seats.items → AreSettled new.seats.items
+pub record RunsOn (old new : Server) : Type 0 where
+  pub runs : AreSettled old.slots.items → RunsTo old new
+  pub settled : AreSettled old.slots.items → AreSettled new.slots.items
 
 -- the hub, and what is kept of each place, are as they were
-abbrev pub IsKept : Desk → Desk → Type 0
-IsKept old new = (new.hub ≡ old.hub) × (new.seats.items ≡ old.seats.items)
+abbrev pub IsKept : Server → Server → Type 0
+IsKept old new = (new.hub ≡ old.hub) × (new.slots.items ≡ old.slots.items)
 
 -- the same, and no stream is ended
-pub record Stays (old new : Desk) : Type 0 where
+pub record Stays (old new : Server) : Type 0 where
   pub kept : IsKept old new
-  pub streams : KeepsStreams old.sockets.slots.items new.sockets.slots.items
+  pub streams : KeepsStreams old.sockets.wires.items new.sockets.wires.items
 
 -- the same, but that the stream at a place is ended, and no other
-pub record Ends (place : ℕ) (old new : Desk) : Type 0 where
+pub record Ends (place : ℕ) (old new : Server) : Type 0 where
   pub kept : IsKept old new
-  pub streams : EndsStream place old.sockets.slots.items new.sockets.slots.items
+  pub streams : EndsStream place old.sockets.wires.items new.sockets.wires.items
 
 -- the same, but that the stream at a place is ended where its rest can begin no head any more, and there alone
-pub record Notes (place : ℕ) (old new : Desk) : Type 0 where
+pub record Notes (place : ℕ) (old new : Server) : Type 0 where
   pub kept : IsKept old new
-  pub streams : EndsHopeless place old.hub old.sockets.slots.items new.sockets.slots.items
+  pub streams : EndsHopeless place old.hub old.sockets.wires.items new.sockets.wires.items
 
--- a place was given back, by one call, and nothing waits there any more; what is kept of the others, and their streams, are as they were
-pub record Frees (place : ℕ) (old new : Desk) : Type 0 where
+-- a place was given back, by one call, and is kept as one of which nothing became; what is kept of the others, and their streams, are as they were
+pub record Frees (place : ℕ) (old new : Server) : Type 0 where
   pub answer : Answer
   pub step : IsHubStep old.hub (Drop place) answer new.hub
-  pub seats : new.seats.items ≡ slice_set old.seats.items place free_seat
-  pub streams : EndsStream place old.sockets.slots.items new.sockets.slots.items
+  pub slots : new.slots.items ≡ slice_set old.slots.items place free_slot
+  pub streams : EndsStream place old.sockets.wires.items new.sockets.wires.items
 
 -- A place is given back where its connection is over, lost or failed, and there alone. Where something was done its stream is ended if its rest can
 -- begin no head any more, and no stream else.
-abbrev pub Settles : Stepped → ℕ → Desk → Desk → Type 0
+abbrev pub Settles : SlotState → ℕ → Server → Server → Type 0
 Settles Free place old new = Stays old new
 Settles Rests place old new = Stays old new
 Settles Worked place old new = Notes place old new
@@ -63,7 +64,7 @@ Settles Lost place old new = Frees place old new
 Settles Failed place old new = Frees place old new
 
 -- The stream at a place, before and after, by what became of the place and its connection: none is read any more of a place that was given back.
-abbrev pub StreamAfter : Stepped → Option ConnOf → Bool → Bool → Type 0
+abbrev pub StreamAfter : SlotState → Option ConnOf → Bool → Bool → Type 0
 StreamAfter Free conn old new = new ≡ old
 StreamAfter Rests conn old new = new ≡ old
 StreamAfter Worked conn old new = IsEndedIfHopeless conn old new
@@ -72,31 +73,37 @@ StreamAfter Lost conn old new = new ≡ true
 StreamAfter Failed conn old new = new ≡ true
 
 -- so it is at each place
-abbrev pub SettlesStreams : Desk → Desk → Type 0
+abbrev pub SettlesStreams : Server → Server → Type 0
 SettlesStreams old new = (h : HubOf) → Models old.hub h → (place : ℕ)
-    → StreamAfter (stepped_at old.seats.items place) (conn_at h place) (is_ended_at old.sockets.slots.items place)
-    (is_ended_at new.sockets.slots.items place)
+    → StreamAfter (state_at old.slots.items place) (conn_at h place) (is_ended_at old.sockets.wires.items place)
+    (is_ended_at new.sockets.wires.items place)
 
--- what is kept of a place behind that
-abbrev pub settled_by : Stepped → Seat → Seat
-settled_by Free seat = seat
-settled_by Rests seat = seat
-settled_by Worked seat = seat
-settled_by Answered seat = free_seat
-settled_by Lost seat = free_seat
-settled_by Failed seat = free_seat
+-- what is kept of a place after that
+abbrev pub settled_by : SlotState → Slot → Slot
+settled_by Free slot = slot
+settled_by Rests slot = slot
+settled_by Worked slot = slot
+settled_by Answered slot = free_slot
+settled_by Lost slot = free_slot
+settled_by Failed slot = free_slot
 
-abbrev pub settled : Seat → Seat
-settled seat = settled_by seat.stepped seat
+abbrev pub settled : Slot → Slot
+settled slot = settled_by slot.state slot
 
 -- a stream is ended where that is due, and a place is given back where its connection is to be dropped since its peer is slow; both there alone
-abbrev pub EndsSlow : Due → ℕ → Desk → Desk → Type 0
+abbrev pub EndsSlow : Due → ℕ → Server → Server → Type 0
 EndsSlow due.Nothing place old new = Stays old new
 EndsSlow due.End place old new = Ends place old new
 EndsSlow due.Drop place old new = Frees place old new
 
+-- what is due at a place is done there
+pub record DoesDue (limits : Limits) (now place : ℕ) (old new : Server) : Type 0 where
+  pub due : Due
+  pub is : IsDueAt limits now place old.hub old.sockets.wires.items due
+  pub ends : EndsSlow due place old new
+
 -- a place is given back where the system said that its connection is lost, and there alone
-abbrev pub EndsLost : Bool → ℕ → Desk → Desk → Type 0
+abbrev pub EndsLost : Bool → ℕ → Server → Server → Type 0
 EndsLost true place old new = Frees place old new
 EndsLost false place old new = Stays old new
 

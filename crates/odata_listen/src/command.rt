@@ -3,11 +3,11 @@ ghost use Rattle.std.specs.Prelude.{◌≡◌};
 ghost use Rattle.program_ends.specs.Status.{IsFaultStatus};
 
 use crate::folder::Folder;
-use crate::journal::Journal;
-use crate::serving::serve;
+use crate::log::Log;
+use crate::serving::{Service, serve};
 use crate::words::{MOST_PLACES, USAGE_LINE, Words, WordsFault, read_words};
 use command_words::{line_of, system_words};
-use listen_sockets::{Desk, Limits};
+use listen_sockets::{Limits, Server};
 use mio::net::TcpListener;
 use program_ends::{DEVICE, DONE, MEMORY, ProgramFault, USAGE, error_status, report};
 use served_folders::{Disk, Folders};
@@ -22,14 +22,14 @@ fn listen<R>(
     rt: &R,
     words: &Words<'_>,
     address: IpAddr,
-    folder: &mut Folder<'_>,
+    folder: Folder<'_>,
     catalog: Catalog,
 ) -> io::Result<()>
 where
     R: Net + Clock + Files + Print + Eprint + AllocGlobal + Clone + Drop,
 {
     let tables = Rc::new(rt.alloc(), catalog)?;
-    let mut desk = Desk::new(rt.alloc(), tables, words.places)?;
+    let mut server = Server::new(rt.alloc(), tables, words.places)?;
     let listener = TcpListener::bind(rt, SocketAddr::new(address, words.port))?;
     let bound = listener.local_addr()?;
     rt.println(format!(in rt.alloc(); "listening {bound}")?)?;
@@ -37,16 +37,12 @@ where
         head: words.head_seconds,
         idle: words.idle_seconds,
     };
-    let mut journal = Journal::new(rt, words.log);
-    serve(
-        rt,
-        &mut desk,
-        listener,
+    let mut service = Service {
         folder,
-        &limits,
-        &mut journal,
-        u64::MAX,
-    )
+        limits,
+        log: Log::new(rt, words.log),
+    };
+    serve(rt, &mut server, listener, &mut service, u64::MAX)
 }
 
 /// Says how the program is called.
@@ -83,10 +79,10 @@ where
         return usage_status(rt);
     }
     let follows = !words.plain_files;
-    let mut folder = Folder::new(rt, words.folder, follows);
+    let folder = Folder::new(rt, words.folder, follows);
     let mut disk = Disk::new(rt).follow_links(follows);
     match disk.load(rt.alloc(), words.folder) {
-        Ok(catalog) => match listen(rt, words, address, &mut folder, catalog) {
+        Ok(catalog) => match listen(rt, words, address, folder, catalog) {
             Ok(()) => DONE,
             Err(error) => error_status(&error),
         },

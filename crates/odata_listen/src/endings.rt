@@ -1,137 +1,147 @@
 //! How connections end: over after a round, lost or failed; since their peers are slow; or since the system says that they are lost. And how streams
 //! end before their peers end them: those that can bring no head any more, and those whose heads take too long.
 ghost use Rattle.std.specs.Prelude.{◌≡◌, map};
-ghost use Rattle.listen_sockets.specs.Desk.{due_at, stepped_at};
+ghost use Rattle.listen_sockets.specs.Server.{state_at};
 ghost use Rattle.listen_sockets.specs.Sockets.{is_lost_at};
-ghost use Rattle.odata_listen.specs.Serving.{EndsLost, EndsSlow, Frees, Notes, RunsOn, RunsTo, Settles, SettlesStreams, settled};
+ghost use Rattle.odata_listen.specs.Serving.{DoesDue, EndsLost, EndsSlow, Frees, Notes, RunsOn, RunsTo, Settles, SettlesStreams, settled};
 
-use crate::journal::{Journal, Why};
-use listen_sockets::{Desk, Due, Limits};
+use crate::log::{CloseReason, Log};
+use listen_sockets::{Due, Limits, Server};
 use mio::Poll;
-use odata_rounds::Stepped;
+use odata_rounds::SlotState;
 
 /// Frees a place, and tells why.
 fn end<R: Print + Eprint + AllocGlobal>(
-    desk: &mut Desk,
+    server: &mut Server,
     place: u32,
-    why: Why,
-    journal: &mut Journal<'_, R>,
+    reason: CloseReason,
+    log: &mut Log<'_, R>,
 )
-    ensures { Frees place desk.old desk.new }
+    ensures { Frees place server.old server.new }
 {
-    let _ = desk.free(place);
-    journal.ended(place, why);
+    let _ = server.free(place);
+    log.ended(place, reason);
 }
 
 /// Frees a place whose connection is over. What its peer still sends is dropped for a while.
-fn part<R: Print + Eprint + AllocGlobal>(
-    desk: &mut Desk,
+fn linger<R: Print + Eprint + AllocGlobal>(
+    server: &mut Server,
     place: u32,
     poll: &Poll,
-    journal: &mut Journal<'_, R>,
+    log: &mut Log<'_, R>,
 )
-    ensures { Frees place desk.old desk.new }
+    ensures { Frees place server.old server.new }
 {
-    let _ = desk.part(place, poll);
-    journal.ended(place, Why::Answered);
+    let _ = server.linger(place, poll);
+    log.ended(place, CloseReason::Answered);
 }
 
 /// Notes that something was done at a place, and ends its stream where what came can begin no head any more: its 400 need not wait for the seconds that
 /// a head may take.
-fn note(desk: &mut Desk, place: u32, now: u64)
-    ensures { Notes place desk.old desk.new }
+fn note(server: &mut Server, place: u32, now: u64)
+    ensures { Notes place server.old server.new }
 {
-    desk.sockets.note_work(place, now);
-    desk.end_hopeless(place, now);
+    server.sockets.note_work(place, now);
+    server.end_hopeless(place, now);
 }
 
 /// Notes what the last round did at a place, and frees it where its connection is over, lost or failed.
 fn settle<R: Print + Eprint + AllocGlobal>(
-    desk: &mut Desk,
+    server: &mut Server,
     place: u32,
     poll: &Poll,
     now: u64,
-    journal: &mut Journal<'_, R>,
+    log: &mut Log<'_, R>,
 )
-    ensures { Settles (stepped_at desk.old.seats.items place) place desk.old desk.new }
+    ensures { Settles (state_at server.old.slots.items place) place server.old server.new }
 {
-    match desk.stepped(place) {
-        Stepped::Free | Stepped::Rests => {}
-        Stepped::Worked => note(desk, place, now),
-        Stepped::Answered => part(desk, place, poll, journal),
-        Stepped::Lost => end(desk, place, Why::Lost, journal),
-        Stepped::Failed => end(desk, place, Why::NoMemory, journal),
+    match server.state(place) {
+        SlotState::Free | SlotState::Rests => {}
+        SlotState::Worked => note(server, place, now),
+        SlotState::Answered => linger(server, place, poll, log),
+        SlotState::Lost => end(server, place, CloseReason::Lost, log),
+        SlotState::Failed => end(server, place, CloseReason::NoMemory, log),
     }
 }
 
 /// The same at each place.
 pub fn settle_all<R: Print + Eprint + AllocGlobal>(
-    desk: &mut Desk,
+    server: &mut Server,
     poll: &Poll,
     now: u64,
-    journal: &mut Journal<'_, R>,
+    log: &mut Log<'_, R>,
 )
-    ensures runs { RunsTo desk.old desk.new }
-    ensures settled { desk.new.seats.items ≡ map settled desk.old.seats.items }
-    ensures streams { SettlesStreams desk.old desk.new }
+    ensures runs { RunsTo server.old server.new }
+    ensures settled { server.new.slots.items ≡ map settled server.old.slots.items }
+    ensures streams { SettlesStreams server.old server.new }
 {
-    for place in 0..desk.places() {
-        settle(desk, place, poll, now, journal);
+    for place in 0..server.places() {
+        settle(server, place, poll, now, log);
     }
 }
 
-/// Ends the stream of a peer whose head takes too long, and drops one that stands still.
+/// Does what is due of the connection at a place: ends the stream of a peer whose head takes too long, and drops one that stands still.
+fn do_due<R: Print + Eprint + AllocGlobal>(
+    server: &mut Server,
+    place: u32,
+    due: Due,
+    now: u64,
+    log: &mut Log<'_, R>,
+)
+    ensures { EndsSlow due place server.old server.new }
+{
+    match due {
+        Due::Nothing => {}
+        Due::End => server.sockets.end_stream(place, now),
+        Due::Drop => end(server, place, CloseReason::Slow, log),
+    }
+}
+
+/// Ends a peer that is slow.
 fn end_slow<R: Print + Eprint + AllocGlobal>(
-    desk: &mut Desk,
+    server: &mut Server,
     place: u32,
     limits: &Limits,
     now: u64,
-    journal: &mut Journal<'_, R>,
+    log: &mut Log<'_, R>,
 )
-    ensures { EndsSlow (due_at limits.now now desk.old.seats.items
-        desk.old.sockets.slots.items place) place desk.old desk.new }
+    ensures { DoesDue limits.now now place server.old server.new }
 {
-    match desk.due(place, limits, now) {
-        Due::Nothing => {}
-        Due::End => desk.sockets.end_stream(place, now),
-        Due::Drop => end(desk, place, Why::Slow, journal),
-    }
+    let due = server.due(place, limits, now);
+    do_due(server, place, due, now, log);
 }
 
 /// The same at each place.
 #[tactic(auto, using(crate::proofs::ServingLemmas::on_none))]
 pub fn end_all_slow<R: Print + Eprint + AllocGlobal>(
-    desk: &mut Desk,
+    server: &mut Server,
     limits: &Limits,
     now: u64,
-    journal: &mut Journal<'_, R>,
+    log: &mut Log<'_, R>,
 )
-    ensures { RunsOn desk.old desk.new }
+    ensures { RunsOn server.old server.new }
 {
-    for place in 0..desk.places() {
-        end_slow(desk, place, limits, now, journal);
+    for place in 0..server.places() {
+        end_slow(server, place, limits, now, log);
     }
 }
 
 /// Frees a place whose connection is lost: whatever its query would still do, nobody takes its reply.
-fn end_lost<R: Print + Eprint + AllocGlobal>(
-    desk: &mut Desk,
-    place: u32,
-    journal: &mut Journal<'_, R>,
-)
-    ensures { EndsLost (is_lost_at desk.old.sockets.slots.items place) place desk.old desk.new }
+fn end_lost<R: Print + Eprint + AllocGlobal>(server: &mut Server, place: u32, log: &mut Log<'_, R>)
+    ensures { EndsLost (is_lost_at server.old.sockets.wires.items place) place
+        server.old server.new }
 {
-    if desk.sockets.is_lost(place) {
-        end(desk, place, Why::Lost, journal);
+    if server.sockets.is_lost(place) {
+        end(server, place, CloseReason::Lost, log);
     }
 }
 
 /// The same at each place.
 #[tactic(auto, using(crate::proofs::ServingLemmas::on_none))]
-pub fn end_all_lost<R: Print + Eprint + AllocGlobal>(desk: &mut Desk, journal: &mut Journal<'_, R>)
-    ensures { RunsOn desk.old desk.new }
+pub fn end_all_lost<R: Print + Eprint + AllocGlobal>(server: &mut Server, log: &mut Log<'_, R>)
+    ensures { RunsOn server.old server.new }
 {
-    for place in 0..desk.places() {
-        end_lost(desk, place, journal);
+    for place in 0..server.places() {
+        end_lost(server, place, log);
     }
 }

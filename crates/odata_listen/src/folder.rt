@@ -1,5 +1,5 @@
 //! A folder that is looked at, and taken up where it changed. Its metadata and the files that this names are looked at, and nothing else.
-use crate::journal::Journal;
+use crate::log::Log;
 use crate::watch::{Look, hand_over, is_final, look_of};
 use odata_hub::Hub;
 use served_folders::{Disk, Folders, METADATA, look};
@@ -109,14 +109,14 @@ impl<'a> Folder<'a> {
         self.read_state(rt).unwrap_or(String::new(rt.alloc()))
     }
 
-    /// Loads the folder; where it is behind that as it was at the last look, the hub has its tables from now on. Where a device failed or memory ran out, the
+    /// Loads the folder; where it is afterwards as it was at the last look, the hub has its tables from now on. Where a device failed or memory ran out, the
     /// folder counts as it was taken before, so that the next look finds it changed again.
     #[tactic(auto, using(crate::proofs::ServingLemmas::may_hand_over))]
     fn take_up<R: Files + Print + Eprint + AllocGlobal>(
         &mut self,
         rt: &R,
         hub: &mut Hub,
-        journal: &mut Journal<'_, R>,
+        log: &mut Log<'_, R>,
     )
         ensures { MayReload hub.old hub.new }
     {
@@ -130,7 +130,7 @@ impl<'a> Folder<'a> {
                 self.taken = after;
             }
             if holds || !self.wants {
-                journal.reloaded(end);
+                log.reloaded(end);
             }
             self.wants = !holds;
         }
@@ -141,7 +141,7 @@ impl<'a> Folder<'a> {
         &mut self,
         rt: &R,
         hub: &mut Hub,
-        journal: &mut Journal<'_, R>,
+        log: &mut Log<'_, R>,
     )
         ensures { MayReload hub.old hub.new }
     {
@@ -151,7 +151,7 @@ impl<'a> Folder<'a> {
         match says {
             Look::Same => self.wants = false,
             Look::Moves => {}
-            Look::Changed => self.take_up(rt, hub, journal),
+            Look::Changed => self.take_up(rt, hub, log),
         }
     }
 }

@@ -5,7 +5,7 @@
 mod command;
 mod endings;
 mod folder;
-mod journal;
+mod log;
 mod serving;
 mod watch;
 mod words;

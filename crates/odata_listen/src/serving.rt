@@ -4,9 +4,9 @@ ghost use Rattle.odata_listen.specs.Serving.{RunsOn};
 
 use crate::endings::{end_all_lost, end_all_slow, settle_all};
 use crate::folder::Folder;
-use crate::journal::Journal;
+use crate::log::Log;
 use crate::words::MOST_PLACES;
-use listen_sockets::{Desk, Gate, Limits, Peer};
+use listen_sockets::{Limits, Peer, Poller, Server};
 use mio::Poll;
 use mio::net::TcpListener;
 use odata_hub::Conn;
@@ -17,23 +17,31 @@ use std::rt::{Clock, Files};
 /// The most rounds before the system is asked again.
 const ROUNDS: u32 = 16;
 
-/// Seats a socket, and has the system report it.
-fn seat<R: Print + Eprint + AllocGlobal>(
-    desk: &mut Desk,
+/// What the service has beside its places and sockets: the folder that it serves, how long a peer may take, and where it tells what it did.
+#[derive(Drop)]
+pub struct Service<'a, R> {
+    pub folder: Folder<'a>,
+    pub limits: Limits,
+    pub log: Log<'a, R>,
+}
+
+/// Opens a connection for a socket, and has the system report it.
+fn open<R: Print + Eprint + AllocGlobal>(
+    server: &mut Server,
     poll: &Poll,
     peer: Peer,
-    journal: &mut Journal<'_, R>,
+    log: &mut Log<'_, R>,
 )
-    ensures { RunsOn desk.old desk.new }
+    ensures { RunsOn server.old server.new }
 {
-    let Ok(Conn(place)) = desk.open(peer) else {
+    let Ok(Conn(place)) = server.open(peer) else {
         return;
     };
-    if desk.sockets.register(poll, place) {
-        journal.opened(place);
+    if server.sockets.register(poll, place) {
+        log.opened(place);
         return;
     }
-    let _ = desk.free(place);
+    let _ = server.free(place);
 }
 
 /// What came of one try to take a connection in.
@@ -50,20 +58,20 @@ enum Taken {
 /// Takes in a connection that waits, where a place is free.
 #[tactic(auto, using(crate::proofs::ServingLemmas::on_none))]
 fn take_in<R: Print + Eprint + AllocGlobal>(
-    desk: &mut Desk,
-    gate: &Gate,
+    server: &mut Server,
+    poller: &Poller,
     now: u64,
-    journal: &mut Journal<'_, R>,
+    log: &mut Log<'_, R>,
 ) -> Taken
-    ensures { RunsOn desk.old desk.new }
+    ensures { RunsOn server.old server.new }
 {
-    if !desk.sockets.has_free() {
+    if !server.sockets.has_free() {
         return Taken::Later;
     }
-    match gate.listener.accept() {
+    match poller.listener.accept() {
         Ok((stream, _)) => {
             let _ = stream.set_nodelay(true);
-            seat(desk, &gate.poll, Peer::new(stream, now), journal);
+            open(server, &poller.poll, Peer::new(stream, now), log);
             Taken::One
         }
         Err(error) if error.kind() == ErrorKind::WouldBlock => Taken::Nothing,
@@ -75,22 +83,22 @@ fn take_in<R: Print + Eprint + AllocGlobal>(
 /// Takes in connections, where some may wait, as long as places are free. Whether one was taken in.
 #[tactic(auto, using(crate::proofs::ServingLemmas::on_none))]
 fn accept<R: Print + Eprint + AllocGlobal>(
-    desk: &mut Desk,
-    gate: &mut Gate,
+    server: &mut Server,
+    poller: &mut Poller,
     now: u64,
-    journal: &mut Journal<'_, R>,
+    log: &mut Log<'_, R>,
 ) -> bool
-    ensures { RunsOn desk.old desk.new }
+    ensures { RunsOn server.old server.new }
 {
     let mut took = false;
-    if !gate.accepts {
+    if !poller.accepts {
         return took;
     }
     for _turn in 0..MOST_PLACES {
-        match take_in(desk, gate, now, journal) {
+        match take_in(server, poller, now, log) {
             Taken::One => took = true,
             Taken::Nothing => {
-                gate.accepts = false;
+                poller.accepts = false;
                 return took;
             }
             Taken::Later => return took,
@@ -101,40 +109,40 @@ fn accept<R: Print + Eprint + AllocGlobal>(
 
 /// Tends the sockets that are held open.
 #[tactic(auto, using(crate::proofs::ServingLemmas::on_none))]
-fn tend_partings(desk: &mut Desk)
-    ensures { RunsOn desk.old desk.new }
+fn tend_lingering(server: &mut Server)
+    ensures { RunsOn server.old server.new }
 {
-    for at in 0..desk.places() {
-        desk.tend_parting(at);
+    for at in 0..server.places() {
+        server.tend_lingering_at(at);
     }
 }
 
 /// One round, and what it did. Whether it did something.
 fn run_round<R: Print + Eprint + AllocGlobal>(
-    desk: &mut Desk,
+    server: &mut Server,
     poll: &Poll,
     now: u64,
-    journal: &mut Journal<'_, R>,
+    log: &mut Log<'_, R>,
 ) -> bool
-    ensures { RunsOn desk.old desk.new }
+    ensures { RunsOn server.old server.new }
 {
-    let worked = desk.round();
-    settle_all(desk, poll, now, journal);
+    let worked = server.round();
+    settle_all(server, poll, now, log);
     worked
 }
 
 /// Some rounds, until one did nothing. Whether the last of them did something.
 #[tactic(auto, using(crate::proofs::ServingLemmas::on_none))]
 fn run_rounds<R: Print + Eprint + AllocGlobal>(
-    desk: &mut Desk,
+    server: &mut Server,
     poll: &Poll,
     now: u64,
-    journal: &mut Journal<'_, R>,
+    log: &mut Log<'_, R>,
 ) -> bool
-    ensures { RunsOn desk.old desk.new }
+    ensures { RunsOn server.old server.new }
 {
     for _turn in 0..ROUNDS {
-        if !run_round(desk, poll, now, journal) {
+        if !run_round(server, poll, now, log) {
             return false;
         }
     }
@@ -143,49 +151,39 @@ fn run_rounds<R: Print + Eprint + AllocGlobal>(
 
 /// What is done where a second began: slow peers are ended, and the folder is looked at. The next write to each socket is tried.
 #[tactic(auto, using(crate::proofs::ServingLemmas::on_none))]
-fn tend<R>(
-    rt: &R,
-    desk: &mut Desk,
-    folder: &mut Folder<'_>,
-    limits: &Limits,
-    now: u64,
-    is_new: bool,
-    journal: &mut Journal<'_, R>,
-)
+fn tend<R>(rt: &R, server: &mut Server, service: &mut Service<'_, R>, now: u64, is_new: bool)
 where
     R: Files + Print + Eprint + AllocGlobal + Clone + Drop,
-    ensures { RunsOn desk.old desk.new }
+    ensures { RunsOn server.old server.new }
 {
     if !is_new {
         return;
     }
-    end_all_slow(desk, limits, now, journal);
-    tend_partings(desk);
-    folder.look(rt, &mut desk.hub, journal);
-    desk.sockets.try_writes();
+    end_all_slow(server, &service.limits, now, &mut service.log);
+    tend_lingering(server);
+    service.folder.look(rt, &mut server.hub, &mut service.log);
+    server.sockets.try_writes();
 }
 
 /// One tick: the events that there are, some rounds, what is done once a second, and new connections. Whether there is more to do at once.
 fn tick<R>(
     rt: &R,
-    gate: &mut Gate,
-    desk: &mut Desk,
-    folder: &mut Folder<'_>,
-    limits: &Limits,
+    poller: &mut Poller,
+    server: &mut Server,
+    service: &mut Service<'_, R>,
     busy: bool,
-    journal: &mut Journal<'_, R>,
 ) -> io::Result<bool>
 where
     R: Net + Clock + Files + Print + Eprint + AllocGlobal + Clone + Drop,
-    ensures { RunsOn desk.old desk.new }
+    ensures { RunsOn server.old server.new }
 {
-    let now = gate.wait(rt, &mut desk.sockets, busy)?;
-    let is_new = gate.is_new_second(now);
-    end_all_lost(desk, journal);
+    let now = poller.wait(rt, &mut server.sockets, busy)?;
+    let is_new = poller.is_new_second(now);
+    end_all_lost(server, &mut service.log);
     // what came while a folder was loaded is read before peers are found slow
-    let worked = run_rounds(desk, &gate.poll, now, journal);
-    tend(rt, desk, folder, limits, now, is_new, journal);
-    let took = accept(desk, gate, now, journal);
+    let worked = run_rounds(server, &poller.poll, now, &mut service.log);
+    tend(rt, server, service, now, is_new);
+    let took = accept(server, poller, now, &mut service.log);
     Ok(worked || took)
 }
 
@@ -193,21 +191,19 @@ where
 #[tactic(auto, using(crate::proofs::ServingLemmas::on_none))]
 pub fn serve<R>(
     rt: &R,
-    desk: &mut Desk,
+    server: &mut Server,
     listener: TcpListener,
-    folder: &mut Folder<'_>,
-    limits: &Limits,
-    journal: &mut Journal<'_, R>,
+    service: &mut Service<'_, R>,
     ticks: u64,
 ) -> io::Result<()>
 where
     R: Net + Clock + Files + Print + Eprint + AllocGlobal + Clone + Drop,
-    ensures { RunsOn desk.old desk.new }
+    ensures { RunsOn server.old server.new }
 {
-    let mut gate = Gate::new(rt, listener)?;
+    let mut poller = Poller::new(rt, listener)?;
     let mut busy = false;
     for _tick in 0..ticks {
-        busy = tick(rt, &mut gate, desk, folder, limits, busy, journal)?;
+        busy = tick(rt, &mut poller, server, service, busy)?;
     }
     Ok(())
 }

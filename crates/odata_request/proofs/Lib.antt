@@ -9,3 +9,4 @@ pub mod RequestLemmas
 pub mod InsideLemmas
 pub mod StepLemmas
 pub mod AloneLemmas
+pub mod WayLemmas

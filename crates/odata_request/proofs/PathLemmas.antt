@@ -46,16 +46,19 @@ abbrev close : List ℕ
 close = codes ")"
 
 -- what stands before a `)` at the end
+pub end_of : (text : List ℕ) → without_end (text ++ close) ≡ Some text
+end_of text =
+    let whole = text ++ close in
+    let ends : ends_with nat_eq whole close ≡ true = (ends_is Decides-eqb whole close (ends_with nat_eq whole close) refl).1 text refl in
+    let less : length whole - 1 ≡ length text = omega (arith, length-append text close) in
+    let front : take (length whole - 1) whole ≡ text = ap (λ (n : ℕ). take n whole) less ∙ take-append_seam text close in
+    ap (λ (b : Bool). if b then Some (take (length whole - 1) whole) else None) ends ∙ ap Some front
+
 pub front_of_end : (text : List ℕ) (r : Option (Bor (List ℕ))) → MatchOption r ((front : List ℕ) → text ≢ front ++ close) (λ x. text ≡ x.now ++ close)
     → option_map (λ x. x.now) r ≡ without_end text
 front_of_end text None h = ⊎_elim (λ ends. absurd (h (take (length text - 1) text) ((ends_is Decides-eqb text close (ends_with nat_eq text close) refl).0 ends)))
     (λ no. sym (ap (λ (b : Bool). if b then Some (take (length text - 1) text) else None) no)) (cases_Bool (ends_with nat_eq text close))
-front_of_end text (Some x) h =
-    let ends : ends_with nat_eq text close ≡ true = (ends_is Decides-eqb text close (ends_with nat_eq text close) refl).1 x.now h in
-    let size : length text ≡ length x.now + 1 = ap length h ∙ length-append x.now close in
-    let less : length text - 1 ≡ length x.now = omega (arith, size) in
-    let front : take (length text - 1) text ≡ x.now = ap (λ (n : ℕ). take n text) less ∙ ap (take (length x.now)) h ∙ take-append_seam x.now close in
-    sym (ap (λ (b : Bool). if b then Some (take (length text - 1) text) else None) ends ∙ ap Some front)
+front_of_end text (Some x) h = sym (ap without_end h ∙ end_of x.now)
 
 -- a path of one segment
 pub path_one : (tables : List TableOf) (segments : List (String Global)) (segment : String Global) → length segments ≡ 1

@@ -1,5 +1,6 @@
 pub mod Resource
 pub mod Options
+pub mod Path
 pub mod Fault
 pub mod Reading
 pub mod Query

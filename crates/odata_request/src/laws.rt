@@ -1,5 +1,6 @@
 //! What holds of all heads, targets and tables. The functions here are theorems, and do nothing.
 ghost use Rattle.odata_request.specs.Laws.{KeysStandAlone, OneRequest};
+ghost use Rattle.odata_request.specs.Path.{PathsLead};
 
 /// A head and a target ask for one request at most.
 pub fn one_request()
@@ -13,4 +14,9 @@ pub fn one_request()
 /// A query with a key has no `$apply`: the row that it asks for is one of the table.
 pub fn keys_stand_alone()
     ensures { KeysStandAlone }
+{}
+
+/// The segments of a path lead where the path does: to the service document, the rows of a table, how many they are, or the row with a key.
+pub fn paths_lead()
+    ensures { PathsLead }
 {}

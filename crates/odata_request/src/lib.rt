@@ -11,6 +11,6 @@ mod reading;
 mod request;
 mod resource;
 
-pub use laws::{keys_stand_alone, one_request};
+pub use laws::{keys_stand_alone, one_request, paths_lead};
 pub use request::{Request, RowsRequest, request_of};
 pub use resource::{Resource, resource_of};

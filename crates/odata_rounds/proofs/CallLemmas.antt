@@ -9,7 +9,6 @@ use Rattle.odata_hub.specs.declared.answers.Turned.TheVariants.{Idle, Worked}
 use Rattle.odata_hub.specs.Connections.{AddsReply, Answer, Call, ConnOf, Done, End, FlightOf, Gave, IsFed, IsTurned, Piece, Refused, Step, Take, Turn, Went, given_by, works}
 use Rattle.odata_hub.specs.Schedules.{CallsOn, HubOf, HubStep, On, conn_at, hub_with}
 use Rattle.odata_hub.specs.Streams.{Asked}
-use Rattle.odata_rounds.specs.declared.outbox.TheConstants.{TAKE_BYTES}
 use Rattle.odata_rounds.specs.Leaves.{IsOneReply}
 
 -- a call on what a place holds: nothing is there, or the connection makes one step
@@ -42,28 +41,13 @@ call_away h n place other call answer away s = go (conn_at h place) s where
 
 -- ---- takes
 
-take_nil : (n : ℕ) (xs : List ℕ) → 0 < n → take n xs ≡ [] → xs ≡ []
-take_nil zero xs lt e = absurd (omega arith)
-take_nil (suc n) [] lt e = refl
-take_nil (suc n) (x ∷ xs) lt e = absurd (cc e)
+pub record Took (c : ConnOf) (count : ℕ) (bytes : List ℕ) (d : ConnOf) : Type 0 where
+  pub given : bytes ≡ take count c.output
+  pub left : d.output ≡ drop count c.output
 
-pub record Took (c : ConnOf) (bytes : List ℕ) (d : ConnOf) : Type 0 where
-  pub given : bytes ≡ take TAKE_BYTES c.output
-  pub left : d.output ≡ drop TAKE_BYTES c.output
-
-pub took_is : (c d : ConnOf) (bytes : List ℕ) → Step c (Take TAKE_BYTES) (Gave bytes) d → Took c bytes d
-took_is c d bytes (inl h) = record { given = cc (h.0); left = ap (λ (x : ConnOf). x.output) h.1 }
-took_is c d bytes (inr h) = absurd (cc (h.0))
-
-pub took_none : (c d : ConnOf) → Step c (Take TAKE_BYTES) (Gave []) d → d.output ≡ []
-took_none c d s =
-    let t = took_is c d [] s in
-    let empty : c.output ≡ [] = take_nil TAKE_BYTES c.output (omega arith) (sym t.given) in
-    t.left ∙ ap (drop TAKE_BYTES) empty
-
-pub take_never_refused : (c d : ConnOf) (fault : HubFault) → Step c (Take TAKE_BYTES) (Refused fault) d → ⊥
-take_never_refused c d fault (inl h) = cc (h.0)
-take_never_refused c d fault (inr h) = h.1
+pub took_is : (c d : ConnOf) (count : ℕ) (bytes : List ℕ) → Step c (Take count) (Gave bytes) d → Took c count bytes d
+took_is c d count bytes (inl h) = record { given = cc (h.0); left = ap (λ (x : ConnOf). x.output) h.1 }
+took_is c d count bytes (inr h) = absurd (cc (h.0))
 
 -- ---- what no call but a take gives
 
@@ -90,7 +74,7 @@ given_end c d answer (inr h) = ap given_by h.0
 
 -- ---- turns
 
-abbrev conn : List ℕ → List Asked → Option FlightOf → List ℕ → Bool → Bool → Bool → ConnOf
+abbrev pub conn : List ℕ → List Asked → Option FlightOf → List ℕ → Bool → Bool → Bool → ConnOf
 conn rest waiting flight output closed ended failed =
     record { rest = rest; waiting = waiting; flight = flight; output = output; closed = closed; ended = ended; failed = failed }
 
@@ -138,7 +122,7 @@ one_conn rest [] None output closed true false d answer e (inl h) =
     let out : d.output ≡ last_reply rest = ap (λ (x : ConnOf). x.output) h.1 ∙ ap (λ l. l ++ last_reply rest) e in inr (rest, out)
 one_conn rest [] None output closed false false d answer e (inl h) = one_empty d.output (ap (λ (x : ConnOf). x.output) h.1 ∙ e)
 
--- behind a turn of a connection without output there is one reply, or none
+-- after a turn of a connection without output there is one reply, or none
 pub one_turn : (c d : ConnOf) (answer : Answer) → c.output ≡ [] → Step c Turn answer d → IsOneReply d.output
 one_turn c d answer e s = one_conn c.rest c.waiting c.flight c.output c.closed c.ended c.failed d answer e s
 

@@ -1,17 +1,16 @@
 -- What visits and rounds move, and the laws.
-use Rattle.std.proofs.Common.{◌≡◌, ◌≢◌, ℕ, zero, suc, List, [], ◌∷◌, ◌++◌, set, Option, None, Some, refl, sym, ap, subst, ◌∙◌, inl, inr, append-nil, append_assoc}
-use Rattle.std.specs.Prelude.{slice_get, Bool, true, false, ◌==◌, if◌then◌else◌, ◌||◌}
+use Rattle.std.proofs.Common.{◌≡◌, ◌≢◌, ℕ, zero, suc, List, [], ◌∷◌, ◌++◌, Option, None, Some, refl, sym, ap, subst, ◌∙◌, inl, inr, append-nil, append_assoc}
+use Rattle.std.specs.Prelude.{Bool, true, false, ◌==◌, if◌then◌else◌, ◌||◌}
 use Rattle.std.proofs.lemmas.Bool.Decides.{eqb_tells}
 use Rattle.std.specs.Io.KnownBytes.{Appends, Consumes}
 use Rattle.odata_hub.specs.Connections.{Answer, Call, End, Own, Piece, Take, Turn, came_with, ends_with, given_by, input_ended, stream_of, taken_of}
-use Rattle.odata_hub.specs.Laws.{GivesReplies, IsFrontOf}
+use Rattle.odata_hub.specs.Laws.{GivesReplies}
 use Rattle.odata_hub.specs.Schedules.{Drop, Event, Happening, On, Open, Reload, own_before, own_of}
 use Rattle.odata_hub.specs.Streams.{bytes_of}
-use Rattle.odata_rounds.specs.declared.seat.Seat.{Seat}
 use Rattle.odata_rounds.specs.Peers.{WireOf}
 use Rattle.odata_rounds.specs.Visits.{IsReadOut, Moves, at_place, piece_of, pieces_of}
 use Rattle.odata_rounds.specs.Rounds.{ServesAt, SightOf}
-use Rattle.odata_rounds.specs.Laws.{AllWereTaken, AreCalls, WasTaken, IsCall, Moved, MovesAt, MovesJoin, RoundMoves, ServesSocket, waits_at}
+use Rattle.odata_rounds.specs.Laws.{AllWereTaken, AreCalls, WasTaken, IsCall, Moved, MovesAt, MovesJoin, RoundMoves, ServesSocket}
 use Rattle.odata_rounds.proofs.RunLemmas.{run_joins, run_none}
 use Rattle.odata_rounds.proofs.ByteLemmas.{consumes_none}
 use Rattle.odata_rounds.proofs.VisitLemmas.{appends_none}
@@ -62,20 +61,17 @@ read_out_join (Some x) (Some y) (Some z) xs ys true q s t f g e =
 read_out_join (Some x) (Some y) (Some z) xs ys false q s t f g e = g e
 
 pub moves_join : MovesJoin
-moves_join a b c before mid after os ps p q =
-    let P : List ℕ → Type 0 = λ l. Consumes a.left c.left l in record {
-      sent = p.sent ++ q.sent;
-      output = ap (λ l. before ++ l) (given_join os ps) ∙ sym (append_assoc before (taken_of os) (taken_of ps))
-          ∙ ap (λ l. l ++ taken_of ps) p.output ∙ append_assoc p.sent mid (taken_of ps) ∙ ap (λ l. p.sent ++ l) q.output
-          ∙ sym (append_assoc p.sent q.sent after);
-      taken = appends_join _ _ _ p.sent q.sent p.taken q.taken;
+moves_join a b c os ps p q =
+    let P : List ℕ → Type 0 = λ l. Consumes a.left c.left l in
+    let Q : List ℕ → Type 0 = λ l. Appends a.taken c.taken l in record {
+      taken = subst Q (sym (given_join os ps)) (appends_join _ _ _ (taken_of os) (taken_of ps) p.taken q.taken);
       left = subst P (sym (pieces_join os ps)) (consumes_join _ _ _ (pieces_of os) (pieces_of ps) p.left q.left);
       ended = λ e. read_out_join _ _ _ (pieces_of os) (pieces_of ps) (input_ended os) (input_ended ps) p.left q.left p.ended q.ended
           (sym (ended_join os ps) ∙ e);
     }
 
-moves_none : (w : WireOf) (waits : List ℕ) → Moves w w waits waits []
-moves_none w waits = record { sent = []; output = append-nil waits; taken = appends_none _ _ refl; left = consumes_none _ _ refl; ended = λ no. absurd (cc no) }
+moves_none : (w : WireOf) → Moves w w []
+moves_none w = record { taken = appends_none _ _ refl; left = consumes_none _ _ refl; ended = λ no. absurd (cc no) }
 
 -- ---- the own events of a place
 
@@ -117,46 +113,17 @@ pub calls_join : (xs ys : List Happening) → AreCalls xs → AreCalls ys → Ar
 calls_join [] ys c d = d
 calls_join (x ∷ xs) ys c d = (c.0, calls_join xs ys c.1 d)
 
--- ---- what waits at a place
-
-pub waits_here : (seats : List Seat) (place : ℕ) (seat : Seat) → slice_get seats place ≡ Some seat → waits_at seats place ≡ seat.waits
-waits_here [] place seat e = absurd (cc e)
-waits_here (x ∷ seats) zero seat e = let same : x ≡ seat = cc e in ap (λ (s : Seat). s.waits) same
-waits_here (x ∷ seats) (suc place) seat e = waits_here seats place seat e
-
-pub waits_set : (seats : List Seat) (place : ℕ) (seat next : Seat) → slice_get seats place ≡ Some seat → waits_at (set seats place next) place ≡ next.waits
-waits_set [] place seat next e = absurd (cc e)
-waits_set (x ∷ seats) zero seat next e = refl
-waits_set (x ∷ seats) (suc place) seat next e = waits_set seats place seat next e
-
-pub waits_away : (seats : List Seat) (place other : ℕ) (next : Seat) → other ≢ place → waits_at (set seats place next) other ≡ waits_at seats other
-waits_away [] place other next away = refl
-waits_away (x ∷ seats) zero zero next away = absurd (away refl)
-waits_away (x ∷ seats) zero (suc other) next away = refl
-waits_away (x ∷ seats) (suc place) zero next away = refl
-waits_away (x ∷ seats) (suc place) (suc other) next away = waits_away seats place other next (λ e. away (ap suc e))
-
 -- ---- rounds
 
 visit_moves_here : (place : ℕ) (a b : SightOf) (s : ServesAt place a b) → MovesAt place a b (at_place place s.serves.os)
 visit_moves_here place a b s =
-    let P : List Own → Type 0 = λ os. Moves (a.wires place) (b.wires place) (waits_at a.seats place) (waits_at b.seats place) os in
-    let Q : List ℕ → Type 0 = λ l. Moves (a.wires place) (b.wires place) l (waits_at b.seats place) s.serves.os in
-    let R : List ℕ → Type 0 = λ l. Moves (a.wires place) (b.wires place) s.seat.waits l s.serves.os in
-    let after : waits_at b.seats place ≡ s.next.waits =
-    ap (λ l. waits_at l place) s.seats_are ∙ waits_set a.seats place s.seat s.next s.seat_is in
-    subst P (sym (own_here place s.serves.os))
-    (subst Q (sym (waits_here a.seats place s.seat s.seat_is)) (subst R (sym after) s.serves.moves))
+    let P : List Own → Type 0 = λ os. Moves (a.wires place) (b.wires place) os in subst P (sym (own_here place s.serves.os)) s.serves.moves
 
 visit_moves_away : (place other : ℕ) (a b : SightOf) (s : ServesAt place a b) → other ≢ place → MovesAt other a b (at_place place s.serves.os)
 visit_moves_away place other a b s away =
-    let P : List Own → Type 0 = λ os. Moves (a.wires other) (b.wires other) (waits_at a.seats other) (waits_at b.seats other) os in
-    let Q : WireOf → Type 0 = λ w. Moves (a.wires other) w (waits_at a.seats other) (waits_at b.seats other) [] in
-    let R : List ℕ → Type 0 = λ l. Moves (a.wires other) (a.wires other) (waits_at a.seats other) l [] in
-    let after : waits_at b.seats other ≡ waits_at a.seats other =
-    ap (λ l. waits_at l other) s.seats_are ∙ waits_away a.seats place other s.next away in
-    subst P (sym (own_away place other s.serves.os (λ e. away (sym e))))
-    (subst Q (sym (s.serves.others other away)) (subst R (sym after) (moves_none (a.wires other) (waits_at a.seats other))))
+    let P : List Own → Type 0 = λ os. Moves (a.wires other) (b.wires other) os in
+    let Q : WireOf → Type 0 = λ w. Moves (a.wires other) w [] in
+    subst P (sym (own_away place other s.serves.os (λ e. away (sym e)))) (subst Q (sym (s.serves.others other away)) (moves_none (a.wires other)))
 
 visit_moves : (place : ℕ) (a b : SightOf) (s : ServesAt place a b) (other : ℕ) → MovesAt other a b (at_place place s.serves.os)
 visit_moves place a b s other = elim (eqb_tells other place) [
@@ -170,14 +137,13 @@ moved_more place a b c m s = record {
   calls = calls_join m.events (at_place place s.serves.os) m.calls (calls_at place s.serves.os);
   run = run_joins a.hub b.hub c.hub m.events (at_place place s.serves.os) m.run s.serves.run;
   moves = λ other.
-      let P : List Own → Type 0 = λ os. Moves (a.wires other) (c.wires other) (waits_at a.seats other) (waits_at c.seats other) os in
-      subst P (sym (own_join other m.events (at_place place s.serves.os) m.calls))
-      (moves_join _ _ _ _ _ _ _ _ (m.moves other) (visit_moves place b c s other));
+      let P : List Own → Type 0 = λ os. Moves (a.wires other) (c.wires other) os in
+      subst P (sym (own_join other m.events (at_place place s.serves.os) m.calls)) (moves_join _ _ _ _ _ (m.moves other) (visit_moves place b c s other));
 }
 
 moved_none : (a b : SightOf) → b ≡ a → Moved a b
-moved_none a b e = let P : SightOf → Type 0 = λ x. Moved a x in subst P (sym e)
-    (record { events = []; calls = tt; run = run_none a.hub; moves = λ other. moves_none (a.wires other) (waits_at a.seats other) })
+moved_none a b e = let P : SightOf → Type 0 = λ x. Moved a x in
+    subst P (sym e) (record { events = []; calls = tt; run = run_none a.hub; moves = λ other. moves_none (a.wires other) })
 
 pub round_moves : RoundMoves
 round_moves zero a b r = moved_none a b r
@@ -196,18 +162,15 @@ stream_is : (os : List Own) → AllWereTaken os → bytes_of (stream_of os) ≡ 
 stream_is [] a = refl
 stream_is (o ∷ os) a = stream_join o.call o.answer os a.0 (stream_is os a.1)
 
-front_of : (sent after taken all : List ℕ) → taken ≡ sent ++ after → IsFrontOf taken all → IsFrontOf sent all
-front_of sent after taken all e f = (after ++ f.0, sym (append_assoc sent after f.0) ∙ ap (λ l. l ++ f.0) (sym e) ∙ f.1)
-
 pub serves_socket : GivesReplies → ServesSocket
-serves_socket gives start end place events old new after run m =
+serves_socket gives start end place events old new run m =
     let g = gives start end place events run in record {
-      sent = m.sent;
+      sent = taken_of (own_of place events);
       taken = m.taken;
       some = g.some;
       first = g.first;
-      front = front_of m.sent after (taken_of (own_of place events)) g.some m.output g.front;
-      whole = λ all r. front_of m.sent after (taken_of (own_of place events)) all m.output (g.whole all r);
+      front = g.front;
+      whole = λ all r. g.whole all r;
       left = m.left;
       stream = stream_is (own_of place events);
       ended = m.ended;

@@ -5,5 +5,6 @@ mod LeaveLemmas
 mod LifeLemmas
 mod RoundLemmas
 mod RunLemmas
+mod LendLemmas
 mod VisitLemmas
 mod WalkLemmas

@@ -1,5 +1,5 @@
 -- What moves at a place in a life, from where a connection is opened there.
-use Rattle.std.proofs.Common.{◌≡◌, ◌≢◌, ℕ, zero, suc, List, [], ◌∷◌, ◌++◌, set, Option, None, Some, refl, sym, ap, subst, ◌∙◌, inl, inr, append-nil}
+use Rattle.std.proofs.Common.{◌≡◌, ◌≢◌, ℕ, List, [], ◌∷◌, ◌++◌, Option, None, Some, refl, sym, ap, subst, ◌∙◌, inl, inr}
 use Rattle.std.specs.Prelude.{⊤, Bool, true, false, ◌==◌, if◌then◌else◌}
 use Rattle.std.proofs.lemmas.Bool.Decides.{eqb_tells}
 use Rattle.std.specs.Io.KnownBytes.{Appends, Consumes}
@@ -9,16 +9,15 @@ use Rattle.odata_hub.specs.declared.answers.HubFault.{HubFault}
 use Rattle.odata_hub.specs.Connections.{Answer, Call, Done, Opened, Own, Refused}
 use Rattle.odata_hub.specs.Schedules.{Drop, Event, Happening, On, Open, Reload, opened, own_before, own_of}
 use Rattle.odata_hub.specs.Stands.{IsHubStep}
-use Rattle.odata_rounds.specs.declared.seat.Seat.{Seat}
 use Rattle.odata_rounds.specs.Peers.{WireOf}
 use Rattle.odata_rounds.specs.Visits.{IsHubRun, Moves}
 use Rattle.odata_rounds.specs.Rounds.{SightOf}
-use Rattle.odata_rounds.specs.Laws.{AreCalls, IsCall, Moved, MovesAt, waits_at}
-use Rattle.odata_rounds.specs.Lives.{AreElsewhere, Clears, Deed, Frees, Goes, IsCarried, IsDeed, IsElsewhere, KeepsAll, KeepsBytes, Lives, LivesMove, MovesSince, Opens, Refuses, Reloads, Stands, free_seat}
+use Rattle.odata_rounds.specs.Laws.{AreCalls, IsCall, Moved, MovesAt}
+use Rattle.odata_rounds.specs.Lives.{AreElsewhere, Clears, Deed, Frees, Goes, IsCarried, IsDeed, IsElsewhere, KeepsAll, KeepsBytes, Lives, LivesMove, MovesSince, Opens, Refuses, Reloads, Stands}
 use Rattle.odata_rounds.proofs.RunLemmas.{run_joins, run_none, run_one, run_step}
 use Rattle.odata_rounds.proofs.ByteLemmas.{consumes_none}
 use Rattle.odata_rounds.proofs.VisitLemmas.{appends_none}
-use Rattle.odata_rounds.proofs.LawLemmas.{moves_join, round_moves, waits_away}
+use Rattle.odata_rounds.proofs.LawLemmas.{moves_join, round_moves}
 
 -- ---- events that give back no connection at a place
 
@@ -67,15 +66,9 @@ stays_join place (x ∷ xs) ys c d = (c.0, stays_join place xs ys c.1 d)
 
 -- ---- what one deed moves at a place that it leaves alone
 
--- nothing moves where the socket tells the same bytes, and the same waits for it
-moves_still : (a b : WireOf) (before after : List ℕ) → KeepsBytes a b → after ≡ before → Moves a b before after []
-moves_still a b before after k e = record {
-  sent = [];
-  output = append-nil before ∙ sym e;
-  taken = appends_none _ _ k.1;
-  left = consumes_none _ _ k.0;
-  ended = λ no. absurd (cc no);
-}
+-- nothing moves where the socket tells the same bytes
+moves_still : (a b : WireOf) → KeepsBytes a b → Moves a b []
+moves_still a b k = record { taken = appends_none _ _ k.1; left = consumes_none _ _ k.0; ended = λ no. absurd (cc no) }
 
 -- the events of a deed, and what moves at the place by them
 pub record MovesBy (place : ℕ) (old new : SightOf) : Type 0 where
@@ -84,12 +77,11 @@ pub record MovesBy (place : ℕ) (old new : SightOf) : Type 0 where
   pub run : IsHubRun old.hub events new.hub
   pub moves : MovesAt place old new events
 
-cleared : (place at : ℕ) (a b : SightOf) → Clears at a b → at ≢ place → Moves (a.wires place) (b.wires place) (waits_at a.seats place) (waits_at b.seats place) []
-cleared place at a b c away = moves_still _ _ _ _ (c.bytes place (λ e. away (sym e)))
-    (ap (λ l. waits_at l place) c.seats ∙ waits_away a.seats at place free_seat (λ e. away (sym e)))
+cleared : (place at : ℕ) (a b : SightOf) → Clears at a b → at ≢ place → Moves (a.wires place) (b.wires place) []
+cleared place at a b c away = moves_still _ _ (c.bytes place (λ e. away (sym e)))
 
-kept : (place : ℕ) (a b : SightOf) → KeepsAll a b → Moves (a.wires place) (b.wires place) (waits_at a.seats place) (waits_at b.seats place) []
-kept place a b k = moves_still _ _ _ _ (k.bytes place) (ap (λ l. waits_at l place) k.seats)
+kept : (place : ℕ) (a b : SightOf) → KeepsAll a b → Moves (a.wires place) (b.wires place) []
+kept place a b k = moves_still _ _ (k.bytes place)
 
 own_drop : (place at : ℕ) (answer : Answer) → at ≢ place → own_of place (record { event = Drop at; answer = answer } ∷ []) ≡ []
 own_drop place at answer away = elim (eqb_tells at place) [
@@ -113,7 +105,7 @@ deed_moves place (Refuses fault) a b away d = record {
   moves = kept place a b d.1;
 }
 deed_moves place (Frees at answer) a b away d =
-    let P : List Own → Type 0 = λ os. Moves (a.wires place) (b.wires place) (waits_at a.seats place) (waits_at b.seats place) os in record {
+    let P : List Own → Type 0 = λ os. Moves (a.wires place) (b.wires place) os in record {
       events = record { event = Drop at; answer = answer } ∷ [];
       stays = (away, tt);
       run = run_one a.hub b.hub (Drop at) answer d.0 (λ h s. tt);
@@ -130,16 +122,16 @@ deed_moves place Stands a b away d = let P : Hub → Type 0 = λ x. IsHubRun a.h
 
 moves_on : (place : ℕ) (a b c : SightOf) → MovesBy place a b → MovesBy place b c → MovesBy place a c
 moves_on place a b c m n =
-    let P : List Own → Type 0 = λ os. Moves (a.wires place) (c.wires place) (waits_at a.seats place) (waits_at c.seats place) os in record {
+    let P : List Own → Type 0 = λ os. Moves (a.wires place) (c.wires place) os in record {
       events = m.events ++ n.events;
       stays = stays_join place m.events n.events m.stays n.stays;
       run = run_joins a.hub b.hub c.hub m.events n.events m.run n.run;
-      moves = subst P (sym (own_joins place m.events n.events m.stays)) (moves_join _ _ _ _ _ _ _ _ m.moves n.moves);
+      moves = subst P (sym (own_joins place m.events n.events m.stays)) (moves_join _ _ _ _ _ m.moves n.moves);
     }
 
 moves_same : (place : ℕ) (a b : SightOf) → b ≡ a → MovesBy place a b
 moves_same place a b e = let P : SightOf → Type 0 = λ x. MovesBy place a x in
-    subst P (sym e) (record { events = []; stays = tt; run = run_none a.hub; moves = moves_still _ _ _ _ (refl, refl) refl })
+    subst P (sym e) (record { events = []; stays = tt; run = run_none a.hub; moves = moves_still _ _ (refl, refl) })
 
 life_moves : (place : ℕ) (deeds : List Deed) (a b : SightOf) → AreElsewhere place deeds → Lives a deeds b → MovesBy place a b
 life_moves place [] a b away l = moves_same place a b l
@@ -152,18 +144,12 @@ pub lives_split : (xs ys : List Deed) (a b : SightOf) → Lives a (xs ++ ys) b �
 lives_split [] ys a b l = (a, refl, l)
 lives_split (x ∷ xs) ys a b l = let more = lives_split xs ys l.0 b l.2 in (more.0, (l.0, l.1, more.1), more.2)
 
-waits_cleared : (seats : List Seat) (place : ℕ) → waits_at (set seats place free_seat) place ≡ []
-waits_cleared [] place = refl
-waits_cleared (seat ∷ seats) zero = refl
-waits_cleared (seat ∷ seats) (suc place) = waits_cleared seats place
-
 since : (place : ℕ) (a b c : SightOf) → IsDeed (Opens place) a b → MovesBy place b c → MovesSince place a b c
-since place a b c d m =
-    let P : List ℕ → Type 0 = λ l. Moves (b.wires place) (c.wires place) l (waits_at c.seats place) (own_of place m.events) in record {
-      events = m.events;
-      run = run_step a.hub b.hub c.hub Open (Opened place) m.events d.0 (λ h s. tt) m.run;
-      moves = subst P (ap (λ l. waits_at l place) d.1.seats ∙ waits_cleared a.seats place) m.moves;
-    }
+since place a b c d m = record {
+  events = m.events;
+  run = run_step a.hub b.hub c.hub Open (Opened place) m.events d.0 (λ h s. tt) m.run;
+  moves = m.moves;
+}
 
 pub lives_move : LivesMove
 lives_move old new place before during after l away =

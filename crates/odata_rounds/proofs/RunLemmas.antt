@@ -1,4 +1,4 @@
--- Schedules of a hub, one behind another.
+-- Schedules of a hub, one after another.
 use Rattle.std.proofs.Common.{List, [], ◌∷◌, ◌++◌, refl}
 use Rattle.odata_hub.specs.declared.hub.Hub.{Hub}
 use Rattle.odata_hub.specs.Connections.{Answer}

@@ -1,23 +1,25 @@
 -- What the steps of a visit come to.
-use Rattle.std.proofs.Common.{◌≡◌, ℕ, ◌<◌, ◌≤◌, zero, suc, List, [], ◌∷◌, ◌++◌, take, drop, length, Option, None, Some, Result, Ok, Err, refl, sym, ◌∙◌, subst, inl, inr, arith, append-nil, take-append-drop}
+use Rattle.std.proofs.Common.{◌≡◌, ℕ, ◌<◌, ◌≤◌, zero, suc, List, [], ◌∷◌, ◌++◌, take, length, Option, None, Some, Result, Ok, Err, refl, sym, ap, ◌∙◌, subst, inl, inr, arith, append-nil, length-append}
 use Rattle.std.specs.Prelude.{⊤, Bool, true, false, ◌==◌}
+use Rattle.std.specs.Borrow.{Bor}
 use Rattle.std.proofs.lemmas.Bool.{eqb-true}
+use Rattle.std.proofs.lemmas.List.{length-take-le}
 use Rattle.std.specs.Io.KnownBytes.{Appends, Consumes}
 use Rattle.table_store.specs.Catalog.{CatalogOf}
 use Rattle.odata_hub.specs.declared.hub.Hub.{Hub}
 use Rattle.odata_hub.specs.declared.answers.HubFault.{HubFault}
 use Rattle.odata_hub.specs.declared.answers.HubFault.TheVariants.{Full, NoSuchConnection, Ended, Failed as HubFailed, NoMemory}
 use Rattle.odata_hub.specs.declared.answers.Turned.TheVariants.{Idle, Worked as TurnWorked}
-use Rattle.odata_hub.specs.Connections.{Done, End, Gave, Piece, Refused, Take, Turn, Went, call_answer, given_by}
-use Rattle.odata_hub.specs.Schedules.{On}
-use Rattle.odata_hub.specs.Stands.{IsHubStep}
+use Rattle.odata_hub.specs.Connections.{Done, End, Piece, Refused, Turn, Went, call_answer, given_by}
+use Rattle.odata_hub.specs.Schedules.{On, conn_at}
+use Rattle.odata_hub.specs.Stands.{IsHubStep, IsHubTook}
 use Rattle.odata_rounds.specs.declared.answers.PeerFault.TheVariants.{Waits, Lost as PeerLost}
-use Rattle.odata_rounds.specs.declared.answers.Stepped.{Stepped}
-use Rattle.odata_rounds.specs.declared.answers.Stepped.TheVariants.{Free, Rests, Worked, Answered, Lost, Failed}
-use Rattle.odata_rounds.specs.declared.outbox.TheConstants.{TAKE_BYTES}
+use Rattle.odata_rounds.specs.declared.answers.SlotState.{SlotState}
+use Rattle.odata_rounds.specs.declared.answers.SlotState.TheVariants.{Free, Rests, Worked, Answered, Lost, Failed}
 use Rattle.odata_rounds.specs.Peers.{IsRead, IsWrite, KeepsOthers, WireOf}
-use Rattle.odata_rounds.specs.Visits.{AfterIdle, AfterTake, Became, MakesCalls, IsAtRest, IsOverAt, DidWork, Last, Serves, Writes, at_place, came, came_to, end, nothing, nowhere, piece, reads, ends, goes, idles, none, gives, refused, took, turned, went, wrote}
+use Rattle.odata_rounds.specs.Visits.{AfterIdle, AfterTake, Became, IsHubRun, IsOverAt, MakesCalls, Serves, at_place, came, came_to, end, ends, gives, goes, idles, misses, none, nothing, nowhere, piece, reads, took, turned, waits, went, wrote}
 use Rattle.odata_rounds.proofs.ByteLemmas.{consumes_none, keeps_appends, keeps_consumes, read_out}
+use Rattle.odata_rounds.proofs.LendLemmas.{Lends, has_output, is_dry, is_free, run_took}
 use Rattle.odata_rounds.proofs.RunLemmas.{run_none, run_one, run_step}
 
 -- ---- answers to pieces and ends
@@ -27,7 +29,7 @@ came_output (Ok u) = refl
 came_output (Err fault) = refl
 
 came_became : (answer : Result ⊤ HubFault) (hub : Hub) (place : ℕ) (old new : WireOf)
-    → Became (came_to answer) hub place old new [] [] (came (call_answer (λ _. Done) answer))
+    → Became (came_to answer) hub place old new [] (came (call_answer (λ _. Done) answer))
 came_became (Ok u) hub place old new = inr refl
 came_became (Err Full) hub place old new = (Full, inr (λ e. absurd (cc e), refl))
 came_became (Err NoSuchConnection) hub place old new = (NoSuchConnection, inr (λ e. absurd (cc e), refl))
@@ -35,18 +37,18 @@ came_became (Err HubFailed) hub place old new = (HubFailed, inr (λ e. absurd (c
 came_became (Err Ended) hub place old new = inl refl
 came_became (Err NoMemory) hub place old new = (NoMemory, inr (λ e. absurd (cc e), refl))
 
-pub came_became_by : (answer : Result ⊤ HubFault) (stepped : Stepped) (hub : Hub) (place : ℕ) (old new : WireOf) → stepped ≡ came_to answer
-    → Became stepped hub place old new [] [] (came (call_answer (λ _. Done) answer))
-came_became_by answer stepped hub place old new e =
-    let P : Stepped → Type 0 = λ x. Became x hub place old new [] [] (came (call_answer (λ _. Done) answer)) in
+pub came_became_by : (answer : Result ⊤ HubFault) (state : SlotState) (hub : Hub) (place : ℕ) (old new : WireOf) → state ≡ came_to answer
+    → Became state hub place old new [] (came (call_answer (λ _. Done) answer))
+came_became_by answer state hub place old new e =
+    let P : SlotState → Type 0 = λ x. Became x hub place old new [] (came (call_answer (λ _. Done) answer)) in
     subst P (sym e) (came_became answer hub place old new)
 
 -- ---- what is read of an idle connection's socket
 
-pub read_end : (place : ℕ) (a b : Hub) (w v : ℕ → WireOf) (buf : List ℕ) (n : ℕ) (answer : Result ⊤ HubFault) (stepped : Stepped)
+pub read_end : (place : ℕ) (a b : Hub) (w v : ℕ → WireOf) (buf : List ℕ) (n : ℕ) (answer : Result ⊤ HubFault) (state : SlotState)
     → n ≡ 0 → 0 < length buf → IsRead (w place) (v place) buf (Ok n) → KeepsOthers place w v → IsOverAt a place false
-    → IsHubStep a (On place End) (call_answer (λ _. Done) answer) b → stepped ≡ came_to answer → MakesCalls AfterIdle place a b w v stepped
-read_end place a b w v buf zero answer stepped e lt r others not_over step is = record {
+    → IsHubStep a (On place End) (call_answer (λ _. Done) answer) b → state ≡ came_to answer → MakesCalls AfterIdle place a b w v state
+read_end place a b w v buf zero answer state e lt r others not_over step is = record {
   os = end (call_answer (λ _. Done) answer) ∷ [];
   last = came (call_answer (λ _. Done) answer);
   kind = ends (call_answer (λ _. Done) answer);
@@ -55,16 +57,16 @@ read_end place a b w v buf zero answer stepped e lt r others not_over step is = 
   taken = r.taken;
   left = r.left.0;
   ended = λ _. read_out _ _ _ r.left.0 (r.left.1 refl lt);
-  became = came_became_by answer stepped b place (w place) (v place) is;
+  became = came_became_by answer state b place (w place) (v place) is;
   others = others;
 }
-read_end place a b w v buf (suc n) answer stepped e lt r others not_over step is = absurd (omega arith)
+read_end place a b w v buf (suc n) answer state e lt r others not_over step is = absurd (omega arith)
 
-piece_of_bytes : (place : ℕ) (a b : Hub) (w v : ℕ → WireOf) (bytes : List ℕ) (catalog : CatalogOf) (answer : Result ⊤ HubFault) (stepped : Stepped)
+piece_of_bytes : (place : ℕ) (a b : Hub) (w v : ℕ → WireOf) (bytes : List ℕ) (catalog : CatalogOf) (answer : Result ⊤ HubFault) (state : SlotState)
     → 0 < length bytes → Consumes (w place).left (v place).left bytes → (v place).taken ≡ (w place).taken → KeepsOthers place w v
-    → IsOverAt a place false → IsHubStep a (On place (Piece catalog bytes)) (call_answer (λ _. Done) answer) b → stepped ≡ came_to answer → MakesCalls AfterIdle place a b w v stepped
-piece_of_bytes place a b w v [] catalog answer stepped lt left taken others not_over step is = absurd (omega arith)
-piece_of_bytes place a b w v (x ∷ bytes) catalog answer stepped lt left taken others not_over step is =
+    → IsOverAt a place false → IsHubStep a (On place (Piece catalog bytes)) (call_answer (λ _. Done) answer) b → state ≡ came_to answer → MakesCalls AfterIdle place a b w v state
+piece_of_bytes place a b w v [] catalog answer state lt left taken others not_over step is = absurd (omega arith)
+piece_of_bytes place a b w v (x ∷ bytes) catalog answer state lt left taken others not_over step is =
     let P : List ℕ → Type 0 = λ l. Consumes (w place).left (v place).left l in record {
       os = piece catalog (x ∷ bytes) (call_answer (λ _. Done) answer) ∷ [];
       last = came (call_answer (λ _. Done) answer);
@@ -74,17 +76,17 @@ piece_of_bytes place a b w v (x ∷ bytes) catalog answer stepped lt left taken 
       taken = taken;
       left = subst P (sym (append-nil (x ∷ bytes))) left;
       ended = λ no. absurd (cc no);
-      became = came_became_by answer stepped b place (w place) (v place) is;
+      became = came_became_by answer state b place (w place) (v place) is;
       others = others;
     }
 
 pub read_piece : (place : ℕ) (a b : Hub) (w v : ℕ → WireOf) (buf : List ℕ) (n : ℕ) (catalog : CatalogOf) (answer : Result ⊤ HubFault)
-    (stepped : Stepped) → 0 < n → IsRead (w place) (v place) buf (Ok n) → KeepsOthers place w v → IsOverAt a place false
-    → IsHubStep a (On place (Piece catalog (take n buf))) (call_answer (λ _. Done) answer) b → stepped ≡ came_to answer
-    → MakesCalls AfterIdle place a b w v stepped
-read_piece place a b w v buf n catalog answer stepped lt r others not_over step is =
+    (state : SlotState) → 0 < n → IsRead (w place) (v place) buf (Ok n) → KeepsOthers place w v → IsOverAt a place false
+    → IsHubStep a (On place (Piece catalog (take n buf))) (call_answer (λ _. Done) answer) b → state ≡ came_to answer
+    → MakesCalls AfterIdle place a b w v state
+read_piece place a b w v buf n catalog answer state lt r others not_over step is =
     let some : length (take n buf) ≡ n = sym r.bound.1 in
-    piece_of_bytes place a b w v (take n buf) catalog answer stepped (omega arith) r.left.0 r.taken others not_over step is
+    piece_of_bytes place a b w v (take n buf) catalog answer state (omega arith) r.left.0 r.taken others not_over step is
 
 pub read_waits : (place : ℕ) (a : Hub) (w v : ℕ → WireOf) (buf : List ℕ) → IsRead (w place) (v place) buf (Err Waits) → KeepsOthers place w v
     → IsOverAt a place false → MakesCalls AfterIdle place a a w v Rests
@@ -97,7 +99,7 @@ read_waits place a w v buf r others not_over = record {
   taken = r.taken;
   left = keeps_consumes _ _ r.left;
   ended = λ no. absurd (cc no);
-  became = (r.counts.0, (refl, not_over));
+  became = (r.counts.0, inr (refl, not_over));
   others = others;
 }
 
@@ -112,7 +114,7 @@ read_lost place a w v buf r others not_over = record {
   taken = r.taken;
   left = keeps_consumes _ _ r.left;
   ended = λ no. absurd (cc no);
-  became = (r.counts.1, (refl, not_over));
+  became = (r.counts.1, inr (refl, not_over));
   others = others;
 }
 
@@ -162,9 +164,9 @@ turn_refused place a b w fault step = record {
   others = λ other away. refl;
 }
 
-pub turn_idle : (place : ℕ) (a b c : Hub) (w v : ℕ → WireOf) (stepped : Stepped) → IsHubStep a (On place Turn) (Went Idle) b
-    → MakesCalls AfterIdle place b c w v stepped → MakesCalls AfterTake place a c w v stepped
-turn_idle place a b c w v stepped step rest = record {
+pub turn_idle : (place : ℕ) (a b c : Hub) (w v : ℕ → WireOf) (state : SlotState) → IsHubStep a (On place Turn) (Went Idle) b
+    → MakesCalls AfterIdle place b c w v state → MakesCalls AfterTake place a c w v state
+turn_idle place a b c w v state step rest = record {
   os = went (Went Idle) ∷ rest.os;
   last = rest.last;
   kind = idles rest.last rest.os rest.kind;
@@ -177,50 +179,6 @@ turn_idle place a b c w v stepped step rest = record {
   others = rest.others;
 }
 
--- ---- writes
-
-IsWork-some : (n : ℕ) (xs : List ℕ) → 0 < n → n ≤ length xs → DidWork (take n xs) wrote
-IsWork-some zero xs lt le = absurd (omega arith)
-IsWork-some (suc n) [] lt le = absurd (omega arith)
-IsWork-some (suc n) (x ∷ xs) lt le = tt
-
-pub writes_some : (place : ℕ) (w v : ℕ → WireOf) (before : List ℕ) (n : ℕ) → 0 < length before → IsWrite (w place) (v place) before (Ok n)
-    → KeepsOthers place w v → Writes place w v before (drop n before) Worked
-writes_some place w v before n lt r others = record {
-  sent = take n before;
-  split = sym (take-append-drop n before);
-  taken = r.taken;
-  left = r.left;
-  became = λ hub. IsWork-some n before (r.some lt) r.bound;
-  others = others;
-}
-
-IsAtRest-some : (hub : Hub) (place : ℕ) (xs : List ℕ) (last : Last) → 0 < length xs → IsAtRest hub place xs last
-IsAtRest-some hub place [] last lt = absurd (omega arith)
-IsAtRest-some hub place (x ∷ xs) last lt = tt
-
-pub writes_waits : (place : ℕ) (w v : ℕ → WireOf) (before : List ℕ) → 0 < length before → IsWrite (w place) (v place) before (Err Waits)
-    → KeepsOthers place w v → Writes place w v before before Rests
-writes_waits place w v before lt r others = record {
-  sent = [];
-  split = refl;
-  taken = keeps_appends _ _ r.taken;
-  left = r.left;
-  became = λ hub. (r.counts.0, IsAtRest-some hub place before wrote lt);
-  others = others;
-}
-
-pub writes_lost : (place : ℕ) (w v : ℕ → WireOf) (before : List ℕ) → 0 < length before → IsWrite (w place) (v place) before (Err PeerLost)
-    → KeepsOthers place w v → Writes place w v before before Lost
-writes_lost place w v before lt r others = record {
-  sent = [];
-  split = refl;
-  taken = keeps_appends _ _ r.taken;
-  left = r.left;
-  became = λ hub. (r.counts.1, IsAtRest-some hub place before wrote lt);
-  others = others;
-}
-
 -- ---- whole visits
 
 pub appends_none : (a b : Option (List ℕ)) → b ≡ a → Appends a b []
@@ -228,62 +186,85 @@ appends_none None b e = tt
 appends_none (Some xs) None e = absurd (cc e)
 appends_none (Some xs) (Some ys) e = let same : ys ≡ xs = cc e in same ∙ sym (append-nil xs)
 
-pub serves_waiting : (place : ℕ) (a : Hub) (w v : ℕ → WireOf) (before after : List ℕ) (stepped : Stepped) → 0 < length before
-    → Writes place w v before after stepped → Serves place a a w v before after stepped
-serves_waiting place a w v [] after stepped lt x = absurd (omega arith)
-serves_waiting place a w v (b ∷ before) after stepped lt x = record {
+wrote_of : (place n : ℕ) (a b : Hub) (w v : ℕ → WireOf) (given : List ℕ) → 0 < length given → IsHubRun a (at_place place (took n given ∷ [])) b
+    → Appends (w place).taken (v place).taken given → (v place).left ≡ (w place).left → KeepsOthers place w v → Serves place a b w v Worked
+wrote_of place n a b w v [] lt run taken left others = absurd (omega arith)
+wrote_of place n a b w v (y ∷ given) lt run taken left others =
+    let P : List ℕ → Type 0 = λ l. Appends (w place).taken (v place).taken l in record {
+      os = took n (y ∷ given) ∷ [];
+      last = wrote;
+      visit = gives n y given;
+      run = run;
+      moves = record { taken = subst P (sym (append-nil (y ∷ given))) taken; left = consumes_none _ _ left; ended = λ no. absurd (cc no) };
+      became = tt;
+      others = others;
+    }
+
+-- the socket took bytes of the output
+pub serves_wrote : (place : ℕ) (a b : Hub) (w v : ℕ → WireOf) (bytes : Bor (List ℕ)) (n : ℕ) → Lends a place (Ok bytes) → 0 < length bytes.now
+    → IsWrite (w place) (v place) bytes.now (Ok n) → KeepsOthers place w v → IsHubTook a place n b → Serves place a b w v Worked
+serves_wrote place a b w v bytes n lends lt r others taken =
+    let some : 0 < n = r.some lt in
+    let le : n ≤ length bytes.now = r.bound in
+    let long : length (take n bytes.now) ≡ n = length-take-le n bytes.now le in
+    wrote_of place n a b w v (take n bytes.now) (omega (arith, some, long)) (run_took place n a b bytes lends le taken) r.taken r.left others
+
+-- it took nothing for now
+pub serves_rests : (place : ℕ) (a : Hub) (w v : ℕ → WireOf) (bytes : Bor (List ℕ)) → Lends a place (Ok bytes) → 0 < length bytes.now
+    → IsWrite (w place) (v place) bytes.now (Err Waits) → KeepsOthers place w v → Serves place a a w v Rests
+serves_rests place a w v bytes lends lt r others = record {
   os = [];
   last = wrote;
-  visit = (refl, refl);
+  visit = waits;
   run = run_none a;
-  moves = record { sent = x.sent; output = append-nil (b ∷ before) ∙ x.split; taken = x.taken; left = consumes_none _ _ x.left; ended = λ no. absurd (cc no) };
-  became = x.became a;
-  others = x.others;
+  moves = record { taken = keeps_appends _ _ r.taken; left = consumes_none _ _ r.left; ended = λ no. absurd (cc no) };
+  became = (r.counts.0, inl (refl, λ h s. has_output (conn_at h place) bytes lt (lends h s)));
+  others = others;
 }
 
-pub serves_output : (place : ℕ) (a b : Hub) (w v : ℕ → WireOf) (mid after : List ℕ) (stepped : Stepped) → 0 < length mid
-    → IsHubStep a (On place (Take TAKE_BYTES)) (Gave mid) b → Writes place w v mid after stepped → Serves place a b w v [] after stepped
-serves_output place a b w v [] after stepped lt step x = absurd (omega arith)
-serves_output place a b w v (y ∷ mid) after stepped lt step x = record {
-  os = took (Gave (y ∷ mid)) ∷ [];
+-- it is lost
+pub serves_lost : (place : ℕ) (a : Hub) (w v : ℕ → WireOf) (bytes : Bor (List ℕ)) → Lends a place (Ok bytes) → 0 < length bytes.now
+    → IsWrite (w place) (v place) bytes.now (Err PeerLost) → KeepsOthers place w v → Serves place a a w v Lost
+serves_lost place a w v bytes lends lt r others = record {
+  os = [];
   last = wrote;
-  visit = gives y mid;
-  run = run_one a b (On place (Take TAKE_BYTES)) (Gave (y ∷ mid)) step (λ h stands. tt);
-  moves = record { sent = x.sent; output = append-nil (y ∷ mid) ∙ x.split; taken = x.taken; left = consumes_none _ _ x.left; ended = λ no. absurd (cc no) };
-  became = x.became b;
-  others = x.others;
+  visit = waits;
+  run = run_none a;
+  moves = record { taken = keeps_appends _ _ r.taken; left = consumes_none _ _ r.left; ended = λ no. absurd (cc no) };
+  became = (r.counts.1, inl (refl, λ h s. has_output (conn_at h place) bytes lt (lends h s)));
+  others = others;
 }
 
-pub serves_none : (place : ℕ) (a b c : Hub) (w v : ℕ → WireOf) (mid : List ℕ) (stepped : Stepped) → length mid ≡ 0
-    → IsHubStep a (On place (Take TAKE_BYTES)) (Gave mid) b → MakesCalls AfterTake place b c w v stepped → Serves place a c w v [] mid stepped
-serves_none place a b c w v [] stepped e step x = record {
-  os = took (Gave []) ∷ x.os;
-  last = x.last;
-  visit = none x.last x.os x.kind;
-  run = run_step a b c (On place (Take TAKE_BYTES)) (Gave []) (at_place place x.os) step (λ h stands. tt) x.run;
-  moves = record { sent = []; output = x.output; taken = appends_none _ _ x.taken; left = x.left; ended = x.ended };
-  became = x.became;
-  others = x.others;
-}
-serves_none place a b c w v (y ∷ mid) stepped e step x = absurd (omega arith)
+-- there is no output
+pub serves_dry : (place : ℕ) (a b : Hub) (w v : ℕ → WireOf) (bytes : Bor (List ℕ)) (state : SlotState) → Lends a place (Ok bytes) → length bytes.now ≡ 0
+    → MakesCalls AfterTake place a b w v state → Serves place a b w v state
+serves_dry place a b w v bytes state lends empty x =
+    let P : List ℕ → Type 0 = λ l. Appends (w place).taken (v place).taken l in
+    let Q : List ℕ → Type 0 = λ l. Became state b place (w place) (v place) l x.last in record {
+      os = x.os;
+      last = x.last;
+      visit = none (λ h s. is_dry (conn_at h place) bytes empty (lends h s)) x.last x.os x.kind;
+      run = x.run;
+      moves = record { taken = subst P (sym x.output) (appends_none _ _ x.taken); left = x.left; ended = x.ended };
+      became = subst Q (sym x.output) x.became;
+      others = x.others;
+    }
 
-pub serves_refused : (place : ℕ) (a b : Hub) (w : ℕ → WireOf) (after : List ℕ) (fault : HubFault) → after ≡ []
-    → IsHubStep a (On place (Take TAKE_BYTES)) (Refused fault) b → Serves place a b w w [] after Free
-serves_refused place a b w [] fault e step = record {
-  os = took (Refused fault) ∷ [];
+-- there is no connection
+pub serves_free : (place : ℕ) (a : Hub) (w : ℕ → WireOf) (fault : HubFault) → Lends a place (Err fault) → Serves place a a w w Free
+serves_free place a w fault lends = record {
+  os = [];
   last = nowhere;
-  visit = refused fault;
-  run = run_one a b (On place (Take TAKE_BYTES)) (Refused fault) step (λ h stands. tt);
-  moves = record { sent = []; output = refl; taken = appends_none _ _ refl; left = consumes_none _ _ refl; ended = λ no. absurd (cc no) };
-  became = refl;
+  visit = misses;
+  run = run_none a;
+  moves = record { taken = appends_none _ _ refl; left = consumes_none _ _ refl; ended = λ no. absurd (cc no) };
+  became = (refl, λ h s. is_free (conn_at h place) fault (lends h s));
   others = λ other away. refl;
 }
-serves_refused place a b w (y ∷ after) fault e step = absurd (cc e)
 
-pub nothing_waits : (xs : List ℕ) (b : Bool) → b ≡ (length xs == 0) → b ≡ true → xs ≡ []
-nothing_waits [] b e t = refl
-nothing_waits (x ∷ xs) b e t = let long : length (x ∷ xs) ≡ 0 = eqb-true (length (x ∷ xs)) 0 (sym e ∙ t) in absurd (omega arith)
+pub is_empty : (xs : List ℕ) (b : Bool) → b ≡ (length xs == 0) → b ≡ true → length xs ≡ 0
+is_empty xs b e t = eqb-true (length xs) 0 (sym e ∙ t)
 
-pub waiting_length : (xs : List ℕ) (b : Bool) → b ≡ (length xs == 0) → b ≡ false → 0 < length xs
-waiting_length [] b e t = let bad : false ≡ true = sym t ∙ e in absurd (cc bad)
-waiting_length (x ∷ xs) b e t = omega arith
+pub is_some : (xs : List ℕ) (b : Bool) → b ≡ (length xs == 0) → b ≡ false → 0 < length xs
+is_some [] b e t = let bad : false ≡ true = sym t ∙ e in absurd (cc bad)
+is_some (x ∷ xs) b e t = omega arith

@@ -1,5 +1,5 @@
 -- What follows for the connection at a place from what its visits do.
-use Rattle.std.specs.Prelude.{◌≡◌, ⊤, ℕ, zero, suc, true, List, [], ◌∷◌, ◌++◌}
+use Rattle.std.specs.Prelude.{◌≡◌, ⊤, ℕ, true, List, [], ◌∷◌, ◌++◌}
 use Rattle.std.specs.Io.KnownBytes.{Appends, Consumes}
 use Rattle.odata_hub.specs.declared.hub.Hub.{Hub}
 use Rattle.odata_hub.specs.Connections.{Answer, Call, Done, End, Own, Piece, Take, Turn, input_ended, stream_of}
@@ -7,21 +7,13 @@ use Rattle.odata_hub.specs.Laws.{IsFrontOf}
 use Rattle.odata_hub.specs.Replies.{AreFirstHubReplies, AreHubReplies}
 use Rattle.odata_hub.specs.Schedules.{Event, Happening, HubOf, HubRun, On, opened, own_of}
 use Rattle.odata_hub.specs.Streams.{bytes_of}
-use Rattle.odata_rounds.specs.declared.seat.Seat.{Seat}
 use Rattle.odata_rounds.specs.Peers.{WireOf}
 use Rattle.odata_rounds.specs.Visits.{IsHubRun, IsReadOut, Moves, pieces_of}
 use Rattle.odata_rounds.specs.Rounds.{Rounds, SightOf}
 
--- the bytes that wait for the socket at a place; none where there is no such place
-abbrev pub waits_at : List Seat → ℕ → List ℕ
-waits_at [] place = []
-waits_at (seat ∷ seats) zero = seat.waits
-waits_at (seat ∷ seats) (suc place) = waits_at seats place
-
 -- what moved between the connection at a place and its socket, by its own events among these
 abbrev pub MovesAt : ℕ → SightOf → SightOf → List Happening → Type 0
-MovesAt place old new events =
-    Moves (old.wires place) (new.wires place) (waits_at old.seats place) (waits_at new.seats place) (own_of place events)
+MovesAt place old new events = Moves (old.wires place) (new.wires place) (own_of place events)
 
 abbrev pub IsCall : Event → Type 0
 IsCall (On place call) = ⊤
@@ -45,10 +37,9 @@ RoundMoves = (places : ℕ) (old new : SightOf) → Rounds places old new → Mo
 
 -- what moved in turn moved together
 abbrev pub MovesJoin : Type 0
-MovesJoin = (a b c : WireOf) (before mid after : List ℕ) (os ps : List Own) → Moves a b before mid os → Moves b c mid after ps
-    → Moves a c before after (os ++ ps)
+MovesJoin = (a b c : WireOf) (os ps : List Own) → Moves a b os → Moves b c ps → Moves a c (os ++ ps)
 
--- one run of a hub behind another is a run
+-- one run of a hub after another is a run
 abbrev pub RunsJoin : Type 0
 RunsJoin = (a b c : Hub) (xs ys : List Happening) → IsHubRun a xs b → IsHubRun b ys c → IsHubRun a (xs ++ ys) c
 
@@ -76,7 +67,7 @@ pub record IsServedWire (os : List Own) (old new : WireOf) : Type 0 where
   pub stream : AllWereTaken os → bytes_of (stream_of os) ≡ pieces_of os
   pub ended : input_ended os ≡ true → IsReadOut old.left new.left
 
--- Whatever happened since a connection was opened: its socket, for which nothing waited then, was served so by its own events.
+-- Whatever happened since a connection was opened: its socket was served so by its own events.
 abbrev pub ServesSocket : Type 0
-ServesSocket = (start end : HubOf) (place : ℕ) (events : List Happening) (old new : WireOf) (after : List ℕ)
-    → HubRun start (opened place ∷ events) end → Moves old new [] after (own_of place events) → IsServedWire (own_of place events) old new
+ServesSocket = (start end : HubOf) (place : ℕ) (events : List Happening) (old new : WireOf)
+    → HubRun start (opened place ∷ events) end → Moves old new (own_of place events) → IsServedWire (own_of place events) old new

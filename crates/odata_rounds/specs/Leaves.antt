@@ -1,5 +1,5 @@
--- What a round leaves at a place: what waits there is of one reply, and where nothing worked, nothing is left to be done.
-use Rattle.std.specs.Prelude.{◌≡◌, ◌⊎◌, ◌<◌, ⊤, ℕ, true, false, List, [], ◌∷◌, ◌++◌, Option, Some, None, slice_get}
+-- What a round leaves at a place: the output there is of one reply, and where nothing worked, nothing is left to be done.
+use Rattle.std.specs.Prelude.{◌≡◌, ◌≢◌, ◌⊎◌, ◌<◌, ⊤, ℕ, true, false, List, [], ◌++◌, Option, Some, None, slice_get}
 use Rattle.std.specs.List.{list_any}
 use Rattle.odata_http.specs.Replies.{last_reply}
 use Rattle.odata_hub.specs.Connections.{ConnOf, works}
@@ -7,23 +7,23 @@ use Rattle.odata_hub.specs.Replies.{IsReplyTo}
 use Rattle.odata_hub.specs.Schedules.{Happening, HubOf, conn_at}
 use Rattle.odata_hub.specs.Stands.{Models}
 use Rattle.odata_hub.specs.Streams.{Asked}
-use Rattle.odata_rounds.specs.declared.answers.Stepped.{Stepped}
-use Rattle.odata_rounds.specs.declared.answers.Stepped.TheVariants.{Free, Rests, Worked, Answered, Lost, Failed}
-use Rattle.odata_rounds.specs.declared.seat.Seat.{Seat}
+use Rattle.odata_rounds.specs.declared.answers.SlotState.{SlotState}
+use Rattle.odata_rounds.specs.declared.answers.SlotState.TheVariants.{Free, Rests, Worked, Answered, Lost, Failed}
+use Rattle.odata_rounds.specs.declared.slot.Slot.{Slot}
 use Rattle.odata_rounds.specs.Comes.{ServingRun, is_over_at}
 use Rattle.odata_rounds.specs.Rounds.{Rounds, SightOf, is_working}
-use Rattle.odata_rounds.specs.Laws.{AreCalls, waits_at}
+use Rattle.odata_rounds.specs.Laws.{AreCalls}
 
 -- the whole reply to one head, or to what is left of a stream; an empty rest has none
 abbrev pub IsOneReply : List ℕ → Type 0
 IsOneReply reply = ((a : Asked) × IsReplyTo a reply) ⊎ ((rest : List ℕ) × (reply ≡ last_reply rest))
 
--- what waits for the socket, and the output behind that, are the back of one reply
-pub record AreOfOneReply (waits output : List ℕ) : Type 0 where
+-- the output is the back of one reply
+pub record AreOfOneReply (output : List ℕ) : Type 0 where
   pub sent : List ℕ
   pub reply : List ℕ
   pub one : IsOneReply reply
-  pub whole : sent ++ (waits ++ output) ≡ reply
+  pub whole : sent ++ output ≡ reply
 
 -- the output of what a place holds
 abbrev pub output_of : Option ConnOf → List ℕ
@@ -31,18 +31,17 @@ output_of None = []
 output_of (Some c) = c.output
 
 -- no more than one reply waits at a place
-abbrev pub HoldsOneReply : HubOf → SightOf → ℕ → Type 0
-HoldsOneReply h sight place = AreOfOneReply (waits_at sight.seats place) (output_of (conn_at h place))
+abbrev pub HoldsOneReply : HubOf → ℕ → Type 0
+HoldsOneReply h place = AreOfOneReply (output_of (conn_at h place))
 
--- Nothing is left to be done before the socket takes or has bytes: the place is free, or bytes wait for the socket, or there is no output and a turn
+-- Nothing is left to be done before the socket takes or has bytes: the place is free, or output waits for the socket, or there is no output and a turn
 -- finds nothing to do; or memory ran out for the connection.
-abbrev pub IsAtEase : Option ConnOf → List ℕ → Type 0
-IsAtEase None waits = ⊤
-IsAtEase (Some c) (b ∷ waits) = ⊤
-IsAtEase (Some c) [] = (c.output ≡ []) × ((works c ≡ false) ⊎ (c.failed ≡ true))
+abbrev pub IsAtEase : Option ConnOf → Type 0
+IsAtEase None = ⊤
+IsAtEase (Some c) = (c.output ≢ []) ⊎ ((c.output ≡ []) × ((works c ≡ false) ⊎ (c.failed ≡ true)))
 
--- what a place may be told whose connection is over, where no bytes wait for its socket: so much, or that memory ran out; or the visit worked
-abbrev pub MayTellOver : Stepped → Type 0
+-- what a place may be told whose connection is over: so much, or that memory ran out; or the visit worked
+abbrev pub MayTellOver : SlotState → Type 0
 MayTellOver Free = ⊥
 MayTellOver Rests = ⊥
 MayTellOver Worked = ⊤
@@ -51,20 +50,19 @@ MayTellOver Lost = ⊥
 MayTellOver Failed = ⊤
 
 -- the place is told that its connection is over
-abbrev pub IsToldOver : HubOf → ℕ → Seat → Type 0
-IsToldOver h place seat = seat.waits ≡ [] → is_over_at h place ≡ true → MayTellOver seat.stepped
+abbrev pub IsToldOver : HubOf → ℕ → Slot → Type 0
+IsToldOver h place slot = is_over_at h place ≡ true → MayTellOver slot.state
 
--- what a round leaves of a hub that stood for one: one that it stands for now, behind calls on its connections
+-- what a round leaves of a hub that stood for one: one that it stands for now, after calls on its connections
 pub record Leaves (places : ℕ) (old new : SightOf) (h : HubOf) : Type 0 where
   pub next : HubOf
   pub events : List Happening
   pub calls : AreCalls events
   pub run : ServingRun h events next
   pub stands : Models new.hub next
-  pub one_reply : (place : ℕ) → HoldsOneReply h old place → HoldsOneReply next new place
-  pub at_ease : list_any is_working new.seats ≡ false → (place : ℕ) → place < places
-      → IsAtEase (conn_at next place) (waits_at new.seats place)
-  pub over : (place : ℕ) (seat : Seat) → place < places → slice_get new.seats place ≡ Some seat → IsToldOver next place seat
+  pub one_reply : (place : ℕ) → HoldsOneReply h place → HoldsOneReply next place
+  pub at_ease : list_any is_working new.slots ≡ false → (place : ℕ) → place < places → IsAtEase (conn_at next place)
+  pub over : (place : ℕ) (slot : Slot) → place < places → slice_get new.slots place ≡ Some slot → IsToldOver next place slot
 
 -- No more than one reply waits at a place where that was so before the round; a round in which nothing worked leaves each place at rest; and a place
 -- whose connection is over is told so.

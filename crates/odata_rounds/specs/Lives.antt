@@ -5,17 +5,16 @@ use Rattle.odata_hub.specs.declared.answers.HubFault.{HubFault}
 use Rattle.odata_hub.specs.Connections.{Answer, Done, Opened, Refused}
 use Rattle.odata_hub.specs.Schedules.{Drop, Event, Happening, Open, Reload, opened, own_of}
 use Rattle.odata_hub.specs.Stands.{IsHubStep}
-use Rattle.odata_rounds.specs.declared.answers.Stepped.{Stepped}
-use Rattle.odata_rounds.specs.declared.answers.Stepped.TheVariants as became
-use Rattle.odata_rounds.specs.declared.seat.Seat.{Seat}
+use Rattle.odata_rounds.specs.declared.answers.SlotState.{SlotState}
+use Rattle.odata_rounds.specs.declared.answers.SlotState.TheVariants as became
+use Rattle.odata_rounds.specs.declared.slot.Slot.{Slot}
 use Rattle.odata_rounds.specs.Peers.{WireOf}
 use Rattle.odata_rounds.specs.Visits.{IsHubRun, Moves}
 use Rattle.odata_rounds.specs.Rounds.{Rounds, SightOf}
-use Rattle.odata_rounds.specs.Laws.{waits_at}
 
--- the seat of a place at which nothing waits, and nothing became of it
-abbrev pub free_seat : Seat
-free_seat = record { waits = []; stepped = became.Free }
+-- the slot of a place of which nothing became
+abbrev pub free_slot : Slot
+free_slot = record { state = became.Free }
 
 -- what a service does: a round; a connection is opened at a place, or none is; a place is given back; other tables; or nothing of these
 pub data Deed : Type 0 where
@@ -30,18 +29,18 @@ pub data Deed : Type 0 where
 abbrev pub KeepsBytes : WireOf → WireOf → Type 0
 KeepsBytes old new = (new.left ≡ old.left) × (new.taken ≡ old.taken)
 
--- what waits at each place, and what each socket tells, are as they were
+-- what is kept of each place, and what each socket tells, are as they were
 pub record KeepsAll (old new : SightOf) : Type 0 where
-  pub seats : new.seats ≡ old.seats
+  pub slots : new.slots ≡ old.slots
   pub bytes : (place : ℕ) → KeepsBytes (old.wires place) (new.wires place)
 
--- nothing waits at a place any more, which may have another socket now; all other places are as they were
+-- a place is cleared, which may have another socket now; all other places are as they were
 pub record Clears (place : ℕ) (old new : SightOf) : Type 0 where
-  pub seats : new.seats ≡ slice_set old.seats place free_seat
+  pub slots : new.slots ≡ slice_set old.slots place free_slot
   pub bytes : (other : ℕ) → other ≢ place → KeepsBytes (old.wires other) (new.wires other)
 
 -- no connection is over, lost or failed whose place was not given back
-abbrev pub IsSettledBy : Stepped → Type 0
+abbrev pub IsSettledBy : SlotState → Type 0
 IsSettledBy became.Free = ⊤
 IsSettledBy became.Rests = ⊤
 IsSettledBy became.Worked = ⊤
@@ -49,13 +48,13 @@ IsSettledBy became.Answered = ⊥
 IsSettledBy became.Lost = ⊥
 IsSettledBy became.Failed = ⊥
 
-abbrev pub AreSettled : List Seat → Type 0
+abbrev pub AreSettled : List Slot → Type 0
 AreSettled [] = ⊤
-AreSettled (seat ∷ seats) = IsSettledBy seat.stepped × AreSettled seats
+AreSettled (slot ∷ slots) = IsSettledBy slot.state × AreSettled slots
 
 -- Each is one step of the hub, or the calls of a round. A round begins only where each place was given back whose connection is over, lost or failed.
 abbrev pub IsDeed : Deed → SightOf → SightOf → Type 0
-IsDeed Goes old new = AreSettled old.seats × Rounds (length old.seats) old new
+IsDeed Goes old new = AreSettled old.slots × Rounds (length old.slots) old new
 IsDeed (Opens place) old new = IsHubStep old.hub Open (Opened place) new.hub × Clears place old new
 IsDeed (Refuses fault) old new = IsHubStep old.hub Open (Refused fault) new.hub × KeepsAll old new
 IsDeed (Frees place answer) old new = IsHubStep old.hub (Drop place) answer new.hub × Clears place old new
@@ -80,14 +79,14 @@ abbrev pub AreElsewhere : ℕ → List Deed → Type 0
 AreElsewhere place [] = ⊤
 AreElsewhere place (deed ∷ deeds) = IsElsewhere place deed × AreElsewhere place deeds
 
--- What the socket of a connection took, what waits for it and what was read from it, from where the connection was opened: by its own events of a
+-- What the socket of a connection took and what was read from it, from where the connection was opened: by its own events of a
 -- schedule that begins there.
 pub record MovesSince (place : ℕ) (old start end : SightOf) : Type 0 where
   pub events : List Happening
   pub run : IsHubRun old.hub (opened place ∷ events) end.hub
-  pub moves : Moves (start.wires place) (end.wires place) [] (waits_at end.seats place) (own_of place events)
+  pub moves : Moves (start.wires place) (end.wires place) (own_of place events)
 
--- each connection of a life: `during` is what happens behind its opening, and before its place is given back
+-- each connection of a life: `during` is what happens after its opening, and before its place is given back
 pub record IsCarried (place : ℕ) (old : SightOf) (before during after : List Deed) (new : SightOf) : Type 0 where
   pub opening : SightOf
   pub start : SightOf

@@ -11,7 +11,7 @@ pub enum PeerFault {
 
 /// What became of a place.
 #[derive(Clone, Copy, PartialEq, Eq)]
-pub enum Stepped {
+pub enum SlotState {
     /// No connection is there.
     Free,
     /// Nothing is left to be done before its socket takes or has bytes.

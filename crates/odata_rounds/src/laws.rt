@@ -4,8 +4,8 @@ ghost use Rattle.odata_rounds.specs.Laws.{MovesJoin, RoundMoves, RunsJoin, Serve
 ghost use Rattle.odata_rounds.specs.Leaves.{RoundLeaves};
 ghost use Rattle.odata_rounds.specs.Lives.{LivesMove};
 
-/// The calls of a round are a run of the hub; and at each place what its socket took is what waited and what was taken of the output, in order, but
-/// for what still waits, and what was read came as pieces, each byte once.
+/// The calls of a round are a run of the hub; and at each place what its socket took is what was taken of the output, in order, and what was read came
+/// as pieces, each byte once.
 pub fn round_moves()
     ensures { RoundMoves }
 {}
@@ -15,7 +15,7 @@ pub fn are_schedules()
     ensures { AreSchedules }
 {}
 
-/// One run of a hub behind another is a run: so is the life of a service, which opens and frees places, reloads and goes round.
+/// One run of a hub after another is a run: so is the life of a service, which opens and frees places, reloads and goes round.
 pub fn runs_join()
     ensures { RunsJoin }
 {}
@@ -32,14 +32,14 @@ pub fn serves_socket()
     odata_hub::laws::gives_replies();
 }
 
-/// No more than one reply waits at a place, for its socket and in the output behind that; a round of which nothing says that it worked leaves each
-/// place with nothing to do before its socket takes or has bytes; and a place whose connection is over, with nothing left to be written, is told so.
+/// No more than one reply waits at a place; a round of which nothing says that it worked leaves each place with nothing to do before its socket takes or
+/// has bytes; and a place whose connection is over is told so.
 pub fn round_leaves()
     ensures { RoundLeaves }
 {}
 
 /// In a life of a service that opens connections, goes round, gives places back and takes other tables, what moved between each connection and its
-/// socket is by its own calls alone, from where it was opened, at which nothing waited there, to where its place was given back, or to the end.
+/// socket is by its own calls alone, from where it was opened to where its place was given back, or to the end.
 pub fn lives_move()
     ensures { LivesMove }
 {}

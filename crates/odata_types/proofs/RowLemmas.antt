@@ -4,7 +4,7 @@ use Rattle.std.specs.Prelude.{ℤ, pos, unsigned_abs, FitsSigned, nat_le}
 use Rattle.std.specs.Int.{w64, is_in_range}
 use Rattle.std.proofs.lemmas.Bool.{and_parts, leb-true}
 use Rattle.std.proofs.lemmas.Int.{ints}
-use Rattle.jiff.specs.Words.{days_in_month}
+use Rattle.jiff_core.specs.Calendar.{days_in_month}
 use Rattle.cell_types.specs.Column.{ColumnOf}
 use Rattle.cell_types.specs.Datatype as datatype
 use Rattle.cell_types.specs.Datatype.{DatatypeOf}

@@ -14,7 +14,7 @@ use crate::operand::{
 };
 use crate::operator::common_type;
 use crate::types::ExprType;
-use jiff::civil::Date;
+use jiff_core::civil::Date;
 use odata_parse::tree::Literal;
 use std::alloc::{AllocError, Global};
 use typed_trees::{MILLIONTHS, TruthExpr, TypedExpr};

@@ -14,7 +14,7 @@ use block_filter::{Lanes, Passed};
 use odata_query::OrderBy;
 use query_plan::are_plain;
 use row_eval::{EvalFault, faults_are_foreseen};
-use row_order::{best_in_pieces, best_numbers, key_column, rows_in_time};
+use row_order::{TopN, best_in_pieces, best_numbers, key_column, may_reach_top};
 use std::alloc::{AllocError, Global};
 use table_store::Block;
 use typed_trees::can_fault;
@@ -78,8 +78,11 @@ impl TopNSink {
         let Some(keys) = lanes.keys(alloc, block, col, column)? else {
             return Ok(numbers);
         };
-        let (kept, items) = (&self.kept.columns, self.items.as_slice());
-        rows_in_time(alloc, kept, keys, numbers, items, self.most)
+        let top = TopN {
+            items: self.items.as_slice(),
+            most: self.most,
+        };
+        may_reach_top(alloc, &self.kept.columns, keys, numbers, top)
     }
 
     /// The numbers of the first of the rows that are kept.

@@ -1,1 +1,4 @@
 pub mod RawLemmas
+pub mod QuoteBoundaries
+pub mod RestLemmas
+pub mod PartLemmas

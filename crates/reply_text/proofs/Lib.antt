@@ -13,3 +13,4 @@ pub mod BoundLemmas
 pub mod CursorLemmas
 pub mod RoomLemmas
 pub mod ErrorLemmas
+pub mod WaitingLemmas

@@ -7,5 +7,6 @@ pub mod Pieces
 pub mod Cursor
 pub mod Inside
 pub mod Laws
+pub mod Waiting
 pub use Rattle.query_rows.specs.Rows
 pub use Rattle.table_store.specs.Table

@@ -1,5 +1,6 @@
 //! The bodies of replies: rows, the service document and errors as JSON (RFC 8259; OData 4.01 JSON Format), and rows as CSV (RFC 4180), each appended to one buffer in one
 //! pass, or laid down piece by piece. Each function gives the stated text, and beside it stands another that tells how many bytes it takes.
+//! What a connection is given are replies that wait to be taken, one after another, each laid down as it is taken.
 #![tactic(auto)]
 
 mod body;
@@ -9,7 +10,9 @@ mod cursor;
 mod json_rows;
 mod json_sizes;
 mod laws;
+mod output;
 mod pieces;
+mod reply;
 mod sizes;
 
 pub use body::{
@@ -23,5 +26,7 @@ pub use json_sizes::{json_size, row_size};
 pub use laws::{
     counts_are_lengths, csv_reads_back, json_reads_back, pieces_are_bodies, tables_fit_csv,
 };
+pub use output::Output;
+pub use reply::Reply;
 pub use reply_codes::Code;
 pub use reply_values::{number_size, push_number};

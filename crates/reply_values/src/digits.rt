@@ -1,13 +1,13 @@
 //! How many bytes the texts of values take that JSON and CSV write alike. None is written.
 ghost use Rattle.std.specs.Prelude.{◌≡◌, ◌<◌, length};
 ghost use Rattle.std.specs.Fmt.{decimal, signed_decimal};
-ghost use Rattle.jiff.specs.Words.{date_text};
+ghost use Rattle.jiff_fmt.specs.Text.{date_text};
 ghost use Rattle.cell_types.specs.Decimal.{decimal_text, fraction_text, millionths_text};
 ghost use Rattle.reply_values.specs.Value.{bool_text};
 
 use crate::decimal::{ONE, six_digits, without_last_zeros};
 use itoa::Buffer;
-use jiff::civil::Date;
+use jiff_core::civil::Date;
 
 /// How many decimal digits a number below 10,000 has.
 fn short_size(number: u64) -> usize
@@ -98,5 +98,5 @@ pub fn bool_size(truth: bool) -> usize
 pub fn date_size(date: Date) -> usize
     ensures { result ≡ length (date_text date) }
 {
-    if date.year() < 0 { 13 } else { 10 }
+    if date.year < 0 { 13 } else { 10 }
 }

@@ -1,5 +1,5 @@
 //! The texts of values in JSON (RFC 8259), appended to one buffer.
-ghost use Rattle.jiff.specs.Words.{date_text};
+ghost use Rattle.jiff_fmt.specs.Text.{date_text};
 ghost use Rattle.std.specs.Prelude.{◌≡◌, ◌+◌, ◌++◌, ◌∷◌, [], ◌<◌, ◌≤◌, OnErr, OnOk, length, position, unwrap_or, vec_capacity, vec_len};
 ghost use Rattle.std.specs.List.{flat_map};
 ghost use Rattle.std.specs.Fmt.{decimal};
@@ -11,7 +11,7 @@ use crate::lanes::unescaped_in;
 use crate::value::{push_bool, push_date, push_integer};
 use cell_types::Value;
 use itoa::Buffer;
-use jiff::civil::Date;
+use jiff_core::civil::Date;
 use std::alloc::AllocError;
 
 /// A hexadecimal digit in lower case.

@@ -10,6 +10,8 @@ mod text_sizes;
 mod value;
 
 pub use csv_text::push_csv_value;
+pub use decimal::push_decimal;
 pub use digits::number_size;
 pub use json_text::{push_json_value, push_number, push_text, push_text_member};
 pub use text_sizes::{csv_value_size, json_value_size, text_member_size, text_size};
+pub use value::{push_bool, push_date, push_integer};

@@ -1,12 +1,12 @@
 //! The texts of values that JSON and CSV write alike.
 ghost use Rattle.std.specs.Prelude.{◌≡◌, ◌<ℤ◌, ◌≤ℤ◌, ◌+◌, ◌<◌, ◌≤◌, ◌++◌, pos, OnErr, OnOk, length, vec_capacity, vec_len};
 ghost use Rattle.std.specs.Fmt.{signed_decimal};
-ghost use Rattle.jiff.specs.Words.{date_text};
+ghost use Rattle.jiff_fmt.specs.Text.{date_text};
 ghost use Rattle.reply_values.specs.Value.{bool_text};
 
 use crate::decimal::two_digits;
 use itoa::Buffer;
-use jiff::civil::Date;
+use jiff_core::civil::Date;
 use std::alloc::AllocError;
 
 /// Appends a whole number in decimal digits, with a `-` where it is negative.
@@ -43,11 +43,11 @@ fn push_short_date(out: &mut Vec<u8>, date: Date) -> Result<(), AllocError>
     ensures room { vec_capacity out.old ≤ vec_capacity out.new }
     ensures full { OnErr result (vec_capacity out.old < vec_len out.old + length (date_text date)) }
 {
-    let year = date.year() as u16;
+    let year = date.year as u16;
     let [a, b] = two_digits((year / 100) as u8);
     let [c, d] = two_digits((year % 100) as u8);
-    let [e, f] = two_digits(date.month() as u8);
-    let [g, h] = two_digits(date.day() as u8);
+    let [e, f] = two_digits(date.month);
+    let [g, h] = two_digits(date.day);
     out.extend_from_slice(&[a, b, c, d, b'-', e, f, b'-', g, h])
 }
 
@@ -58,11 +58,11 @@ fn push_early_date(out: &mut Vec<u8>, date: Date) -> Result<(), AllocError>
     ensures room { vec_capacity out.old ≤ vec_capacity out.new }
     ensures full { OnErr result (vec_capacity out.old < vec_len out.old + length (date_text date)) }
 {
-    let year = date.year().unsigned_abs();
+    let year = date.year.unsigned_abs();
     let [a, b] = two_digits((year / 100) as u8);
     let [c, d] = two_digits((year % 100) as u8);
-    let [e, f] = two_digits(date.month() as u8);
-    let [g, h] = two_digits(date.day() as u8);
+    let [e, f] = two_digits(date.month);
+    let [g, h] = two_digits(date.day);
     out.extend_from_slice(&[b'-', b'0', b'0', a, b, c, d, b'-', e, f, b'-', g, h])
 }
 
@@ -72,7 +72,7 @@ pub fn push_date(out: &mut Vec<u8>, date: Date) -> Result<(), AllocError>
     ensures room { vec_capacity out.old ≤ vec_capacity out.new }
     ensures full { OnErr result (vec_capacity out.old < vec_len out.old + length (date_text date)) }
 {
-    if date.year() >= 0 {
+    if date.year >= 0 {
         return push_short_date(out, date);
     }
     push_early_date(out, date)

@@ -2,7 +2,7 @@
 use crate::scripts::{Peer, Script, Scripts};
 use csvw_meta::Limits;
 use odata_hub::{Conn, Hub};
-use odata_rounds::{Outbox, Seat, Stepped, round};
+use odata_rounds::{Slot, SlotState, round};
 use std::alloc::{AllocError, Global};
 use std::array;
 use std::rc::Rc;
@@ -17,7 +17,7 @@ const COUNT: &str = "GET /notes/$count HTTP/1.1\r\nHost: h\r\n\r\n";
 const COUNTS: &str =
     "GET /notes/$count HTTP/1.1\r\nHost: h\r\n\r\nGET /notes/$count HTTP/1.1\r\nHost: h\r\n\r\n";
 
-/// A head that closes, with one behind it.
+/// A head that closes, with one after it.
 const CLOSING: &str =
     "GET /notes/$count HTTP/1.1\r\nHost: h\r\nConnection: close\r\n\r\nGET / HTTP/1.1\r\nHost: h\r\n\r\n";
 
@@ -44,7 +44,7 @@ const REST: &str =
 struct Case {
     script: Script<'static>,
     given: &'static str,
-    end: Stepped,
+    end: SlotState,
 }
 
 /// A peer that sends its stream and takes its replies.
@@ -94,30 +94,24 @@ fn peers_of(alloc: Global, cases: &[Case]) -> Result<Scripts<'static>, AllocErro
     Ok(Scripts { peers })
 }
 
-fn free_seat(alloc: Global) -> Result<Seat, AllocError> {
-    Ok(Seat {
-        waits: Outbox::new(alloc)?,
-        stepped: Stepped::Free,
+/// The places, before their first visit.
+fn free_slots() -> [Slot; 8] {
+    array::from_fn(|_| Slot {
+        state: SlotState::Free,
     })
 }
 
-/// The places, at none of which something waits.
-fn free_seats(alloc: Global) -> Result<[Seat; 8], AllocError> {
-    array::try_from_fn(|_| free_seat(alloc))
-}
-
 /// Gives the peers rounds, and notes what became of the place of each last. A place whose connection is over or lost is given back.
-fn play(hub: &mut Hub, seats: &mut [Seat; 8], peers: &mut Scripts<'_>, rounds: u32) {
+fn play(hub: &mut Hub, slots: &mut [Slot; 8], peers: &mut Scripts<'_>, rounds: u32) {
     let mut room = [0u8; 64];
     for _turn in 0..rounds {
-        round(hub, seats, peers, &mut room);
+        round(hub, slots, peers, &mut room);
         for place in 0..PLACES {
-            let seat = &mut seats[place as usize];
-            if seat.stepped != Stepped::Free {
-                peers.note(place, seat.stepped);
+            let slot = &mut slots[place as usize];
+            if slot.state != SlotState::Free {
+                peers.note(place, slot.state);
             }
-            if seat.stepped == Stepped::Answered || seat.stepped == Stepped::Lost {
-                seat.waits.clear();
+            if slot.state == SlotState::Answered || slot.state == SlotState::Lost {
                 let _ = hub.drop_conn(Conn(place));
             }
         }
@@ -129,7 +123,7 @@ const CASES: &[Case] = &[
     Case {
         script: PLAIN,
         given: REPLY,
-        end: Stepped::Answered,
+        end: SlotState::Answered,
     },
     Case {
         script: Script {
@@ -139,7 +133,7 @@ const CASES: &[Case] = &[
             ..PLAIN
         },
         given: REPLY,
-        end: Stepped::Answered,
+        end: SlotState::Answered,
     },
     Case {
         script: Script {
@@ -150,27 +144,27 @@ const CASES: &[Case] = &[
             ..PLAIN
         },
         given: LAST,
-        end: Stepped::Answered,
+        end: SlotState::Answered,
     },
     Case {
         script: Script { sends: "", ..PLAIN },
         given: "",
-        end: Stepped::Answered,
+        end: SlotState::Answered,
     },
-    // it ends behind half of a head
+    // it ends after half of a head
     Case {
         script: Script {
             sends: "GET /notes/$count HT",
             ..PLAIN
         },
         given: REST,
-        end: Stepped::Answered,
+        end: SlotState::Answered,
     },
     // it takes nothing
     Case {
         script: Script { takes: 0, ..PLAIN },
         given: "",
-        end: Stepped::Rests,
+        end: SlotState::Rests,
     },
     // lost at the first read, and at the second write
     Case {
@@ -179,7 +173,7 @@ const CASES: &[Case] = &[
             ..PLAIN
         },
         given: "",
-        end: Stepped::Lost,
+        end: SlotState::Lost,
     },
     Case {
         script: Script {
@@ -188,11 +182,11 @@ const CASES: &[Case] = &[
             ..PLAIN
         },
         given: FRONT,
-        end: Stepped::Lost,
+        end: SlotState::Lost,
     },
 ];
 
-/// Other tables come behind 50 rounds: behind the first head of the one stream, and while the other's reply is written.
+/// Other tables come after 50 rounds: after the first head of the one stream, and while the other's reply is written.
 const RELOADED: &[Case] = &[
     Case {
         script: Script {
@@ -201,12 +195,12 @@ const RELOADED: &[Case] = &[
             ..PLAIN
         },
         given: REPLIES,
-        end: Stepped::Answered,
+        end: SlotState::Answered,
     },
     Case {
         script: Script { takes: 1, ..PLAIN },
         given: REPLY,
-        end: Stepped::Answered,
+        end: SlotState::Answered,
     },
 ];
 
@@ -223,15 +217,15 @@ fn first_wrong(
     alloc: Global,
     cases: &[Case],
     before: u32,
-    behind: u32,
+    after: u32,
 ) -> Result<Option<usize>, AllocError> {
     let newer = tables(alloc, "Id\n1\n2\n3\n")?;
     let mut hub = hub_of(alloc, cases)?;
     let mut peers = peers_of(alloc, cases)?;
-    let mut seats = free_seats(alloc)?;
-    play(&mut hub, &mut seats, &mut peers, before);
+    let mut slots = free_slots();
+    play(&mut hub, &mut slots, &mut peers, before);
     hub.reload(newer);
-    play(&mut hub, &mut seats, &mut peers, behind);
+    play(&mut hub, &mut slots, &mut peers, after);
     for (at, case) in cases.iter().enumerate() {
         if !is_right(peers.peers.get(at), case) {
             return Ok(Some(at));

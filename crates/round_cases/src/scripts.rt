@@ -3,7 +3,7 @@
 ghost use Rattle.std.specs.Io.{ReadsAtMost, WritesAtMost};
 ghost use Rattle.odata_http.specs.Device.{TakesSome};
 
-use odata_rounds::{PeerFault, Peers, Stepped};
+use odata_rounds::{PeerFault, Peers, SlotState};
 use std::alloc::Global;
 
 /// What a peer sends; how many bytes it sends and takes at once, where 0 takes nothing; whether it waits at each other call; and at which call it is
@@ -24,7 +24,7 @@ pub(crate) struct Peer<'a> {
     rest: &'a [u8],
     calls: u32,
     pub(crate) taken: Vec<u8>,
-    pub(crate) end: Stepped,
+    pub(crate) end: SlotState,
 }
 
 impl<'a> Peer<'a> {
@@ -34,7 +34,7 @@ impl<'a> Peer<'a> {
             rest: script.sends.as_bytes(),
             calls: 0,
             taken: Vec::new(alloc),
-            end: Stepped::Free,
+            end: SlotState::Free,
         }
     }
 
@@ -87,9 +87,9 @@ pub(crate) struct Scripts<'a> {
 
 impl<'a> Scripts<'a> {
     /// Notes what became of a place.
-    pub(crate) fn note(&mut self, place: u32, stepped: Stepped) {
+    pub(crate) fn note(&mut self, place: u32, state: SlotState) {
         if let Some(peer) = self.peers.get_mut(place as usize) {
-            peer.end = stepped;
+            peer.end = state;
         }
     }
 }

@@ -6,7 +6,7 @@ ghost use Rattle.std.specs.Ordering.{bool_cmp, int_cmp, nat_cmp};
 ghost use Rattle.typed_trees.specs.TypedTree.{day_view, optional_day, optional_text};
 ghost use Rattle.row_eval.specs.Comparison.{compared, day_cmp, holds as holds_of, is_among, is_equal as is_equal_of};
 
-use jiff::civil::Date;
+use jiff_core::civil::Date;
 use std::cmp::Ordering;
 use typed_trees::ComparisonOperator;
 
@@ -64,12 +64,9 @@ pub(crate) fn text_order(left: Option<&str>, right: Option<&str>) -> Option<Orde
 fn day_order(left: Date, right: Date) -> Ordering
     ensures { result ≡ day_cmp (day_view left) (day_view right) }
 {
-    let month = left
-        .month()
-        .unsigned_abs()
-        .cmp(&right.month().unsigned_abs());
-    let day = left.day().unsigned_abs().cmp(&right.day().unsigned_abs());
-    left.year().cmp(&right.year()).then(month).then(day)
+    let month = left.month.cmp(&right.month);
+    let day = left.day.cmp(&right.day);
+    left.year.cmp(&right.year).then(month).then(day)
 }
 
 /// The order of dates.

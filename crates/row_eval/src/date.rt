@@ -6,7 +6,7 @@ ghost use Rattle.row_eval.specs.Outcome.{date_outcome, part_in as part_in_of};
 ghost use Rattle.row_eval.specs.Row.{row_view};
 
 use cell_types::Value;
-use jiff::civil::Date;
+use jiff_core::civil::Date;
 use typed_trees::{DateExpr, DatePart};
 
 /// A date on a row; none for null.
@@ -28,8 +28,8 @@ pub(crate) fn part_in(part: DatePart, date: Date) -> i128
     ensures { result ≡ part_in_of part (day_view date) }
 {
     match part {
-        DatePart::Year => i128::from(date.year()),
-        DatePart::Month => i128::from(date.month()),
-        DatePart::Day => i128::from(date.day()),
+        DatePart::Year => i128::from(date.year),
+        DatePart::Month => i128::from(date.month),
+        DatePart::Day => i128::from(date.day),
     }
 }

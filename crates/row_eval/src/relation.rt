@@ -20,7 +20,7 @@ use crate::integer::eval_integer;
 use crate::text::{eval_text, text_passes};
 use crate::truth::{Truth, optional_truth, truth_of};
 use cell_types::Value;
-use jiff::civil::Date;
+use jiff_core::civil::Date;
 use std::alloc::Global;
 use std::borrow::CowStr;
 use typed_trees::{ComparisonOperator, DateExpr, DecimalExpr, IntegerExpr, TextExpr, TextTest};

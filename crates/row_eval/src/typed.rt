@@ -18,7 +18,7 @@ use crate::integer::eval_integer;
 use crate::text::eval_text;
 use crate::truth::truth_value;
 use cell_types::Value;
-use jiff::civil::Date;
+use jiff_core::civil::Date;
 use std::alloc::Global;
 use std::borrow::CowStr;
 use typed_trees::TypedExpr;

@@ -1,5 +1,5 @@
 -- Aggregates that can be computed of some rows can be of some of them.
-use Rattle.std.proofs.Common.{◌≤◌, ℕ, ℤ, suc, Bool, true, false, cond, Option, Some, None, List, [], ◌∷◌, ◌++◌, length, filter, replicate, subst, inl, inr, arith}
+use Rattle.std.proofs.Common.{◌≤◌, ℕ, ℤ, suc, Bool, true, false, cond, Option, Some, None, List, [], ◌∷◌, ◌++◌, length, filter, subst, inl, inr, arith}
 use Rattle.std.specs.Prelude.{unsigned_abs}
 use Rattle.std.specs.List.{AllByRecursion, cons_option, filter_map}
 use Rattle.std.proofs.Math.Nat.{mul-le-mul_left}
@@ -11,7 +11,6 @@ use Rattle.row_eval.specs.Row.{cell, decimal_in, integer_in}
 use Rattle.odata_query.specs.declared.aggregate.Aggregate.{Aggregate}
 use Rattle.odata_query.specs.declared.aggregate.Aggregate.TheVariants.{Count, SumOfIntegers, SumOfDecimals, Min, Max, CountDistinct}
 use Rattle.query_meaning.specs.Fitting.{AreSummable}
-use Rattle.row_columns.specs.Kinds.{AreOfKinds, any}
 use Rattle.row_groups.specs.Tallies.{FitsAll}
 use Rattle.row_groups.proofs.ListLemmas.{all_behind, all_by_each, all_front}
 

@@ -1,11 +1,9 @@
 -- Groups and what is computed of their rows, where rows join.
-use Rattle.std.proofs.Common.{◌≡◌, ◌↔◌, ℕ, ◌<◌, ◌+◌, Bool, true, false, cond, not, IsTrue, Option, Some, None, List, [], ◌∷◌, ◌++◌, Vec, Global, length, map, filter, take, drop, get_or, position, replicate, refl, sym, ap, subst, ◌∙◌, append_assoc, arith}
-use Rattle.std.specs.Prelude.{slice_index_or, slice_set}
-use Rattle.std.specs.List.{AllByRecursion, AllZip, IsDistinct, list_any}
+use Rattle.std.proofs.Common.{◌≡◌, ◌↔◌, ℕ, ◌<◌, ◌+◌, Bool, true, false, cond, not, IsTrue, Option, Some, None, List, [], ◌∷◌, ◌++◌, Vec, Global, length, map, filter, take, drop, get_or, refl, sym, ap, subst, ◌∙◌, append_assoc, arith}
+use Rattle.std.specs.Prelude.{slice_index_or}
+use Rattle.std.specs.List.{AllByRecursion}
 use Rattle.std.proofs.lemmas.List.{get_or-map, length-append, length-map, map-append, take_more}
 use Rattle.std.proofs.lemmas.List.Elements.{recursion_from_All}
-use Rattle.std.proofs.lemmas.List.Folds.{list_any_at}
-use Rattle.std.proofs.lemmas.List.Quantifiers.{position-Some}
 use Rattle.cell_types.specs.Value.{CellValue, value_eq, value_view}
 use Rattle.cell_types.specs.declared.value.Value.{Value}
 use Rattle.odata_query.specs.declared.aggregate.Aggregate.{Aggregate}
@@ -18,10 +16,10 @@ use Rattle.row_columns.specs.Picked.{numbered}
 use Rattle.row_groups.specs.declared.gathering.Gathering.{Gathering}
 use Rattle.row_groups.specs.declared.groups.Groups.{Groups}
 use Rattle.row_groups.specs.declared.tally.Tally.{Tally}
-use Rattle.row_groups.specs.Gathered.{gathered_rows, key_width, group_keys, part_of, rows_gathered, HasGroups, Adjoins, JoinsGroups, MayJoin, MayJoinGroups}
-use Rattle.row_groups.specs.Tallies.{AreTallies, FitsAll, MayTallyEach}
-use Rattle.row_groups.proofs.FitLemmas.{all_fit_front, all_fit_kept}
-use Rattle.row_groups.proofs.GroupLemmas.{found_zip, joins, new_values, new_zip, old_values, same_is, same_self}
+use Rattle.row_groups.specs.Gathered.{gathered_rows, key_width, group_keys, part_of, rows_gathered, Adjoins, HasGroups, JoinsGroups, MayJoin, MayJoinGroups}
+use Rattle.row_groups.specs.Tallies.{AreTallies, FitsAll}
+use Rattle.row_groups.proofs.FitLemmas.{all_fit_front}
+use Rattle.row_groups.proofs.GroupLemmas.{joins}
 use Rattle.row_groups.proofs.ListLemmas.{all_at, in_two, zip_at, zip_long}
 use Rattle.row_groups.proofs.ValueLemmas.{values_append}
 
@@ -35,74 +33,6 @@ views keys = map (λ key. map value_view key.items) keys
 
 abbrev pub AreOneType : Type 0
 AreOneType = (a b : CellValue) → IsTrue (value_eq a b) ↔ (a ≡ b)
-
-module _ (equal : AreOneType) (places : List ℕ) (aggregates : List Aggregate) (some : List (List CellValue)) (row : List CellValue) (old : Groups)
-    (has : HasGroups (Some places) aggregates old some) where
-  -- the group of a row's values
-  module _ (g : ℕ) (found : position (same_values (values_at places row)) (views old.keys.keys) ≡ Some g) where
-    at : (g < length (group_values places some)) × (same_values (values_at places row) (get_or (group_values places some) g []) ≡ true)
-    at =
-        let there = position-Some (same_values (values_at places row)) (views old.keys.keys) g [] found in (
-          subst (λ ks. g < length ks) has.keys_are there.0,
-          subst (λ ks. same_values (values_at places row) (get_or ks g []) ≡ true) has.keys_are there.1,
-        )
-
-    is : values_at places row ≡ get_or (group_values places some) g []
-    is = same_is equal places (values_at places row) (get_or (group_values places some) g []) at.1
-
-    pub inside : g < length old.tallies.items
-    inside =
-        let long = zip_long (OfPart aggregates) (map (rows_of_group places some) (group_values places some)) old.tallies.items has.tallies_are in
-        let count = length-map (group_values places some) (rows_of_group places some) in
-        let here = at.0 in
-        omega arith
-
-    pub tallies_there : (tallies : Vec Tally Global) → tallies ≡ get_or old.tallies.items g tallies → AreTallies aggregates (rows_of_group places some (values_at places row)) tallies.items
-    tallies_there tallies there =
-        let part = get_or-map (rows_of_group places some) (group_values places some) g [] [] at.0 in
-        let its = zip_at (OfPart aggregates) (map (rows_of_group places some) (group_values places some)) old.tallies.items g [] tallies has.tallies_are inside in
-        subst (λ (ts : Vec Tally Global). AreTallies aggregates (rows_of_group places some (values_at places row)) ts.items) (sym there)
-        (subst (λ p. OfPart aggregates p (get_or old.tallies.items g tallies)) (part ∙ ap (rows_of_group places some) (sym is)) its)
-
-    pub may_join : (width : ℕ) (tallies : Vec Tally Global) → tallies ≡ get_or old.tallies.items g tallies → AllByRecursion (FitsAll width (some ++ row ∷ [])) aggregates
-        → MayTallyEach aggregates width tallies.items (row ∷ [])
-    may_join width tallies there fits = record {
-      rows = rows_of_group places some (values_at places row);
-      tallies = tallies_there tallies there;
-      fits = subst (λ rs. AllByRecursion (FitsAll width rs) aggregates) (joins equal places some row (values_at places row) (same_self equal places (values_at places row)))
-          (all_fit_kept width (λ r. same_values (values_at places row) (values_at places r)) (some ++ row ∷ []) aggregates fits);
-    }
-
-    pub row_found : (new : Groups) (tallies made : Vec Tally Global) → IsDistinct same_values (group_values places some) → tallies ≡ get_or old.tallies.items g tallies
-        → ((rows : List (List CellValue)) → AreTallies aggregates rows tallies.items → AreTallies aggregates (rows ++ row ∷ []) made.items)
-        → new.keys.keys ≡ old.keys.keys → new.tallies.items ≡ slice_set old.tallies.items g made → HasGroups (Some places) aggregates new (some ++ row ∷ [])
-    row_found new tallies made distinct there joined keys put =
-        let among : list_any (same_values (values_at places row)) (group_values places some) ≡ true =
-        list_any_at (same_values (values_at places row)) (group_values places some) g [] at.0 at.1 in
-        let stay = old_values equal places some row among in
-        record {
-          keys_are = ap views keys ∙ has.keys_are ∙ sym stay;
-          tallies_are =
-              subst (λ ts. AllZip (OfPart aggregates) (map (rows_of_group places (some ++ row ∷ [])) (group_values places (some ++ row ∷ []))) ts) (sym put)
-              (subst (λ ks. AllZip (OfPart aggregates) (map (rows_of_group places (some ++ row ∷ [])) ks) (slice_set old.tallies.items g made)) (sym stay)
-              (found_zip equal places some row (OfPart aggregates) (group_values places some) old.tallies.items g made has.tallies_are distinct at.0 (sym is)
-              (joined (rows_of_group places some (values_at places row)) (tallies_there tallies there))));
-        }
-
-  pub row_begins : (new : Groups) (made : Vec Tally Global) (key : Vec Value Global) → list_any (same_values (values_at places row)) (views old.keys.keys) ≡ false
-      → map value_view key.items ≡ values_at places row → AreTallies aggregates (row ∷ []) made.items
-      → new.keys.keys ≡ old.keys.keys ++ key ∷ [] → new.tallies.items ≡ old.tallies.items ++ made ∷ [] → HasGroups (Some places) aggregates new (some ++ row ∷ [])
-  row_begins new made key lacks key_is tallies keys put =
-      let none : list_any (same_values (values_at places row)) (group_values places some) ≡ false = subst (λ ks. list_any (same_values (values_at places row)) ks ≡ false) has.keys_are lacks in
-      let more = new_values equal places some row none in
-      record {
-        keys_are = ap views keys ∙ map-append (λ k. map value_view k.items) old.keys.keys (key ∷ []) ∙ ap (λ ks. ks ++ map value_view key.items ∷ []) has.keys_are
-            ∙ ap (λ k. group_values places some ++ k ∷ []) key_is ∙ sym more;
-        tallies_are =
-            subst (λ ts. AllZip (OfPart aggregates) (map (rows_of_group places (some ++ row ∷ [])) (group_values places (some ++ row ∷ []))) ts) (sym put)
-            (subst (λ ks. AllZip (OfPart aggregates) (map (rows_of_group places (some ++ row ∷ [])) ks) (old.tallies.items ++ made ∷ [])) (sym more)
-            (new_zip equal places some row (OfPart aggregates) old.tallies.items made has.tallies_are none tallies));
-      }
 
 -- ---- rows one after another
 

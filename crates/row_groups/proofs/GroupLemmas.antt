@@ -6,11 +6,11 @@ use Rattle.std.specs.List.{AllByRecursion, AllZip, IsDistinct, list_any}
 use Rattle.std.proofs.lemmas.Bool.{cases_Bool, false≢true, or_parts}
 use Rattle.std.proofs.lemmas.List.{append-nil, map-append}
 use Rattle.std.proofs.lemmas.List.Elements.{filter-append}
-use Rattle.indexmap.specs.IndexSet.{insert_key}
+use Rattle.key_places.specs.Places.{insert_key}
 use Rattle.cell_types.specs.Value.{CellValue, value_eq}
 use Rattle.odata_query.specs.FirstSeen.{first_seen}
 use Rattle.query_meaning.specs.Apply.{group_values, rows_of_group, same_values, values_at}
-use Rattle.row_groups.proofs.ListLemmas.{all_at, zip_push}
+use Rattle.row_groups.proofs.ListLemmas.{all_at}
 
 module _ {X : Type 0} (eq : X → X → Bool) (is : (a b : X) → eq a b ≡ true → a ≡ b) (self : (a : X) → eq a a ≡ true) where
   turned : (a b : X) → eq a b ≡ false → eq b a ≡ false
@@ -75,6 +75,17 @@ module _ (equal : (a b : CellValue) → IsTrue (value_eq a b) ↔ (a ≡ b)) (pl
   pub same_self : (a : List CellValue) → same_values a a ≡ true
   same_self a = (decides a a).1 refl
 
+  no_member : (rs : List (List CellValue)) (v : List CellValue) → list_any (same_values v) (map (values_at places) rs) ≡ false → rows_of_group places rs v ≡ []
+  no_member [] v e = refl
+  no_member (r ∷ rs) v e =
+      let parts = or_parts (same_values v (values_at places r)) (list_any (same_values v) (map (values_at places) rs)) e in
+      let head : same_values v (values_at places r) ≡ false = parts.0 in
+      rw head (no_member rs v parts.1)
+
+  -- a key that is none of theirs has no rows
+  pub no_rows : (rs : List (List CellValue)) (v : List CellValue) → list_any (same_values v) (group_values places rs) ≡ false → rows_of_group places rs v ≡ []
+  no_rows rs v none = no_member rs v (unseen same_values same_is same_self (map (values_at places) rs) v none)
+
   -- one row more, with these values, behind some rows
   module _ (some : List (List CellValue)) (row : List CellValue) where
     pub joins : (v : List CellValue) → same_values v (values_at places row) ≡ true → rows_of_group places (some ++ row ∷ []) v ≡ rows_of_group places some v ++ row ∷ []
@@ -116,41 +127,7 @@ module _ (equal : (a b : CellValue) → IsTrue (value_eq a b) ↔ (a ≡ b)) (pl
           let other : same_values v (values_at places row) ≡ false = subst (λ w. same_values v w ≡ false) is (all_at (λ w. same_values v w ≡ false) vs g [] d.0 (omega arith)) in
           (subst (λ p. R p u) (sym (stays v other)) z.0, found_zip vs ts g t z.1 d.1 (omega arith) is r)
 
-    no_member : (rs : List (List CellValue)) (v : List CellValue) → list_any (same_values v) (map (values_at places) rs) ≡ false → rows_of_group places rs v ≡ []
-    no_member [] v e = refl
-    no_member (r ∷ rs) v e =
-        let parts = or_parts (same_values v (values_at places r)) (list_any (same_values v) (map (values_at places) rs)) e in
-        let head : same_values v (values_at places r) ≡ false = parts.0 in
-        rw head (no_member rs v parts.1)
-
-    none_same : (keys : List (List CellValue)) → list_any (same_values (values_at places row)) keys ≡ false → AllByRecursion (λ v. same_values v (values_at places row) ≡ false) keys
-    none_same [] e = tt
-    none_same (v ∷ vs) e =
-        let y = values_at places row in
-        let parts = or_parts (same_values y v) (list_any (same_values y) vs) e in
-        (turned same_values same_is same_self y v parts.0, none_same vs parts.1)
-
-    -- or it is the first of a new one
-    pub new_zip : {T : Type 0} (R : List (List CellValue) → T → Type 0) (ts : List T) (t : T) → AllZip R (map (rows_of_group places some) (group_values places some)) ts
-        → list_any (same_values (values_at places row)) (group_values places some) ≡ false → R (row ∷ []) t
-        → AllZip R (map (rows_of_group places (some ++ row ∷ [])) (group_values places some ++ values_at places row ∷ [])) (ts ++ t ∷ [])
-    new_zip R ts t z none r =
-        let y = values_at places row in
-        let keys = group_values places some in
-        let absent = unseen same_values same_is same_self (map (values_at places) some) y none in
-        let own : rows_of_group places (some ++ row ∷ []) y ≡ row ∷ [] = joins y (same_self y) ∙ ap (λ rs. rs ++ row ∷ []) (no_member some y absent) in
-        subst (λ ps. AllZip R ps (ts ++ t ∷ [])) (sym (map-append (rows_of_group places (some ++ row ∷ [])) keys (y ∷ [])))
-        (zip_push R (map (rows_of_group places (some ++ row ∷ [])) keys) ts (rows_of_group places (some ++ row ∷ []) y) t
-        (subst (λ ps. AllZip R ps ts) (all_stay keys (none_same keys none)) z) (subst (λ p. R p t) (sym own) r))
-
-    more_values : group_values places (some ++ row ∷ []) ≡ insert_key same_values (group_values places some) (values_at places row)
+    pub more_values : group_values places (some ++ row ∷ []) ≡ insert_key same_values (group_values places some) (values_at places row)
     more_values =
         ap (first_seen same_values) (map-append (values_at places) some (row ∷ []))
         ∙ seen_more same_values same_is same_self (map (values_at places) some) (values_at places row)
-
-    pub old_values : list_any (same_values (values_at places row)) (group_values places some) ≡ true → group_values places (some ++ row ∷ []) ≡ group_values places some
-    old_values e = more_values ∙ ap (λ b. cond b (group_values places some) (group_values places some ++ values_at places row ∷ [])) e
-
-    pub new_values : list_any (same_values (values_at places row)) (group_values places some) ≡ false
-        → group_values places (some ++ row ∷ []) ≡ group_values places some ++ values_at places row ∷ []
-    new_values e = more_values ∙ ap (λ b. cond b (group_values places some) (group_values places some ++ values_at places row ∷ [])) e

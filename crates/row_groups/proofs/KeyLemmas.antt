@@ -1,9 +1,10 @@
 -- Keys of groups and the values that they stand for.
-use Rattle.std.proofs.Common.{◌≡◌, ℕ, zero, suc, ◌<◌, Bool, true, false, ◌&&◌, Some, List, [], ◌∷◌, length, map, get_or, position, refl, sym, ap, ◌∙◌, arith}
+use Rattle.std.proofs.Common.{◌≡◌, ℕ, zero, suc, ◌<◌, Bool, Bor, true, false, ◌&&◌, Some, List, [], ◌∷◌, length, map, get_or, position, refl, sym, ap, ◌∙◌, arith}
 use Rattle.std.specs.Prelude.{slice_get}
 use Rattle.std.specs.Cmp.Lexicographic.{pointwise}
 use Rattle.std.specs.List.{list_any, position_or_len}
-use Rattle.std.proofs.lemmas.List.{length-map}
+use Rattle.std.specs.Map.Iter.{deref}
+use Rattle.std.proofs.lemmas.List.{get_or-map, length-map}
 use Rattle.cell_types.specs.Value.{CellValue, value_eq}
 use Rattle.query_meaning.specs.Apply.{same_values}
 
@@ -48,3 +49,11 @@ module _ {V : Type 0} (view : V → CellValue) (eq : V → V → Bool) (eq_is : 
   one_found [] g k e same = absurd (cc)
   one_found (j ∷ ks) zero k e same = let is : j ≡ k = cc in (omega arith, same_one j ∙ ap (eq key) is ∙ same)
   one_found (j ∷ ks) (suc g) k e same = let more = one_found ks g k e same in let inside = more.0 in (omega arith, more.1)
+
+-- ---- keys that are lent
+
+pub keys_long : {K : Type 0} (keys : List (Bor K)) (ks : List K) → map deref keys ≡ ks → length keys ≡ length ks
+keys_long keys ks e = sym (length-map keys deref) ∙ ap length e
+
+pub key_here : {K : Type 0} (keys : List (Bor K)) (ks : List K) → map deref keys ≡ ks → (i : ℕ) (key : Bor K) → i < length keys → key ≡ get_or keys i key → key.now ≡ get_or ks i key.now
+key_here keys ks e i key less at = ap (λ k. k.now) at ∙ sym (get_or-map deref keys i key key.now less) ∙ ap (λ xs. get_or xs i key.now) e

@@ -7,3 +7,4 @@ pub mod FitLemmas
 pub mod KeyLemmas
 pub mod GroupLemmas
 pub mod GatheredLemmas
+pub mod JoinLemmas

@@ -1,14 +1,17 @@
 -- The rows of `aggregate` and of `groupby` (OData Data Aggregation 4.0, sections 3.2.1 and 3.2.3), gathered while the rows come of which they are computed.
-use Rattle.std.specs.Prelude.{◌≡◌, ◌<◌, ◌+◌, ◌++◌, ℕ, List, [], ◌∷◌, Option, Some, None, IfSome, length, map, option_map}
-use Rattle.std.specs.List.{All, AllByRecursion, AllZip}
+use Rattle.std.specs.Prelude.{◌≡◌, ◌<◌, ◌+◌, ◌++◌, ℕ, true, false, List, Vec, [], ◌∷◌, Option, Some, None, IfSome, length, map, option_map, slice_index_or}
+use Rattle.std.specs.Global.{Global}
+use Rattle.std.specs.List.{All, AllByRecursion, AllZip, list_any}
 use Rattle.std.specs.Borrow.{Bor}
 use Rattle.cell_types.specs.Value.{CellValue, value_view}
 use Rattle.odata_query.specs.declared.aggregate.Aggregate.{Aggregate}
 use Rattle.odata_query.specs.Aggregate.{NamedAggregateOf}
 use Rattle.odata_query.specs.Query.{optional_numbers}
-use Rattle.query_meaning.specs.Apply.{computed_value, computed_values, group_values, rows_of_group, values_at}
+use Rattle.key_places.specs.Places.{insert_key}
+use Rattle.query_meaning.specs.Apply.{computed_value, computed_values, group_values, rows_of_group, same_values}
 use Rattle.row_groups.specs.declared.gathering.Gathering.{Gathering}
 use Rattle.row_groups.specs.declared.groups.Groups.{Groups}
+use Rattle.row_groups.specs.declared.tally.Tally.{Tally}
 use Rattle.row_groups.specs.Groups.{grouped_rows}
 use Rattle.row_groups.specs.Tallies.{AreTallies, FitsAll}
 
@@ -79,17 +82,20 @@ pub record MayJoinGroups (places : Option (List ℕ)) (aggregates : List Aggrega
 abbrev pub JoinsGroups : Option (List ℕ) → List Aggregate → Groups → Groups → List (List CellValue) → Type 0
 JoinsGroups places aggregates old new more = (rows : List (List CellValue)) → HasGroups places aggregates old rows → HasGroups places aggregates new (rows ++ more)
 
--- a row with these values joins their group
-pub record MayJoinRow (aggregates : List Aggregate) (width : ℕ) (old : Groups) (key row : List CellValue) : Type 0 where
-  pub places : List ℕ
-  pub rows : List (List CellValue)
-  pub key_is : key ≡ values_at places row
-  pub has : HasGroups (Some places) aggregates old rows
-  pub fits : AllByRecursion (FitsAll width (rows ++ row ∷ [])) aggregates
+-- the values of each group
+abbrev pub keys_held : Groups → List (List CellValue)
+keys_held groups = map (λ key. map value_view key.items) groups.keys.keys
 
-abbrev pub JoinsRow : List Aggregate → Groups → Groups → List CellValue → List CellValue → Type 0
-JoinsRow aggregates old new key row = (places : List ℕ) (rows : List (List CellValue)) → key ≡ values_at places row → HasGroups (Some places) aggregates old rows
-    → HasGroups (Some places) aggregates new (rows ++ row ∷ [])
+-- that is the group of these values
+abbrev pub IsGroupOf : Groups → List CellValue → ℕ → Type 0
+IsGroupOf groups key group = (group < length (keys_held groups)) × (slice_index_or (keys_held groups) group [] ≡ key)
+
+-- the group of a key is one of those that there were, or a new one of no rows, after the others
+pub record HasGroupMore (aggregates : List Aggregate) (old new : Groups) (key : List CellValue) : Type 0 where
+  pub keys : keys_held new ≡ insert_key same_values (keys_held old) key
+  pub stay : list_any (same_values key) (keys_held old) ≡ true → new.tallies.items ≡ old.tallies.items
+  pub begins : list_any (same_values key) (keys_held old) ≡ false
+      → (made : Vec Tally Global) × AreTallies aggregates [] made.items × (new.tallies.items ≡ old.tallies.items ++ made ∷ [])
 
 -- how many values make a group, and for each group these and what is computed of its rows
 abbrev pub key_width : Option (List ℕ) → ℕ

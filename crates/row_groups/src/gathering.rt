@@ -8,7 +8,7 @@ ghost use Rattle.row_columns.specs.Picked.{numbered};
 ghost use Rattle.row_groups.specs.Gathered.{gathered_rows, gathered_width, lent_places, Gathers, HasGatheredRows, HasGatheredWidth, Adjoins, MayJoin};
 ghost use Rattle.row_groups.specs.Tallies.{FitsAll};
 
-use crate::groups::Groups;
+use crate::groups::{Grouping, Groups};
 use odata_query::{Aggregate, NamedAggregate};
 use row_columns::Columns;
 use std::alloc::{AllocError, Global};
@@ -67,8 +67,11 @@ impl Gathering {
                 .groups
                 .join_whole(alloc, columns, numbers, &self.aggregates),
             Some(places) => {
-                self.groups
-                    .join_rows(alloc, columns, numbers, places, &self.aggregates)
+                let grouping = Grouping {
+                    places,
+                    aggregates: &self.aggregates,
+                };
+                self.groups.join_rows(alloc, columns, numbers, grouping)
             }
         }
     }

@@ -6,21 +6,29 @@ ghost use Rattle.odata_query.specs.declared.aggregate.Aggregate.{Aggregate};
 ghost use Rattle.query_meaning.specs.Apply.{values_at};
 ghost use Rattle.row_columns.specs.Kinds.{any};
 ghost use Rattle.row_columns.specs.Picked.{numbered};
-ghost use Rattle.row_groups.specs.Gathered.{key_width, HasGroups, JoinsGroups, JoinsRow, MakesRows, MayJoinGroups, MayJoinRow};
+ghost use Rattle.row_groups.specs.Gathered.{key_width, HasGroupMore, HasGroups, IsGroupOf, JoinsGroups, MakesRows, MayJoinGroups};
 
 use crate::tallies::{join_each, row_of, tallies_of_none};
 use crate::tally::Tally;
 use cell_types::Value;
-use indexmap::IndexSet;
+use key_places::KeyPlaces;
 use odata_query::Aggregate;
 use row_columns::{Columns, owned};
 use std::alloc::{AllocError, Global};
+
+/// By what rows are grouped, and what is computed of each group.
+#[derive(Clone, Copy)]
+pub(crate) struct Grouping<'a> {
+    /// The places of the columns whose values make a group.
+    pub(crate) places: &'a [usize],
+    pub(crate) aggregates: &'a [Aggregate],
+}
 
 /// Groups in the order of their first rows.
 #[derive(Drop)]
 pub(crate) struct Groups {
     /// The values of each group.
-    pub(crate) keys: IndexSet<Vec<Value<'static>>>,
+    pub(crate) keys: KeyPlaces<Vec<Value<'static>>>,
     /// What is computed of its rows.
     pub(crate) tallies: Vec<Vec<Tally>>,
 }
@@ -34,7 +42,7 @@ impl Groups {
         ensures tallies { result.tallies.items ≡ [] }
     {
         Groups {
-            keys: IndexSet::new(alloc),
+            keys: KeyPlaces::new(alloc),
             tallies: Vec::new(alloc),
         }
     }
@@ -66,59 +74,58 @@ impl Groups {
         join_each(alloc, &mut self.tallies[0], columns, numbers, aggregates)
     }
 
-    /// The rows with these numbers join the groups of their values in the columns with these places.
+    /// The rows with these numbers join the groups of their values.
     pub(crate) fn join_rows(
         &mut self,
         alloc: Global,
         columns: &Columns,
         numbers: &[usize],
-        places: &[usize],
-        aggregates: &[Aggregate],
+        grouping: Grouping<'_>,
     ) -> Result<(), AllocError>
         requires within { All (λ number. number < length columns.now.rows) numbers.now }
-        requires places { All (λ place. place < length columns.now.kinds) places.now }
-        requires joins { MayJoinGroups (Some places.now) aggregates.now (length columns.now.kinds)
-            self.old (numbered numbers.now columns.now.rows) }
-        ensures { OnOk result (JoinsGroups (Some places.now) aggregates.now self.old self.new
+        requires places { All (λ place. place < length columns.now.kinds) grouping.places.now }
+        requires joins { MayJoinGroups (Some grouping.places.now) grouping.aggregates.now
+            (length columns.now.kinds) self.old (numbered numbers.now columns.now.rows) }
+        ensures { OnOk result (JoinsGroups (Some grouping.entry.places.now)
+            grouping.entry.aggregates.now self.old self.new
             (numbered numbers.now columns.now.rows)) }
     {
+        cell_types::values_are_ordered();
+        query_meaning::rows_are_in_groups();
+        let Grouping { places, aggregates } = grouping;
         let mut key = Vec::with_capacity(alloc, places.len())?;
         for number in numbers {
             read_key(&mut key, columns, *number, places)?;
-            self.join_row(alloc, columns, *number, key.as_slice(), aggregates)?;
+            let group = self.group_of(alloc, key.as_slice(), aggregates)?;
+            let row = [*number];
+            join_each(alloc, &mut self.tallies[group], columns, &row, aggregates)?;
         }
         Ok(())
     }
 
-    /// A row with these values joins their group. The key is looked up before it is copied.
-    fn join_row(
+    /// The group of a key. One of no rows comes after the others where the key is none of theirs; the key is looked up before it is copied.
+    fn group_of(
         &mut self,
         alloc: Global,
-        columns: &Columns,
-        number: usize,
         key: &[Value<'_>],
         aggregates: &[Aggregate],
-    ) -> Result<(), AllocError>
-        requires row { number < length columns.now.rows }
-        requires joins { MayJoinRow aggregates.now (length columns.now.kinds) self.old
-            (map value_view key.now) (slice_index_or columns.now.rows number []) }
-        ensures { OnOk result (JoinsRow aggregates.now self.old self.new
-            (map value_view key.now) (slice_index_or columns.now.rows number [])) }
+    ) -> Result<usize, AllocError>
+        ensures group { IfOk result (IsGroupOf self.new (map value_view key.now)) }
+        ensures more { OnOk result (HasGroupMore aggregates.now self.old self.new
+            (map value_view key.now)) }
     {
         cell_types::values_are_ordered();
         cell_types::values_compare_as_their_views();
-        query_meaning::rows_are_in_groups();
-        let row = [number];
-        match self.keys.get_index_of(key) {
-            Some(group) => join_each(alloc, &mut self.tallies[group], columns, &row, aggregates)?,
+        match self.keys.place_of_list(key) {
+            Some(group) => Ok(group),
             None => {
-                let mut tallies = tallies_of_none(alloc, aggregates)?;
-                join_each(alloc, &mut tallies, columns, &row, aggregates)?;
+                let group = self.keys.len();
+                let tallies = tallies_of_none(alloc, aggregates)?;
                 self.keys.insert(owned_key(alloc, key)?)?;
                 self.tallies.push(tallies)?;
+                Ok(group)
             }
         }
-        Ok(())
     }
 
     /// A row for each group: its values, so many, and what is computed of its rows.
@@ -136,7 +143,7 @@ impl Groups {
             made.kinds ≡ replicate (width + length aggregates.now) any) }
         ensures rows { IfOk result (λ made. MakesRows self.now aggregates.now made.rows) }
     {
-        let keys = self.keys.as_slice();
+        let keys = self.keys.in_order(alloc)?;
         let mut rows = Vec::with_capacity(alloc, keys.len())?;
         for i in 0..keys.len() {
             rows.push(row_of(alloc, keys[i].as_slice(), &self.tallies[i], aggregates)?)?;

@@ -12,7 +12,7 @@ ghost use Rattle.row_groups.specs.Tallies.{IsTally, JoinsDistinct, JoinsExtreme,
 use crate::computed::{greatest, is_null, least};
 use crate::sums::{Summed, sum_of};
 use cell_types::Value;
-use indexmap::IndexSet;
+use key_places::KeyPlaces;
 use odata_query::Aggregate;
 use row_columns::{Columns, lent, owned};
 use std::alloc::{AllocError, Global};
@@ -27,7 +27,7 @@ pub(crate) enum Tally {
     /// The least or the greatest of their values; null where they have none.
     Extreme(Value<'static>),
     /// Their values, each once.
-    Distinct(IndexSet<Value<'static>>),
+    Distinct(KeyPlaces<Value<'static>>),
 }
 
 impl Tally {
@@ -39,7 +39,7 @@ impl Tally {
             Aggregate::Count => Tally::Count(0),
             Aggregate::SumOfIntegers(_) | Aggregate::SumOfDecimals(_) => Tally::Sum(None),
             Aggregate::Min(_) | Aggregate::Max(_) => Tally::Extreme(Value::Null),
-            Aggregate::CountDistinct(_) => Tally::Distinct(IndexSet::new(alloc)),
+            Aggregate::CountDistinct(_) => Tally::Distinct(KeyPlaces::new(alloc)),
         }
     }
 
@@ -200,7 +200,7 @@ fn is_more(value: &Value<'_>, other: &Value<'_>) -> bool
 
 /// The values that rows have in a column join those of other rows. A value is looked up before it is copied.
 fn join_values(
-    values: &mut IndexSet<Value<'static>>,
+    values: &mut KeyPlaces<Value<'static>>,
     alloc: Global,
     columns: &Columns,
     numbers: &[usize],
@@ -219,7 +219,7 @@ fn join_values(
 
 /// A value joins others; null is none. It is looked up before it is copied.
 fn join_value(
-    values: &mut IndexSet<Value<'static>>,
+    values: &mut KeyPlaces<Value<'static>>,
     alloc: Global,
     value: Value<'_>,
 ) -> Result<(), AllocError>

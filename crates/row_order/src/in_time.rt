@@ -5,10 +5,12 @@ ghost use Rattle.std.specs.List.{All};
 ghost use Rattle.block_summary.specs.Types.{cell_of};
 ghost use Rattle.cell_types.specs.Value.{CellValue, value_view};
 ghost use Rattle.odata_query.specs.Query.{order_view};
+ghost use Rattle.row_order.specs.Best.{top_items};
 ghost use Rattle.row_order.specs.InTime.{AreEnoughByKeys, HaveKeys, IsKeyColumn, NeverFault};
 
 use crate::keys_in_time::{Bound, last_of, near, within};
 use crate::plain::{PlainColumn, plain_column, value_at};
+use crate::top_n::TopN;
 use block_summary::PackedType;
 use cell_types::Value;
 use odata_query::OrderBy;
@@ -84,11 +86,10 @@ fn before_last(
     others: &[Option<i64>],
     keys: Keys<'_>,
     numbers: Vec<usize>,
-    items: &[OrderBy],
-    most: u64,
+    top: TopN<'_>,
 ) -> Result<Vec<usize>, AllocError>
-    requires plain { NeverFault (map order_view items.now) }
-    requires column { IsKeyColumn (map order_view items.now) keys.column.place keys.column.packed_type }
+    requires plain { NeverFault (top_items top) }
+    requires column { IsKeyColumn (top_items top) keys.column.place keys.column.packed_type }
     requires numbers { All (λ n. n < length keys.numbers.now) numbers.items }
     requires nulls { length keys.nulls.now ≡ length keys.numbers.now }
     ensures within { IfOk result (λ made. All (λ n. n < length keys.entry.numbers.now) made.items) }
@@ -96,17 +97,18 @@ fn before_last(
         → length kept ≡ length others.now
         → HaveKeys keys.entry.column.place keys.entry.column.packed_type
         (λ n. slice_index_or others.now n None) kept
-        → AreEnoughByKeys (map order_view items.now) most keys.entry kept numbers.items made.items) }
+        → AreEnoughByKeys (top_items top.entry) top.entry.most keys.entry kept
+        numbers.items made.items) }
 {
     rows_are_in_order();
     cell_types::values_are_ordered();
-    if is_late(others.len(), numbers.len(), most) {
+    if is_late(others.len(), numbers.len(), top.most) {
         return Ok(numbers);
     }
-    let descending = items[0].descending;
+    let descending = top.items[0].descending;
     let bound = Bound {
         descending,
-        ties: items.len() > 1,
+        ties: top.items.len() > 1,
         key: last_of(others, descending),
     };
     within(alloc, keys, numbers.as_slice(), bound)
@@ -118,22 +120,21 @@ fn before_kept(
     kept: &Columns,
     keys: Keys<'_>,
     numbers: Vec<usize>,
-    items: &[OrderBy],
-    most: u64,
+    top: TopN<'_>,
 ) -> Result<Vec<usize>, AllocError>
-    requires plain { NeverFault (map order_view items.now) }
-    requires column { IsKeyColumn (map order_view items.now) keys.column.place keys.column.packed_type }
+    requires plain { NeverFault (top_items top) }
+    requires column { IsKeyColumn (top_items top) keys.column.place keys.column.packed_type }
     requires numbers { All (λ n. n < length keys.numbers.now) numbers.items }
     requires nulls { length keys.nulls.now ≡ length keys.numbers.now }
     ensures within { IfOk result (λ made. All (λ n. n < length keys.entry.numbers.now) made.items) }
-    ensures enough { IfOk result (λ made. AreEnoughByKeys (map order_view items.now) most keys.entry
-        kept.now.rows numbers.items made.items) }
+    ensures enough { IfOk result (λ made. AreEnoughByKeys (top_items top.entry) top.entry.most
+        keys.entry kept.now.rows numbers.items made.items) }
 {
-    if is_late(kept.len(), numbers.len(), most) {
+    if is_late(kept.len(), numbers.len(), top.most) {
         return Ok(numbers);
     }
     match keys_of(alloc, kept, keys.column)? {
-        Some(others) => before_last(alloc, others.as_slice(), keys, numbers, items, most),
+        Some(others) => before_last(alloc, others.as_slice(), keys, numbers, top),
         None => Ok(numbers),
     }
 }
@@ -143,51 +144,54 @@ fn nearest(
     alloc: Global,
     keys: Keys<'_>,
     numbers: Vec<usize>,
-    items: &[OrderBy],
-    most: u64,
+    top: TopN<'_>,
 ) -> Result<Vec<usize>, AllocError>
-    requires plain { NeverFault (map order_view items.now) }
-    requires column { IsKeyColumn (map order_view items.now) keys.column.place keys.column.packed_type }
+    requires plain { NeverFault (top_items top) }
+    requires column { IsKeyColumn (top_items top) keys.column.place keys.column.packed_type }
     requires numbers { All (λ n. n < length keys.numbers.now) numbers.items }
     requires nulls { length keys.nulls.now ≡ length keys.numbers.now }
     ensures { IfOk result (λ made. (kept : List (List CellValue)) → AreEnoughByKeys
-        (map order_view items.now) most keys.entry kept numbers.items made.items) }
+        (top_items top.entry) top.entry.most keys.entry kept numbers.items made.items) }
 {
     rows_are_in_order();
     cell_types::values_are_ordered();
-    if most >= numbers.len() as u64 / 2 {
+    if top.most >= numbers.len() as u64 / 2 {
         return Ok(numbers);
     }
-    let descending = items[0].descending;
+    let descending = top.items[0].descending;
     let bound = Bound {
         descending,
         ties: true,
-        key: near(alloc, keys, numbers.as_slice(), most as usize, descending)?,
+        key: near(
+            alloc,
+            keys,
+            numbers.as_slice(),
+            top.most as usize,
+            descending,
+        )?,
     };
     let near = within(alloc, keys, numbers.as_slice(), bound)?;
-    if (near.len() as u64) < most {
+    if (near.len() as u64) < top.most {
         return Ok(numbers);
     }
     Ok(near)
 }
 
-/// Of the rows of a block with these numbers those that are enough, behind rows that are kept, for the first `most` in the order of the items: the others
-/// come too late, which is told by their keys in the column of the first item. The items are such as never divide by zero.
-pub fn rows_in_time(
+/// Of the rows of a block with these numbers those that are enough, behind rows that are kept, for the first rows in an order: the others come too late, which is told by their keys in the column of the first item. The items are such as never divide by zero.
+pub fn may_reach_top(
     alloc: Global,
     kept: &Columns,
     keys: Keys<'_>,
     numbers: Vec<usize>,
-    items: &[OrderBy],
-    most: u64,
+    top: TopN<'_>,
 ) -> Result<Vec<usize>, AllocError>
-    requires plain { NeverFault (map order_view items.now) }
-    requires column { IsKeyColumn (map order_view items.now) keys.column.place keys.column.packed_type }
+    requires plain { NeverFault (top_items top) }
+    requires column { IsKeyColumn (top_items top) keys.column.place keys.column.packed_type }
     requires numbers { All (λ n. n < length keys.numbers.now) numbers.items }
     requires nulls { length keys.nulls.now ≡ length keys.numbers.now }
-    ensures { IfOk result (λ made. AreEnoughByKeys (map order_view items.now) most keys.entry
-        kept.now.rows numbers.items made.items) }
+    ensures { IfOk result (λ made. AreEnoughByKeys (top_items top.entry) top.entry.most
+        keys.entry kept.now.rows numbers.items made.items) }
 {
-    let before = before_kept(alloc, kept, keys, numbers, items, most)?;
-    nearest(alloc, keys, before, items, most)
+    let before = before_kept(alloc, kept, keys, numbers, top)?;
+    nearest(alloc, keys, before, top)
 }

@@ -13,10 +13,12 @@ mod pieces;
 mod plain;
 mod sorting;
 mod text_keys;
+mod top_n;
 
 pub use best::best_numbers;
-pub use in_time::{key_column, rows_in_time};
+pub use in_time::{key_column, may_reach_top};
 pub use law::best_in_pieces;
 pub use passing::passing_numbers;
 pub use pieces::piece;
 pub use sorting::sorted_numbers;
+pub use top_n::TopN;

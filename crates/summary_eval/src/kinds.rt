@@ -6,7 +6,7 @@ ghost use Rattle.summary_eval.specs.Known.{Encloses};
 
 use block_summary::{Comparison, Test};
 use cell_types::Value;
-use jiff::civil::date;
+use jiff_core::civil::Date;
 use std::borrow::CowStr;
 
 /// The kinds of values that a column is compared with.
@@ -47,7 +47,7 @@ pub fn tests_around(kind: Kind) -> (Test<'static>, Test<'static>)
         ),
         Kind::Date => (
             test(Comparison::LessOrEqual, Value::Bool(true)),
-            test(Comparison::GreaterThan, Value::Date(date(9999, 12, 31))),
+            test(Comparison::GreaterThan, Value::Date(Date::MAX)),
         ),
         Kind::Decimal => (
             test(Comparison::LessThan, Value::Decimal(i128::from(i64::MIN))),

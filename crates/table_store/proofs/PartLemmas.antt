@@ -9,7 +9,7 @@ use Rattle.cell_types.specs.declared.fault.CellFault.{CellFault}
 use Rattle.cell_types.specs.Cell.{value_of}
 use Rattle.cell_types.specs.Column.{ColumnOf}
 use Rattle.cell_types.specs.Value.{CellValue, null}
-use Rattle.csv_index.specs.Index.{cell_at}
+use Rattle.raw_fields.specs.Rows.{cell_at}
 use Rattle.csv_grammar.specs.Raw.{RawField, raw_content, field_of}
 use Rattle.raw_fields.specs.Values.{rows_in, values_in, HasValue, HaveValues, AllHaveValues}
 use Rattle.row_keys.specs.Key.{row_key, row_keys}

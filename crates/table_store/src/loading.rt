@@ -1,14 +1,16 @@
 //! Reading the rows of a table, part by part.
-ghost use Rattle.std.specs.Prelude.{◌≡◌, List, None, Ok, Err, IfOk, IfErr, IfSome, length, map, option_map};
+ghost use Rattle.std.specs.Prelude.{◌≡◌, [], List, None, Ok, Err, IfOk, IfErr, IfSome, length, map, option_map};
 ghost use Rattle.cell_types.specs.Value.{CellValue};
+ghost use Rattle.csv_grammar.specs.Raw.{RawField};
 ghost use Rattle.csvw_meta.specs.Schema.{schema_view};
 ghost use Rattle.table_store.specs.Fault.{bad_cell, cell_cause};
 ghost use Rattle.typed_columns.specs.ColumnReader.{cells_read};
-ghost use Rattle.row_keys.specs.Keys.{AreKeysOf, HasRead};
-ghost use Rattle.raw_fields.specs.Values.{FitsColumns};
+ghost use Rattle.row_keys.specs.Key.{row_key};
+ghost use Rattle.row_keys.specs.Keys.{AreKeysOf, HasRead, TakesKey};
+ghost use Rattle.raw_fields.specs.Values.{values_in, FitsColumns};
 ghost use Rattle.table_store.specs.Loading.{bad_cell_of, table_cause, ArePartsOf, HasKeyColumns, HasRowsCause, LacksKeys};
 
-use crate::parts::{read_keys, read_part};
+use crate::parts::{KeyColumns, RowKeys, read_keys, read_part};
 use cell_types::{CellFault, Value};
 use csv_index::{IndexedText, TextFault};
 use csvw_meta::Schema;
@@ -53,6 +55,26 @@ fn nulls<'a>(alloc: Global, count: usize) -> Result<Vec<Value<'a>>, AllocError>
         values.push(Value::Null)?;
     }
     Ok(values)
+}
+
+/// The keys of so many rows of a table, none of which is read.
+fn unread_keys<'a>(
+    alloc: Global,
+    schema: &'a Schema,
+    rows: usize,
+) -> Result<RowKeys<'a>, AllocError>
+    requires { HasKeyColumns (schema_view schema.now) }
+    ensures read { IfOk result (λ keys. HasRead keys.reader []) }
+    ensures suits { IfOk result (λ keys. (fields : List RawField)
+        → TakesKey keys.reader (row_key (schema_view schema.now).key
+        (values_in (schema_view schema.now).columns fields))) }
+    ensures count { IfOk result
+        (λ keys. length keys.values.items ≡ length schema.now.columns.items) }
+{
+    Ok(RowKeys {
+        reader: KeyReader::new(alloc, schema, rows)?,
+        values: nulls(alloc, schema.columns.len())?,
+    })
 }
 
 /// The columns and the keys of so many rows that were read; or why the rows have no keys.
@@ -100,13 +122,11 @@ pub fn read_rows<'t>(
 {
     let columns = schema.columns.as_slice();
     let places = schema.key.as_slice();
+    let key = KeyColumns { columns, places };
     let Ok(mut readers) = column_readers(alloc, columns, file.rows()) else {
         return Err(TableFault::NoMemory);
     };
-    let Ok(mut keys) = KeyReader::new(alloc, schema, file.rows()) else {
-        return Err(TableFault::NoMemory);
-    };
-    let Ok(mut cells) = nulls(alloc, columns.len()) else {
+    let Ok(mut keys) = unread_keys(alloc, schema, file.rows()) else {
         return Err(TableFault::NoMemory);
     };
     let Ok(mut parts) = file.parts(alloc) else {
@@ -115,16 +135,17 @@ pub fn read_rows<'t>(
     let mut first = 0;
     while first < file.rows() {
         parts.next();
-        match read_part(alloc, columns, &parts, first, &mut readers) {
+        let part = parts.part();
+        match read_part(alloc, columns, &part, first, &mut readers) {
             Ok(()) => {}
             Err(bad) => return Err(fault_of(bad)),
         }
-        let Ok(()) = read_keys(alloc, columns, places, &parts, first, &mut cells, &mut keys) else {
+        let Ok(()) = read_keys(alloc, &key, &part, first, &mut keys) else {
             return Err(TableFault::NoMemory);
         };
-        first += parts.rows();
+        first += part.rows();
     }
-    finish_rows(alloc, file.rows(), readers, keys)
+    finish_rows(alloc, file.rows(), readers, keys.reader)
 }
 
 /// The fault of a table with that cell.

@@ -1,5 +1,5 @@
 -- The cells of a column of rows, read one row after another.
-use Rattle.std.proofs.Common.{◌≡◌, ◌⊎◌, inl, inr, ◌==◌, false, ℕ, zero, suc, ◌+◌, List, [], ◌∷◌, ◌++◌, append_assoc, length, take, Some, Ok, Err, IfSome, refl, ap, sym, subst, ◌∙◌, arith}
+use Rattle.std.proofs.Common.{◌≡◌, ◌⊎◌, inl, inr, ◌==◌, true, false, ℕ, zero, suc, ◌+◌, List, [], ◌∷◌, ◌++◌, append_assoc, length, take, Some, Ok, Err, IfSome, refl, ap, sym, subst, ◌∙◌, arith}
 use Rattle.std.proofs.lemmas.Bool.{ne_eqb}
 use Rattle.std.proofs.lemmas.List.{length-map}
 use Rattle.std.specs.List.{slice_get}
@@ -9,11 +9,11 @@ use Rattle.cell_types.specs.Cell.{value_of}
 use Rattle.cell_types.specs.Column.{ColumnOf}
 use Rattle.cell_types.specs.Datatype as datatype
 use Rattle.cell_types.specs.Value.{CellValue}
-use Rattle.csv_index.specs.Index.{cell_at}
+use Rattle.raw_fields.specs.Rows.{cell_at}
 use Rattle.csv_grammar.specs.Raw.{RawField, raw_content}
 use Rattle.raw_fields.specs.Values.{value_in, value_or_null, HasValue}
 use Rattle.typed_columns.specs.Parts.{field_cell, part_cells, EmptyIsNull, HasCellFault, PartHasValues}
-use Rattle.typed_columns.specs.Readers.{plain_cell}
+use Rattle.text_columns.specs.Buffer.{content_cell}
 
 -- a field that is read as a value has it
 pub has_value : (column : ColumnOf) (raw : RawField) (value : CellValue) → value_in (column, raw) ≡ Ok value
@@ -54,11 +54,11 @@ pub one_more : (cells read more : List CellValue) (cell : CellValue) → more �
 one_more cells read more cell e = append_assoc cells read (cell ∷ []) ∙ ap (λ rest. cells ++ rest) (sym e)
 
 -- where the empty text alone is null, each text has a value
-text_value : (column : ColumnOf) (bytes : List ℕ) → column.datatype ≡ datatype.text → EmptyIsNull column → value_of column bytes ≡ Ok (plain_cell bytes)
+text_value : (column : ColumnOf) (bytes : List ℕ) → column.datatype ≡ datatype.text → EmptyIsNull column → value_of column bytes ≡ Ok (content_cell true bytes)
 text_value column [] type plain = rw (type, plain.default, plain.nulls, plain.required) refl
 text_value column (byte ∷ bytes) type plain =
     let some : suc (length bytes) == 0 ≡ false = ne_eqb (suc (length bytes)) 0 (λ e. absurd (omega (arith, e))) in
     rw (type, plain.nulls, some) refl
 
-pub plain_value : (column : ColumnOf) (raw : RawField) → column.datatype ≡ datatype.text → EmptyIsNull column → value_in (column, raw) ≡ Ok (plain_cell (raw_content raw))
+pub plain_value : (column : ColumnOf) (raw : RawField) → column.datatype ≡ datatype.text → EmptyIsNull column → value_in (column, raw) ≡ Ok (content_cell true (raw_content raw))
 plain_value column raw type plain = text_value column (raw_content raw) type plain

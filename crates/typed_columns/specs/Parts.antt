@@ -4,7 +4,7 @@ use Rattle.std.specs.List.{AllByRecursion}
 use Rattle.cell_types.specs.declared.fault.CellFault.{CellFault}
 use Rattle.cell_types.specs.Column.{ColumnOf}
 use Rattle.cell_types.specs.Value.{CellValue, null}
-use Rattle.csv_index.specs.Index.{cell_at}
+use Rattle.raw_fields.specs.Rows.{cell_at}
 use Rattle.csv_grammar.specs.Raw.{RawField}
 use Rattle.raw_fields.specs.Values.{value_in, value_or_null, HasValue}
 

@@ -31,8 +31,3 @@ texts_with_cells reader cells = record reader { cells = reader.cells ++ cells }
 abbrev pub text_or_null : Option (List ℕ) → CellValue
 text_or_null None = null
 text_or_null (Some t) = text t
-
--- the cell of a text where the empty one alone is null
-abbrev pub plain_cell : List ℕ → CellValue
-plain_cell [] = null
-plain_cell (byte ∷ bytes) = text (byte ∷ bytes)

@@ -12,7 +12,7 @@ use crate::text_reader::TextReader;
 use crate::typed_column::TypedColumn;
 use block_summary::packed_type_of;
 use cell_types::{CellFault, Column};
-use csv_index::Parts;
+use raw_fields::Part;
 use std::alloc::{AllocError, Global};
 use std::marker::Model;
 
@@ -54,22 +54,22 @@ impl ColumnReader {
         &mut self,
         alloc: Global,
         column: &Column,
-        parts: &Parts<'_>,
+        part: &Part<'_, '_>,
         col: usize,
     ) -> Result<(), CellFault>
         requires column { packed_type_of_datatype (datatype_view column.now.datatype)
             ≡ self.old.packed_type }
-        requires room { length self.old.cells + length parts.now.part ≤ self.old.rows }
-        requires col { col < parts.now.width }
-        ensures values { OnOk result (PartHasValues (column_view column.now) col parts.now.part) }
+        requires room { length self.old.cells + length part.now.rows ≤ self.old.rows }
+        requires col { col < part.now.width }
+        ensures values { OnOk result (PartHasValues (column_view column.now) col part.now.rows) }
         ensures cells { OnOk result (self.new ≡ with_cells self.old
-            (part_cells (column_view column.now) col parts.now.part)) }
+            (part_cells (column_view column.now) col part.now.rows)) }
         ensures fault { IfErr result (λ e. (e ≡ CellFault.NoMemory)
-            ⊎ HasCellFault (column_view column.now) col parts.now.part e) }
+            ⊎ HasCellFault (column_view column.now) col part.now.rows e) }
     {
         match &mut self.cells {
-            Cells::Numbers(reader) => reader.read_part(alloc, column, parts, col),
-            Cells::Texts(reader) => reader.read_part(alloc, column, parts, col),
+            Cells::Numbers(reader) => reader.read_part(alloc, column, part, col),
+            Cells::Texts(reader) => reader.read_part(alloc, column, part, col),
         }
     }
 

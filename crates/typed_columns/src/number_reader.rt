@@ -14,8 +14,7 @@ ghost use Rattle.typed_columns.specs.TypedColumn.{cells_in, AreBlocks};
 
 use block_summary::{BLOCK_ROWS, CellBuffer, PackedColumn, PackedType, read_number};
 use cell_types::{CellFault, Column};
-use csv_index::Parts;
-use raw_fields::Raw;
+use raw_fields::{Part, Raw};
 use std::alloc::{AllocError, Global};
 use std::marker::Model;
 
@@ -117,21 +116,21 @@ impl NumberReader {
         &mut self,
         alloc: Global,
         column: &Column,
-        parts: &Parts<'_>,
+        part: &Part<'_, '_>,
         col: usize,
     ) -> Result<(), CellFault>
         requires column { packed_type_of_datatype (datatype_view column.now.datatype)
             ≡ Some self.old.packed_type }
-        requires room { length self.old.cells + length parts.now.part ≤ self.old.rows }
-        requires col { col < parts.now.width }
-        ensures values { OnOk result (PartHasValues (column_view column.now) col parts.now.part) }
+        requires room { length self.old.cells + length part.now.rows ≤ self.old.rows }
+        requires col { col < part.now.width }
+        ensures values { OnOk result (PartHasValues (column_view column.now) col part.now.rows) }
         ensures cells { OnOk result (self.new ≡ numbers_with_cells self.old
-            (part_cells (column_view column.now) col parts.now.part)) }
+            (part_cells (column_view column.now) col part.now.rows)) }
         ensures fault { IfErr result (λ e. (e ≡ CellFault.NoMemory)
-            ⊎ HasCellFault (column_view column.now) col parts.now.part e) }
+            ⊎ HasCellFault (column_view column.now) col part.now.rows e) }
     {
-        for row in 0..parts.rows() {
-            match self.read(alloc, column, parts.field(row, col)) {
+        for row in 0..part.rows() {
+            match self.read(alloc, column, part.field(row, col)) {
                 Ok(()) => {}
                 Err(fault) => return Err(fault),
             }

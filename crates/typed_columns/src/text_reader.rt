@@ -1,21 +1,20 @@
 //! The cells of a column of texts, as the rows of a file are read.
-ghost use Rattle.std.specs.Prelude.{◌≡◌, ◌<◌, ◌≤◌, ◌+◌, ◌⊎◌, true, Ok, Err, [], IfOk, IfErr, OnOk, length, option_map};
+ghost use Rattle.std.specs.Prelude.{◌≡◌, ◌<◌, ◌≤◌, ◌+◌, ◌⊎◌, true, Ok, Err, [], IfOk, IfErr, OnOk, length, option_map, take};
 ghost use Rattle.std.specs.Cow.{cow_str_bytes};
 ghost use Rattle.block_summary.specs.declared.block.TheConstants.{BLOCK_ROWS};
 ghost use Rattle.cell_types.specs.Column.{column_view};
 ghost use Rattle.cell_types.specs.Datatype as datatype;
 ghost use Rattle.cell_types.specs.Datatype.{datatype_view};
-ghost use Rattle.csv_grammar.specs.Raw.{raw_content};
 ghost use Rattle.raw_fields.specs.Raw.{raw_view};
 ghost use Rattle.raw_fields.specs.Values.{value_in, value_or_null, HasValue};
 ghost use Rattle.typed_columns.specs.Parts.{part_cells, EmptyIsNull, HasCellFault, PartHasValues};
-ghost use Rattle.typed_columns.specs.Readers.{plain_cell, text_or_null, texts_with, texts_with_cells};
+ghost use Rattle.typed_columns.specs.Readers.{text_or_null, texts_with, texts_with_cells};
+ghost use Rattle.text_columns.specs.Buffer.{content_cell, field_content};
 ghost use Rattle.typed_columns.specs.TypedColumn.{cells_in, AreBlocks};
 
 use block_summary::BLOCK_ROWS;
 use cell_types::{CellFault, Column, string_of};
-use csv_index::Parts;
-use raw_fields::Raw;
+use raw_fields::{Part, Raw};
 use std::alloc::{AllocError, Global};
 use std::borrow::CowStr;
 use std::marker::Model;
@@ -102,21 +101,47 @@ impl TextReader {
         }
     }
 
-    /// Reads the field of the next row, where the empty text alone is null: no text is compared.
+    /// Adds what a field says, or a null where that is empty. `rest` is the file from the field's bytes on.
     #[inline(always)]
-    fn read_plain(&mut self, alloc: Global, column: &Column, raw: Raw<'_>) -> Result<(), CellFault>
+    fn push_field(
+        &mut self,
+        alloc: Global,
+        text: &str,
+        quoted: bool,
+        rest: &[u8],
+    ) -> Result<(), AllocError>
+        requires rest { take (length text.now) rest.now ≡ text.now }
+        requires room { length self.old.cells < self.old.rows }
+        ensures { OnOk result (self.new
+            ≡ texts_with self.old (content_cell true (field_content quoted text.now))) }
+    {
+        if self.buffer.len() == BLOCK_ROWS {
+            let block = self.buffer.pack(alloc)?;
+            self.blocks.push(block)?;
+            self.buffer.clear();
+        }
+        self.buffer.push_field(text, quoted, rest, true)
+    }
+
+    /// Reads the field of the next row, where the empty text alone is null: no text is compared. `rest` is the file from the field's bytes on.
+    #[inline(always)]
+    fn read_plain(
+        &mut self,
+        alloc: Global,
+        column: &Column,
+        raw: Raw<'_>,
+        rest: &[u8],
+    ) -> Result<(), CellFault>
         requires column { datatype_view column.now.datatype ≡ datatype.text }
         requires plain { EmptyIsNull (column_view column.now) }
+        requires rest { take (length raw.bytes.now) rest.now ≡ raw.bytes.now }
         requires room { length self.old.cells < self.old.rows }
         ensures value { OnOk result (HasValue (column_view column.now) (raw_view raw.entry)) }
         ensures cells { OnOk result (self.new ≡ texts_with self.old
             (value_or_null (value_in (column_view column.now, raw_view raw.entry)))) }
         ensures fault { IfErr result (λ e. e ≡ CellFault.NoMemory) }
     {
-        let Ok(plain) = plain_text(alloc, raw) else {
-            return Err(CellFault::NoMemory);
-        };
-        match self.push(alloc, &plain) {
+        match self.push_field(alloc, raw.bytes, raw.quoted, rest) {
             Ok(()) => Ok(()),
             Err(_) => Err(CellFault::NoMemory),
         }
@@ -127,20 +152,21 @@ impl TextReader {
         &mut self,
         alloc: Global,
         column: &Column,
-        parts: &Parts<'_>,
+        part: &Part<'_, '_>,
         col: usize,
     ) -> Result<(), CellFault>
         requires column { datatype_view column.now.datatype ≡ datatype.text }
         requires plain { EmptyIsNull (column_view column.now) }
-        requires room { length self.old.cells + length parts.now.part ≤ self.old.rows }
-        requires col { col < parts.now.width }
-        ensures values { OnOk result (PartHasValues (column_view column.now) col parts.now.part) }
+        requires room { length self.old.cells + length part.now.rows ≤ self.old.rows }
+        requires col { col < part.now.width }
+        ensures values { OnOk result (PartHasValues (column_view column.now) col part.now.rows) }
         ensures cells { OnOk result (self.new ≡ texts_with_cells self.old
-            (part_cells (column_view column.now) col parts.now.part)) }
+            (part_cells (column_view column.now) col part.now.rows)) }
         ensures fault { IfErr result (λ e. e ≡ CellFault.NoMemory) }
     {
-        for row in 0..parts.rows() {
-            self.read_plain(alloc, column, parts.field(row, col))?;
+        for row in 0..part.rows() {
+            let (raw, rest) = part.field_and_rest(row, col);
+            self.read_plain(alloc, column, raw, rest)?;
         }
         Ok(())
     }
@@ -150,23 +176,23 @@ impl TextReader {
         &mut self,
         alloc: Global,
         column: &Column,
-        parts: &Parts<'_>,
+        part: &Part<'_, '_>,
         col: usize,
     ) -> Result<(), CellFault>
         requires column { datatype_view column.now.datatype ≡ datatype.text }
-        requires room { length self.old.cells + length parts.now.part ≤ self.old.rows }
-        requires col { col < parts.now.width }
-        ensures values { OnOk result (PartHasValues (column_view column.now) col parts.now.part) }
+        requires room { length self.old.cells + length part.now.rows ≤ self.old.rows }
+        requires col { col < part.now.width }
+        ensures values { OnOk result (PartHasValues (column_view column.now) col part.now.rows) }
         ensures cells { OnOk result (self.new ≡ texts_with_cells self.old
-            (part_cells (column_view column.now) col parts.now.part)) }
+            (part_cells (column_view column.now) col part.now.rows)) }
         ensures fault { IfErr result (λ e. (e ≡ CellFault.NoMemory)
-            ⊎ HasCellFault (column_view column.now) col parts.now.part e) }
+            ⊎ HasCellFault (column_view column.now) col part.now.rows e) }
     {
         if empty_is_null(column) {
-            return self.read_plain_part(alloc, column, parts, col);
+            return self.read_plain_part(alloc, column, part, col);
         }
-        for row in 0..parts.rows() {
-            match self.read(alloc, column, parts.field(row, col)) {
+        for row in 0..part.rows() {
+            match self.read(alloc, column, part.field(row, col)) {
                 Ok(()) => {}
                 Err(fault) => return Err(fault),
             }
@@ -195,19 +221,6 @@ fn empty_is_null(column: &Column) -> bool
         && column.nulls[0].is_empty()
         && column.default.is_empty()
         && !column.required
-}
-
-/// What a field says; nothing where that is empty.
-#[inline(always)]
-fn plain_text<'a>(alloc: Global, raw: Raw<'a>) -> Result<Option<CowStr<'a>>, AllocError>
-    ensures { IfOk result (λ text. text_or_null (option_map cow_str_bytes text)
-        ≡ plain_cell (raw_content (raw_view raw.entry))) }
-{
-    let text = raw.text(alloc)?;
-    if text.as_str().is_empty() {
-        return Ok(None);
-    }
-    Ok(Some(text))
 }
 
 /// The text of the value of a field in a column of texts; nothing for a null.

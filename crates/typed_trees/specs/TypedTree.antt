@@ -1,6 +1,6 @@
 -- Typed expressions, whichever memory keeps them (OData 4.01 URL Conventions, section 5.1.1).
 use Rattle.std.specs.Prelude.{ℕ, ℤ, Bool, List, Option, map, option_map, string_bytes, Box, String}
-use Rattle.jiff.specs.declared.civil.dates.Date.{Date}
+use Rattle.jiff_core.specs.declared.civil.date.Date.{Date}
 use Rattle.typed_trees.specs.declared.operator.ArithmeticOperator.{ArithmeticOperator}
 use Rattle.typed_trees.specs.declared.operator.ComparisonOperator.{ComparisonOperator}
 use Rattle.typed_trees.specs.declared.tree.DateExpr.{DateExpr}

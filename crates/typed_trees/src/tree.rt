@@ -2,7 +2,7 @@
 //! know all. A column is its number, counted from 0; where a row has no value of the type there, it is null.
 
 use crate::operator::{ArithmeticOperator, ComparisonOperator};
-use jiff::civil::Date;
+use jiff_core::civil::Date;
 
 /// How many millionths a whole is. A decimal is a number of millionths.
 pub const MILLIONTHS: u128 = 1_000_000;

@@ -1,2 +1,1 @@
-pub mod DecimalLemmas
 pub mod TextLemmas

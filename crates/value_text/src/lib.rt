@@ -2,7 +2,6 @@
 //! eighty characters; numbers, dates and truth values as replies have them.
 #![tactic(auto)]
 
-mod decimal;
 mod text;
 mod value;
 

@@ -2,24 +2,28 @@ use Rattle.std.proofs.Common.{◌≡◌, ◌+◌, ◌<◌, ◌≤◌, ◌∙◌,
 use Rattle.std.proofs.lemmas.List.{length-map, length_push}
 use Rattle.block_filter.specs.Marks.{marked}
 use Rattle.block_filter.proofs.FirstLemmas.{marked_front}
-use Rattle.block_filter.proofs.PassingLemmas.{marked_row, unmarked_row, AreNumbers}
+use Rattle.block_filter.proofs.PassingLemmas.{marked_row, no_numbers, up_to_first, AreNumbers}
 use Rattle.block_filter.proofs.passing.numbers_of.Goals as goal
-use Rattle.block_filter.proofs.passing.numbers_of.Goals.{then-is_wanted+in_ok-push, else-is_wanted}
+
+pub loop-row-init : goal.loop-row-init
+loop-row-init c =
+    let first = c.first_wanted-row.ensures in
+    let marks = c.args.wanted.now in
+    let none = c.new-numbers.ensures.items in
+    let begun = subst (AreNumbers marks 0) (sym none) (no_numbers marks) in
+    (up_to_first marks 0 _ _ first begun, omega (arith, ap length none), first.within, first.marked_there)
 
 pub loop-row-preserved : goal.loop-row-preserved
 loop-row-preserved c =
     let marks = c.args.wanted.now in
     let i = c.loop-row.row in
     let numbers = c.loop-row.numbers.items in
-    elim c.if-is_wanted.branch [
-      | then-is_wanted+in_ok-push w ↦ (
-        rw w.numbers-is (subst (AreNumbers marks (i + 1)) (sym w.in_ok-push.ensures.items) (marked_row marks i numbers c.loop-row-test.true w.if-is_wanted.true c.loop-row.invariant.0)),
-        let room : length numbers < c.args.most = rw (c.len.ensures, c.loop-row.numbers.ok.0) at c.if-len-most.false in
-            let long = ap length w.in_ok-push.ensures.items ∙ length_push numbers i in
-            rw w.numbers-is (omega (arith, long, room)),
-      )
-      | else-is_wanted w ↦ (rw w.numbers-is (unmarked_row marks i numbers c.loop-row-test.true w.if-is_wanted.false c.loop-row.invariant.0), rw w.numbers-is c.loop-row.invariant.1)
-    ]
+    let inside : i < length marks = omega (arith, c.loop-row-test.true) in
+    let more = subst (AreNumbers marks (i + 1)) (sym c.in_ok-push.ensures.items) (marked_row marks i numbers inside (c.loop-row.invariant.3 inside) c.loop-row.invariant.0) in
+    let first = c.first_wanted-row-in-loop-row.ensures in
+    let room : length numbers < c.args.most = rw (c.len.ensures, c.loop-row.numbers.ok.0) at c.if-len-most.false in
+    let long = ap length c.in_ok-push.ensures.items ∙ length_push numbers i in
+    (up_to_first marks (i + 1) _ _ first more, omega (arith, long, room), first.within, first.marked_there)
 
 pub returns-then-len-most-clause-rows : goal.returns-then-len-most-clause-rows
 returns-then-len-most-clause-rows c = λ rows long.

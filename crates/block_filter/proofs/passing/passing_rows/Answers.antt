@@ -1,4 +1,4 @@
-use Rattle.std.proofs.Common.{◌≡◌, ◌∙◌, [], Some, ap, arith, drop, eqb-true, length, map, refl, replicate, subst, sym, true}
+use Rattle.std.proofs.Common.{◌≡◌, ◌∙◌, [], Some, ap, drop, eqb-true, length, map, option_copied, refl, replicate, subst, sym, true}
 use Rattle.std.specs.Prelude.{count_by}
 use Rattle.std.proofs.lemmas.List.{length-replicate, nil_from_length}
 use Rattle.typed_trees.specs.TypedTree.{boxed_truth}
@@ -37,5 +37,6 @@ returns-then-count_of-eq0-clause-rows c =
 pub narrow_by-requires-clause-columns : goal.narrow_by-requires-clause-columns
 narrow_by-requires-clause-columns c =
     let rows = c.args.block.now.rows in
-    let texts : AreTextsOf rows c.as_slice.result.now = subst (AreTextsOf rows) (sym c.as_slice.ensures.value) c.in_ok-texts.ensures in
-    subst (AreColumnsOf rows) (sym c.deref-in-loop-condition-3.ensures.value) (c.in_ok-columns.ensures rows c.in_ok-read_named.ensures texts)
+    let packed : AreTextsOf rows (map option_copied c.as_slice.result.now) = subst (λ xs. AreTextsOf rows (map option_copied xs)) (sym c.as_slice.ensures.value) c.in_ok-packed.ensures in
+    let texts : AreTextsOf rows c.as_slice-in-loop-condition.result.now = subst (AreTextsOf rows) (sym c.as_slice-in-loop-condition.ensures.value) c.in_ok-texts.ensures in
+    subst (AreColumnsOf rows) (sym c.deref-in-loop-condition-3.ensures.value) (c.in_ok-columns.ensures rows c.in_ok-read_named.ensures (packed, texts))

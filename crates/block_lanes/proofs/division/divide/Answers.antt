@@ -1,5 +1,6 @@
-use Rattle.std.proofs.Common.{length, refl, subst}
-use Rattle.block_lanes.specs.Arithmetic.{HasQuotients}
+use Rattle.std.proofs.Common.{ap, length, subst, sym, ◌∙◌}
+use Rattle.block_lanes.specs.Arithmetic.{HasNulls}
+use Rattle.block_lanes.specs.Lanes.{number_at}
 use Rattle.block_lanes.proofs.OperandLemmas.{operands-divided}
 use Rattle.block_lanes.proofs.division.divide.Goals as goal
 
@@ -9,19 +10,19 @@ nulls_of-requires-clause-left c = c.operand-left.ensures.long (length c.args.wan
 pub nulls_of-requires-clause-right : goal.nulls_of-requires-clause-right
 nulls_of-requires-clause-right c = c.operand-right.ensures.long (length c.args.wanted.now) c.requires.right
 
-pub quotients-requires-clause-left : goal.quotients-requires-clause-left
-quotients-requires-clause-left c = c.operand-left.ensures.long (length c.args.wanted.now) c.requires.left
-
-pub quotients-requires-clause-right : goal.quotients-requires-clause-right
-quotients-requires-clause-right c = c.operand-right.ensures.long (length c.args.wanted.now) c.requires.right
+pub quotients-requires : goal.quotients-requires
+quotients-requires c = record {
+  left = c.operand-left.ensures.long (length c.args.wanted.now) c.requires.left;
+  right = c.operand-right.ensures.long (length c.args.wanted.now) c.requires.right;
+  nulls = ap length c.as_slice.ensures.value ∙ c.in_ok-nulls.ensures.long;
+}
 
 pub returns : goal.returns
 returns c =
     let a = c.operand-left.result in
     let b = c.operand-right.result in
-    let nulls = c.in_ok-nulls.nulls.items in
-    let values = c.in_ok-values.values.items in
     let wanted = c.args.wanted.now in
-    let has = subst (λ n. HasQuotients c.args.operator a b wanted n values) c.as_slice.ensures.value c.in_ok-values.ensures in
-    operands-divided c.args.operator wanted c.args.left.now c.args.right.now _ a b nulls values c.operand-left.ensures c.operand-right.ensures c.in_ok-nulls.ensures has
-    (c.in_ok-values.ensures.long, c.in_ok-nulls.ensures.long) (λ row. refl)
+    let seen = c.as_slice.ensures.value in
+    operands-divided c.args.operator wanted c.args.left.now c.args.right.now _ (record { left = a; right = b; nulls = c.as_slice.result }) c.in_ok-values.values.items
+    c.operand-left.ensures c.operand-right.ensures (subst (HasNulls (length wanted) a b) (sym seen) c.in_ok-nulls.ensures) c.in_ok-values.ensures
+    (c.in_ok-values.ensures.long, c.in_ok-nulls.ensures.long) (λ row. ap (λ n. number_at c.in_ok-values.values.items n row) (sym seen))

@@ -6,4 +6,4 @@ use Rattle.block_lanes.specs.Operands.{lane_value}
 use Rattle.block_lanes.proofs.division.divide_each.Given as goal
 
 abbrev pub invariant-loop-i : goal.invariant-loop-i
-invariant-loop-i l = (k : ℕ) → k < l.i → get_or l.wanted k false ≡ true → get_or l.nulls k true ≡ false → operation (operator_of_quotient l.operator) (lane_value l.left k) (lane_value l.right k) ≡ Some (get_or l.out k (pos 0))
+invariant-loop-i l = (k : ℕ) → k < l.i → get_or l.wanted k false ≡ true → get_or l.sides.nulls.now k true ≡ false → operation (operator_of_quotient l.operator) (lane_value l.sides.left k) (lane_value l.sides.right k) ≡ Some (get_or l.out k (pos 0))

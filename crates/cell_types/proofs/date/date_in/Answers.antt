@@ -1,4 +1,4 @@
--- jiff makes a date of the numbers just where the calendar has them.
+-- `jiff_core` makes a date of the numbers just where the calendar has them.
 use Rattle.std.proofs.Common.{◌≡◌, ◌<◌, ◌∙◌, sym, pos, arith, to_z}
 use Rattle.std.specs.Int.{w8, w16}
 use Rattle.std.proofs.lemmas.Int.{ints}

@@ -3,8 +3,8 @@ use Rattle.odata_http.proofs.AnswerLemmas.{all_none, all_more, heads_at, heads_m
 use Rattle.odata_http.proofs.HeadLemmas.{small_at}
 use Rattle.odata_http.proofs.answer.answer_heads.Goals as goal
 
-pub reply_to-requires : goal.reply_to-requires
-reply_to-requires g c = small_at c.args.heads.now c.loop-head.head-index c.head-item.result c.loop-head-test.true c.head-item.is c.requires
+pub lazy_reply_to-requires : goal.lazy_reply_to-requires
+lazy_reply_to-requires g c = small_at c.args.heads.now c.loop-head.head-index c.head-item.result c.loop-head-test.true c.head-item.is c.requires
 
 pub loop-head-init : goal.loop-head-init
 loop-head-init g c = all_none _ _ _

@@ -3,6 +3,6 @@ use Rattle.odata_listen.proofs.endings.note.Goals as goal
 
 pub returns : goal.returns
 returns c = record {
-  kept = (c.end_hopeless.ensures.hub, c.end_hopeless.ensures.seats);
+  kept = (c.end_hopeless.ensures.hub, c.end_hopeless.ensures.slots);
   streams = kept_then c.args.place _ _ _ _ c.note_work.ensures c.end_hopeless.ensures.ends;
 }

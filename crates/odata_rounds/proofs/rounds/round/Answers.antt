@@ -5,4 +5,4 @@ use Rattle.odata_rounds.proofs.rounds.round.Goals as goal
 pub loop-place-preserved : goal.loop-place-preserved
 loop-place-preserved g c =
     let before = c.loop-place.invariant in
-    (round_more _ _ _ _ before.0 c.visit_seat.ensures.visit, c.visit_seat.ensures.len ∙ before.1, c.visit_seat.auto.room ∙ before.2)
+    (round_more _ _ _ _ before.0 c.visit_slot.ensures.visit, c.visit_slot.ensures.len ∙ before.1, c.visit_slot.auto.room ∙ before.2)

@@ -1,25 +1,24 @@
-use Rattle.std.proofs.Common.{arith}
-use Rattle.odata_rounds.proofs.VisitLemmas.{serves_none, serves_output, serves_refused, serves_waiting, nothing_waits, waiting_length}
+use Rattle.odata_rounds.proofs.VisitLemmas.{is_empty, is_some, serves_dry, serves_free, serves_lost, serves_rests, serves_wrote}
 use Rattle.odata_rounds.proofs.visits.visit.Goals as goal
 
-pub returns-then-not-is_empty : goal.returns-then-not-is_empty
-returns-then-not-is_empty g c = serves_waiting _ _ _ _ _ _ _ (waiting_length _ _ c.is_empty.ensures c.if-not-is_empty.true) c.write_out.ensures
-
-pub returns-in-Ok-eq0 : goal.returns-in-Ok-eq0
-returns-in-Ok-eq0 g c =
-    let test = c.in-Ok-eq0.field-0-test in
-    let count = c.in-Ok-eq0.ensures.count in
-    let empty = nothing_waits _ _ c.is_empty.ensures c.if-not-is_empty.false in
-    rw empty (serves_none _ _ _ _ _ _ _ _ (omega arith) c.in-Ok-eq0.ensures.step c.turn_or_read.ensures)
-
-pub returns-in-Ok : goal.returns-in-Ok
-returns-in-Ok g c =
-    let test = c.in-Ok.field-0-test in
-    let count = c.in-Ok.ensures.count in
-    let empty = nothing_waits _ _ c.is_empty.ensures c.if-not-is_empty.false in
-    rw empty (serves_output _ _ _ _ _ _ _ _ (omega arith) c.in-Ok.ensures.step c.write_out-in-Ok.ensures)
+pub returns-then-is_empty : goal.returns-then-is_empty
+returns-then-is_empty g c =
+    serves_dry _ _ _ _ _ c.in-Ok.output _ c.in-Ok.ensures (is_empty _ _ c.is_empty.ensures c.if-is_empty.true) c.turn_or_read.ensures
 
 pub returns-in-Err : goal.returns-in-Err
-returns-in-Err g c =
-    let empty = nothing_waits _ _ c.is_empty.ensures c.if-not-is_empty.false in
-    rw empty (serves_refused _ _ _ _ _ _ c.in-Err.ensures.err c.in-Err.ensures.step)
+returns-in-Err g c = serves_free _ _ _ _ c.in-Err.ensures
+
+pub returns-in-Ok-write : goal.returns-in-Ok-write
+returns-in-Ok-write g c =
+    serves_wrote _ _ _ _ _ c.in-Ok.output c.in-Ok-write.count c.in-Ok.ensures (is_some _ _ c.is_empty.ensures c.if-is_empty.false) c.in-Ok-write.ensures.write
+    c.write.ensures.others c.took-told.ensures.took
+
+pub returns-in-Err-Waits : goal.returns-in-Err-Waits
+returns-in-Err-Waits g c =
+    serves_rests _ _ _ _ c.in-Ok.output c.in-Ok.ensures (is_some _ _ c.is_empty.ensures c.if-is_empty.false)
+    (rw c.in-Err-Waits.field-0-is at c.in-Err-Waits.ensures.write) c.write.ensures.others
+
+pub returns-in-Err-Lost : goal.returns-in-Err-Lost
+returns-in-Err-Lost g c =
+    serves_lost _ _ _ _ c.in-Ok.output c.in-Ok.ensures (is_some _ _ c.is_empty.ensures c.if-is_empty.false)
+    (rw c.in-Err-Lost.field-0-is at c.in-Err-Lost.ensures.write) c.write.ensures.others

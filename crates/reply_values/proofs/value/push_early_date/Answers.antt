@@ -1,6 +1,6 @@
 -- The sign and six digits of the year, then the month and the day.
 use Rattle.std.proofs.Common.{◌≡◌, ◌<ℤ◌, ◌∷◌, [], ◌++◌, List, ℕ, ℤ, pos, negsuc, Result, Ok, Err, OnOk, is_ok, if◌then◌else◌, refl, sym, ap, ◌∙◌, arith, rules}
-use Rattle.std.specs.Int.{w8, w16}
+use Rattle.std.specs.Int.{w16}
 use Rattle.std.specs.Prelude.{unsigned_abs, FitsSigned}
 use Rattle.std.proofs.lemmas.Int.{ints, to_z-of_z}
 use Rattle.jiff_fmt.specs.Text.{pad2, pad4, year_text}
@@ -16,17 +16,11 @@ when_ok (Err x) new old text e = tt
 
 pub returns-clause-bytes : goal.returns-clause-bytes
 returns-clause-bytes c =
-    let fits : FitsSigned w16 c.year.result = search rules in
-    let month_fits : FitsSigned w8 c.month.result = search rules in
-    let day_fits : FitsSigned w8 c.day.result = search rules in
+    let fits : FitsSigned w16 c.args.date.year = search rules in
     let number : c.unsigned_abs-year.result ≡ unsigned_abs c.args.date.year =
-    c.unsigned_abs-year.ensures.value ∙ ap unsigned_abs (to_z-of_z w16 c.year.result fits ∙ c.year.ensures) in
+    c.unsigned_abs-year.ensures.value ∙ ap unsigned_abs (to_z-of_z w16 c.args.date.year fits) in
     let text : year_text c.args.date.year ≡ 45 ∷ 48 ∷ 48 ∷ pad4 c.unsigned_abs-year.result =
     early c.args.date.year c.requires ∙ ap (λ n. 45 ∷ 48 ∷ 48 ∷ pad4 n) (sym number) in
-    let month = to_z-of_z w8 c.month.result month_fits ∙ c.month.ensures in
-    let day = to_z-of_z w8 c.day.result day_fits ∙ c.day.ensures in
-    let month_digits = rw month at c.two_digits-3.ensures in
-    let day_digits = rw day at c.two_digits-4.ensures in
-    let items = rw (c.two_digits.ensures, c.two_digits-2.ensures, month_digits, day_digits) at c.extend_from_slice.ensures.items in
+    let items = rw (c.two_digits.ensures, c.two_digits-2.ensures, c.two_digits-3.ensures, c.two_digits-4.ensures) at c.extend_from_slice.ensures.items in
     let laid : List ℕ = (45 ∷ 48 ∷ 48 ∷ pad4 c.unsigned_abs-year.result) ++ 45 ∷ [] ++ pad2 c.args.date.month ++ 45 ∷ [] ++ pad2 c.args.date.day in
     rw text (when_ok c.extend_from_slice.result c.extend_from_slice.new.self.items c.args.out.now.items laid items)

@@ -1,4 +1,4 @@
-use Rattle.std.proofs.Common.{[], ap, false, true, ◌∙◌}
+use Rattle.std.proofs.Common.{[], ap, false, pos, true, ◌∙◌}
 use Rattle.cell_types.specs.Value.{boolean, date, decimal, text, value_view}
 use Rattle.block_summary.specs.declared.test.Comparison.TheVariants.{GreaterOrEqual, GreaterThan, LessOrEqual, LessThan}
 use Rattle.summary_eval.specs.Known.{is_of_kind}
@@ -23,10 +23,9 @@ pub returns-in-Date : goal.returns-in-Date
 returns-in-Date c =
     let before = c.test-in-Date in
     let behind = c.test-in-Date-2 in
-    let day = c.date.result in
     λ cell b e. ap (λ k. is_of_kind k cell) c.in-Date.is
-    ∙ dates-around day.year day.month day.day cell (as-test before.result LessOrEqual (boolean true) cell before.ensures.op (ap value_view before.ensures.literal) b)
-    (as-test behind.result GreaterThan (date day.year day.month day.day) cell behind.ensures.op (ap value_view behind.ensures.literal) e)
+    ∙ dates-around (pos 9999) 12 31 cell (as-test before.result LessOrEqual (boolean true) cell before.ensures.op (ap value_view before.ensures.literal) b)
+    (as-test behind.result GreaterThan (date (pos 9999) 12 31) cell behind.ensures.op (ap value_view behind.ensures.literal) e)
 
 pub returns-in-Decimal : goal.returns-in-Decimal
 returns-in-Decimal c =

@@ -18,10 +18,10 @@ invariant-loop-first l =
       right : wrong_in_rows l.first schema.columns rows ≡ wrong_in_rows 0 schema.columns rows;
       left : l.parts.left ≡ drop l.first rows;
       width : l.parts.width ≡ length l.file.header;
-      count : length l.cells.items ≡ length l.schema.columns.items;
+      count : length l.keys.values.items ≡ length l.schema.columns.items;
       read : HaveRead (length rows) schema.columns (take l.first (rows_in schema.columns rows)) l.readers.items;
-      keys : HasRead l.keys (row_keys schema.key (take l.first (rows_in schema.columns rows)));
-      suits : (fields : List RawField) → TakesKey l.keys (row_key schema.key (values_in schema.columns fields));
+      keys : HasRead l.keys.reader (row_keys schema.key (take l.first (rows_in schema.columns rows)));
+      suits : (fields : List RawField) → TakesKey l.keys.reader (row_key schema.key (values_in schema.columns fields));
     }
 
 abbrev pub decreases-loop-first : goal.decreases-loop-first

@@ -10,7 +10,7 @@ pub returns-in-Err : goal.returns-in-Err
 returns-in-Err c =
     let col = c.loop-col.col in
     let columns = c.args.columns.now in
-    let part = c.args.parts.now.part in
+    let part = c.args.part.now.rows in
     let at = slice_get-from_read columns col c.index-columns-col.result c.loop-col-test.true c.index-columns-col.is in
     let here = cell_field part c.args.row col (raw_view c.field.result) c.field.ensures in
     elim c.in-Err.ensures.fault [
@@ -24,7 +24,7 @@ pub loop-col-preserved : goal.loop-col-preserved
 loop-col-preserved c =
     let col = c.loop-col.col in
     let columns = c.args.columns.now in
-    let part = c.args.parts.now.part in
+    let part = c.args.part.now.rows in
     let at = slice_get-from_read columns col c.index-columns-col.result c.loop-col-test.true c.index-columns-col.is in
     let here = cell_field part c.args.row col (raw_view c.field.result) c.field.ensures in
     sym (wrong_from-past columns (get_or part c.args.row []) col c.index-columns-col.result (raw_view c.field.result) at here (ap result_err c.in-Ok.ensures.value))
@@ -32,4 +32,4 @@ loop-col-preserved c =
 
 pub returns : goal.returns
 returns c =
-    sym c.loop-col.invariant ∙ wrong_from-end c.args.columns.now (get_or c.args.parts.now.part c.args.row []) c.loop-col.col c.loop-col-test.false
+    sym c.loop-col.invariant ∙ wrong_from-end c.args.columns.now (get_or c.args.part.now.rows c.args.row []) c.loop-col.col c.loop-col-test.false

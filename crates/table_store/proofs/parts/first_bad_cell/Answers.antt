@@ -9,7 +9,7 @@ use Rattle.table_store.proofs.parts.first_bad_cell.Goals as goal
 pub returns-in-Some : goal.returns-in-Some
 returns-in-Some c =
     let columns = map column_view c.args.columns.now in
-    let part = c.args.parts.now.part in
+    let part = c.args.part.now.rows in
     elim c.in-Some.ensures [
       | inl memory ↦ inl memory
       | inr e ↦ inr (sym c.loop-row.invariant ∙ wrong_of-here c.args.first c.loop-row.row columns part c.in-Some.col c.in-Some.fault (omega arith) e)
@@ -17,13 +17,13 @@ returns-in-Some c =
 
 pub loop-row-preserved : goal.loop-row-preserved
 loop-row-preserved c =
-    sym (wrong_of-past c.args.first c.loop-row.row (map column_view c.args.columns.now) c.args.parts.now.part (omega arith) c.in_default.ensures)
+    sym (wrong_of-past c.args.first c.loop-row.row (map column_view c.args.columns.now) c.args.part.now.rows (omega arith) c.in_default.ensures)
     ∙ c.loop-row.invariant
 
 pub unreachable-requires : goal.unreachable-requires
 unreachable-requires c =
     let columns = map column_view c.args.columns.now in
-    let part = c.args.parts.now.part in
+    let part = c.args.part.now.rows in
     let past : length part ≤ c.loop-row.row = omega arith in
     let none : wrong_of c.args.first columns part ≡ None =
     sym c.loop-row.invariant ∙ ap (wrong_of (c.args.first + c.loop-row.row) columns) (drop_all c.loop-row.row part past) in

@@ -5,4 +5,4 @@ use Rattle.table_store.proofs.parts.first_bad_cell.Given as goal
 
 -- nothing is wrong so far
 abbrev pub invariant-loop-row : goal.invariant-loop-row
-invariant-loop-row l = wrong_of (l.first + l.row) (map column_view l.columns) (drop l.row l.parts.part) ≡ wrong_of l.first (map column_view l.columns) l.parts.part
+invariant-loop-row l = wrong_of (l.first + l.row) (map column_view l.columns) (drop l.row l.part.rows) ≡ wrong_of l.first (map column_view l.columns) l.part.rows

@@ -35,7 +35,7 @@ returns-in-Err-clause-fault c =
     let at = slice_get-map column_view columns col ∙ ap (option_map column_view) (slice_get-from_read columns col column c.loop-col-test.true c.index-columns-col.is) in
     elim c.in-Err.ensures.fault [
       | inl memory ↦ inl memory
-      | inr bad ↦ inr (λ all. no_fault (column_view column) col c.args.parts.now.part _ (all col (column_view column) at) bad)
+      | inr bad ↦ inr (λ all. no_fault (column_view column) col c.args.part.now.rows _ (all col (column_view column) at) bad)
     ]
 
 pub loop-col-preserved : goal.loop-col-preserved
@@ -43,7 +43,7 @@ loop-col-preserved c =
     let col = c.loop-col.col in
     let columns = c.args.columns.now in
     let column = c.index-columns-col.result in
-    let part = c.args.parts.now.part in
+    let part = c.args.part.now.rows in
     let readers : List ReaderOf = c.loop-col.readers.items in
     let reader : ReaderOf = c.index_mut.result.now in
     let new : ReaderOf = c.read_part.new.self in

@@ -10,8 +10,8 @@ invariant-loop-col l =
     let columns = map column_view l.columns in
     record {
       count : length l.readers.items ≡ length l.fn.readers.items;
-      values : (k : ℕ) (column : ColumnOf) → k < l.col → slice_get columns k ≡ Some column → PartHasValues column k l.parts.part;
+      values : (k : ℕ) (column : ColumnOf) → k < l.col → slice_get columns k ≡ Some column → PartHasValues column k l.part.rows;
       read : (k : ℕ) (column : ColumnOf) (was : ReaderOf) → k < l.col → slice_get columns k ≡ Some column → slice_get l.fn.readers.items k ≡ Some was
-          → slice_get l.readers.items k ≡ Some (with_cells was (part_cells column k l.parts.part));
+          → slice_get l.readers.items k ≡ Some (with_cells was (part_cells column k l.part.rows));
       unread : (k : ℕ) → l.col ≤ k → slice_get l.readers.items k ≡ slice_get l.fn.readers.items k;
     }

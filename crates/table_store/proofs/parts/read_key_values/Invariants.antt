@@ -7,8 +7,8 @@ use Rattle.table_store.proofs.parts.read_key_values.Given as goal
 -- there is a value for each column, and those of the places so far are the row's
 abbrev pub invariant-loop-place : goal.invariant-loop-place
 invariant-loop-place l =
-    let row = values_in (map column_view l.columns) (get_or l.parts.part l.row []) in
+    let row = values_in (map column_view l.key.columns.now) (get_or l.part.rows l.row []) in
     record {
-      count : length l.values.items ≡ length l.columns;
-      values : (k : ℕ) → k < l.place-index → get_or (map value_view l.values.items) (get_or l.places k 0) null ≡ get_or row (get_or l.places k 0) null;
+      count : length l.values.items ≡ length l.key.columns.now;
+      values : (k : ℕ) → k < l.place-index → get_or (map value_view l.values.items) (get_or l.key.places.now k 0) null ≡ get_or row (get_or l.key.places.now k 0) null;
     }

@@ -10,18 +10,18 @@ use Rattle.table_store.proofs.parts.read_keys.Goals as goal
 
 pub read-requires-clause-suits : goal.read-requires-clause-suits
 read-requires-clause-suits c =
-    let columns = map column_view c.args.columns.now in
-    let places = c.args.places.now in
-    let fields = get_or c.args.parts.now.part c.loop-row.row [] in
-    subst (TakesKey c.loop-row.keys)
+    let columns = map column_view c.args.key.now.columns.now in
+    let places = c.args.key.now.places.now in
+    let fields = get_or c.args.part.now.rows c.loop-row.row [] in
+    subst (TakesKey c.loop-row.keys.reader)
     (sym (ap (λ vs. row_key places (map value_view vs)) c.as_slice.ensures.value ∙ c.in_ok-read_key_values.ensures.key))
     (c.loop-row.invariant.suits (row_key places (values_in columns fields)) (c.requires.suits fields))
 
 pub loop-row-preserved : goal.loop-row-preserved
 loop-row-preserved c =
-    let columns = map column_view c.args.columns.now in
-    let places = c.args.places.now in
-    let part = c.args.parts.now.part in
+    let columns = map column_view c.args.key.now.columns.now in
+    let places = c.args.key.now.places.now in
+    let part = c.args.part.now.rows in
     let row = c.loop-row.row in
     let values = map value_view c.as_slice.result.now in
     let within : row < length part = omega arith in

@@ -1,7 +1,7 @@
 use Rattle.std.proofs.Common.{◌≡◌, replicate}
-use Rattle.listen_sockets.specs.Sockets.{free_slot}
+use Rattle.listen_sockets.specs.Sockets.{free_wire}
 use Rattle.listen_sockets.proofs.sockets.Sockets.new.Given as goal
 
 -- so many places without a socket were made
 abbrev pub invariant-loop-place : goal.invariant-loop-place
-invariant-loop-place l = l.slots.items ≡ replicate l._place free_slot
+invariant-loop-place l = l.wires.items ≡ replicate l._place free_wire

@@ -1,12 +1,15 @@
-use Rattle.std.proofs.Common.{subst, sym}
-use Rattle.odata_http.specs.Work.{MayWork}
-use Rattle.odata_http.proofs.WorkLemmas.{goes_to, may_work}
+use Rattle.std.proofs.Common.{ℕ, List}
+use Rattle.odata_http.proofs.LazyLemmas.{lays_last, lays_none, may_work}
 use Rattle.odata_http.proofs.exchange.Exchange.advance.Goals as goal
 
-pub returns-clause-goes_on : goal.returns-clause-goes_on
-returns-clause-goes_on c = λ head left a.
-    let works = c.in_ok-work.ensures.works a.request left (rw c.replace-work.ensures.value a.work) in
-    goes_to c.args.catalog.now head left c.args.self.now c.in_ok-work.work c.replace-failed.new.dest c.step-step.result c.replace-failed.ensures.after c.step-step.ensures a works
-
 pub go_on-requires : goal.go_on-requires
-go_on-requires c = subst (MayWork c.args.catalog.now) (sym c.replace-work.ensures.value) (may_work c.args.catalog.now c.args.self.now c.requires)
+go_on-requires c = may_work _ _ c.requires
+
+pub returns-in-More-clause-goes_on : goal.returns-in-More-clause-goes_on
+returns-in-More-clause-goes_on c = λ head left a.
+    lays_none c.args.catalog.now head left c.go_on.new.self c.in_ok-go_on.field-0 c.in-More.is (c.in_ok-go_on.ensures.goes_on head left a)
+
+pub returns-in_ok-lay_down-in-Done-clause-goes_on : goal.returns-in_ok-lay_down-in-Done-clause-goes_on
+returns-in_ok-lay_down-in-Done-clause-goes_on c = λ head left a.
+    lays_last c.args.catalog.now head left c.go_on.new.self c.lay_down.new.self c.in_ok-go_on.field-0 c.in-Done.is (c.in_ok-go_on.ensures.goes_on head left a)
+    c.in_ok-lay_down-in-Done.ensures.waiting

@@ -4,6 +4,6 @@ use Rattle.odata_hub.proofs.connection.Connection.go_on.Goals as goal
 pub returns-in-On-clause-ok : goal.returns-in-On-clause-ok
 returns-in-On-clause-ok c = λ f x. worked_on c.args.self.now _ _ f (c.in_ok-flight.ensures f x) c.in-On.is
 
-pub returns-in_ok-give-in-Replied-clause-ok : goal.returns-in_ok-give-in-Replied-clause-ok
-returns-in_ok-give-in-Replied-clause-ok c = λ f x.
-    worked_over c.args.self.now _ c.in-Replied.reply c.give.new.self f (c.in_ok-flight.ensures f x) c.in-Replied.is c.in_ok-give-in-Replied.ensures.added
+pub returns-in_ok-give_reply-in-Replied-clause-ok : goal.returns-in_ok-give_reply-in-Replied-clause-ok
+returns-in_ok-give_reply-in-Replied-clause-ok c = λ f x.
+    worked_over c.args.self.now _ c.in-Replied.reply c.give_reply.new.self f (c.in_ok-flight.ensures f x) c.in-Replied.is c.in_ok-give_reply-in-Replied.ensures.added

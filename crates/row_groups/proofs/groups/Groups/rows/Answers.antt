@@ -8,11 +8,12 @@ use Rattle.row_groups.specs.declared.tally.Tally.{Tally}
 use Rattle.row_groups.specs.Gathered.{group_keys, part_of}
 use Rattle.row_groups.specs.Tallies.{AreTallies}
 use Rattle.row_groups.proofs.GatheredLemmas.{as_many_keys, key_at, row_more, row_wide, tallies_at, wide_push}
+use Rattle.row_groups.proofs.KeyLemmas.{key_here, keys_long}
 use Rattle.row_groups.proofs.groups.Groups.rows.Goals as goal
 
-pub index-requires : goal.index-requires
-index-requires c =
-    omega (arith, c.loop-i-test.true, ap length c.as_slice-keys.ensures.keys, as_many_keys c.requires.gathered.0 c.args.aggregates.now c.args.self.now c.requires.gathered.1 c.requires.gathered.2, c.args.self.now.tallies.ok.0)
+pub index-requires-in-loop-i : goal.index-requires-in-loop-i
+index-requires-in-loop-i c =
+    omega (arith, c.loop-i-test.true, keys_long c.in_ok-keys.keys.items c.args.self.now.keys.keys c.in_ok-keys.ensures, as_many_keys c.requires.gathered.0 c.args.aggregates.now c.args.self.now c.requires.gathered.1 c.requires.gathered.2, c.args.self.now.tallies.ok.0)
 
 pub row_of-requires : goal.row_of-requires
 row_of-requires c =
@@ -21,10 +22,10 @@ row_of-requires c =
     let groups = c.args.self.now in
     let aggregates = c.args.aggregates.now in
     let i = c.loop-i.i in
-    let inside : i < length groups.tallies.items = omega (arith, c.loop-i-test.true, ap length c.as_slice-keys.ensures.keys, as_many_keys places aggregates groups rows c.requires.gathered.2) in (
+    let inside : i < length groups.tallies.items = omega (arith, c.loop-i-test.true, keys_long c.in_ok-keys.keys.items c.args.self.now.keys.keys c.in_ok-keys.ensures, as_many_keys places aggregates groups rows c.requires.gathered.2) in (
       part_of places rows (get_or (group_keys places rows) i []),
-      subst (λ (ts : Vec Tally Global). AreTallies aggregates (part_of places rows (get_or (group_keys places rows) i [])) ts.items) (sym c.index.ensures)
-          (tallies_at places aggregates groups rows c.requires.gathered.2 i c.index.result.now inside),
+      subst (λ (ts : Vec Tally Global). AreTallies aggregates (part_of places rows (get_or (group_keys places rows) i [])) ts.items) (sym c.index-in-loop-i.ensures)
+          (tallies_at places aggregates groups rows c.requires.gathered.2 i c.index-in-loop-i.result.now inside),
     )
 
 pub loop-i-preserved : goal.loop-i-preserved
@@ -36,12 +37,12 @@ loop-i-preserved c = record {
       let aggregates = c.args.aggregates.now in
       let i = c.loop-i.i in
       let part = part_of places rows (get_or (group_keys places rows) i []) in
-      let inside : i < length groups.tallies.items = omega (arith, c.loop-i-test.true, ap length c.as_slice-keys.ensures.keys, as_many_keys places aggregates groups rows c.requires.gathered.2) in
-      let tallies : AreTallies aggregates part c.index.result.now.items =
-      subst (λ (ts : Vec Tally Global). AreTallies aggregates part ts.items) (sym c.index.ensures) (tallies_at places aggregates groups rows c.requires.gathered.2 i c.index.result.now inside) in
+      let inside : i < length groups.tallies.items = omega (arith, c.loop-i-test.true, keys_long c.in_ok-keys.keys.items c.args.self.now.keys.keys c.in_ok-keys.ensures, as_many_keys places aggregates groups rows c.requires.gathered.2) in
+      let tallies : AreTallies aggregates part c.index-in-loop-i.result.now.items =
+      subst (λ (ts : Vec Tally Global). AreTallies aggregates part ts.items) (sym c.index-in-loop-i.ensures) (tallies_at places aggregates groups rows c.requires.gathered.2 i c.index-in-loop-i.result.now inside) in
       let key : map value_view c.as_slice.result.now ≡ get_or (group_keys places rows) i [] =
-      ap (map value_view) c.as_slice.ensures.value ∙ ap (λ k. map value_view k.items) (c.index-keys-i.is ∙ ap (λ ks. get_or ks i c.index-keys-i.result) c.as_slice-keys.ensures.keys)
-      ∙ key_at places aggregates groups rows c.requires.gathered.2 i c.index-keys-i.result inside in
+      ap (map value_view) c.as_slice.ensures.value ∙ ap (λ k. map value_view k.items) (key_here c.in_ok-keys.keys.items c.args.self.now.keys.keys c.in_ok-keys.ensures i c.index.result.now (omega (arith, c.loop-i-test.true)) c.index.ensures)
+      ∙ key_at places aggregates groups rows c.requires.gathered.2 i c.index.result.now.now inside in
       let is = c.in_ok-row_of.ensures part tallies ∙ ap (λ k. k ++ map (computed_value part) aggregates) key in
       wide_push c.loop-i.rows.items c.in_ok-row_of.field-0 (c.args.width + length aggregates) c.in_ok-push.ensures.items
       (row_wide places aggregates groups rows c.requires.gathered.2 i c.args.width (map value_view c.in_ok-row_of.field-0.items) inside c.requires.gathered.3 is) c.loop-i.invariant.wide;
@@ -50,12 +51,12 @@ loop-i-preserved c = record {
       let aggregates = c.args.aggregates.now in
       let i = c.loop-i.i in
       let part = part_of places rows (get_or (group_keys places rows) i []) in
-      let inside : i < length groups.tallies.items = omega (arith, c.loop-i-test.true, ap length c.as_slice-keys.ensures.keys, as_many_keys places aggregates groups rows has) in
-      let tallies : AreTallies aggregates part c.index.result.now.items =
-      subst (λ (ts : Vec Tally Global). AreTallies aggregates part ts.items) (sym c.index.ensures) (tallies_at places aggregates groups rows has i c.index.result.now inside) in
+      let inside : i < length groups.tallies.items = omega (arith, c.loop-i-test.true, keys_long c.in_ok-keys.keys.items c.args.self.now.keys.keys c.in_ok-keys.ensures, as_many_keys places aggregates groups rows has) in
+      let tallies : AreTallies aggregates part c.index-in-loop-i.result.now.items =
+      subst (λ (ts : Vec Tally Global). AreTallies aggregates part ts.items) (sym c.index-in-loop-i.ensures) (tallies_at places aggregates groups rows has i c.index-in-loop-i.result.now inside) in
       let key : map value_view c.as_slice.result.now ≡ get_or (group_keys places rows) i [] =
-      ap (map value_view) c.as_slice.ensures.value ∙ ap (λ k. map value_view k.items) (c.index-keys-i.is ∙ ap (λ ks. get_or ks i c.index-keys-i.result) c.as_slice-keys.ensures.keys)
-      ∙ key_at places aggregates groups rows has i c.index-keys-i.result inside in
+      ap (map value_view) c.as_slice.ensures.value ∙ ap (λ k. map value_view k.items) (key_here c.in_ok-keys.keys.items c.args.self.now.keys.keys c.in_ok-keys.ensures i c.index.result.now (omega (arith, c.loop-i-test.true)) c.index.ensures)
+      ∙ key_at places aggregates groups rows has i c.index.result.now.now inside in
       let is = c.in_ok-row_of.ensures part tallies ∙ ap (λ k. k ++ map (computed_value part) aggregates) key in
       ap value_rows c.in_ok-push.ensures.items ∙ map_push (λ (r : Vec Value Global). map value_view r.items) c.loop-i.rows.items c.in_ok-row_of.field-0
       ∙ ap (λ rs. rs ++ map value_view c.in_ok-row_of.field-0.items ∷ []) (c.loop-i.invariant.rows places rows has)

@@ -8,7 +8,7 @@ use Rattle.typed_columns.proofs.number_reader.NumberReader.read_part.Given as go
 abbrev pub invariant-loop-row : goal.invariant-loop-row
 invariant-loop-row l =
     let column = column_view l.column in
-    let rows = take l.row l.parts.part in
+    let rows = take l.row l.part.rows in
     record {
       cells : l.self ≡ numbers_with_cells l.fn.self (part_cells column l.col rows);
       values : PartHasValues column l.col rows;

@@ -11,21 +11,21 @@ use Rattle.typed_columns.proofs.text_reader.TextReader.read_part.Goals as goal
 pub read-requires-clause-room : goal.read-requires-clause-room
 read-requires-clause-room c =
     let column = column_view c.args.column.now in
-    let rows = take c.loop-row.row c.args.parts.now.part in
+    let rows = take c.loop-row.row c.args.part.now.rows in
     let cells = part_cells column c.args.col rows in
     let size : length c.loop-row.self.cells ≡ length c.args.self.now.cells + length cells =
     ap (λ (r : TextReaderOf). length r.cells) c.loop-row.invariant.cells ∙ length-append c.args.self.now.cells cells in
     let total : c.loop-row.self.rows ≡ c.args.self.now.rows = ap (λ (r : TextReaderOf). r.rows) c.loop-row.invariant.cells in
-    omega (arith, size, total, length-part_cells column c.args.col rows, length-take c.loop-row.row c.args.parts.now.part, c.requires.room, c.loop-row-test.true, c.rows-row-end.ensures)
+    omega (arith, size, total, length-part_cells column c.args.col rows, length-take c.loop-row.row c.args.part.now.rows, c.requires.room, c.loop-row-test.true, c.rows-row-end.ensures)
 
 pub returns-in-Err-clause-fault : goal.returns-in-Err-clause-fault
 returns-in-Err-clause-fault c =
-    told (column_view c.args.column.now) c.args.col c.loop-row.row c.args.parts.now.part (raw_view c.field.result) c.in-Err.fault c.field.ensures c.in-Err.ensures.fault
+    told (column_view c.args.column.now) c.args.col c.loop-row.row c.args.part.now.rows (raw_view c.field.result) c.in-Err.fault c.field.ensures c.in-Err.ensures.fault
 
 pub loop-row-preserved : goal.loop-row-preserved
 loop-row-preserved c =
     let column = column_view c.args.column.now in
-    let part = c.args.parts.now.part in
+    let part = c.args.part.now.rows in
     let raw = raw_view c.field.result in
     let old = c.args.self.now in
     let value = value_or_null (value_in (column, raw)) in
@@ -39,12 +39,12 @@ loop-row-preserved c =
 
 pub returns-clause-values : goal.returns-clause-values
 returns-clause-values c =
-    let part = c.args.parts.now.part in
+    let part = c.args.part.now.rows in
     let whole : take c.loop-row.row part ≡ part = take_all c.loop-row.row part (omega (arith, c.loop-row-test.false, c.rows-row-end.ensures)) in
     subst (PartHasValues (column_view c.args.column.now) c.args.col) whole c.loop-row.invariant.values
 
 pub returns-clause-cells : goal.returns-clause-cells
 returns-clause-cells c =
-    let part = c.args.parts.now.part in
+    let part = c.args.part.now.rows in
     let whole : take c.loop-row.row part ≡ part = take_all c.loop-row.row part (omega (arith, c.loop-row-test.false, c.rows-row-end.ensures)) in
     c.loop-row.invariant.cells ∙ ap (λ rows. texts_with_cells c.args.self.now (part_cells (column_view c.args.column.now) c.args.col rows)) whole

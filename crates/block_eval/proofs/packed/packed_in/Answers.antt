@@ -1,0 +1,13 @@
+use Rattle.std.proofs.Common.{◌≡◌, subst}
+use Rattle.block_summary.specs.Types.{cells_of_type, numbers_of}
+use Rattle.block_eval.proofs.NumberLemmas.{found-column}
+use Rattle.block_eval.proofs.PackedLemmas.{packed-numbers}
+use Rattle.block_eval.proofs.packed.packed_in.Goals as goal
+
+pub returns-clause-numbers : goal.returns-clause-numbers
+returns-clause-numbers c =
+    let step = c.in-Some-Packed in
+    let columns = c.args.columns.now in
+    let is = found-column columns c.args.place step.field-0.now _ step.ensures.lookup.3.0 step.ensures.lookup.1 step.field-0-is in
+    let type = c.are_same.ensures c.if-not-are_same.false in
+    packed-numbers columns c.args.place _ c.args.packed_type is (subst (λ t. cells_of_type t (numbers_of step.column.now) ≡ step.column.now) type c.packed_type.ensures)

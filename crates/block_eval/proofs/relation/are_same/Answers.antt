@@ -1,6 +1,0 @@
-use Rattle.std.proofs.Common.{◌∙◌, sym}
-use Rattle.block_eval.proofs.TextLemmas.{same_text}
-use Rattle.block_eval.proofs.relation.are_same.Goals as goal
-
-pub returns-in-Some-Some : goal.returns-in-Some-Some
-returns-in-Some-Some c = rw (c.in-Some-Some.is-0, c.in-Some-Some.is-1) (c.eq.ensures ∙ sym (same_text c.in-Some-Some.left.now c.in-Some-Some.right.now))

@@ -1,5 +1,0 @@
-use Rattle.block_eval.proofs.TextLemmas.{of-lanes}
-use Rattle.block_eval.proofs.relation.relation_at.Goals as goal
-
-pub returns : goal.returns
-returns c is_wanted = of-lanes c.args.relation c.relation_of.result c.relation_of.ensures c.at.ensures c.at-2.ensures

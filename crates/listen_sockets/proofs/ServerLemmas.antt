@@ -1,0 +1,69 @@
+-- What a round makes of places that a vector has, and which streams are ended there.
+use Rattle.std.proofs.Common.{◌≡◌, ◌<◌, ℕ, List, [], ◌∷◌, ◌++◌, length, take, drop, Option, Some, None, Ok, Err, refl, sym, ap, subst, ◌∙◌, inl, arith, append-nil, length-append}
+use Rattle.std.specs.Prelude.{Bool, true, false, not, ◌==◌}
+use Rattle.std.proofs.lemmas.Bool.Decides.{nat_tests}
+use Rattle.std.proofs.lemmas.Bool.{false≢true}
+use Rattle.std.proofs.lemmas.List.{take_all, drop_all}
+use Rattle.std.specs.Borrow.{Bor}
+use Rattle.odata_http.specs.Waiting.{IsFront}
+use Rattle.odata_hub.specs.declared.answers.HubFault.{HubFault}
+use Rattle.odata_hub.specs.declared.hub.Hub.{Hub}
+use Rattle.odata_hub.specs.Connections.{ConnOf}
+use Rattle.odata_hub.specs.Hopeless.{TellsHopeless}
+use Rattle.odata_hub.specs.Stands.{LendsAt, TellsHopelessAt}
+use Rattle.odata_rounds.specs.declared.slot.Slot.{Slot}
+use Rattle.odata_rounds.specs.Peers.{WireOf}
+use Rattle.odata_rounds.specs.Rounds.{Rounds, sight}
+use Rattle.listen_sockets.specs.Server.{IsEndedIfHopeless, TellsHopelessOf, has_waiting}
+
+taken_whole : (n : ℕ) (new items : List Slot) → length new ≡ n → length items ≡ n → take n (new ++ drop (length new) items) ≡ new
+taken_whole n new items a b =
+    let none : drop (length new) items ≡ [] = drop_all (length new) items (omega (arith, a, b)) in
+    ap (λ t. take n (new ++ t)) none ∙ ap (take n) (append-nil new) ∙ take_all n new (omega (arith, a))
+
+-- what a round makes of the places is written back
+pub round_back : (n : ℕ) (items now new : List Slot) (a b : Hub) (w v : ℕ → WireOf) → now ≡ items → length now ≡ n → length new ≡ length now
+    → Rounds (length now) (sight a now w) (sight b new v)
+    → Rounds (length items) (sight a items w) (sight b (take n (new ++ drop (length new) items)) v)
+round_back n items now new a b w v same len kept r =
+    let size : length items ≡ n = ap length (sym same) ∙ len in
+    let P : List Slot → Type 0 = λ x. Rounds (length x) (sight a x w) (sight b new v) in
+    let Q : List Slot → Type 0 = λ x. Rounds (length items) (sight a items w) (sight b x v) in
+    subst Q (sym (taken_whole n new items (kept ∙ len) size)) (subst P same r)
+
+-- ---- output that waits
+
+front_waits : (front output : List ℕ) → IsFront front output → not (length front == 0) ≡ not (length output == 0)
+front_waits [] output f = let none : output ≡ [] = f.some refl in rw none refl
+front_waits (x ∷ front) output f =
+    let long : length ((x ∷ front) ++ f.behind) ≡ length output = ap length f.whole in
+    let some : 0 < length output = omega (arith, long, length-append (x ∷ front) f.behind) in grind (arith, nat_tests, some)
+
+-- whether output waits, by the bytes that are lent
+pub lent_waits : (o : Option ConnOf) (bytes : Bor (List ℕ)) → LendsAt o (Ok bytes) → not (length bytes.now == 0) ≡ has_waiting o
+lent_waits None bytes e = absurd (cc e)
+lent_waits (Some c) bytes e =
+    let same : e.0 ≡ bytes = cc (e.1) in
+    let P : Bor (List ℕ) → Type 0 = λ b. not (length b.now == 0) ≡ not (length c.output == 0) in subst P same (front_waits e.0.now c.output e.2)
+
+pub none_lent : (o : Option ConnOf) (fault : HubFault) → LendsAt o (Err fault) → false ≡ has_waiting o
+none_lent None fault e = refl
+none_lent (Some c) fault e = absurd (cc (e.1))
+
+-- ---- rests that can begin no head any more
+
+-- what the hub tells of a connection, and where there is none
+pub told_of : (o : Option ConnOf) (told : Bool) → TellsHopelessAt o (Ok told) → TellsHopelessOf o told
+told_of None told e = absurd (cc e)
+told_of (Some c) told e =
+    let same : e.0 ≡ told = cc e.1 in
+    let P : Bool → Type 0 = λ b. TellsHopeless c.rest b in subst P same e.2
+
+pub untold_of : (o : Option ConnOf) (fault : HubFault) → TellsHopelessAt o (Err fault) → TellsHopelessOf o false
+untold_of None fault e = refl
+untold_of (Some c) fault e = absurd (cc e.1)
+
+-- a stream is ended where its rest is told hopeless
+pub told_ends : (o : Option ConnOf) (told old new : Bool) → TellsHopelessOf o told → told ≡ true → new ≡ true → IsEndedIfHopeless o old new
+told_ends None told old new t e ends = absurd (false≢true (sym t ∙ e))
+told_ends (Some c) told old new t e ends = inl (t.hopeless e, ends)

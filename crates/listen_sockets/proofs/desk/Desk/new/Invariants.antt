@@ -1,7 +1,0 @@
-use Rattle.std.proofs.Common.{◌≡◌, replicate}
-use Rattle.odata_rounds.specs.Lives.{free_seat}
-use Rattle.listen_sockets.proofs.desk.Desk.new.Given as goal
-
--- so many free places were made
-abbrev pub invariant-loop-place : goal.invariant-loop-place
-invariant-loop-place l = l.seats.items ≡ replicate l._place free_seat

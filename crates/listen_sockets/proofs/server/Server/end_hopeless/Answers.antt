@@ -1,0 +1,10 @@
+use Rattle.odata_hub.specs.Schedules.{conn_at}
+use Rattle.listen_sockets.proofs.ServerLemmas.{told_ends}
+use Rattle.listen_sockets.proofs.server.Server.end_hopeless.Goals as goal
+
+pub returns-then-is_hopeless-clause-ends : goal.returns-then-is_hopeless-clause-ends
+returns-then-is_hopeless-clause-ends c = record {
+  here = λ h s.
+      told_ends (conn_at h c.args.place) c.is_hopeless.result _ _ (c.is_hopeless.ensures h s) c.if-is_hopeless.true c.end_stream.ensures.ended;
+  others = c.end_stream.ensures.others;
+}

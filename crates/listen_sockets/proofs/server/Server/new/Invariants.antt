@@ -1,0 +1,7 @@
+use Rattle.std.proofs.Common.{◌≡◌, replicate}
+use Rattle.odata_rounds.specs.Lives.{free_slot}
+use Rattle.listen_sockets.proofs.server.Server.new.Given as goal
+
+-- so many free places were made
+abbrev pub invariant-loop-place : goal.invariant-loop-place
+invariant-loop-place l = l.slots.items ≡ replicate l._place free_slot

@@ -1,0 +1,83 @@
+//! The system's part of the service, over `mio`: where connections come from, and what the system says of them.
+use crate::sockets::Sockets;
+use mio::net::TcpListener;
+use mio::{Events, Interest, Poll, Token};
+use std::io;
+use std::net::Net;
+use std::rt::Clock;
+use std::time::{Duration, Instant};
+
+/// The most events that are taken of the system at once.
+const EVENTS: usize = 256;
+
+/// The longest wait for an event, in milliseconds.
+const TICK: u64 = 500;
+
+/// The listener's token: no place has it.
+const LISTENER: Token = Token(0xffff_ffff);
+
+/// Sets what the system says of each socket. Whether it says something of the listener.
+fn mark(sockets: &mut Sockets, events: &Events) -> bool {
+    let mut accepts = false;
+    for event in events {
+        match sockets.wires.get_mut(event.token().0) {
+            Some(wire) => {
+                if let Some(peer) = &mut wire.peer {
+                    peer.mark(event);
+                }
+            }
+            None => accepts = true,
+        }
+    }
+    accepts
+}
+
+/// The system's part of the service: where connections come from, what it says of them, and since when.
+#[derive(Drop)]
+pub struct Poller {
+    pub poll: Poll,
+    pub listener: TcpListener,
+    /// A connection may wait.
+    pub accepts: bool,
+    events: Events,
+    start: Instant,
+    /// The second of the last look at the folder.
+    looked: u64,
+}
+
+impl Poller {
+    /// Over a listener.
+    pub fn new<R: Net + Clock + AllocGlobal>(
+        rt: &R,
+        mut listener: TcpListener,
+    ) -> io::Result<Poller> {
+        let start = Instant::now(rt)?;
+        let poll = Poll::new(rt)?;
+        let events = Events::with_capacity(rt.alloc(), EVENTS)?;
+        poll.registry()
+            .register(&mut listener, LISTENER, Interest::READABLE)?;
+        Ok(Poller {
+            poll,
+            listener,
+            accepts: true,
+            events,
+            start,
+            looked: 0,
+        })
+    }
+
+    /// Waits for events, and gives the second that it is then.
+    pub fn wait<R: Clock>(&mut self, rt: &R, sockets: &mut Sockets, busy: bool) -> io::Result<u64> {
+        let wait = Duration::from_millis(if busy { 0 } else { TICK });
+        self.poll.poll(&mut self.events, Some(wait))?;
+        self.accepts = mark(sockets, &self.events) || self.accepts;
+        Ok(Instant::now(rt)?.duration_since(self.start).as_secs())
+    }
+
+    /// Whether a second began since this was last asked.
+    pub fn is_new_second(&mut self, now: u64) -> bool {
+        let is_new = now != self.looked;
+        self.looked = now;
+        is_new
+    }
+}

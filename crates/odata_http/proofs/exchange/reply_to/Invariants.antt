@@ -1,7 +1,0 @@
-use Rattle.std.proofs.Common.{◌-◌}
-use Rattle.odata_http.proofs.WorkLemmas.{IsUnderWay}
-use Rattle.odata_http.proofs.exchange.reply_to.Given as goal
-
--- the exchange stands for the head, and no more calls are left than are to come
-abbrev pub invariant-loop-call : goal.invariant-loop-call
-invariant-loop-call l = IsUnderWay l.catalog l.head (l._call-end - l._call) l.exchange

@@ -1,5 +1,0 @@
-use Rattle.odata_listen.proofs.ServingLemmas.{on_join, on_kept}
-use Rattle.odata_listen.proofs.serving.tend_partings.Goals as goal
-
-pub loop-at-preserved : goal.loop-at-preserved
-loop-at-preserved c = on_join _ _ _ c.loop-at.invariant (on_kept _ _ (c.tend_parting.ensures.hub, c.tend_parting.ensures.seats))

@@ -1,6 +1,0 @@
-use Rattle.odata_listen.specs.Serving.{RunsOn}
-use Rattle.odata_listen.proofs.serving.tend_partings.Given as goal
-
--- a life led from the desk at the start to this one
-abbrev pub invariant-loop-at : goal.invariant-loop-at
-invariant-loop-at l = RunsOn l.fn.desk l.desk

@@ -1,0 +1,128 @@
+//! A reply that waits to be taken.
+ghost use Rattle.std.specs.Prelude.{◌≡◌, ◌≢◌, ◌++◌, ◌==◌, ◌<◌, ◌≤◌, [], IfOk, drop, length, min, vec_capacity};
+ghost use Rattle.reply_text.specs.Waiting.{IsFront};
+
+use crate::cursor::BodyCursor;
+use std::alloc::{AllocError, Global};
+use std::marker::Model;
+
+/// The most bytes of a body that are laid down before they are taken, but for a longer row.
+const ROOM: usize = 65_536;
+
+/// The bytes that are laid down, of which the first `at` were taken, and the body that is not. It is seen as the bytes that wait. None of the body is left
+/// where all that was laid down was taken, and no piece of it needs memory.
+#[derive(Drop)]
+pub struct Reply {
+    laid: Vec<u8>,
+    at: usize,
+    body: BodyCursor,
+}
+
+impl Model for Reply {
+    ghost use Rattle.std.specs.Prelude.{◌≡◌, ◌++◌, ◌≤◌, ℕ, List, [], drop, length, vec_capacity};
+
+    ghost Value = { List ℕ };
+
+    ghost view = { λ reply. drop reply.at reply.laid.items ++ reply.body.bytes };
+
+    ghost invariant = { λ reply. (reply.at ≤ length reply.laid.items) × (reply.body.longest ≤ vec_capacity reply.laid)
+        × (length reply.laid.items ≤ reply.at → reply.body.bytes ≡ []) };
+}
+
+/// Lays down pieces of a body while the longest has room. It takes no memory.
+fn fill(laid: &mut Vec<u8>, body: &mut BodyCursor)
+    ensures bytes { laid.new.items ++ body.new.bytes ≡ laid.old.items ++ body.old.bytes }
+    ensures longest { body.new.longest ≡ body.old.longest }
+    ensures room { vec_capacity laid.old ≤ vec_capacity laid.new }
+    ensures some { body.old.longest ≤ vec_capacity laid.old → length laid.new.items ≡ 0
+        → body.new.bytes ≡ [] }
+{
+    while !body.is_empty() && body.longest() <= laid.capacity() - laid.len() {
+        body.push_next(laid);
+    }
+}
+
+impl Reply {
+    /// These bytes.
+    pub fn of_bytes(alloc: Global, bytes: Vec<u8>) -> Reply
+        ensures { result ≡ bytes.items }
+    {
+        Reply {
+            laid: bytes,
+            at: 0,
+            body: BodyCursor::of_bytes(Vec::new(alloc)),
+        }
+    }
+
+    /// The lines and the body after them. All memory that it takes is taken here.
+    pub fn start(lines: Vec<u8>, body: BodyCursor) -> Result<Reply, AllocError>
+        ensures { IfOk result (λ reply. reply ≡ lines.items ++ body.bytes) }
+    {
+        let mut laid = lines;
+        let mut body = body;
+        laid.reserve(body.longest().max(body.size().min(ROOM)))?;
+        fill(&mut laid, &mut body);
+        Ok(Reply { laid, at: 0, body })
+    }
+
+    /// All bytes that wait, laid down.
+    pub fn into_bytes(self) -> Result<Vec<u8>, AllocError>
+        ensures { IfOk result (λ bytes. bytes.items ≡ self) }
+    {
+        let Reply {
+            mut laid,
+            at,
+            mut body,
+        } = self;
+        laid.drain(..at);
+        laid.reserve(body.size())?;
+        while !body.is_empty() {
+            laid.reserve(body.longest())?;
+            body.push_next(&mut laid);
+        }
+        Ok(laid)
+    }
+
+    /// Whether nothing waits.
+    pub fn is_empty(&self) -> bool
+        ensures { result ≡ (length self.now == 0) }
+    {
+        self.at == self.laid.len()
+    }
+
+    /// First bytes of those that wait: one at least, where any waits.
+    pub fn waiting(&self) -> &[u8]
+        ensures { IsFront result.now self.now }
+    {
+        &self.laid[self.at..]
+    }
+
+    /// The first so many of the bytes that are laid down wait no more, or all of these. How many. Where all were taken, more are laid down.
+    fn took_laid(&mut self, count: usize) -> usize
+        ensures within { result ≤ count }
+        ensures some { 0 < count → 0 < length self.old → 0 < result }
+        ensures left { self.new ≡ drop result self.old }
+        ensures had { result ≤ length self.old }
+    {
+        let gone = count.min(self.laid.len() - self.at);
+        self.at += gone;
+        if self.at == self.laid.len() {
+            self.laid.clear();
+            self.at = 0;
+            fill(&mut self.laid, &mut self.body);
+        }
+        gone
+    }
+
+    /// The first so many bytes wait no more, or all, where fewer wait. How many. It takes no memory.
+    pub fn took(&mut self, count: usize) -> usize
+        ensures count { result ≡ min count (length self.old) }
+        ensures left { self.new ≡ drop result self.old }
+    {
+        let mut passed = 0;
+        while passed < count && !self.is_empty() {
+            passed += self.took_laid(count - passed);
+        }
+        passed
+    }
+}

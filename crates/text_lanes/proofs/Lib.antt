@@ -1,0 +1,3 @@
+pub mod TextLemmas
+pub mod PartLemmas
+pub mod CodeLemmas

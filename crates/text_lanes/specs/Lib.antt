@@ -1,0 +1,4 @@
+pub use Rattle.row_eval.specs.Comparison
+pub use Rattle.row_eval.specs.Logic
+pub use Rattle.row_eval.specs.Outcome
+pub mod Texts
