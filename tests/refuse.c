@@ -1,17 +1,31 @@
 /* Counts the growths of a program, its calls of malloc and realloc, and refuses number REFUSE of them. A refusal is
-   noted by making the file that REFUSED names. */
+   noted by making the file that REFUSED names. How many there were so far stands in the first bytes of the file that
+   GROWTHS names, as they come. */
 #define _GNU_SOURCE
 #include <dlfcn.h>
 #include <errno.h>
 #include <fcntl.h>
 #include <stdlib.h>
+#include <sys/mman.h>
 #include <unistd.h>
 
-static long growths;
+static long own, *growths = &own;
+
+__attribute__((constructor)) static void share(void) {
+    const char *name = getenv("GROWTHS");
+    int file = name ? open(name, O_RDWR) : -1;
+    if (file < 0) return;
+    long *seen = mmap(NULL, sizeof own, PROT_READ | PROT_WRITE, MAP_SHARED, file, 0);
+    close(file);
+    if (seen == MAP_FAILED) return;
+    *seen = own;
+    growths = seen;
+}
 
 static int refused(void) {
     const char *number = getenv("REFUSE"), *note = getenv("REFUSED");
-    if (!number || !note || ++growths != atol(number)) return 0;
+    ++*growths;
+    if (!number || !note || *growths != atol(number)) return 0;
     close(open(note, O_CREAT | O_WRONLY, 0600));
     errno = ENOMEM;
     return 1;

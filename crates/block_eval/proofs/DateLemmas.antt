@@ -1,8 +1,8 @@
 -- Days by their numbers.
-use Rattle.std.proofs.Common.{◌≡◌, ℕ, ◌+◌, ◌-◌, ◌*◌, ◌/◌, ◌%◌, ◌<◌, ◌≤◌, Bool, Option, None, Some, List, length, slice_get, refl, sym, ap, ◌∙◌, arith}
-use Rattle.std.specs.Prelude.{ℤ, pos, negsuc, ◌+ℤ◌, ◌*ℤ◌, ◌<ℤ◌, option_map, unsigned_abs}
+use Rattle.std.proofs.Common.{◌≡◌, ℕ, ◌+◌, ◌*◌, ◌/◌, ◌%◌, ◌<◌, ◌≤◌, Bool, Option, None, Some, List, length, slice_get, refl, sym, ap, ◌∙◌, arith}
+use Rattle.std.specs.Prelude.{ℤ, pos, negsuc, ◌+ℤ◌, ◌*ℤ◌, ◌<ℤ◌, option_map}
 use Rattle.std.specs.Cmp.{int_cmp_is}
-use Rattle.std.specs.Int.{int_div_euclid, int_rem_euclid}
+use Rattle.std.specs.Int.{int_div_euclid}
 use Rattle.std.specs.Ordering.{MatchOrdering, int_cmp, nat_cmp, ordering_then}
 use Rattle.std.specs.declared.cmp.Ordering.{Ordering}
 use Rattle.std.specs.declared.cmp.Ordering.TheVariants.{Less, Equal, Greater}
@@ -20,6 +20,7 @@ use Rattle.row_eval.specs.declared.truth.Truth.{Truth}
 use Rattle.row_eval.specs.Comparison.{compared, day_cmp, holds}
 use Rattle.row_eval.specs.Logic.{truth_of}
 use Rattle.row_eval.specs.Row.{cell, day_in}
+use Rattle.block_summary.proofs.NumberLaws.{int_div_euclid-512, int_rem_euclid-512}
 use Rattle.block_eval.specs.declared.columns.Column.{Column}
 use Rattle.block_eval.specs.declared.columns.Column.TheVariants as columns
 use Rattle.block_lanes.specs.declared.numbers.Numbers as vector
@@ -34,18 +35,6 @@ use Rattle.block_eval.proofs.NumberLemmas.{read-numbers}
 pub month_days : (year : ℤ) (month : ℕ) → days_in_month year month ≤ 31
 month_days year month = grind arith
 
-year_at : (year : ℤ) (r : ℕ) → r < 512 → int_div_euclid ((year *ℤ pos 512) +ℤ pos r) (pos 512) ≡ year
-year_at (pos n) r h = ap pos (omega arith)
-year_at (negsuc n) r h =
-    let at : (negsuc n *ℤ pos 512) +ℤ pos r ≡ negsuc (n * 512 + (511 - r)) = omega (arith, ints) in
-    rw at (ap negsuc (omega arith))
-
-place_at : (year : ℤ) (r : ℕ) → r < 512 → unsigned_abs (int_rem_euclid ((year *ℤ pos 512) +ℤ pos r) (pos 512)) ≡ r
-place_at (pos n) r h = omega arith
-place_at (negsuc n) r h =
-    let at : (negsuc n *ℤ pos 512) +ℤ pos r ≡ negsuc (n * 512 + (511 - r)) = omega (arith, ints) in
-    rw at (omega arith)
-
 abbrev day : ℤ → ℕ → ℕ → DayOf
 day y m d = record { year = y; month = m; day = d }
 
@@ -55,9 +44,9 @@ same_day y year m d month of_month e f g = ap (λ x. day x m d) e ∙ ap (λ x. 
 pub day-back : (number year : ℤ) (month of_month : ℕ) → month < 16 → of_month < 32 → number ≡ day_number year month of_month → day_of number ≡ day year month of_month
 day-back number year month of_month m d e =
     let small : 32 * month + of_month < 512 = omega (arith, m, d) in
-    let place : place_in_year number ≡ 32 * month + of_month = ap place_in_year e ∙ place_at year (32 * month + of_month) small in
+    let place : place_in_year number ≡ 32 * month + of_month = ap place_in_year e ∙ int_rem_euclid-512 year (32 * month + of_month) small in
     same_day (int_div_euclid number (pos 512)) year (place_in_year number / 32) (place_in_year number % 32) month of_month
-    (ap (λ z. int_div_euclid z (pos 512)) e ∙ year_at year (32 * month + of_month) small) (omega (arith, place, d)) (omega (arith, place, d))
+    (ap (λ z. int_div_euclid z (pos 512)) e ∙ int_div_euclid-512 year (32 * month + of_month) small) (omega (arith, place, d)) (omega (arith, place, d))
 
 -- ---- the order of days
 record HasPlace (number : ℤ) : Type 0 where

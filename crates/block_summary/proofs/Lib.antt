@@ -2,6 +2,7 @@ mod BoundLemmas
 mod BufferLemmas
 mod CellLemmas
 mod MarkLemmas
+pub mod NumberLaws
 mod OrderLemmas
 mod RangeLemmas
 mod ReadingLemmas

@@ -10,6 +10,7 @@ use Rattle.std.proofs.lemmas.Bool.{cases_lt, le-leb, lt-leb}
 use Rattle.std.proofs.lemmas.Float.{T_from_false, T_from_true}
 use Rattle.std.proofs.lemmas.Cmp.{int_ranked}
 use Rattle.std.proofs.lemmas.Int.{clamps, ints}
+use Rattle.std.proofs.Math.Bool.{and-true, and-false}
 use Rattle.block_summary.specs.Cells.{number_or_null}
 use Rattle.offset_lanes.specs.Marks.{is_offset_between}
 use Rattle.block_summary.specs.Passing.{lies_between}
@@ -45,10 +46,6 @@ both_pass b z low high = ap (λ t. t && int_le z b.greatest) (at_most b.least z 
 
 pub low_fails : (b : Bounds) (z : ℤ) → z <ℤ b.least → lies_between b (Some z) ≡ false
 low_fails b z low = ap (λ t. t && int_le z b.greatest) (beyond b.least z low)
-
-and-false : (t : Bool) → (t && false) ≡ false
-and-false true = refl
-and-false false = refl
 
 pub high_fails : (b : Bounds) (z : ℤ) → b.greatest <ℤ z → lies_between b (Some z) ≡ false
 high_fails b z high = ap (λ t. int_le b.least z && t) (beyond z b.greatest high) ∙ and-false (int_le b.least z)
@@ -157,10 +154,6 @@ leb-high b least o high e = elim (cases_lt high o) [
   | inl past ↦ lt-leb o high past ∙ sym (beyond (least +ℤ pos o) b.greatest (omega (arith, ints)))
   | inr within ↦ le-leb o high within ∙ sym (at_most (least +ℤ pos o) b.greatest (omega (arith, ints)))
 ]
-
-and-true : (t : Bool) → (t && true) ≡ t
-and-true true = refl
-and-true false = refl
 
 -- a mark of an offset, of a row that may be null, is that of its number
 pub mark-cell : (b : Bounds) (least : ℤ) (null : Bool) (o low high : ℕ) → pos low ≡ int_max b.least least -ℤ least → pos high ≡ b.greatest -ℤ least

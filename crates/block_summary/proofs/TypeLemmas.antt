@@ -1,10 +1,11 @@
 -- Numbers, and the cells that they stand for.
-use Rattle.std.proofs.Common.{◌≡◌, ℕ, suc, zero, ◌+◌, ◌-◌, ◌*◌, ◌/◌, ◌%◌, ◌<◌, ◌≤◌, inl, inr, Bool, List, [], ◌∷◌, Option, None, Some, refl, sym, ap, ◌∙◌, subst, arith}
-use Rattle.std.specs.Prelude.{ℤ, pos, negsuc, ◌+ℤ◌, ◌*ℤ◌, unsigned_abs}
-use Rattle.std.specs.Int.{int_div_euclid, int_rem_euclid}
+use Rattle.std.proofs.Common.{◌≡◌, ℕ, suc, zero, ◌+◌, ◌*◌, ◌/◌, ◌%◌, ◌<◌, ◌≤◌, inl, inr, Bool, List, [], ◌∷◌, Option, None, Some, refl, sym, ap, ◌∙◌, subst, arith}
+use Rattle.std.specs.Prelude.{ℤ, pos}
+use Rattle.std.specs.Int.{int_div_euclid}
 use Rattle.std.proofs.lemmas.Int.{ints}
 use Rattle.jiff_core.specs.Calendar.{IsDate, IsYear, days_in_month}
 use Rattle.cell_types.specs.Value.{date}
+use Rattle.block_summary.proofs.NumberLaws.{int_div_euclid-512, int_rem_euclid-512}
 use Rattle.block_summary.specs.Cells.{cells_of}
 use Rattle.block_summary.specs.Types.{cells_of_type, day_number, number_of, numbers_of, place_in_year, typed_cell, AllNumbersOf, AreNumbersOf, IsNumberOf}
 use Rattle.block_summary.specs.declared.number.PackedType.{PackedType}
@@ -25,18 +26,6 @@ date-place year month day is = record {
   day_below = omega (arith, ints, is.2.1, month_days year month);
 }
 
-pub year_at : (year : ℤ) (r : ℕ) → r < 512 → int_div_euclid ((year *ℤ pos 512) +ℤ pos r) (pos 512) ≡ year
-year_at (pos n) r h = ap pos (omega arith)
-year_at (negsuc n) r h =
-    let at : (negsuc n *ℤ pos 512) +ℤ pos r ≡ negsuc (n * 512 + (511 - r)) = omega (arith, ints) in
-    rw at (ap negsuc (omega arith))
-
-pub place_at : (year : ℤ) (r : ℕ) → r < 512 → unsigned_abs (int_rem_euclid ((year *ℤ pos 512) +ℤ pos r) (pos 512)) ≡ r
-place_at (pos n) r h = omega arith
-place_at (negsuc n) r h =
-    let at : (negsuc n *ℤ pos 512) +ℤ pos r ≡ negsuc (n * 512 + (511 - r)) = omega (arith, ints) in
-    rw at (omega arith)
-
 -- the parts of a day's number
 pub record HasParts (number year : ℤ) (month day : ℕ) : Type 0 where
   pub year_is : int_div_euclid number (pos 512) ≡ year
@@ -47,9 +36,9 @@ pub record HasParts (number year : ℤ) (month day : ℕ) : Type 0 where
 pub number-parts : (number year : ℤ) (month day : ℕ) → IsPlace month day → number ≡ day_number year month day → HasParts number year month day
 number-parts number year month day is e =
     let small : 32 * month + day < 512 = omega (arith, is.month_below, is.day_below) in
-    let place : place_in_year number ≡ 32 * month + day = ap place_in_year e ∙ place_at year (32 * month + day) small in
+    let place : place_in_year number ≡ 32 * month + day = ap place_in_year e ∙ int_rem_euclid-512 year (32 * month + day) small in
     record {
-      year_is = ap (λ z. int_div_euclid z (pos 512)) e ∙ year_at year (32 * month + day) small;
+      year_is = ap (λ z. int_div_euclid z (pos 512)) e ∙ int_div_euclid-512 year (32 * month + day) small;
       place_is = place;
       month_is = omega (arith, place, is.day_below);
       day_is = omega (arith, place, is.day_below);

@@ -1,15 +1,16 @@
 -- Texts in the order of their bytes are in the order of their characters.
-use Rattle.std.proofs.Common.{◌≡◌, ℕ, ◌+◌, ◌/◌, ◌%◌, ◌<◌, ◌≤◌, true, cond, List, [], ◌∷◌, ◌++◌, refl, sym, ap, ap₂, ◌∙◌, arith, nat_lt, ⊎_elim}
+use Rattle.std.proofs.Common.{◌≡◌, ℕ, ◌+◌, ◌/◌, ◌%◌, ◌<◌, ◌≤◌, true, cond, List, [], ◌∷◌, ◌++◌, refl, sym, ap, ap₂, ◌∙◌, arith, nat_lt}
 use Rattle.std.specs.Cmp.Lexicographic.{slice_cmp}
 use Rattle.std.specs.Ordering.{MatchOrdering, nat_cmp, ordering_then}
 use Rattle.std.specs.Str.{IsUtf8, chars}
 use Rattle.std.specs.declared.cmp.Ordering.{Ordering}
 use Rattle.std.specs.declared.cmp.Ordering.TheVariants.{Less, Equal, Greater}
-use Rattle.std.proofs.Math.Utf8.{encode, encodes, scalar, scalar_cases, scalars}
+use Rattle.std.proofs.Math.Utf8.{encode, encodes, scalar, scalars}
 use Rattle.std.proofs.lemmas.Bool.{and_parts, cond_both, ltb-true, ltb-false}
 use Rattle.std.proofs.lemmas.Bool.Decides.{nat_tests}
 use Rattle.std.proofs.lemmas.Cmp.{ranked}
 use Rattle.std.proofs.lemmas.Str.{encodes-chars, scalars-chars}
+use borrow.Table.Char.{scalar_below}
 
 -- ---- numbers
 
@@ -132,9 +133,6 @@ none_first d ys = encode_by d (λ bs. slice_cmp nat_cmp [] (bs ++ ys) ≡ Less) 
 none_second : (c : ℕ) (xs : List ℕ) → slice_cmp nat_cmp (encode c ++ xs) [] ≡ Greater
 none_second c xs = encode_by c (λ bs. slice_cmp nat_cmp (bs ++ xs) [] ≡ Greater) (λ _. refl) (λ _ _. refl) (λ _ _. refl) (λ _. refl)
 
-scalar-small : (c : ℕ) → scalar c ≡ true → c < 1114112
-scalar-small c e = ⊎_elim (λ low. omega (arith, low)) (λ high. high.1) (scalar_cases c e)
-
 encodes-cmp : (cs ds : List ℕ) → scalars cs ≡ true → scalars ds ≡ true → slice_cmp nat_cmp (encodes cs) (encodes ds) ≡ slice_cmp nat_cmp cs ds
 encodes-cmp [] [] p q = refl
 encodes-cmp [] (d ∷ ds) p q = none_first d (encodes ds)
@@ -142,7 +140,7 @@ encodes-cmp (c ∷ cs) [] p q = none_second c (encodes cs)
 encodes-cmp (c ∷ cs) (d ∷ ds) p q =
     let c_is = and_parts (scalar c) (scalars cs) p in
     let d_is = and_parts (scalar d) (scalars ds) q in
-    char_cmp c d (encodes cs) (encodes ds) (scalar-small c c_is.0) (scalar-small d d_is.0) ∙ ap (ordering_then (nat_cmp c d)) (encodes-cmp cs ds c_is.1 d_is.1)
+    char_cmp c d (encodes cs) (encodes ds) (scalar_below c c_is.0) (scalar_below d d_is.0) ∙ ap (ordering_then (nat_cmp c d)) (encodes-cmp cs ds c_is.1 d_is.1)
 
 pub texts-cmp : (s t : List ℕ) → IsUtf8 s → IsUtf8 t → slice_cmp nat_cmp s t ≡ slice_cmp nat_cmp (chars s) (chars t)
 texts-cmp s t p q =

@@ -1,4 +1,5 @@
-pub mod Lists
+pub mod ListLaws
+pub mod CaseLaws
 pub mod WordLemmas
 pub mod WhiteSpaceLemmas
 pub mod IntegerLemmas

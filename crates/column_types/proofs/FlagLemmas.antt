@@ -1,19 +1,14 @@
 -- Flags that are set one after another, and words and columns that are made so.
-use Rattle.std.proofs.Common.{◌≡◌, ℕ, zero, suc, ◌+◌, ◌<◌, ◌≤◌, Bool, true, false, cond, ◌&&◌, ◌||◌, List, [], ◌∷◌, ◌++◌, length, map, take, get_or, refl, ap, sym, subst, ◌∙◌, inl, inr, arith}
+use Rattle.std.proofs.Common.{◌≡◌, ℕ, ◌+◌, ◌<◌, ◌≤◌, Bool, true, false, cond, ◌&&◌, ◌||◌, List, [], ◌∷◌, ◌++◌, length, map, take, get_or, ap, sym, subst, ◌∙◌, inl, inr, arith}
 use Rattle.std.proofs.Common.{get_or-set_other, get_or-set_same}
 use Rattle.std.specs.Prelude.{slice_set}
 use Rattle.std.proofs.lemmas.Bool.{cases_order}
-use Rattle.std.proofs.lemmas.List.{get_or-map, length-map, take_more}
+use Rattle.std.proofs.lemmas.List.{get_or-map, length-map, take_more, get_or_default}
 use Rattle.cell_types.specs.Column.{ColumnOf}
 use Rattle.cell_types.specs.Datatype.{DatatypeOf, text}
 use Rattle.column_types.specs.Seen.{flagged}
-use Rattle.column_types.specs.Types.{candidate, null_words, types}
+use Rattle.column_types.specs.Types.{candidate, null_column, null_words, types}
 use Rattle.column_types.proofs.SeenLemmas.{flagged-more}
-
-pub any_default : {X : Type 0} (xs : List X) (k : ℕ) (d e : X) → k < length xs → get_or xs k d ≡ get_or xs k e
-any_default [] k d e less = absurd (omega (arith, less))
-any_default (x ∷ xs) zero d e less = refl
-any_default (x ∷ xs) (suc k) d e less = any_default xs k d e (omega (arith, less))
 
 -- the flag at a place is set by a test of the flag that was there
 set-done : (test : ℕ → Bool → Bool) (first flags : List Bool) (place : ℕ) (v d : Bool) → place < length flags
@@ -23,7 +18,7 @@ set-done test first flags place v d within done left is k less =
     elim (cases_order k place) [
       | inl same ↦
           ap (λ n. get_or (slice_set flags place v) n false) same ∙ get_or-set_same flags place v false within
-          ∙ is ∙ ap (test place) (any_default flags place d false within ∙ left place (omega arith)) ∙ ap (λ n. test n (get_or first n false)) (sym same)
+          ∙ is ∙ ap (test place) (get_or_default flags place d false within ∙ left place (omega arith)) ∙ ap (λ n. test n (get_or first n false)) (sym same)
       | inr (inl before) ↦ get_or-set_other flags place k v false (λ e. absurd (omega (arith, e, before))) ∙ done k before
       | inr (inr after) ↦ absurd (omega (arith, less, after))
     ]
@@ -63,3 +58,12 @@ candidates-more columns made kind place less so_far is at =
     ap (λ cs. cs ++ made ∷ []) so_far
     ∙ ap (λ c. take place (map candidate types) ++ c ∷ []) (is ∙ ap candidate at ∙ sym (get_or-map candidate types place text (candidate text) less))
     ∙ sym (take_more (map candidate types) place (candidate text) within)
+
+pub null_columns-more : (columns : List ColumnOf) (made : ColumnOf) (word : List ℕ) (place : ℕ) → place < length null_words
+    → columns ≡ take place (map null_column null_words) → made ≡ null_column word → word ≡ get_or null_words place []
+    → columns ++ made ∷ [] ≡ take (place + 1) (map null_column null_words)
+null_columns-more columns made word place less so_far is at =
+    let within : place < length (map null_column null_words) = omega (arith, less, length-map null_words null_column) in
+    ap (λ cs. cs ++ made ∷ []) so_far
+    ∙ ap (λ c. take place (map null_column null_words) ++ c ∷ []) (is ∙ ap null_column at ∙ sym (get_or-map null_column null_words place [] (null_column []) less))
+    ∙ sym (take_more (map null_column null_words) place (null_column []) within)

@@ -1,4 +1,4 @@
-pub mod Lists
+pub mod ListLaws
 pub mod ReadingLemmas
 pub mod FittingLemmas
 pub mod OpenLemmas

@@ -1,10 +1,11 @@
 -- The datatypes that are left for a column when one more cell is read, and the first of them.
-use Rattle.std.proofs.Common.{◌≡◌, ℕ, ◌+◌, ◌<◌, Bool, true, false, not, cond, ◌&&◌, ◌||◌, eqb, pos, List, [], ◌∷◌, ◌++◌, length, map, get_or, Option, Some, None, Result, Ok, Err, refl, ap, sym, subst, ◌∙◌, arith}
+use Rattle.std.proofs.Common.{◌≡◌, ℕ, ◌+◌, ◌<◌, Bool, true, false, not, cond, ◌&&◌, ◌||◌, eqb, pos, List, [], ◌∷◌, ◌++◌, length, map, take, get_or, Option, Some, None, Result, Ok, Err, refl, ap, sym, subst, ◌∙◌, arith}
 use Rattle.std.specs.Prelude.{All, filter, is_ok, unwrap_or}
 use Rattle.std.specs.List.{find, list_all, list_any}
 use Rattle.std.specs.Str.{bytes_eq}
 use Rattle.std.proofs.Math.Bool.{and-true}
-use Rattle.std.proofs.lemmas.Bool.{cond_both, eqb-true}
+use Rattle.std.proofs.lemmas.Bool.{cond_both, eqb-true, not-true, or_left}
+use Rattle.std.proofs.lemmas.List.Elements.{filter_more}
 use Rattle.std.proofs.lemmas.List.FromFn.{get_or-range_with_len}
 use Rattle.std.proofs.lemmas.List.Folds.{list_all-append}
 use Rattle.std.proofs.lemmas.Map.Views.{any-filter_same}
@@ -20,12 +21,12 @@ use Rattle.cell_types.specs.Decimal.{decimal_of, is_decimal, is_in_millionths, m
 use Rattle.cell_types.specs.Value as value
 use Rattle.cell_types.specs.Value.{CellValue, null}
 use Rattle.cell_types.specs.WhiteSpace.{normal_text}
+use Rattle.column_types.proofs.ListLaws.{and_first, and_second, list_all-at, list_all-from}
 use Rattle.column_types.specs.declared.reading.Reading.{Reading}
 use Rattle.column_types.specs.declared.reading.Reading.TheVariants.{IsNull, HasValue, HasNone}
 use Rattle.column_types.specs.Reading.{fits_at, has_value_at, reading_of, reading_under, datatype_at, IsDatatypePlace, IsReadingOfCell}
 use Rattle.column_types.specs.Seen.{first_type, places}
 use Rattle.column_types.specs.Types.{candidate, datatype_for, fits_cells, has_value, stands_for_null, is_null_value, null_words, stay_texts, types}
-use Rattle.column_types.proofs.Lists.{and_left, and_right, list_all-at, list_all-from}
 use Rattle.column_types.proofs.ReadingLemmas.{content_value-is, has_value-is, integer_of-some, is_among, is_null-is}
 
 -- ---- what a cell is under a datatype
@@ -105,12 +106,8 @@ has-is : (datatype : DatatypeOf) (cell : List ℕ) → is_text datatype ≡ fals
 has-is datatype cell other =
     has_value-is [] [] ([] ∷ null_words) datatype cell other ∙ ap (λ b. b || reads datatype cell) (sym (is_null-is cell))
 
-not_false : (b : Bool) → not b ≡ true → b ≡ false
-not_false true e = sym e
-not_false false e = refl
-
 place-other : (place : ℕ) → IsDatatypePlace place → is_text (datatype_at place) ≡ false
-place-other place less = not_false (is_text (datatype_at place)) (list_all-at (λ datatype. not (is_text datatype)) types text refl place less)
+place-other place less = not-true (is_text (datatype_at place)) (list_all-at (λ datatype. not (is_text datatype)) types text refl place less)
 
 null-by : (b has : Bool) → reading_by b has ≡ IsNull → b ≡ true
 null-by true has e = refl
@@ -149,9 +146,6 @@ readings-all left cell are some all = (
 )
 
 -- a cell that is null has a value under each
-or_left : (a b : Bool) → a ≡ true → (a || b) ≡ true
-or_left true b e = refl
-or_left false b e = cc
 
 pub null-all : (left : List ℕ) (cell : List ℕ) → All IsDatatypePlace left → stands_for_null cell ≡ true → list_all (has_value_at cell) left ≡ true
 null-all left cell are e =
@@ -162,7 +156,7 @@ null-all left cell are e =
 pub filter-all : (p : ℕ → Bool) (xs : List ℕ) → list_all p xs ≡ true → filter p xs ≡ xs
 filter-all p [] e = refl
 filter-all p (x ∷ xs) e =
-    ap (λ b. cond b (x ∷ filter p xs) (filter p xs)) (and_left (p x) (list_all p xs) e) ∙ ap (λ rest. x ∷ rest) (filter-all p xs (and_right (p x) (list_all p xs) e))
+    ap (λ b. cond b (x ∷ filter p xs) (filter p xs)) (and_first (p x) (list_all p xs) e) ∙ ap (λ rest. x ∷ rest) (filter-all p xs (and_second (p x) (list_all p xs) e))
 
 filter-step : (p : ℕ → Bool) (x : ℕ) (b : Bool) (rest kept : List ℕ) → filter p rest ≡ kept → filter p (cond b (x ∷ rest) rest) ≡ cond (b && p x) (x ∷ kept) kept
 filter-step p x true rest kept e = ap (λ other. cond (p x) (x ∷ other) other) e
@@ -218,3 +212,11 @@ pub left-at : (cells : List (List ℕ)) (place : ℕ) → list_any (λ other. eq
 left-at cells place there =
     any-filter_same (λ other. eqb other place) (fits_at cells) (fits_at cells place) (λ k e. ap (fits_at cells) (eqb-true k place e)) places
     ∙ ap (λ b. fits_at cells place && b) there ∙ and-true (fits_at cells place)
+
+-- ---- one place after another
+pub filter-more : (p : ℕ → Bool) (xs : List ℕ) (k : ℕ) (kept : List ℕ) (b : Bool) → k < length xs → kept ≡ filter p (take k xs) → b ≡ p (get_or xs k 0)
+    → kept ++ cond b (get_or xs k 0 ∷ []) [] ≡ filter p (take (k + 1) xs)
+filter-more p xs k kept b less so_far is =
+    ap (λ ks. ks ++ cond b (get_or xs k 0 ∷ []) []) so_far
+    ∙ ap (λ t. filter p (take k xs) ++ cond t (get_or xs k 0 ∷ []) []) is
+    ∙ sym (filter_more p xs k 0 less)

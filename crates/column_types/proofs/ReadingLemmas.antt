@@ -6,6 +6,7 @@ use Rattle.std.specs.List.{list_any}
 use Rattle.std.specs.Str.{bytes_eq}
 use Rattle.std.specs.Str.Parse.{signed_digits_value}
 use Rattle.std.proofs.lemmas.Bool.{cond_both}
+use Rattle.std.proofs.Math.Bool.{or-false}
 use Rattle.cell_types.specs.declared.fault.CellFault.{CellFault}
 use Rattle.cell_types.specs.declared.fault.CellFault.TheVariants.{NotInteger, OutOfRange}
 use Rattle.cell_types.specs.Cell.{content_value, typed_value, value_of}
@@ -14,8 +15,8 @@ use Rattle.cell_types.specs.Integer.{fits_64_bits, integer_of, is_integer}
 use Rattle.cell_types.specs.Value as value
 use Rattle.cell_types.specs.Value.{CellValue, null}
 use Rattle.cell_types.specs.WhiteSpace.{normal_text}
+use Rattle.column_types.proofs.ListLaws.{or_from_false}
 use Rattle.column_types.specs.Types.{candidate, column_with, has_value, stands_for_null, is_null_in, is_null_value, null_column, null_words, stands_for}
-use Rattle.column_types.proofs.Lists.{or_true}
 
 -- a text is one of those
 abbrev pub is_among : List (List ℕ) → List ℕ → Bool
@@ -48,7 +49,7 @@ has_value-is name titles nulls decimal cell other = content-has name titles null
 
 -- in a column of texts each cell has a value
 pub text-has : (name : List ℕ) (titles nulls : List (List ℕ)) (cell : List ℕ) → has_value (column_with name titles text nulls) cell ≡ true
-text-has name titles nulls cell = content-has name titles nulls text cell ∙ or_true (is_among nulls cell) true (λ _. refl)
+text-has name titles nulls cell = content-has name titles nulls text cell ∙ or_from_false (is_among nulls cell) true (λ _. refl)
 
 -- an integer is no null
 pub integer_of-some : (bytes : List ℕ) → is_null_value (integer_of bytes) ≡ false
@@ -70,12 +71,8 @@ is_null_in-is nulls cell =
     ap is_null_value (content_value-is [] [] nulls integer (normal_text cell))
     ∙ null-cond (is_among nulls (normal_text cell)) (integer_of (normal_text cell)) (integer_of-some (normal_text cell))
 
-or_false : (b : Bool) → (b || false) ≡ b
-or_false true = refl
-or_false false = refl
-
 pub stands_for-is : (word cell : List ℕ) → stands_for word cell ≡ bytes_eq word (normal_text cell)
-stands_for-is word cell = is_null_in-is (word ∷ []) cell ∙ or_false (bytes_eq word (normal_text cell))
+stands_for-is word cell = is_null_in-is (word ∷ []) cell ∙ or-false (bytes_eq word (normal_text cell))
 
 pub is_null-is : (cell : List ℕ) → stands_for_null cell ≡ is_among ([] ∷ null_words) (normal_text cell)
 is_null-is cell = is_null_in-is ([] ∷ null_words) cell

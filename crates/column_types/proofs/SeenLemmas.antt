@@ -10,6 +10,7 @@ use Rattle.cell_types.specs.Datatype.{text}
 use Rattle.cell_types.specs.WhiteSpace.{normal_text, words}
 use Rattle.cell_types.specs.Column.{column_view}
 use Rattle.cell_types.specs.declared.column.Column.{Column}
+use Rattle.column_types.proofs.ListLaws.{and_first}
 use Rattle.column_types.specs.declared.form.Form.{Form}
 use Rattle.column_types.specs.declared.seen.Seen.{Seen}
 use Rattle.column_types.specs.declared.types.Candidates.{Candidates}
@@ -17,7 +18,6 @@ use Rattle.column_types.specs.Kinds.{AreCandidates}
 use Rattle.column_types.specs.Reading.{fits_at, has_value_at, datatype_at, IsDatatypePlace}
 use Rattle.column_types.specs.Seen.{places, AreMarked, HasForm, HasReadCells, HasSeen, HaveWords, IsOpen, flagged}
 use Rattle.column_types.specs.Types.{are_versions, candidate, datatype_for, ends_in_zero, fits_cells, has_one_place, has_point, have_two_dates, stands_for_null, is_null_in, is_padded, null_column, null_words, nulls_in, stands_for, stay_texts, types}
-use Rattle.column_types.proofs.Lists.{and_left}
 use Rattle.column_types.proofs.OpenLemmas.{filter-all, left-at, null-all, open-more}
 use Rattle.column_types.proofs.ReadingLemmas.{is_among, is_null-is, stands_for-is}
 
@@ -55,7 +55,7 @@ pub record LooksOn (old : Form) (cell : List ℕ) (new : Form) : Type 0 where
 
 pub form-more : (old new : Form) (cells : List (List ℕ)) (cell : List ℕ) → LooksOn old cell new → HasForm old cells → HasForm new (cells ++ cell ∷ [])
 form-more old new cells cell read has =
-    let pointed : new.points ≡ true → old.points ≡ true = λ e. and_left old.points (has_point cell) (sym read.points ∙ e) in
+    let pointed : new.points ≡ true → old.points ≡ true = λ e. and_first old.points (has_point cell) (sym read.points ∙ e) in
     record {
       padded = read.padded ∙ ap (λ b. b || is_padded cell) has.padded ∙ sym (any-last is_padded cells cell);
       points = read.points ∙ ap (λ b. b && has_point cell) has.points ∙ sym (all-last has_point cells cell);

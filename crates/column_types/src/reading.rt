@@ -1,5 +1,5 @@
 //! What a cell is under the datatypes that are left for its column.
-ghost use Rattle.std.specs.Prelude.{◌≡◌, ◌<◌, true, Ok, IfOk, All, filter, length};
+ghost use Rattle.std.specs.Prelude.{◌≡◌, ◌<◌, [], ◌∷◌, ◌++◌, true, Ok, IfOk, OnOk, All, filter, if◌then◌else◌, length};
 ghost use Rattle.cell_types.specs.Cell.{value_of};
 ghost use Rattle.cell_types.specs.Column.{column_view};
 ghost use Rattle.cell_types.specs.Value.{value_view};
@@ -114,6 +114,17 @@ fn has_value_under(
     has_value(alloc, &candidates.typed[place], cell)
 }
 
+/// Adds a place where it is left.
+fn push_left(kept: &mut Vec<usize>, place: usize, is_left: bool) -> Result<(), AllocError>
+    ensures { OnOk result
+        (kept.new.items ≡ kept.old.items ++ (if is_left then place ∷ [] else [])) }
+{
+    if is_left {
+        kept.push(place)?;
+    }
+    Ok(())
+}
+
 /// Those of the places under whose datatypes a cell has a value.
 pub fn places_left(
     alloc: Global,
@@ -127,9 +138,8 @@ pub fn places_left(
 {
     let mut kept = Vec::with_capacity(alloc, left.len())?;
     for place in left {
-        if has_value_under(alloc, candidates, *place, cell)? {
-            kept.push(*place)?;
-        }
+        let is_left = has_value_under(alloc, candidates, *place, cell)?;
+        push_left(&mut kept, *place, is_left)?;
     }
     Ok(kept)
 }

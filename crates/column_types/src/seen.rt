@@ -11,7 +11,7 @@ ghost use Rattle.column_types.specs.Types.{datatype_for, have_two_dates, is_null
 use crate::cells::is_null_in;
 use crate::form::Form;
 use crate::reading::{Reading, places_left, reading_under_all};
-use crate::types::{Candidates, DAY_FIRST, MONTH_FIRST, NULL_WORDS, PLACES, kind_at, null_word};
+use crate::types::{Candidates, DAY_FIRST, MONTH_FIRST, PLACES, WORD_COUNT, kind_at, null_word};
 use cell_types::{Column, Datatype};
 use std::alloc::{AllocError, Global};
 
@@ -92,8 +92,8 @@ fn push_word(
     Ok(())
 }
 
-/// The words of those flags.
-fn flagged_words(alloc: Global, flags: &[bool]) -> Result<Vec<String>, AllocError>
+/// The empty text, and the words of those flags.
+pub(crate) fn flagged_words(alloc: Global, flags: &[bool]) -> Result<Vec<String>, AllocError>
     requires { length flags.now ≡ length null_words }
     ensures { IfOk result
         (λ words. map string_bytes words.items ≡ [] ∷ flagged flags.now null_words) }
@@ -121,7 +121,7 @@ impl Seen {
     {
         Ok(Seen {
             left: Vec::from_slice(alloc, &PLACES)?,
-            words: vec![in alloc; false; NULL_WORDS.len()]?,
+            words: vec![in alloc; false; WORD_COUNT]?,
             all_null: true,
             form: Form::new(),
         })

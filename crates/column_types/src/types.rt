@@ -5,6 +5,7 @@ ghost use Rattle.cell_types.specs.Datatype.{datatype_view, text};
 ghost use Rattle.column_types.specs.Types.{candidate, column_with, null_column, null_words, types};
 ghost use Rattle.column_types.specs.Kinds.{kind_view, AreCandidates};
 
+use crate::seen::flagged_words;
 use cell_types::{BooleanForm, Column, Datatype, DateForm};
 use std::alloc::{AllocError, Global};
 
@@ -19,6 +20,9 @@ pub enum Kind {
     Decimal,
     Date(DateForm),
 }
+
+/// How many datatypes other than `string` there are.
+const KIND_COUNT: usize = 17;
 
 /// The datatypes other than `string`, the first that fits first.
 pub const KINDS: [Kind; 17] = [
@@ -52,8 +56,14 @@ pub const DAY_FIRST: usize = 14;
 
 pub const MONTH_FIRST: usize = 15;
 
+/// How many texts may stand for null beside the empty one.
+pub const WORD_COUNT: usize = 7;
+
 /// The texts that may stand for null beside the empty one.
 pub const NULL_WORDS: [&str; 7] = ["NA", "N/A", "NULL", "null", "-", ".", "#N/A"];
+
+/// Of each of these texts, that it does.
+const ALL_WORDS: [bool; 7] = [true, true, true, true, true, true, true];
 
 /// The columns in which the cells of a file are read to draft its own.
 #[derive(Drop)]
@@ -118,12 +128,7 @@ fn typed_column(alloc: Global, datatype: Datatype, nulls: Vec<String>) -> Column
 fn null_texts(alloc: Global) -> Result<Vec<String>, AllocError>
     ensures { IfOk result (λ texts. map string_bytes texts.items ≡ [] ∷ null_words) }
 {
-    let mut texts = Vec::with_capacity(alloc, NULL_WORDS.len() + 1)?;
-    texts.push(String::new(alloc))?;
-    for word in &NULL_WORDS {
-        texts.push(String::from_str(alloc, *word)?)?;
-    }
-    Ok(texts)
+    flagged_words(alloc, &ALL_WORDS)
 }
 
 /// The column of a kind.
@@ -138,22 +143,29 @@ fn candidate_of(alloc: Global, kind: Kind) -> Result<Column, AllocError>
 fn typed_columns(alloc: Global) -> Result<Vec<Column>, AllocError>
     ensures { IfOk result (λ columns. map column_view columns.items ≡ map candidate types) }
 {
-    let mut columns = Vec::with_capacity(alloc, KINDS.len())?;
-    for place in 0..KINDS.len() {
+    let mut columns = Vec::with_capacity(alloc, KIND_COUNT)?;
+    for place in 0..KIND_COUNT {
         columns.push(candidate_of(alloc, kind_at(place))?)?;
     }
     Ok(columns)
+}
+
+/// A column in which that text alone stands for null.
+fn column_of_word(alloc: Global, word: &str) -> Result<Column, AllocError>
+    ensures { IfOk result (λ made. column_view made ≡ null_column word.now) }
+{
+    let mut nulls = Vec::with_capacity(alloc, 1)?;
+    nulls.push(String::from_str(alloc, word)?)?;
+    Ok(typed_column(alloc, Datatype::Integer, nulls))
 }
 
 /// A column for each text that may stand for null beside the empty one.
 fn null_columns(alloc: Global) -> Result<Vec<Column>, AllocError>
     ensures { IfOk result (λ columns. map column_view columns.items ≡ map null_column null_words) }
 {
-    let mut columns = Vec::with_capacity(alloc, NULL_WORDS.len())?;
-    for word in &NULL_WORDS {
-        let mut nulls = Vec::with_capacity(alloc, 1)?;
-        nulls.push(String::from_str(alloc, *word)?)?;
-        columns.push(typed_column(alloc, Datatype::Integer, nulls))?;
+    let mut columns = Vec::with_capacity(alloc, WORD_COUNT)?;
+    for place in 0..WORD_COUNT {
+        columns.push(column_of_word(alloc, null_word(place))?)?;
     }
     Ok(columns)
 }

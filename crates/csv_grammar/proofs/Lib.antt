@@ -1,3 +1,4 @@
+pub mod ListLaws
 pub mod Machine
 pub mod ByteKinds
 pub mod Runs

@@ -4,6 +4,7 @@ use Rattle.std.specs.Prelude.{option_and_then, slice_index, IfSome, IsTrue, ⊤}
 use Rattle.std.specs.List.{flat_map, AllByRecursion}
 use Rattle.std.proofs.lemmas.Option.{same_Some, option_and_then_some}
 use Rattle.std.proofs.lemmas.List.{take_more, flat_map_more}
+use Rattle.std.proofs.SliceLists.{all_by_recursion_push}
 use Rattle.csv_grammar.specs.Bytes.{double_quote, comma, carriage_return, line_feed}
 use Rattle.csv_grammar.specs.Records.{Field, unquoted, quoted, LineBreak, print_break, crlf, lf, Line, CsvText, is_plain, doubled, print_field, print_record, print_line, print_text, IsField, IsRecord, IsText}
 use Rattle.csv_grammar.proofs.ByteKinds.{Kind, a_quote, a_comma, a_return, a_feed, an_other, kind_of, plain_from_other}
@@ -98,11 +99,6 @@ IsNext p b q = IsReached q × (printed q ≡ printed p ++ b ∷ [])
 abbrev pub progress_at : List Line → List Field → Mode → Progress
 progress_at lines fields mode = record { lines = lines; fields = fields; mode = mode }
 
--- what holds of each item and of one more holds of all
-pub all_push : {X : Type 0} (P : X → Type 0) (xs : List X) (x : X) → AllByRecursion P xs → P x → AllByRecursion P (xs ++ x ∷ [])
-all_push P [] x all h = (h, tt)
-all_push P (y ∷ ys) x all h = (all.0, all_push P ys x all.1 h)
-
 -- a list joined end to end, with one item more
 pub flat_map_push : {X Y : Type 0} (f : X → List Y) (xs : List X) (x : X) → flat_map f (xs ++ x ∷ []) ≡ flat_map f xs ++ f x
 flat_map_push f xs x = sym (flat_map_more f [] xs x)
@@ -123,7 +119,7 @@ print_record_push (field ∷ next ∷ fields) last =
 
 -- fields and one field more are a record
 pub record_push : (fields : List Field) (last : Field) → AllByRecursion IsField fields → IsField last → IsRecord (fields ++ last ∷ [])
-record_push fields last all h = (rw (length-append fields (last ∷ [])) (omega arith), all_push IsField fields last all h)
+record_push fields last all h = (rw (length-append fields (last ∷ [])) (omega arith), all_by_recursion_push IsField fields last all h)
 
 -- the doubled content of joined contents
 pub doubled-append : (xs ys : List ℕ) → doubled (xs ++ ys) ≡ doubled xs ++ doubled ys
@@ -155,7 +151,7 @@ module _ (lines : List Line) (fields : List Field) (m : Mode) (f : Field) where
   at_comma : IsReached (progress_at lines fields m) → IsField f → printed_mode m ≡ print_field f
       → IsNext (progress_at lines fields m) comma (next_field (progress_at lines fields m) f)
   at_comma reached valid e = (
-    record { lines = reached.lines; fields = all_push IsField fields f reached.fields valid; mode = tt },
+    record { lines = reached.lines; fields = all_by_recursion_push IsField fields f reached.fields valid; mode = tt },
     rw (flat_map_push print_field_comma fields f, e) (regroup (flat_map print_line lines) (printed_fields fields) (print_field f)),
   )
     where
@@ -173,7 +169,7 @@ module _ (lines : List Line) (fields : List Field) (m : Mode) (f : Field) where
       → IsNext (progress_at lines fields m) b (next_line (progress_at lines fields m) f end)
   at_break end cr b reached valid ends e = (
     record {
-      lines = all_push (λ line. IsRecord line.fields) lines line reached.lines (record_push fields f reached.fields valid);
+      lines = all_by_recursion_push (λ line. IsRecord line.fields) lines line reached.lines (record_push fields f reached.fields valid);
       fields = tt;
       mode = tt;
     },
@@ -206,7 +202,7 @@ step_next ls fs (plain bytes last) b a_return r = at_return ls fs (plain bytes l
 step_next ls fs (plain bytes last) b a_feed r = at_feed ls fs (plain bytes last) (unquoted (bytes ++ last ∷ [])) r r.mode refl
 step_next ls fs (plain bytes last) b (an_other _ q c x n) r =
     rw (q, c, x, n) (to_mode ls fs (plain bytes last) (plain (bytes ++ last ∷ []) b) b r
-    (all_push (λ a. IsTrue (is_plain a)) (bytes ++ last ∷ []) b r.mode (plain_from_other b q c x n)) refl)
+    (all_by_recursion_push (λ a. IsTrue (is_plain a)) (bytes ++ last ∷ []) b r.mode (plain_from_other b q c x n)) refl)
 step_next ls fs (inside content) b a_quote r = to_mode ls fs (inside content) (closed content) b r tt refl
 step_next ls fs (inside content) b a_comma r =
     to_mode ls fs (inside content) (inside (content ++ comma ∷ [])) b r tt (rw (doubled-append content (comma ∷ [])) refl)

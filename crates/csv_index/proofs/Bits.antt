@@ -4,11 +4,11 @@ use Rattle.std.proofs.Math.Nat.{mod-eq_of_lt, mod-lt, div-add-mod}
 use Rattle.std.proofs.Math.Pow.{pow-lt}
 use Rattle.std.specs.Int.{bit_at, bit_not, trailing_zeros}
 use Rattle.std.specs.Int.RustNames.{count_ones}
-use Rattle.std.specs.Int.Count.{ones_step}
 use Rattle.std.proofs.lemmas.Bool.{eqb-true, eqb-false}
 use Rattle.std.proofs.lemmas.Nat.{mod-pow-add, ones_cat, ones-le, pow_pos, and_mask, and_le_l, zero_from_ones}
 use Rattle.std.proofs.lemmas.Nat.Bits.{bit_at-lt, bit_at_or, bit_at_clear_same, bit_at_clear_other, bit_at-trailing_zeros}
 use Rattle.csv_grammar.specs.Structure.{Role, separator, record_end, inner}
+use Rattle.quote_parity.proofs.NumberLaws.{count_ones-bit}
 use Rattle.csv_index.specs.Blocks.{set_places}
 use Rattle.csv_index.specs.Reading.{role_places}
 use Rattle.csv_index.specs.Widths.{mask_role, mask_roles}
@@ -21,17 +21,14 @@ zero_one a e f = omega arith
 
 -- ---- how many bits are set
 
-one_bit : (b : ℕ) → b < 2 → count_ones b ≡ b
-one_bit b h = let half : b / 2 ≡ 0 = omega arith in omega (arith, ones_step b, ap count_ones half, ones-le 0 0 (omega arith))
-
 pub ones_none : (w : ℕ) → count_ones (w % 2 ^ 0) ≡ 0
-ones_none w = let none : w % 2 ^ 0 ≡ 0 = omega arith in ap count_ones none ∙ one_bit 0 (omega arith)
+ones_none w = let none : w % 2 ^ 0 ≡ 0 = omega arith in ap count_ones none ∙ count_ones-bit 0 (omega arith)
 
 pub ones_next : (w k : ℕ) → count_ones (w % 2 ^ suc k) ≡ count_ones (w % 2 ^ k) + bit_at w k
 ones_next w k =
     let b = w / 2 ^ k % 2 in
     let split : w % 2 ^ suc k ≡ b * 2 ^ k + w % 2 ^ k = ap (λ n. w % 2 ^ n) (sym (add-one k) ∙ add_comm k 1) ∙ mod-pow-add w 1 k in
-    omega (arith, ap count_ones split ∙ ones_cat k b (w % 2 ^ k) (omega (arith, pow_pos k)), one_bit b (bit_at-lt w k))
+    omega (arith, ap count_ones split ∙ ones_cat k b (w % 2 ^ k) (omega (arith, pow_pos k)), count_ones-bit b (bit_at-lt w k))
 
 pub ones_whole : (w : ℕ) → w < 2 ^ 64 → count_ones (w % 2 ^ 64) ≡ count_ones w
 ones_whole w h = ap count_ones (mod-eq_of_lt h)
@@ -79,7 +76,7 @@ one_alone w small one =
     }
   where
     not_zero : (n : ℕ) → count_ones n ≡ 1 → 0 < n
-    not_zero zero h = omega (arith, h, one_bit 0 (omega arith))
+    not_zero zero h = omega (arith, h, count_ones-bit 0 (omega arith))
     not_zero (suc n) h = omega arith
 
 -- the bits below a place, by a mask

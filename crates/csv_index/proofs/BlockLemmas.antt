@@ -1,12 +1,11 @@
 -- Where a structural place stands among blocks.
-use Rattle.std.proofs.Common.{◌≡◌, ℕ, zero, suc, ◌+◌, ◌-◌, ◌*◌, ◌%◌, ◌^◌, ◌<◌, ◌≤◌, min, List, [], ◌∷◌, ◌++◌, length, length-append, append_assoc, append-nil as append_nil, get_or, take, drop, Some, add-one, refl, sym, ap, ◌∙◌, arith}
+use Rattle.std.proofs.Common.{◌≡◌, ℕ, zero, suc, ◌+◌, ◌-◌, ◌*◌, ◌%◌, ◌^◌, ◌<◌, ◌≤◌, min, List, [], ◌∷◌, ◌++◌, length, length-append, append_assoc, append-nil as append_nil, take, drop, Some, add-one, refl, sym, ap, ◌∙◌, arith}
 use Rattle.std.specs.Prelude.{slice_get}
 use Rattle.std.specs.Int.{bit_at}
 use Rattle.std.specs.Int.RustNames.{count_ones}
 use Rattle.std.proofs.Math.Nat.{mod-lt}
 use Rattle.std.proofs.lemmas.Nat.{ones-le, pow_pos}
 use Rattle.std.proofs.lemmas.List.{take_all}
-use Rattle.std.proofs.lemmas.Option.{slice_get-get_or}
 use Rattle.csv_index.specs.Blocks.{set_places, block_places, rank, AreRanked, IsLastBefore, Stands}
 use Rattle.csv_index.specs.declared.blocks.Block.{Block}
 use Rattle.csv_index.proofs.Bits.{places_count, places_around, ones_front}
@@ -39,10 +38,6 @@ block_places-around at to (first ∷ blocks) zero block is e =
 block_places-around at to (first ∷ blocks) (suc number) block is e =
     ap (λ l. set_places at first.ends 0 64 ++ l) (block_places-around (at + 64) to blocks number block is (omega arith))
     ∙ sym (append_assoc (set_places at first.ends 0 64) (block_places (at + 64) (take number blocks)) _)
-
--- an element that is read by `get`
-pub slice_get-read : {A : Type 0} (xs : List A) (n : ℕ) (x : A) → n < length xs → x ≡ get_or xs n x → slice_get xs n ≡ Some x
-slice_get-read xs n x h e = slice_get-get_or xs n x h ∙ ap Some (sym e)
 
 -- what stands before the next block
 pub rank_next : (blocks : List Block) (number : ℕ) (block : Block) → slice_get blocks number ≡ Some block

@@ -4,15 +4,11 @@ use Rattle.std.specs.Prelude.{slice_get, option_map, is_some, ◌||◌}
 use Rattle.std.specs.List.{AllByRecursion}
 use Rattle.std.proofs.lemmas.Option.{none-some}
 use Rattle.std.proofs.lemmas.Bool.{eq-eqb, eqb-true, eqb-false, ne_eqb}
+use Rattle.std.proofs.SliceLists.{all_by_recursion_push}
 use Rattle.csv_grammar.specs.Records.{Field}
 use Rattle.csv_grammar.specs.Files.{HasWidth, IsFirstOther}
 use Rattle.csv_index.specs.Widths.{CountsWidths, width_with, uneven_with}
 use Rattle.csv_index.specs.declared.widths.Widths.{Widths}
-
--- one element more of which it holds
-pub all_push : {A : Type 0} (P : A → Type 0) (xs : List A) (x : A) → AllByRecursion P xs → P x → AllByRecursion P (xs ++ x ∷ [])
-all_push P [] x all here = (here, tt)
-all_push P (y ∷ xs) x all here = (all.0, all_push P xs x all.1 here)
 
 width_at_front : (rows more : List (List Field)) (k width : ℕ) → option_map length (slice_get rows k) ≡ Some width
     → option_map length (slice_get (rows ++ more) k) ≡ Some width
@@ -51,7 +47,7 @@ even_push : (header : List Field) (rows : List (List Field)) (fields : List Fiel
     → AllByRecursion (HasWidth (length header)) rows → row ≡ length rows → length fields == width ≡ t
     → CountsWidths width (cond t None (Some row)) (header ∷ (rows ++ fields ∷ []))
 even_push header rows fields width row true w all r e =
-    (w, all_push (HasWidth (length header)) rows fields all (eqb-true (length fields) width e ∙ w))
+    (w, all_by_recursion_push (HasWidth (length header)) rows fields all (eqb-true (length fields) width e ∙ w))
 even_push header rows fields width row false w all r e = (
   w,
   subst (IsFirstOther header (rows ++ fields ∷ [])) (sym r)

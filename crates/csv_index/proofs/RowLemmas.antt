@@ -9,6 +9,7 @@ use Rattle.raw_fields.specs.Laws.{FieldsStandSo}
 use Rattle.csv_grammar.specs.Raw.{RawField, raw_of, field_of}
 use Rattle.raw_fields.specs.Between.{cut, raw_between}
 use Rattle.csv_grammar.specs.Raw.{RawTable}
+use Rattle.csv_grammar.proofs.ListLaws.{slice_get-drop, slice_get-take}
 use Rattle.csv_index.specs.Index.{raw_table, Places, raws, row_fields, table_in, FitsFile, IsRawTable}
 use Rattle.raw_fields.specs.Rows.{rows_cut, cell_at}
 
@@ -19,17 +20,6 @@ length-cut start (end ∷ ends) file = ap suc (length-cut (end + 1) ends file)
 
 length-raws : (places : Places) (bytes : List ℕ) → length (raws places bytes) ≡ length places.ends
 length-raws places bytes = length-map (cut places.start places.ends bytes) raw_between ∙ length-cut places.start places.ends bytes
-
-slice_get-drop : {X : Type 0} (n : ℕ) (xs : List X) (i : ℕ) → slice_get (drop n xs) i ≡ slice_get xs (n + i)
-slice_get-drop zero xs i = let e : 0 + i ≡ i = omega arith in rw e refl
-slice_get-drop (suc n) [] i = refl
-slice_get-drop (suc n) (x ∷ xs) i = let e : suc n + i ≡ suc (n + i) = omega arith in rw e (slice_get-drop n xs i)
-
-pub slice_get-take : {X : Type 0} (n : ℕ) (xs : List X) (i : ℕ) → i < n → slice_get (take n xs) i ≡ slice_get xs i
-slice_get-take zero xs i h = absurd (omega arith)
-slice_get-take (suc n) [] i h = refl
-slice_get-take (suc n) (x ∷ xs) zero h = refl
-slice_get-take (suc n) (x ∷ xs) (suc i) h = slice_get-take n xs i (omega arith)
 
 pub length-rows_of : (n width : ℕ) (fields : List RawField) → length (rows_cut n width fields) ≡ n
 length-rows_of zero width fields = refl

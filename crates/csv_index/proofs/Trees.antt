@@ -6,6 +6,7 @@ use Rattle.std.specs.Str.{is_utf8}
 use Rattle.std.proofs.lemmas.List.{take_at, drop_at, get_or_at, drop-drop, length-map, map-append}
 use Rattle.std.proofs.Math.Seq.{drop-append-add}
 use Rattle.std.proofs.lemmas.Str.{IsUtf8-drop, is_utf8-from_IsUtf8, IsCharBoundary-before_ascii}
+use Rattle.std.proofs.lemmas.List.Elements.{All-append, All-from_recursion, recursion_from_All}
 use Rattle.csv_grammar.specs.Bytes.{comma, carriage_return, line_feed}
 use Rattle.csv_grammar.specs.Records.{Field, print_field, IsField, print_record, IsRecord, IsLast, LineBreak, crlf, lf, Line, print_break, print_line, CsvText, print_last, print_text, IsText, records_of}
 use Rattle.csv_grammar.specs.Structure.{Role, separator, inner, field_roles, record_roles, break_roles, line_roles, last_roles, text_roles}
@@ -195,9 +196,10 @@ tree_pieces file mark tree valid within e =
 abbrev pub AreTexts : List RawField → Type 0
 AreTexts raws = AllByRecursion (λ raw. is_utf8 raw.bytes ≡ true) raws
 
-all_append : {A : Type 0} (P : A → Type 0) (xs ys : List A) → AllByRecursion P xs → AllByRecursion P ys → AllByRecursion P (xs ++ ys)
-all_append P [] ys all more = more
-all_append P (x ∷ xs) ys all more = (all.0, all_append P xs ys all.1 more)
+texts_append : (xs ys : List RawField) → AreTexts xs → AreTexts ys → AreTexts (xs ++ ys)
+texts_append xs ys first more =
+    let P : RawField → Type 0 = λ raw. is_utf8 raw.bytes ≡ true in
+    recursion_from_All P (xs ++ ys) (All-append P xs ys (All-from_recursion P xs first) (All-from_recursion P ys more))
 
 utf8_after : (xs : List ℕ) (b : ℕ) (ys : List ℕ) → b < 128 → IsUtf8 (xs ++ b ∷ ys) → IsUtf8 ys
 utf8_after xs b ys small utf8 =
@@ -233,7 +235,7 @@ lines_texts (line ∷ lines) last utf8 =
     let parts = line_texts line (flat_map print_line lines ++ print_last last) (subst IsUtf8 (append_assoc (print_line line) (flat_map print_line lines) (print_last last)) utf8) in
     let others : List Field = all_fields (map (λ (l : Line). l.fields) lines ++ option_to_list last) in
     subst AreTexts (sym (map-append raw_of line.fields others))
-    (all_append (λ raw. is_utf8 raw.bytes ≡ true) (map raw_of line.fields) (map raw_of others) (record_texts line.fields parts.0) (lines_texts lines last parts.1))
+    (texts_append (map raw_of line.fields) (map raw_of others) (record_texts line.fields parts.0) (lines_texts lines last parts.1))
 
 pub tree_texts : (tree : CsvText) → IsUtf8 (print_text tree) → AreTexts (map raw_of (all_fields (records_of tree)))
 tree_texts tree utf8 = lines_texts tree.lines tree.last utf8

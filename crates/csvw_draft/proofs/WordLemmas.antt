@@ -3,13 +3,15 @@ use Rattle.std.proofs.Common.{◌≡◌, ◌⊎◌, ◌∙◌, Bool, List, Optio
 use Rattle.std.specs.List.{list_any}
 use Rattle.clap.specs.Facts.{explicit_source}
 use Rattle.clap.specs.Kinds.{Kinds}
-use Rattle.clap.specs.Words.{App, IsAmong, Row, Text, fault_of, first_of, is_simple, is_simple_and_free, matches_of, subcommand_of}
+use Rattle.clap.specs.Words.{App, IsAmong, Row, Text, fault_of, first_of, is_simple, is_simple_and_free, kind_of, matches_of, subcommand_of}
 use Rattle.clap.specs.declared.error.ErrorKind.{ErrorKind}
 use Rattle.clap.specs.declared.error.ErrorKind.TheVariants.{DisplayHelp, DisplayVersion, OutOfMemory}
 use Rattle.clap.proofs.OnLiterals.{clap_on_literals}
 use Rattle.csvw_draft.specs.declared.words.Words.{Words}
 use Rattle.csvw_draft.specs.declared.words.Words.TheVariants.{Draft, Show, Explain}
-use Rattle.csvw_draft.specs.Words.{AsksSo, HasSwitch, IsQuestion, whole_command}
+use Rattle.csvw_draft.specs.declared.words.WordsFault.{WordsFault}
+use Rattle.csvw_draft.specs.declared.words.WordsFault.TheVariants.{Shows, Usage, NoMemory}
+use Rattle.csvw_draft.specs.Words.{AsksSo, HasSwitch, IsFaultBy, IsQuestion, IsWordsFault, whole_command}
 
 -- ---- the command
 
@@ -60,6 +62,16 @@ asked_memory k (inr h) e = let bad : DisplayVersion ≡ OutOfMemory = sym h ∙ 
 pub no_question : (k m : ErrorKind) → k ≡ m → (k ≡ DisplayHelp → ⊥) → (k ≡ DisplayVersion → ⊥) → IsQuestion m → ⊥
 no_question k m e help version (inl h) = help (e ∙ h)
 no_question k m e help version (inr h) = version (e ∙ h)
+
+-- by its kind
+pub fault_for : (kind : ErrorKind) (fault : WordsFault) (a : App) (line : List Text) → a ≡ whole_command
+    → (kind ≡ OutOfMemory) ⊎ IsAmong kind (fault_of a line) → IsFaultBy kind fault → IsWordsFault line fault
+fault_for kind (Shows error) a line e h (question, same) =
+    let P : ErrorKind → Type 0 = λ k. IsAmong k (fault_of whole_command line) in
+    (asked_kind kind (kind_of error) same question, subst P same (found_kind kind kind a line e refl (asked_memory kind question) h))
+fault_for kind Usage a line e h (memory, question) =
+    inl (record { kind = kind; found = found_kind kind kind a line e refl memory h; mistake = question })
+fault_for kind NoMemory a line e h by = tt
 
 -- ---- readings
 

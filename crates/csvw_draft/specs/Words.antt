@@ -2,10 +2,11 @@
 use Rattle.std.specs.Prelude.{◌≡◌, ◌⊎◌, ⊤, Bool, true, false, not, List, [], Option, Some, None, codes}
 use Rattle.std.specs.List.{list_any}
 use Rattle.clap.specs.Facts.{explicit_source}
-use Rattle.clap.specs.Words.{App, IsAmong, Row, Rule, Text, fault_of, first_of, kind_of, matches_of, new_app, new_rule, one_of, subcommand_of, with_rule, with_subcommand}
+use Rattle.clap.specs.Words.{App, IsAmong, Row, Rule, Text, fault_of, first_of, found_of, kind_of, matches_of, new_app, new_rule, one_of, rows_of, subcommand_of, subcommand_rows_of, with_rule, with_subcommand}
 use Rattle.clap.specs.declared.builder.action.ArgAction.TheVariants.{SetTrue}
 use Rattle.clap.specs.declared.error.ErrorKind.{ErrorKind}
-use Rattle.clap.specs.declared.error.ErrorKind.TheVariants.{DisplayHelp, DisplayVersion}
+use Rattle.clap.specs.declared.error.ErrorKind.TheVariants.{DisplayHelp, DisplayVersion, OutOfMemory}
+use Rattle.clap.specs.declared.parser.matches.ArgMatches.{ArgMatches}
 use Rattle.command_words.specs.Words.{required_rule}
 use Rattle.csvw_draft.specs.declared.words.Words.{Words}
 use Rattle.csvw_draft.specs.declared.words.Words.TheVariants.{Draft, Show, Explain}
@@ -72,6 +73,12 @@ AsksNot rows reading = (words : Words) → AsksSo words rows reading → ⊥
 abbrev pub IsAcceptedLine : List Text → Type 0
 IsAcceptedLine line = fault_of whole_command line ≡ []
 
+-- `clap` takes the texts, and these are the matches
+pub record AreLineMatches (line : List Text) (matches : ArgMatches) : Type 0 where
+  pub accepted : IsAcceptedLine line
+  pub rows : rows_of (found_of matches) ≡ matches_of whole_command line
+  pub reading : subcommand_rows_of matches ≡ subcommand_of whole_command line
+
 -- `clap` takes the texts, and what it reads asks for these words
 abbrev pub LineAsksFor : List Text → Words → Type 0
 LineAsksFor line words = IsAcceptedLine line × AsksSo words (matches_of whole_command line) (subcommand_of whole_command line)
@@ -85,6 +92,12 @@ pub record HasMistake (line : List Text) : Type 0 where
   pub kind : ErrorKind
   pub found : IsAmong kind (fault_of whole_command line)
   pub mistake : IsQuestion kind → ⊥
+
+-- why nothing is done where `clap` fails with an error of that kind: the error itself, for a question
+abbrev pub IsFaultBy : ErrorKind → WordsFault → Type 0
+IsFaultBy kind (Shows error) = IsQuestion kind × (kind ≡ kind_of error)
+IsFaultBy kind Usage = (kind ≡ OutOfMemory → ⊥) × (IsQuestion kind → ⊥)
+IsFaultBy kind NoMemory = ⊤
 
 -- why nothing is done: `clap` finds a question for help or for the version, or a mistake, or nothing is asked for
 abbrev pub IsWordsFault : List Text → WordsFault → Type 0

@@ -1,7 +1,7 @@
 //! What the words of the command line ask for, done: each command ends with an exit status.
 use crate::draft::draft_folder;
 use crate::explain::{explain_folder, show_folder};
-use crate::stop::{DONE, MEMORY, Stop, USAGE};
+use crate::status::{DONE, MEMORY, USAGE, status_of};
 use crate::words::{USAGE_LINE, Words, WordsFault, read_words};
 use command_words::{line_of, system_words};
 use std::io::{self, ErrorKind};
@@ -13,16 +13,8 @@ fn usage_status(rt: &impl Eprint) -> u8 {
     USAGE
 }
 
-/// The exit status of an end.
-fn status_of(end: Result<(), Stop>) -> u8 {
-    match end {
-        Ok(()) => DONE,
-        Err(stop) => stop.status(),
-    }
-}
-
-/// Does what the words ask for.
-fn do_words<R>(rt: &R, words: Words<'_>, tells: bool) -> Result<(), Stop>
+/// Does what the words ask for, and gives the exit status.
+fn words_status<R>(rt: &R, words: Words<'_>, tells: bool) -> u8
 where
     R: Files + Print + Eprint + AllocGlobal + Clone + Drop,
 {
@@ -31,28 +23,54 @@ where
             folder,
             write,
             keys,
-        } => draft_folder(rt, folder, write, keys, tells),
-        Words::Show { folder } => show_folder(rt, folder),
-        Words::Explain { folder } => explain_folder(rt, folder),
+        } => status_of(draft_folder(rt, folder, write, keys, tells)),
+        Words::Show { folder } => status_of(show_folder(rt, folder)),
+        Words::Explain { folder } => status_of(explain_folder(rt, folder)),
     }
 }
 
+/// Tells why there is nothing to do.
+fn told_status<R>(rt: &R, fault: WordsFault) -> io::Result<u8>
+where
+    R: Print + Eprint,
+{
+    match fault {
+        WordsFault::Shows(text) => {
+            text.print(rt)?;
+            Ok(DONE)
+        }
+        WordsFault::Usage => Ok(usage_status(rt)),
+        WordsFault::NoMemory => Ok(MEMORY),
+    }
+}
+
+/// Does what a line of words asks for.
+fn read_status<R>(rt: &R, line: &[&str], tells: bool) -> io::Result<u8>
+where
+    R: Files + Print + Eprint + AllocGlobal + Clone + Drop,
+{
+    match read_words(rt.alloc(), line) {
+        Ok(words) => Ok(words_status(rt, words, tells)),
+        Err(fault) => told_status(rt, fault),
+    }
+}
+
+/// Does what words ask for.
+fn texts_status<R>(rt: &R, words: &[String], tells: bool) -> io::Result<u8>
+where
+    R: Files + Print + Eprint + AllocGlobal + Clone + Drop,
+{
+    let line = line_of(rt.alloc(), words)?;
+    read_status(rt, line.as_slice(), tells)
+}
+
 /// Does what the system's words ask for.
-fn words_status<R>(rt: &R, tells: bool) -> io::Result<u8>
+fn line_status<R>(rt: &R, tells: bool) -> io::Result<u8>
 where
     R: Env + Files + Print + Eprint + AllocGlobal + Clone + Drop,
 {
     let words = system_words(rt)?;
-    let line = line_of(rt.alloc(), words.as_slice())?;
-    match read_words(rt.alloc(), line.as_slice()) {
-        Ok(words) => Ok(status_of(do_words(rt, words, tells))),
-        Err(WordsFault::Shows(text)) => {
-            text.print(rt)?;
-            Ok(DONE)
-        }
-        Err(WordsFault::Usage) => Ok(usage_status(rt)),
-        Err(WordsFault::NoMemory) => Ok(MEMORY),
-    }
+    texts_status(rt, words.as_slice(), tells)
 }
 
 /// Does what the command line asks for, and gives the exit status. Where someone looks on, it tells of long work.
@@ -60,10 +78,9 @@ pub fn command_status<R>(rt: &R, tells: bool) -> u8
 where
     R: Env + Files + Print + Eprint + AllocGlobal + Clone + Drop,
 {
-    match words_status(rt, tells) {
-        Ok(status) => status,
+    match line_status(rt, tells) {
         // a word that is not UTF-8 is no word of the command
         Err(error) if error.kind() == ErrorKind::InvalidData => usage_status(rt),
-        Err(error) => status_of(Err(Stop::from(error))),
+        ended => status_of(ended),
     }
 }

@@ -1,15 +1,15 @@
 //! What the service understands of a folder, and why it refuses one.
 use crate::folder::file_in;
-use crate::stop::Stop;
+use crate::status::{DEVICE, DONE, MEMORY};
 use crate::told::{refuse, refuse_for};
 use csvw_meta::{Limits, MetaFault, Schema, Schemas};
 use folder_report::{
     MOST_REFUSALS, Refusal, catalog_text, metadata_refusals, refusal_lines, table_refusals,
 };
 use served_folders::{Disk, FolderFault, Folders, METADATA};
-use std::io::{self, Write};
+use std::io::{self, ErrorKind, Write};
 use std::rt::Files;
-use table_store::LoadFault;
+use table_store::{Catalog, LoadFault};
 
 /// What is told of a folder without metadata.
 const NO_METADATA: &str = "csv-metadata.json: NoMetadata";
@@ -19,59 +19,77 @@ const NO_METADATA_DETAIL: &str =
     "csv-metadata.json: NoMetadata: the folder has no such file; accepted: one, as csvw_draft FOLDER --write makes it";
 
 /// What is refused of the table of a schema.
-fn schema_refusals<R>(rt: &R, folder: &str, schema: &Schema) -> Result<Vec<Refusal>, Stop>
+fn schema_refusals<R>(rt: &R, folder: &str, schema: &Schema) -> io::Result<Vec<Refusal>>
 where
     R: Files + AllocGlobal,
 {
-    let file = file_in(rt, folder, schema.url.as_str())?;
-    let bytes = match &file {
-        Some(bytes) => Some(bytes.as_slice()),
-        None => None,
-    };
-    Ok(table_refusals(rt.alloc(), schema, bytes)?)
+    match file_in(rt, folder, schema.url.as_str())? {
+        Some(bytes) => Ok(table_refusals(rt.alloc(), schema, Some(bytes.as_slice()))?),
+        None => Ok(table_refusals(rt.alloc(), schema, None)?),
+    }
+}
+
+/// Adds the refusals of tables, in the order of the metadata, until there are as many as are told.
+fn push_refusals<R>(
+    rt: &R,
+    folder: &str,
+    schemas: &[Schema],
+    refusals: &mut Vec<Refusal>,
+) -> io::Result<()>
+where
+    R: Files + AllocGlobal,
+{
+    for schema in schemas {
+        for refusal in schema_refusals(rt, folder, schema)? {
+            refusals.push(refusal)?;
+        }
+        if refusals.len() >= MOST_REFUSALS {
+            return Ok(());
+        }
+    }
+    Ok(())
 }
 
 /// The refusals of tables, in the order of the metadata, until there are as many as are told.
-fn tables_refusals<R>(rt: &R, folder: &str, schemas: &[Schema]) -> Result<Vec<Refusal>, Stop>
+fn tables_refusals<R>(rt: &R, folder: &str, schemas: &[Schema]) -> io::Result<Vec<Refusal>>
 where
     R: Files + AllocGlobal,
 {
     let mut refusals = Vec::new(rt.alloc());
-    for schema in schemas {
-        for refusal in schema_refusals(rt, folder, schema)? {
-            if refusals.push(refusal).is_err() {
-                return Err(Stop::NoMemory);
-            }
-        }
-        if refusals.len() >= MOST_REFUSALS {
-            return Ok(refusals);
-        }
-    }
+    push_refusals(rt, folder, schemas, &mut refusals)?;
     Ok(refusals)
 }
 
-/// All refusals of a folder.
-fn folder_refusals<R>(rt: &R, folder: &str) -> Result<Vec<Refusal>, Stop>
+/// All refusals of a folder with that metadata.
+fn refusals_by<R>(rt: &R, folder: &str, metadata: &[u8]) -> io::Result<Vec<Refusal>>
 where
     R: Files + AllocGlobal,
 {
-    let Some(metadata) = file_in(rt, folder, METADATA)? else {
-        return Ok(Vec::new(rt.alloc()));
-    };
-    match Schemas::read(rt.alloc(), metadata.as_slice(), &Limits::greatest()) {
+    match Schemas::read(rt.alloc(), metadata, &Limits::greatest()) {
         Ok(schemas) => tables_refusals(rt, folder, schemas.tables.as_slice()),
-        Err(MetaFault::NoMemory) => Err(Stop::NoMemory),
-        Err(_) => Ok(metadata_refusals(rt.alloc(), metadata.as_slice())?),
+        Err(MetaFault::NoMemory) => Err(io::Error::from(ErrorKind::OutOfMemory)),
+        Err(_) => Ok(metadata_refusals(rt.alloc(), metadata)?),
+    }
+}
+
+/// All refusals of a folder.
+fn folder_refusals<R>(rt: &R, folder: &str) -> io::Result<Vec<Refusal>>
+where
+    R: Files + AllocGlobal,
+{
+    match file_in(rt, folder, METADATA)? {
+        Some(metadata) => refusals_by(rt, folder, metadata.as_slice()),
+        None => Ok(Vec::new(rt.alloc())),
     }
 }
 
 /// Tells why a folder is refused for that cause, and what else is refused of it.
-fn explain_cause<R>(rt: &R, folder: &str, cause: &LoadFault) -> Result<(), Stop>
+fn explain_cause<R>(rt: &R, folder: &str, cause: &LoadFault) -> io::Result<u8>
 where
     R: Files + Eprint + AllocGlobal,
 {
     if cause.is_memory() {
-        return Err(Stop::NoMemory);
+        return Ok(MEMORY);
     }
     let refusals = folder_refusals(rt, folder)?;
     let lines = refusal_lines(rt.alloc(), cause, refusals.as_slice())?;
@@ -79,43 +97,54 @@ where
 }
 
 /// Tells why a folder is refused, and all that is refused of it, a line for each; and of one that is not, that it is accepted.
-pub fn explain_folder<R>(rt: &R, folder: &str) -> Result<(), Stop>
+pub fn explain_folder<R>(rt: &R, folder: &str) -> io::Result<u8>
 where
     R: Files + Print + Eprint + AllocGlobal,
 {
     match Disk::new(rt).load(rt.alloc(), folder) {
-        Ok(_) => Ok(rt.println("accepted")?),
+        Ok(_) => {
+            rt.println("accepted")?;
+            Ok(DONE)
+        }
         Err(FolderFault::NoMetadata) => refuse_for(rt, NO_METADATA_DETAIL),
         Err(FolderFault::Load(cause)) => explain_cause(rt, folder, &cause),
-        Err(FolderFault::Device) => Err(Stop::Device),
-        Err(FolderFault::NoMemory) => Err(Stop::NoMemory),
+        Err(FolderFault::Device) => Ok(DEVICE),
+        Err(FolderFault::NoMemory) => Ok(MEMORY),
     }
 }
 
 /// Tells the one cause why a folder is refused, as the service does.
-fn tell_cause<R>(rt: &R, cause: &LoadFault) -> Result<(), Stop>
+fn tell_cause<R>(rt: &R, cause: &LoadFault) -> io::Result<u8>
 where
     R: Eprint + AllocGlobal,
 {
     if cause.is_memory() {
-        return Err(Stop::NoMemory);
+        return Ok(MEMORY);
     }
-    refuse_for(rt, cause.text(rt.alloc())?.as_str())
+    let line = cause.text(rt.alloc())?;
+    refuse_for(rt, line.as_str())
+}
+
+/// Prints what the service understands of the tables of a folder.
+fn show_catalog<R>(rt: &R, catalog: &Catalog) -> io::Result<u8>
+where
+    R: Print + AllocGlobal,
+{
+    let text = catalog_text(rt.alloc(), catalog)?;
+    io::writer(rt).write_all(text.as_slice())?;
+    Ok(DONE)
 }
 
 /// Prints what the service understands of a folder.
-pub fn show_folder<R>(rt: &R, folder: &str) -> Result<(), Stop>
+pub fn show_folder<R>(rt: &R, folder: &str) -> io::Result<u8>
 where
     R: Files + Print + Eprint + AllocGlobal,
 {
     match Disk::new(rt).load(rt.alloc(), folder) {
-        Ok(catalog) => {
-            let text = catalog_text(rt.alloc(), &catalog)?;
-            Ok(io::writer(rt).write_all(text.as_slice())?)
-        }
+        Ok(catalog) => show_catalog(rt, &catalog),
         Err(FolderFault::NoMetadata) => refuse_for(rt, NO_METADATA),
         Err(FolderFault::Load(cause)) => tell_cause(rt, &cause),
-        Err(FolderFault::Device) => Err(Stop::Device),
-        Err(FolderFault::NoMemory) => Err(Stop::NoMemory),
+        Err(FolderFault::Device) => Ok(DEVICE),
+        Err(FolderFault::NoMemory) => Ok(MEMORY),
     }
 }

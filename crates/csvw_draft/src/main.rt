@@ -6,7 +6,7 @@ mod command;
 mod draft;
 mod explain;
 mod folder;
-mod stop;
+mod status;
 mod told;
 mod warning;
 mod words;

@@ -2,10 +2,10 @@
 ghost use Rattle.std.specs.Prelude.{◌≡◌, None, Some, IfErr, IfNone, IfOk, IfSome, false, not};
 ghost use Rattle.std.specs.List.{list_any};
 ghost use Rattle.clap.specs.Facts.{explicit_source};
-ghost use Rattle.clap.specs.Words.{app_of, found_of, one_of, rows_of, rule_of, subcommand_rows_of};
+ghost use Rattle.clap.specs.Words.{app_of, found_of, kind_of, one_of, rows_of, rule_of, subcommand_rows_of, with_rule, with_subcommand};
 ghost use Rattle.clap.specs.declared.Command.TheViews.{out-Command};
 ghost use Rattle.command_words.specs.Words.{texts};
-ghost use Rattle.csvw_draft.specs.Words.{LineAsksFor, AsksNot, AsksSo, HasSwitch, IsWordsFault, draft_app, over_folder, switch_rule, with_folder, whole_command};
+ghost use Rattle.csvw_draft.specs.Words.{AreLineMatches, LineAsksFor, AsksNot, AsksSo, HasSwitch, IsFaultBy, IsWordsFault, draft_app, over_folder, switch_rule, with_folder, whole_command};
 
 use clap::error::ErrorKind;
 use clap::{Arg, ArgAction, ArgMatches, Command, Error};
@@ -103,15 +103,43 @@ fn top_command<'a>(alloc: Global) -> Result<Command<'a>, AllocError>
         .arg(folder)
 }
 
+/// The command with one more option without a value.
+fn add_flag<'a>(
+    alloc: Global,
+    command: Command<'a>,
+    id: &'a str,
+    help: &'a str,
+) -> Result<Command<'a>, AllocError>
+    ensures app { IfOk result (λ c. app_of c
+        ≡ with_rule (app_of command.entry) (switch_rule id.entry.now)) }
+{
+    let option = flag_option(alloc, id, help);
+    command.arg(option)
+}
+
 /// The command without its subcommands.
 fn draft_command<'a>(alloc: Global) -> Result<Command<'a>, AllocError>
     ensures app { IfOk result (λ c. app_of c ≡ draft_app) }
 {
     let write = "Writes csv-metadata.json into the folder, where there is none";
     let no_key = "Leaves out the keys";
-    top_command(alloc)?
-        .arg(flag_option(alloc, "write", write))?
-        .arg(flag_option(alloc, "no-key", no_key))
+    let top = top_command(alloc)?;
+    let one = add_flag(alloc, top, "write", write)?;
+    add_flag(alloc, one, "no-key", no_key)
+}
+
+/// The command with one more subcommand over a folder.
+fn add_folder_command<'a>(
+    alloc: Global,
+    command: Command<'a>,
+    name: &'a str,
+    about: &'a str,
+) -> Result<Command<'a>, AllocError>
+    ensures app { IfOk result (λ c. app_of c
+        ≡ with_subcommand (app_of command.entry) (over_folder name.entry.now).top) }
+{
+    let inner = folder_command(alloc, name, about)?;
+    command.subcommand(inner)
 }
 
 /// The whole command.
@@ -123,8 +151,8 @@ fn program_command<'a>(alloc: Global) -> Result<Command<'a>, AllocError>
     let explain =
         "Tells why a folder is refused: the file, the line, the column, the cell, and what would be accepted";
     let top = draft_command(alloc)?;
-    let one = top.subcommand(folder_command(alloc, "show", show)?)?;
-    one.subcommand(folder_command(alloc, "explain", explain)?)
+    let one = add_folder_command(alloc, top, "show", show)?;
+    add_folder_command(alloc, one, "explain", explain)
 }
 
 /// Whether an option without a value is there.
@@ -191,22 +219,40 @@ fn matches_words<'a>(matches: &ArgMatches<'a>) -> Option<Words<'a>>
     }
 }
 
+/// Why there is nothing to do, where `clap` fails.
+fn fault_by(error: Error) -> WordsFault
+    ensures { IsFaultBy (kind_of error) result }
+{
+    match error.kind() {
+        ErrorKind::OutOfMemory => WordsFault::NoMemory,
+        ErrorKind::DisplayHelp | ErrorKind::DisplayVersion => WordsFault::Shows(error),
+        _ => WordsFault::Usage,
+    }
+}
+
+/// The matches of the words of the command line.
+fn line_matches<'a>(alloc: Global, words: &'a [&'a str]) -> Result<ArgMatches<'a>, WordsFault>
+    ensures matches { IfOk result (AreLineMatches (texts words.now)) }
+    ensures fault { IfErr result (IsWordsFault (texts words.now)) }
+{
+    let command = program_command(alloc)?;
+    match command.try_get_matches_from(words) {
+        Ok(matches) => Ok(matches),
+        Err(error) => Err(fault_by(error)),
+    }
+}
+
 /// What the words of the command line ask for, of which the first is the program's own name. They are `Usage` only where `clap` finds a mistake in them, or they
 /// ask for nothing.
 pub fn read_words<'a>(alloc: Global, words: &'a [&'a str]) -> Result<Words<'a>, WordsFault>
     ensures words { IfOk result (LineAsksFor (texts words.now)) }
     ensures fault { IfErr result (IsWordsFault (texts words.now)) }
 {
-    let command = program_command(alloc)?;
-    match command.try_get_matches_from(words) {
+    match line_matches(alloc, words) {
         Ok(matches) => match matches_words(&matches) {
             Some(read) => Ok(read),
             None => Err(WordsFault::Usage),
         },
-        Err(error) => match error.kind() {
-            ErrorKind::OutOfMemory => Err(WordsFault::NoMemory),
-            ErrorKind::DisplayHelp | ErrorKind::DisplayVersion => Err(WordsFault::Shows(error)),
-            _ => Err(WordsFault::Usage),
-        },
+        Err(fault) => Err(fault),
     }
 }

@@ -5,7 +5,7 @@ use Rattle.std.specs.Char.{is_ascii_alphabetic}
 use Rattle.std.specs.Fmt.{decimal}
 use Rattle.std.specs.List.{All, AllByRecursion, IsDistinct, find, list_all, list_any, range_with_len}
 use Rattle.std.specs.Str.{bytes_eq, chars}
-use Rattle.std.proofs.lemmas.Bool.{cond_both}
+use Rattle.std.proofs.lemmas.Bool.{cond_both, and_from, or_left, false_from_ne_true}
 use Rattle.std.proofs.lemmas.Fmt.{length-decimal-le_wide}
 use Rattle.std.proofs.lemmas.List.{length-map, length-take}
 use Rattle.std.specs.Cmp.Lexicographic.{same_text}
@@ -19,11 +19,11 @@ use Rattle.csvw_meta.specs.Laws.{AreAccepted, IsAccepted}
 use Rattle.csvw_meta.specs.Limits.{LimitsOf}
 use Rattle.csvw_meta.specs.Schema.{SchemaOf}
 use Rattle.table_store.specs.File.{FileOf}
+use Rattle.column_types.proofs.ListLaws.{and_first, and_second, find-among, or_from_false}
 use Rattle.csvw_guess.specs.Draft.{AreDrafts, HaveDrafts, IsDraft, has_file_name}
 use Rattle.csvw_guess.specs.Laws.{DraftsAreWellFormed}
 use Rattle.csvw_guess.specs.Names.{base_name, begins_with_letter, free_number, is_taken, name_after, name_char, names_after, with_number, with_letter}
 use Rattle.csvw_guess.specs.Table.{are_keys, texts_of_column, columns_from, draft_columns, draft_key, draft_schema}
-use Rattle.csvw_guess.proofs.Lists.{and_left, and_right, and_true, find-among, or_true}
 use Rattle.csvw_guess.proofs.NameLemmas.{are_name_bytes, base_name-named, decimal-named, numbered-named}
 use Rattle.csvw_guess.proofs.DistinctLemmas.{names_after-distinct}
 use Rattle.csvw_guess.proofs.FolderLemmas.{some_header}
@@ -34,8 +34,8 @@ use Rattle.csvw_guess.proofs.UrlLemmas.{url-ends}
 column_name : (name : List ℕ) → length name ≤ 128 → begins_with_letter name ≡ true → are_name_bytes name ≡ true → is_column_name name ≡ true
 column_name [] short first all = cc
 column_name (b ∷ name) short first all =
-    and_true (nat_le (length (b ∷ name)) 128) _ (le-leb (length (b ∷ name)) 128 short)
-    (and_true (begins_with_letter (b ∷ name)) (are_name_bytes name) first (and_right (is_name_byte b) (are_name_bytes name) all))
+    and_from (nat_le (length (b ∷ name)) 128) _ (le-leb (length (b ∷ name)) 128 short)
+    (and_from (begins_with_letter (b ∷ name)) (are_name_bytes name) first (and_second (is_name_byte b) (are_name_bytes name) all))
 
 begins-cons : (b : ℕ) (name : List ℕ) → begins_with_letter (b ∷ name) ≡ is_ascii_alphabetic b
 begins-cons b name = ap (λ t. t && is_ascii_alphabetic b) (lt-ltb 0 (length (b ∷ name)) (omega arith))
@@ -90,7 +90,7 @@ numbers-form : (name : List ℕ) (from count : ℕ) → from + count ≤ 1000 �
     → list_all is_column_name (map (with_number name) (range_with_len from count)) ≡ true
 numbers-form name from zero small first all = refl
 numbers-form name from (suc count) small first all =
-    and_true (is_column_name (with_number name from)) (list_all is_column_name (map (with_number name) (range_with_len (from + 1) count)))
+    and_from (is_column_name (with_number name from)) (list_all is_column_name (map (with_number name) (range_with_len (from + 1) count)))
     (numbered-form name from (omega (arith, small)) first all) (numbers-form name (from + 1) count (omega (arith, small)) first all)
 
 base_name-form : (cell : List ℕ) → is_column_name (base_name cell) ≡ true
@@ -144,7 +144,7 @@ key-places (column ∷ columns) records =
 -- ---- the url
 url-name : (url : List ℕ) → is_table_url url ≡ true → url ≡ table_name url ++ url_end
 url-name url h =
-    let ends : has_url_end url ≡ true = and_right _ (has_url_end url) (and_left _ (is_word_of is_url_byte (table_name url)) h) in
+    let ends : has_url_end url ≡ true = and_second _ (has_url_end url) (and_first _ (is_word_of is_url_byte (table_name url)) h) in
     rw ends (url-ends url ends)
 
 -- ---- schemas
@@ -173,22 +173,14 @@ accepted limits file schema most is =
 url-is : (limits : LimitsOf) (file : FileOf) (schema : SchemaOf) → IsDraft limits file schema → schema.url ≡ file.name
 url-is limits file schema is = ap (λ (s : SchemaOf). s.url) is.drafted
 
-or_more : (a b : Bool) → a ≡ true → (a || b) ≡ true
-or_more true b e = refl
-or_more false b e = cc
-
 has_name-more : (earlier : List FileOf) (file : FileOf) (name : List ℕ) → has_file_name earlier name ≡ true → has_file_name (earlier ++ file ∷ []) name ≡ true
 has_name-more earlier file name e =
-    list_any-append (λ (f : FileOf). bytes_eq f.name name) earlier (file ∷ []) ∙ or_more (has_file_name earlier name) (has_file_name (file ∷ []) name) e
+    list_any-append (λ (f : FileOf). bytes_eq f.name name) earlier (file ∷ []) ∙ or_left (has_file_name earlier name) (has_file_name (file ∷ []) name) e
 
 has_name-last : (earlier : List FileOf) (file : FileOf) → has_file_name (earlier ++ file ∷ []) file.name ≡ true
 has_name-last earlier file =
     list_any-append (λ (f : FileOf). bytes_eq f.name file.name) earlier (file ∷ [])
-    ∙ or_true (has_file_name earlier file.name) (bytes_eq file.name file.name || false) (λ _. or_more (bytes_eq file.name file.name) false (bytes_eq-same file.name))
-
-never : (a : Bool) → (a ≡ true → ⊥) → a ≡ false
-never true f = absurd (f refl)
-never false f = refl
+    ∙ or_from_false (has_file_name earlier file.name) (bytes_eq file.name file.name || false) (λ _. or_left (bytes_eq file.name file.name) false (bytes_eq-same file.name))
 
 -- the schemas after some files
 record AreFresh (limits : LimitsOf) (earlier : List FileOf) (schemas : List SchemaOf) : Type 0 where
@@ -215,7 +207,7 @@ fresh_one limits earlier file schema schemas most fresh is are =
     record {
       each = All-cons (IsAccepted limits) schema schemas (accepted limits file schema most is) are.each;
       apart = λ name e. (
-        never (bytes_eq name schema.url) (λ same.
+        false_from_ne_true (bytes_eq name schema.url) (λ same.
             let one : name ≡ file.name = same_text name schema.url (sym same) ∙ url in
             let both : true ≡ false = sym e ∙ ap (has_file_name earlier) one ∙ fresh in cc),
         are.apart name (has_name-more earlier file name e),
@@ -241,7 +233,7 @@ names_apart : (limits : LimitsOf) (schema : SchemaOf) (schemas : List SchemaOf) 
 names_apart limits schema [] is all apart = tt
 names_apart limits schema (other ∷ schemas) is all apart =
     let its = All-head (IsAccepted limits) other schemas all in (
-      never (bytes_eq schema.name other.name) (λ same.
+      false_from_ne_true (bytes_eq schema.name other.name) (λ same.
           let urls : schema.url ≡ other.url = is.name ∙ ap (λ name. name ++ url_end) (same_text schema.name other.name (sym same)) ∙ sym its.name in
           let both : true ≡ false = sym (bytes_eq-same schema.url) ∙ ap (bytes_eq schema.url) urls ∙ apart.0 in cc),
       names_apart limits schema schemas is (All-tail (IsAccepted limits) other schemas all) apart.1,

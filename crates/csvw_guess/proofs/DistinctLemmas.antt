@@ -7,13 +7,14 @@ use Rattle.std.specs.Fmt.{decimal}
 use Rattle.std.specs.List.{AllByRecursion, IsDistinct, find, list_any, range_with_len}
 use Rattle.std.specs.Str.{bytes_eq}
 use Rattle.std.specs.Str.Parse.{digits_value}
-use Rattle.std.proofs.lemmas.Bool.{cond_both}
+use Rattle.std.proofs.lemmas.Bool.{cond_both, not-true, false_from_ne_true, or_from}
 use Rattle.std.proofs.lemmas.Fmt.{decimal_by_steps_wide, decimal_is_IsNumeral_wide}
 use Rattle.std.proofs.lemmas.List.{length-map}
 use Rattle.std.proofs.lemmas.List.Folds.{list_any-append}
 use Rattle.std.proofs.lemmas.Map.Made.{length-le_from_is_member}
+use Rattle.std.proofs.lemmas.List.FromFn.{length-range_with_len}
+use Rattle.column_types.proofs.ListLaws.{find-passes, or_from_false}
 use Rattle.csvw_guess.specs.Names.{base_name, free_number, is_taken, name_after, names_after, with_number}
-use Rattle.csvw_guess.proofs.Lists.{find-passes, or_true}
 use Rattle.csvw_guess.proofs.MatchLemmas.{bytes_eq-same}
 
 -- ---- one text
@@ -33,10 +34,6 @@ texts_equivalence = record {
   congr = λ x y z e. ap (λ w. bytes_eq w z) (same x y e);
 }
 
-never : (a : Bool) → (a ≡ true → ⊥) → a ≡ false
-never true f = absurd (f refl)
-never false f = refl
-
 -- ---- what stands behind the last low line
 
 abbrev after_line : List ℕ → List ℕ
@@ -44,7 +41,7 @@ after_line [] = []
 after_line (b ∷ bytes) = cond (list_any (λ c. nat_eq c 95) bytes) (after_line bytes) bytes
 
 has_line : (front digits : List ℕ) → list_any (λ c. nat_eq c 95) (front ++ 95 ∷ digits) ≡ true
-has_line front digits = list_any-append (λ c. nat_eq c 95) front (95 ∷ digits) ∙ or_true (list_any (λ c. nat_eq c 95) front) true (λ _. refl)
+has_line front digits = list_any-append (λ c. nat_eq c 95) front (95 ∷ digits) ∙ or_from_false (list_any (λ c. nat_eq c 95) front) true (λ _. refl)
 
 after_line-is : (front digits : List ℕ) → list_any (λ c. nat_eq c 95) digits ≡ false → after_line (front ++ 95 ∷ digits) ≡ digits
 after_line-is [] digits e = ap (λ b. cond b (after_line digits) digits) e
@@ -64,15 +61,11 @@ digit_no_line (suc (suc (suc (suc (suc (suc (suc (suc zero)))))))) h = refl
 digit_no_line (suc (suc (suc (suc (suc (suc (suc (suc (suc zero))))))))) h = refl
 digit_no_line (suc (suc (suc (suc (suc (suc (suc (suc (suc (suc n)))))))))) h = absurd (omega (arith, h))
 
-or_none : (a b : Bool) → a ≡ false → b ≡ false → (a || b) ≡ false
-or_none true b e f = e
-or_none false b e f = f
-
 decimal_no_line : (n : ℕ) → n < 10 ^ 64 → list_any (λ c. nat_eq c 95) (decimal n) ≡ false
 decimal_no_line = decimal_by_steps_wide (λ n ds. list_any (λ c. nat_eq c 95) ds ≡ false)
-    (λ n h. or_none (nat_eq (48 + n) 95) false (digit_no_line n h) refl)
+    (λ n h. or_from (nat_eq (48 + n) 95) false (digit_no_line n h) refl)
     (λ n ds more e. list_any-append (λ c. nat_eq c 95) ds ((48 + n % 10) ∷ [])
-    ∙ or_none (list_any (λ c. nat_eq c 95) ds) (list_any (λ c. nat_eq c 95) ((48 + n % 10) ∷ [])) e (or_none (nat_eq (48 + n % 10) 95) false (digit_no_line (n % 10) (omega arith)) refl))
+    ∙ or_from (list_any (λ c. nat_eq c 95) ds) (list_any (λ c. nat_eq c 95) ((48 + n % 10) ∷ [])) e (or_from (nat_eq (48 + n % 10) 95) false (digit_no_line (n % 10) (omega arith)) refl))
 
 -- two numbers give a name two names
 number_of : (name : List ℕ) (n : ℕ) → n < 10 ^ 64 → after_line (with_number name n) ≡ decimal n
@@ -88,7 +81,7 @@ numbers_apart : (name : List ℕ) (m from count : ℕ) → m < from → from + c
     → AllByRecursion (λ other. bytes_eq (with_number name m) other ≡ false) (map (with_number name) (range_with_len from count))
 numbers_apart name m from zero less small = tt
 numbers_apart name m from (suc count) less small = (
-  never (bytes_eq (with_number name m) (with_number name from)) (λ e.
+  false_from_ne_true (bytes_eq (with_number name m) (with_number name from)) (λ e.
       let one : m ≡ from = same_number name m from (omega (arith, less, small)) (omega (arith, small)) (same (with_number name m) (with_number name from) e) in
       absurd (omega (arith, one, less))),
   numbers_apart name m (from + 1) count (omega (arith, less)) (omega (arith, small)),
@@ -116,24 +109,16 @@ all_taken taken (name ∷ names) e q h =
     or_parts (bytes_eq q name) (list_any (bytes_eq q) names) (is_taken taken q ≡ true)
     (λ is. subst (λ n. is_taken taken n ≡ true) (sym (same q name is)) here.0) (all_taken taken names here.1 q) h
 
-not_true_false : (b : Bool) → not b ≡ true → b ≡ false
-not_true_false true e = cc
-not_true_false false e = refl
-
-length-range : (from count : ℕ) → length (range_with_len from count) ≡ count
-length-range from zero = refl
-length-range from (suc count) = ap suc (length-range (from + 1) count)
-
 free_found : (taken : List (List ℕ)) (name : List ℕ) → length taken + 4 < 10 ^ 64 → (found : Option (List ℕ))
     → find (λ other. not (is_taken taken other)) (map (with_number name) (range_with_len 2 (length taken + 1))) ≡ found → is_taken taken (unwrap_or found name) ≡ false
 free_found taken name small None e =
     let numbers = map (with_number name) (range_with_len 2 (length taken + 1)) in
     let few : length numbers ≤ length taken =
     length-le_from_is_member texts_equivalence numbers taken (numbers_distinct name 2 (length taken + 1) (omega (arith, small))) (all_taken taken numbers e) in
-    let many : length numbers ≡ length taken + 1 = length-map (range_with_len 2 (length taken + 1)) (with_number name) ∙ length-range 2 (length taken + 1) in
+    let many : length numbers ≡ length taken + 1 = length-map (range_with_len 2 (length taken + 1)) (with_number name) ∙ length-range_with_len 2 (length taken + 1) in
     absurd (omega (arith, few, many))
 free_found taken name small (Some other) e =
-    not_true_false (is_taken taken other) (find-passes (λ o. not (is_taken taken o)) (map (with_number name) (range_with_len 2 (length taken + 1))) other e)
+    not-true (is_taken taken other) (find-passes (λ o. not (is_taken taken o)) (map (with_number name) (range_with_len 2 (length taken + 1))) other e)
 
 free_number-free : (taken : List (List ℕ)) (name : List ℕ) → length taken + 4 < 10 ^ 64 → is_taken taken (free_number taken name) ≡ false
 unfolding free_number
@@ -147,18 +132,18 @@ name_after-free taken cell small =
 -- ---- names after others are none of them
 taken_more : (taken : List (List ℕ)) (name other : List ℕ) → is_taken taken other ≡ true → is_taken (taken ++ name ∷ []) other ≡ true
 taken_more taken name other e =
-    list_any-append (bytes_eq other) taken (name ∷ []) ∙ or_true (is_taken taken other) (list_any (bytes_eq other) (name ∷ [])) (λ n. let both : true ≡ false = sym e ∙ n in cc)
+    list_any-append (bytes_eq other) taken (name ∷ []) ∙ or_from_false (is_taken taken other) (list_any (bytes_eq other) (name ∷ [])) (λ n. let both : true ≡ false = sym e ∙ n in cc)
 
 taken_last : (taken : List (List ℕ)) (name : List ℕ) → is_taken (taken ++ name ∷ []) name ≡ true
 taken_last taken name =
-    list_any-append (bytes_eq name) taken (name ∷ []) ∙ or_true (is_taken taken name) (list_any (bytes_eq name) (name ∷ [])) (λ _. or_true (bytes_eq name name) false (λ n. let both : true ≡ false = sym (bytes_eq-same name) ∙ n in cc))
+    list_any-append (bytes_eq name) taken (name ∷ []) ∙ or_from_false (is_taken taken name) (list_any (bytes_eq name) (name ∷ [])) (λ _. or_from_false (bytes_eq name name) false (λ n. let both : true ≡ false = sym (bytes_eq-same name) ∙ n in cc))
 
 later_apart : (taken cells : List (List ℕ)) (name : List ℕ) → length taken + length cells + 4 < 10 ^ 64 → is_taken taken name ≡ true
     → AllByRecursion (λ other. bytes_eq name other ≡ false) (names_after taken cells)
 later_apart taken [] name small e = tt
 later_apart taken (cell ∷ cells) name small e =
     let next = name_after taken cell in (
-      never (bytes_eq name next) (λ is.
+      false_from_ne_true (bytes_eq name next) (λ is.
           let both : true ≡ false = sym e ∙ ap (is_taken taken) (same name next is) ∙ name_after-free taken cell (omega (arith, small)) in cc),
       later_apart (taken ++ next ∷ []) cells name (omega (arith, small, length-append taken (next ∷ []))) (taken_more taken next name e),
     )
@@ -170,11 +155,6 @@ names_after-distinct taken (cell ∷ cells) small =
     let name = name_after taken cell in
     let less : length (taken ++ name ∷ []) + length cells + 4 < 10 ^ 64 = omega (arith, small, length-append taken (name ∷ [])) in
     (later_apart (taken ++ name ∷ []) cells name less (taken_last taken name), names_after-distinct (taken ++ name ∷ []) cells less)
-
--- a test of some value of the elements
-pub list_any-map : {X Y : Type 0} (p : Y → Bool) (f : X → Y) (xs : List X) → list_any p (map f xs) ≡ list_any (λ x. p (f x)) xs
-list_any-map p f [] = refl
-list_any-map p f (x ∷ xs) = ap (λ rest. p (f x) || rest) (list_any-map p f xs)
 
 -- ---- the numbers one after another
 from_number : List (List ℕ) → List ℕ → ℕ → Option (List ℕ)

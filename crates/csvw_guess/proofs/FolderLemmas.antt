@@ -1,8 +1,9 @@
 -- The files of a folder have tables under the schemas of their draft.
-use Rattle.std.proofs.Common.{◌≡◌, ℕ, ◌<◌, ◌≤◌, ◌⊎◌, Bool, true, false, cond, ◌||◌, List, [], ◌∷◌, ◌++◌, map, length, Option, None, Some, option_map, Ok, refl, ap, sym, subst, ◌∙◌, append_assoc, inl, inr, arith}
+use Rattle.std.proofs.Common.{◌≡◌, ℕ, ◌<◌, ◌≤◌, ◌⊎◌, Bool, true, false, cond, List, [], ◌∷◌, ◌++◌, map, length, Option, None, Some, option_map, Ok, refl, ap, sym, subst, ◌∙◌, append_assoc, inl, inr, arith}
 use Rattle.std.specs.List.{AllByRecursion, AllZip, find, list_any}
 use Rattle.std.specs.Str.{bytes_eq}
 use Rattle.std.specs.Prelude.{option_to_list, IfSome}
+use Rattle.std.proofs.lemmas.Bool.{or_parts}
 use Rattle.csv_grammar.specs.Records.{Field, Line, content, IsLast, IsRecord}
 use Rattle.csv_grammar.specs.Files.{IsTable}
 use Rattle.csvw_meta.specs.Limits.{LimitsOf}
@@ -64,16 +65,12 @@ found_behind : (b : Bool) (file : FileOf) (rest : Option FileOf) → b ≡ false
 found_behind true file rest e = cc
 found_behind false file rest e = refl
 
-or_neither : (a b : Bool) → (a || b) ≡ false → (a ≡ false) × (b ≡ false)
-or_neither true b e = cc
-or_neither false b e = (refl, e)
-
 found : (earlier : List FileOf) (file : FileOf) (files : List FileOf) → has_file_name earlier file.name ≡ false
     → find (λ (other : FileOf). bytes_eq other.name file.name) (earlier ++ file ∷ files) ≡ Some file
 found [] file files fresh =
     found_here (bytes_eq file.name file.name) file (find (λ (other : FileOf). bytes_eq other.name file.name) files) (bytes_eq-same file.name)
 found (first ∷ earlier) file files fresh =
-    let neither = or_neither (bytes_eq first.name file.name) (has_file_name earlier file.name) fresh in
+    let neither = or_parts (bytes_eq first.name file.name) (has_file_name earlier file.name) fresh in
     found_behind (bytes_eq first.name file.name) first (find (λ (other : FileOf). bytes_eq other.name file.name) (earlier ++ file ∷ files)) neither.0
     ∙ found earlier file files neither.1
 

@@ -1,5 +1,5 @@
 -- The keys of the rows of a table are whole under the key of its draft.
-use Rattle.std.proofs.Common.{◌≡◌, ℕ, ◌<◌, Bool, true, false, cond, ◌&&◌, List, [], ◌∷◌, map, length, Option, None, Some, refl, ap, sym, subst, ◌∙◌, arith}
+use Rattle.std.proofs.Common.{◌≡◌, ℕ, ◌<◌, Bool, true, false, cond, ◌&&◌, List, [], ◌∷◌, map, length, None, refl, ap, sym, subst, ◌∙◌, arith}
 use Rattle.std.specs.Prelude.{is_none}
 use Rattle.std.specs.List.{AllByRecursion}
 use Rattle.std.proofs.lemmas.Bool.{cond_both}
@@ -9,13 +9,10 @@ use Rattle.cell_types.specs.Cell.{value_of}
 use Rattle.cell_types.specs.Column.{ColumnOf}
 use Rattle.row_keys.specs.Key.{null_row, repeated_row, row_keys}
 use Rattle.raw_fields.specs.Values.{value_or_null}
+use Rattle.column_types.proofs.ListLaws.{and_first, and_second}
+use Rattle.cell_types.proofs.CaseLaws.{is_none-None}
 use Rattle.csvw_guess.specs.Table.{are_keys, are_whole, texts_of_column, draft_key, keys_in, may_be_keys}
-use Rattle.csvw_guess.proofs.Lists.{and_left, and_right}
 use Rattle.csvw_guess.proofs.RowLemmas.{row_values}
-
-is_none-None : {A : Type 0} (o : Option A) → is_none o ≡ true → o ≡ None
-is_none-None None e = refl
-is_none-None (Some x) e = cc
 
 -- the keys of rows are those that the cells of the first column are
 keys-are : (column : ColumnOf) (columns : List ColumnOf) (records : List (List Field)) (width : ℕ) → 0 < width → AllByRecursion (HasWidth width) records
@@ -39,8 +36,8 @@ first_key column columns records width some widths whole =
     let keys = keys_in column (texts_of_column 0 records) in
     let are = keys-are column columns records width some widths in
     record {
-      whole = ap null_row are ∙ is_none-None (null_row keys) (and_left (is_none (null_row keys)) (is_none (repeated_row keys)) whole);
-      distinct = ap repeated_row are ∙ is_none-None (repeated_row keys) (and_right (is_none (null_row keys)) (is_none (repeated_row keys)) whole);
+      whole = ap null_row are ∙ is_none-None (null_row keys) (and_first (is_none (null_row keys)) (is_none (repeated_row keys)) whole);
+      distinct = ap repeated_row are ∙ is_none-None (repeated_row keys) (and_second (is_none (null_row keys)) (is_none (repeated_row keys)) whole);
     }
 
 pub key-whole : (columns : List ColumnOf) (records : List (List Field)) (width : ℕ) → 0 < width → AllByRecursion (HasWidth width) records
@@ -49,5 +46,5 @@ key-whole [] records width some widths = no_key [] records
 key-whole (column ∷ columns) records width some widths =
     let cells = texts_of_column 0 records in
     cond_both (are_keys column cells) (0 ∷ []) [] (λ key. AreWhole key (column ∷ columns) records)
-    (λ e. first_key column columns records width some widths (and_right (may_be_keys column.datatype cells) (are_whole column cells) e))
+    (λ e. first_key column columns records width some widths (and_second (may_be_keys column.datatype cells) (are_whole column cells) e))
     (λ _. no_key (column ∷ columns) records)

@@ -1,4 +1,3 @@
-pub mod Lists
 pub mod UrlLemmas
 pub mod MatchLemmas
 pub mod RowLemmas

@@ -3,19 +3,20 @@ use Rattle.std.proofs.Common.{◌≡◌, ℕ, ◌+◌, Bool, true, false, cond, 
 use Rattle.std.specs.Prelude.{nat_eq}
 use Rattle.std.specs.List.{list_any}
 use Rattle.std.specs.Str.{bytes_eq}
+use Rattle.std.proofs.lemmas.Bool.{and_from}
 use Rattle.csv_grammar.specs.Records.{Field, content}
 use Rattle.table_store.specs.Table.{is_called, mismatch_from}
+use Rattle.column_types.proofs.ListLaws.{or_from_false}
 use Rattle.csvw_guess.specs.Names.{name_after, names_after, titles_for}
 use Rattle.csvw_guess.specs.Table.{texts_of_column, columns_from, draft_column}
-use Rattle.csvw_guess.proofs.Lists.{and_true, or_true}
 
 pub bytes_eq-same : (bytes : List ℕ) → bytes_eq bytes bytes ≡ true
 bytes_eq-same [] = refl
-bytes_eq-same (b ∷ bytes) = and_true (nat_eq b b) (bytes_eq bytes bytes) (eq-eqb b b refl) (bytes_eq-same bytes)
+bytes_eq-same (b ∷ bytes) = and_from (nat_eq b b) (bytes_eq bytes bytes) (eq-eqb b b refl) (bytes_eq-same bytes)
 
 title_says : (b : Bool) (cell : List ℕ) → (b || list_any (λ title. bytes_eq title cell) (cond b [] (cell ∷ []))) ≡ true
 title_says true cell = refl
-title_says false cell = or_true (bytes_eq cell cell) false (λ e. let both : true ≡ false = sym (bytes_eq-same cell) ∙ e in cc)
+title_says false cell = or_from_false (bytes_eq cell cell) false (λ e. let both : true ≡ false = sym (bytes_eq-same cell) ∙ e in cc)
 
 pub is_called-draft : (name cell : List ℕ) (cells : List (List ℕ)) → is_called (draft_column name cell cells) cell ≡ true
 is_called-draft name cell cells = title_says (bytes_eq name cell) cell

@@ -5,17 +5,17 @@ use Rattle.std.specs.Fmt.{decimal}
 use Rattle.std.specs.List.{find, list_all, list_any, range_with_len}
 use Rattle.std.specs.Int.{is_in_range}
 use Rattle.std.specs.Str.{bytes_eq, chars, IsAscii}
-use Rattle.std.proofs.lemmas.Bool.{cond_both, cases_order}
+use Rattle.std.proofs.lemmas.Bool.{cond_both, cases_order, and_from}
 use Rattle.std.proofs.lemmas.Fmt.{decimal_by_steps_wide}
 use Rattle.std.proofs.lemmas.List.Folds.{list_all-append}
 use borrow.Author.Tests.{eqb-true, leb-true}
 use Rattle.csvw_meta.specs.Forms.{is_name_byte}
+use Rattle.column_types.proofs.ListLaws.{and_first, and_second, find-among, list_all-at}
 use Rattle.csvw_guess.specs.Names.{base_name, begins_with_letter, free_number, is_taken, name_after, name_char, names_after, with_number, with_letter}
-use Rattle.csvw_guess.proofs.Lists.{and_true, and_left, and_right, find-among, list_all-at}
 
 -- ---- ASCII
 in_range-below : (low high byte : ℕ) → is_in_range low high byte ≡ true → high < 128 → byte < 128
-in_range-below low high byte e small = let below : byte ≤ high = leb-true byte high (and_right _ _ e) in omega arith
+in_range-below low high byte e small = let below : byte ≤ high = leb-true byte high (and_second _ _ e) in omega arith
 
 either_of : (a b : Bool) → (a || b) ≡ true → (a ≡ true) ⊎ (b ≡ true)
 either_of true b e = inl refl
@@ -59,7 +59,7 @@ char-named c = cond_both (is_name_byte c) c 95 (λ b. is_name_byte b ≡ true) (
 
 chars-named : (cs : List ℕ) → are_name_bytes (map name_char cs) ≡ true
 chars-named [] = refl
-chars-named (c ∷ cs) = and_true (is_name_byte (name_char c)) (are_name_bytes (map name_char cs)) (char-named c) (chars-named cs)
+chars-named (c ∷ cs) = and_from (is_name_byte (name_char c)) (are_name_bytes (map name_char cs)) (char-named c) (chars-named cs)
 
 pub no-length : (bytes : List ℕ) → length bytes ≡ 0 → bytes ≡ []
 no-length [] e = refl
@@ -89,7 +89,7 @@ with_letter-named name all =
 take-named : (k : ℕ) (name : List ℕ) → are_name_bytes name ≡ true → are_name_bytes (take k name) ≡ true
 take-named zero name all = refl
 take-named (suc k) [] all = refl
-take-named (suc k) (b ∷ name) all = and_true (is_name_byte b) (are_name_bytes (take k name)) (and_left (is_name_byte b) (are_name_bytes name) all) (take-named k name (and_right (is_name_byte b) (are_name_bytes name) all))
+take-named (suc k) (b ∷ name) all = and_from (is_name_byte b) (are_name_bytes (take k name)) (and_first (is_name_byte b) (are_name_bytes name) all) (take-named k name (and_second (is_name_byte b) (are_name_bytes name) all))
 
 pub base_name-named : (cell : List ℕ) → are_name_bytes (base_name cell) ≡ true
 unfolding base_name
@@ -97,7 +97,7 @@ base_name-named cell = take-named 128 (with_letter (map name_char (chars cell)))
 
 -- ---- a name with a number
 append-named : (xs ys : List ℕ) → are_name_bytes xs ≡ true → are_name_bytes ys ≡ true → are_name_bytes (xs ++ ys) ≡ true
-append-named xs ys e f = list_all-append is_name_byte xs ys ∙ and_true (are_name_bytes xs) (are_name_bytes ys) e f
+append-named xs ys e f = list_all-append is_name_byte xs ys ∙ and_from (are_name_bytes xs) (are_name_bytes ys) e f
 
 digit-named : (n : ℕ) → n < 10 → is_name_byte (48 + n) ≡ true
 digit-named zero h = refl
@@ -113,7 +113,7 @@ digit-named (suc (suc (suc (suc (suc (suc (suc (suc (suc zero))))))))) h = refl
 digit-named (suc (suc (suc (suc (suc (suc (suc (suc (suc (suc n)))))))))) h = absurd (omega (arith, h))
 
 digits-named : (n : ℕ) → n < 10 → are_name_bytes ((48 + n) ∷ []) ≡ true
-digits-named n h = and_true (is_name_byte (48 + n)) true (digit-named n h) refl
+digits-named n h = and_from (is_name_byte (48 + n)) true (digit-named n h) refl
 
 pub decimal-named : (n : ℕ) → n < 10 ^ 64 → are_name_bytes (decimal n) ≡ true
 decimal-named = decimal_by_steps_wide (λ n ds. are_name_bytes ds ≡ true) digits-named
@@ -130,7 +130,7 @@ numbers-named : (name : List ℕ) (from count : ℕ) → from + count < 10 ^ 64 
     → list_all are_name_bytes (map (with_number name) (range_with_len from count)) ≡ true
 numbers-named name from zero small all = refl
 numbers-named name from (suc count) small all =
-    and_true (are_name_bytes (with_number name from)) (list_all are_name_bytes (map (with_number name) (range_with_len (from + 1) count)))
+    and_from (are_name_bytes (with_number name from)) (list_all are_name_bytes (map (with_number name) (range_with_len (from + 1) count)))
     (numbered-named name from (omega (arith, small)) all) (numbers-named name (from + 1) count (omega (arith, small)) all)
 
 found-named : (name : List ℕ) (names : List (List ℕ)) (test : List ℕ → Bool) (found : Option (List ℕ)) → are_name_bytes name ≡ true
@@ -153,6 +153,6 @@ pub names_after-named : (taken cells : List (List ℕ)) → length taken + lengt
 names_after-named taken [] small = refl
 names_after-named taken (cell ∷ cells) small =
     let name = name_after taken cell in
-    and_true (are_name_bytes name) (list_all are_name_bytes (names_after (taken ++ name ∷ []) cells))
+    and_from (are_name_bytes name) (list_all are_name_bytes (names_after (taken ++ name ∷ []) cells))
     (name_after-named taken cell (omega (arith, small)))
     (names_after-named (taken ++ name ∷ []) cells (omega (arith, small, length-append taken (name ∷ []))))

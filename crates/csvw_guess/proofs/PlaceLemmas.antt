@@ -11,6 +11,7 @@ use Rattle.row_keys.specs.declared.keys.KeyFault.TheVariants.{Null, Twice}
 use Rattle.row_keys.specs.Keys.{AreKeysOf, HasKeyFault}
 use Rattle.std.proofs.lemmas.List.{append-nil, get_or-map, length-map, take_more}
 use Rattle.std.proofs.lemmas.List.Folds.{list_all_at, list_all_more}
+use Rattle.std.proofs.lemmas.Bool.{and_from, and_right}
 use borrow.Author.Tests.{le-leb, lt-leb}
 use Rattle.csv_grammar.specs.Records.{Field, content}
 use Rattle.cell_types.specs.Column.{ColumnOf}
@@ -20,7 +21,7 @@ use Rattle.raw_fields.specs.Rows.{cell_at}
 use Rattle.csv_grammar.specs.Raw.{RawField, RawTable, field_of, raw_content}
 use Rattle.row_keys.specs.Key.{null_row, repeated_row, row_key, row_keys}
 use Rattle.raw_fields.specs.Values.{value_in, value_or_null, values_in}
-use Rattle.csvw_guess.proofs.Lists.{and_true, list_all-at}
+use Rattle.column_types.proofs.ListLaws.{list_all-at}
 use Rattle.csvw_guess.proofs.NameLemmas.{are_name_bytes, named-ascii, names_after-named}
 use Rattle.csvw_guess.specs.Names.{name_after, name_items, names_after}
 use Rattle.csvw_guess.specs.Table.{are_keys, are_short, file_cells, texts_of_column, columns_from, file_columns, draft_column, draft_columns, draft_key, header_cells, keys_in, file_schema}
@@ -151,7 +152,7 @@ pub still-short : (file : RawTable) (row : ℕ) (cell : List ℕ) → row < leng
     → are_short (take row (file_cells 0 file)) ≡ true → are_short (take (row + 1) (file_cells 0 file)) ≡ true
 still-short file row cell less e short so_far =
     list_all_more (λ (c : List ℕ). nat_le (length c) 64) (file_cells 0 file) row [] (omega (arith, less, length-cells file 0))
-    ∙ and_true (are_short (take row (file_cells 0 file))) (nat_le (length (get_or (file_cells 0 file) row [])) 64) so_far
+    ∙ and_from (are_short (take row (file_cells 0 file))) (nat_le (length (get_or (file_cells 0 file) row [])) 64) so_far
     (ap (λ c. nat_le (length c) 64) e ∙ le-leb (length cell) 64 short)
 
 -- ---- the schema
@@ -235,14 +236,10 @@ found-none : (a : Option ℕ) (row : ℕ) → a ≡ Some row → is_none a ≡ f
 found-none None row e = cc
 found-none (Some x) row e = refl
 
-and_false : (a b : Bool) → b ≡ false → (a && b) ≡ false
-and_false true b e = e
-and_false false b e = refl
-
 -- keys that were read are whole, and those with a fault are not
 pub whole-is : (found : Result Keys KeyFault) (of : List (List CellValue)) → IfOk found (λ keys. AreKeysOf keys of) → IfErr found (λ fault. HasKeyFault of fault)
     → is_ok found ≡ (is_none (null_row of) && is_none (repeated_row of))
 whole-is (Ok keys) of are none =
-    sym (and_true (is_none (null_row of)) (is_none (repeated_row of)) (ap (λ o. is_none o) are.whole) (ap (λ o. is_none o) are.distinct))
+    sym (and_from (is_none (null_row of)) (is_none (repeated_row of)) (ap (λ o. is_none o) are.whole) (ap (λ o. is_none o) are.distinct))
 whole-is (Err (Null row)) of none fault = sym (ap (λ b. b && is_none (repeated_row of)) (found-none (null_row of) row fault))
-whole-is (Err (Twice row)) of none fault = sym (and_false (is_none (null_row of)) (is_none (repeated_row of)) (found-none (repeated_row of) row fault.1))
+whole-is (Err (Twice row)) of none fault = sym (and_right (is_none (null_row of)) (is_none (repeated_row of)) (found-none (repeated_row of) row fault.1))

@@ -9,11 +9,11 @@ use Rattle.cell_types.specs.Column.{ColumnOf}
 use Rattle.cell_types.specs.Value.{CellValue}
 use Rattle.raw_fields.specs.Values.{value_or_null}
 use Rattle.table_store.specs.Table.{row_then, rows_from, value_then, values_from}
+use Rattle.column_types.proofs.ListLaws.{and_first, and_second}
 use Rattle.csvw_guess.specs.Names.{titles_for}
 use Rattle.column_types.specs.Laws.{CellsHaveValues}
 use Rattle.column_types.specs.Types.{has_value}
 use Rattle.csvw_guess.specs.Table.{texts_of_column, columns_from, draft_column}
-use Rattle.csvw_guess.proofs.Lists.{and_left, and_right}
 
 -- each field that has a column has a value in it
 abbrev HaveValues : List ColumnOf → List Field → Type 0
@@ -72,8 +72,8 @@ have_more : (column : ColumnOf) (columns : List ColumnOf) (col : ℕ) (records :
 have_more column columns col [] here rest = tt
 have_more column columns col (fields ∷ records) here rest =
     let cell = get_or (map content fields) col [] in (
-      have_here column columns col fields (and_left (has_value column cell) (list_all (has_value column) (texts_of_column col records)) here) rest.0,
-      have_more column columns col records (and_right (has_value column cell) (list_all (has_value column) (texts_of_column col records)) here) rest.1,
+      have_here column columns col fields (and_first (has_value column cell) (list_all (has_value column) (texts_of_column col records)) here) rest.0,
+      have_more column columns col records (and_second (has_value column cell) (list_all (has_value column) (texts_of_column col records)) here) rest.1,
     )
 
 pub columns-have : CellsHaveValues → (col : ℕ) (names cells : List (List ℕ)) (records : List (List Field)) → AllHaveFrom col (columns_from col names cells records) records

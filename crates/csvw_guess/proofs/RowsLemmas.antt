@@ -1,5 +1,5 @@
 -- The fields that are left of a file, row by row, and what is known of its columns.
-use Rattle.std.proofs.Common.{◌≡◌, ℕ, zero, suc, ◌+◌, ◌<◌, ◌≤◌, false, List, [], ◌∷◌, ◌++◌, length, map, take, drop, get_or, Option, Some, None, refl, ap, sym, subst, ◌∙◌, arith, append_assoc, length-append}
+use Rattle.std.proofs.Common.{◌≡◌, ℕ, ◌+◌, ◌<◌, ◌≤◌, false, List, [], ◌∷◌, ◌++◌, length, map, take, drop, get_or, Option, Some, None, ap, sym, subst, ◌∙◌, arith, append_assoc, length-append}
 use Rattle.std.specs.Prelude.{All, filter, option_and_then, slice_get}
 use Rattle.std.specs.Prelude.{slice_set}
 use Rattle.std.proofs.Common.{get_or-set_other, get_or-set_same, inl, inr}
@@ -64,10 +64,6 @@ pub first-says : (file : RawTable) (width : ℕ) (left : List RawField) (row : �
 first-says file width left row raw some at e = sym (at.says 0 some) ∙ ap raw_content (get_or_from_slice_get left 0 raw no_field e)
 
 -- ---- what is known of a column
-pub any_default : {X : Type 0} (xs : List X) (k : ℕ) (d e : X) → k < length xs → get_or xs k d ≡ get_or xs k e
-any_default [] k d e less = absurd (omega (arith, less))
-any_default (x ∷ xs) zero d e less = refl
-any_default (x ∷ xs) (suc k) d e less = any_default xs k d e (omega (arith, less))
 
 places-are : All IsDatatypePlace places
 places-are k d less = let here : get_or places k d ≡ 0 + k = get_or-range_with_len 0 (length types) k d (omega (arith, less)) in omega (arith, here, less)

@@ -73,7 +73,6 @@ fn read_file(
 
 /// What comes of the file of that number.
 fn draft_file(
-    alloc: Global,
     limits: &Limits,
     candidates: &Candidates,
     files: &[NamedFile],
@@ -89,6 +88,7 @@ fn draft_file(
     ensures memory { IfErr result (λ e. draft_cause e ≡ None → e ≡ DraftFault.NoMemory) }
 {
     csvw_meta::sizes();
+    let alloc = *warnings.allocator();
     let file = &files[number];
     let name = file.name.as_str();
     if !is_table_url(name) {
@@ -106,7 +106,7 @@ fn draft_file(
             columns,
         }));
     }
-    match draft_table(alloc, candidates, number, name, &table, warnings) {
+    match draft_table(candidates, number, name, &table, warnings) {
         Ok(schema) => Ok(Outcome::Drafted(schema)),
         Err(_) => Err(DraftFault::NoMemory),
     }
@@ -140,14 +140,7 @@ fn draft_files(alloc: Global, limits: &Limits, files: &[NamedFile]) -> Result<Dr
         warnings: Vec::new(alloc),
     };
     for number in 0..files.len() {
-        let outcome = draft_file(
-            alloc,
-            limits,
-            &candidates,
-            files,
-            number,
-            &mut draft.warnings,
-        )?;
+        let outcome = draft_file(limits, &candidates, files, number, &mut draft.warnings)?;
         let Ok(()) = add(&mut draft, outcome) else {
             return Err(DraftFault::NoMemory);
         };

@@ -49,7 +49,6 @@ fn make_schema(
 
 /// The schema of the file of that number, to whose warnings is added what there is to look at in it.
 pub fn draft_table(
-    alloc: Global,
     candidates: &Candidates,
     number: usize,
     url: &str,
@@ -61,10 +60,10 @@ pub fn draft_table(
     requires few { length file.now.header ≤ 256 }
     ensures { IfOk result (λ made. schema_view made ≡ file_schema url.now file.now) }
 {
-    let schema = make_schema(alloc, candidates, url, file)?;
-    column_warnings(alloc, candidates, number, file, &schema, warnings)?;
+    let schema = make_schema(*warnings.allocator(), candidates, url, file)?;
+    column_warnings(candidates, number, file, &schema, warnings)?;
     if file.width() == 1 {
-        separator_warning(alloc, number, file, warnings)?;
+        separator_warning(number, file, warnings)?;
     }
     Ok(schema)
 }

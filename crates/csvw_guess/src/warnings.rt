@@ -2,8 +2,8 @@
 ghost use Rattle.std.specs.Prelude.{◌<◌, length};
 
 use crate::fault::Warning;
-use cell_types::{CellFault, Column, Datatype, read_cell};
-use column_types::{Candidates, DAY_FIRST, DECIMAL, MONTH_FIRST, has_value, is_null_in};
+use cell_types::{CellFault, Column, Datatype, Value, read_cell};
+use column_types::{Candidates, DAY_FIRST, DECIMAL, MONTH_FIRST};
 use csv_index::IndexedText;
 use csvw_meta::Schema;
 use std::alloc::{AllocError, Global};
@@ -11,61 +11,97 @@ use std::alloc::{AllocError, Global};
 /// The bytes that may part fields in the place of a comma.
 const SEPARATORS: [u8; 3] = [b';', b'\t', b'|'];
 
-/// Whether each cell of a column has a value in another, and one of them is not null.
-fn has_values(
-    alloc: Global,
-    column: &Column,
-    file: &IndexedText,
-    col: usize,
-) -> Result<bool, AllocError>
-    requires { col < length file.now.header }
-{
-    let mut some = false;
-    for row in 0..file.rows() {
-        let cell = file.cell(row, col).text(alloc)?;
-        if !has_value(alloc, column, cell.as_str())? {
-            return Ok(false);
-        }
-        some = some || !is_null_in(alloc, column, cell.as_str())?;
-    }
-    Ok(some)
+/// What cells are to a column.
+#[derive(Clone, Copy)]
+enum Fit {
+    /// Each stands for null.
+    Nulls,
+    /// Each has a value, and one has one that is not null.
+    Values,
+    /// Each but those that are finer than six places has a value, and one is finer.
+    TooFine,
+    /// One has no value.
+    Others,
 }
 
-/// Whether the cells of a column are numbers, of which one is finer than six places.
-fn are_too_fine(
+/// What a cell is to a column.
+fn fit_of(alloc: Global, column: &Column, cell: &str) -> Result<Fit, AllocError> {
+    match read_cell(alloc, column, cell) {
+        Ok(Value::Null) => Ok(Fit::Nulls),
+        Ok(_) => Ok(Fit::Values),
+        Err(CellFault::TooFine) => Ok(Fit::TooFine),
+        Err(CellFault::NoMemory) => Err(AllocError),
+        Err(_) => Ok(Fit::Others),
+    }
+}
+
+/// What those and one more cell are.
+fn joined(before: Fit, cell: Fit) -> Fit {
+    match cell {
+        Fit::Nulls => before,
+        Fit::Values => match before {
+            Fit::TooFine => before,
+            _ => cell,
+        },
+        _ => cell,
+    }
+}
+
+/// What the cells of a column are to that of a datatype.
+fn column_fit(
     alloc: Global,
-    decimals: &Column,
+    candidates: &Candidates,
+    place: usize,
     file: &IndexedText,
     col: usize,
-) -> Result<bool, AllocError>
+) -> Result<Fit, AllocError>
     requires { col < length file.now.header }
 {
-    let mut some = false;
+    let Some(column) = candidates.typed.get(place) else {
+        return Ok(Fit::Others);
+    };
+    let mut fit = Fit::Nulls;
     for row in 0..file.rows() {
         let cell = file.cell(row, col).text(alloc)?;
-        match read_cell(alloc, decimals, cell.as_str()) {
-            Ok(_) => {}
-            Err(CellFault::TooFine) => some = true,
-            Err(CellFault::NoMemory) => return Err(AllocError),
-            Err(_) => return Ok(false),
+        fit = joined(fit, fit_of(alloc, column, cell.as_str())?);
+        if let Fit::Others = fit {
+            return Ok(fit);
         }
     }
-    Ok(some)
+    Ok(fit)
 }
 
 /// Whether a byte stands in the header cell and in each cell of the first column.
-fn stands_in_each(alloc: Global, file: &IndexedText, byte: u8) -> Result<bool, AllocError>
+fn stands_in_each(file: &IndexedText, byte: u8) -> bool
     requires { 0 < length file.now.header }
 {
     if !file.header(0).bytes.as_bytes().contains(&byte) {
-        return Ok(false);
+        return false;
     }
     for row in 0..file.rows() {
         if !file.cell(row, 0).bytes.as_bytes().contains(&byte) {
-            return Ok(false);
+            return false;
         }
     }
-    Ok(true)
+    true
+}
+
+/// Whether the cells of a column are dates, of which the day or the month comes first.
+fn are_two_dates(
+    alloc: Global,
+    candidates: &Candidates,
+    file: &IndexedText,
+    col: usize,
+) -> Result<bool, AllocError>
+    requires { col < length file.now.header }
+{
+    match column_fit(alloc, candidates, DAY_FIRST, file, col)? {
+        Fit::Values => {
+            let fit = column_fit(alloc, candidates, MONTH_FIRST, file, col)?;
+            Ok(matches!(fit, Fit::Values))
+        }
+        _ => Ok(false),
+    }
 }
 
 /// What there is to look at in a column of texts.
@@ -78,23 +114,24 @@ fn text_warning(
 ) -> Result<Option<Warning>, AllocError>
     requires { col < length file.now.header }
 {
-    if let (Some(day_first), Some(month_first)) = (
-        candidates.typed.get(DAY_FIRST),
-        candidates.typed.get(MONTH_FIRST),
-    ) {
-        if has_values(alloc, day_first, file, col)? && has_values(alloc, month_first, file, col)? {
-            return Ok(Some(Warning::TwoDates { file: number, col }));
-        }
+    if are_two_dates(alloc, candidates, file, col)? {
+        return Ok(Some(Warning::TwoDates { file: number, col }));
     }
-    if let Some(decimals) = candidates.typed.get(DECIMAL) {
-        if are_too_fine(alloc, decimals, file, col)? {
-            return Ok(Some(Warning::TooFine { file: number, col }));
-        }
+    match column_fit(alloc, candidates, DECIMAL, file, col)? {
+        Fit::TooFine => Ok(Some(Warning::TooFine { file: number, col })),
+        _ => Ok(None),
     }
-    Ok(None)
 }
 
-/// Whether a header cell has a value of its column's datatype that is not null.
+/// Whether a column is one of texts.
+fn is_text(schema: &Schema, col: usize) -> bool {
+    match schema.columns.get(col) {
+        Some(column) => matches!(column.datatype, Datatype::Text),
+        None => false,
+    }
+}
+
+/// Whether a header cell has a value of its column's datatype, which is none of texts, that is not null.
 fn is_data(
     alloc: Global,
     column: &Column,
@@ -103,31 +140,43 @@ fn is_data(
 ) -> Result<bool, AllocError>
     requires { col < length file.now.header }
 {
+    if let Datatype::Text = column.datatype {
+        return Ok(false);
+    }
     let cell = file.header(col).text(alloc)?;
-    Ok(has_value(alloc, column, cell.as_str())? && !is_null_in(alloc, column, cell.as_str())?)
+    let fit = fit_of(alloc, column, cell.as_str())?;
+    Ok(matches!(fit, Fit::Values))
+}
+
+/// Whether there is such a header cell.
+fn has_data(alloc: Global, file: &IndexedText, schema: &Schema) -> Result<bool, AllocError> {
+    for col in 0..file.width() {
+        if let Some(column) = schema.columns.get(col) {
+            if is_data(alloc, column, file, col)? {
+                return Ok(true);
+            }
+        }
+    }
+    Ok(false)
 }
 
 /// Adds what there is to look at in the columns of the file of that number.
 pub fn column_warnings(
-    alloc: Global,
     candidates: &Candidates,
     number: usize,
     file: &IndexedText,
     schema: &Schema,
     warnings: &mut Vec<Warning>,
 ) -> Result<(), AllocError> {
-    let mut header = false;
-    for (col, column) in schema.columns.iter().enumerate() {
-        if col >= file.width() {
-            break;
-        }
-        if !matches!(column.datatype, Datatype::Text) {
-            header = header || is_data(alloc, column, file, col)?;
-        } else if let Some(warning) = text_warning(alloc, candidates, number, file, col)? {
-            warnings.push(warning)?;
+    let alloc = *warnings.allocator();
+    for col in 0..file.width() {
+        if is_text(schema, col) {
+            if let Some(warning) = text_warning(alloc, candidates, number, file, col)? {
+                warnings.push(warning)?;
+            }
         }
     }
-    if header {
+    if has_data(alloc, file, schema)? {
         warnings.push(Warning::HeaderIsData { file: number })?;
     }
     Ok(())
@@ -135,7 +184,6 @@ pub fn column_warnings(
 
 /// Adds the byte that may part the fields of the file of that number, which has one column.
 pub fn separator_warning(
-    alloc: Global,
     number: usize,
     file: &IndexedText,
     warnings: &mut Vec<Warning>,
@@ -143,7 +191,7 @@ pub fn separator_warning(
     requires { 0 < length file.now.header }
 {
     for byte in &SEPARATORS {
-        if stands_in_each(alloc, file, *byte)? {
+        if stands_in_each(file, *byte) {
             warnings.push(Warning::OtherSeparator {
                 file: number,
                 byte: *byte,

@@ -11,11 +11,11 @@ use Rattle.std.specs.Str.{bytes_eq}
 use Rattle.serde_json.specs.Data.{Data}
 use Rattle.serde_json.specs.View.{view}
 use Rattle.serde_json.specs.declared.value.Value.{Value}
+use Rattle.cell_types.proofs.ListLaws.{list_any-map}
 use Rattle.csvw_meta.specs.Members.{fits}
 use Rattle.csvw_meta.specs.Texts.{is_texts}
 use Rattle.csvw_meta.specs.Column.{name_of}
 use Rattle.csvw_meta.specs.Key.{text_or_empty, key_names, are_different, are_key_names, is_key, column_place, key_of}
-use Rattle.csvw_meta.proofs.ListLemmas.{list_any-map}
 
 -- the texts from the i-th on are different where the i-th is none of those behind it, and those are different
 pub are_different-from : (vs : List Value) (i : ℕ) (v : Value) (text : List ℕ) (twice : Bool) → i < length vs → get_or vs i v ≡ v → text ≡ text_or_empty (view v)

@@ -1,10 +1,11 @@
 -- Keys that are written by the names of their columns, as they are read.
-use Rattle.std.proofs.Common.{◌≡◌, ◌<◌, ℕ, zero, suc, Bool, true, false, ◌||◌, nat_eq, List, [], ◌∷◌, length, map, slice_get, unwrap_or, refl, sym, ap, ◌∙◌, arith}
+use Rattle.std.proofs.Common.{◌≡◌, ◌<◌, ℕ, zero, suc, Bool, true, false, nat_eq, List, [], ◌∷◌, length, map, slice_get, unwrap_or, refl, sym, ap, ◌∙◌, arith}
 use Rattle.std.proofs.lemmas.List.Elements.{All-head, All-tail}
 use Rattle.std.proofs.lemmas.Slice.Eq.{bytes_eq-Decides}
 use Rattle.std.specs.Cmp.Lexicographic.{same_text}
 use Rattle.std.specs.List.{All, AllByRecursion, IsDistinct, list_any, list_all, position_or_len}
 use Rattle.std.specs.Str.{bytes_eq}
+use Rattle.std.proofs.Math.Bool.{or-true}
 use Rattle.cell_types.specs.Column.{ColumnOf}
 use Rattle.csvw_meta.specs.Key.{are_different}
 use Rattle.csvw_writer.specs.Table.{name_at}
@@ -18,17 +19,10 @@ name-text [] place = refl
 name-text (column ∷ columns) zero = refl
 name-text (column ∷ columns) (suc place) = name-text columns place
 
-same-bytes : (text : List ℕ) → bytes_eq text text ≡ true
-same-bytes text = (bytes_eq-Decides text text).1 refl
-
-or-true : (b : Bool) → (b || true) ≡ true
-or-true true = refl
-or-true false = refl
-
 -- a text at a place is there
 pub text-there : (texts : List (List ℕ)) (place : ℕ) → place < length texts → list_any (bytes_eq (text_at texts place)) texts ≡ true
 text-there [] place h = absurd (omega (arith, h))
-text-there (text ∷ texts) zero h = rw (same-bytes text) refl
+text-there (text ∷ texts) zero h = rw ((bytes_eq-Decides text text).1 refl) refl
 text-there (text ∷ texts) (suc place) h = rw (text-there texts place (omega (arith, h))) (or-true (bytes_eq (text_at texts place) text))
 
 pub flipped : (a b : List ℕ) (same : Bool) → bytes_eq b a ≡ same → bytes_eq a b ≡ false → same ≡ false
@@ -44,7 +38,7 @@ apart-at text (other ∷ others) (suc place) h apart = apart-at text others plac
 pub text-place : (texts : List (List ℕ)) (place : ℕ) → place < length texts → IsDistinct bytes_eq texts → position_or_len (bytes_eq (text_at texts place)) texts ≡ place
 unfolding IsDistinct
 text-place [] place h apart = absurd (omega (arith, h))
-text-place (text ∷ texts) zero h apart = rw (same-bytes text) refl
+text-place (text ∷ texts) zero h apart = rw ((bytes_eq-Decides text text).1 refl) refl
 text-place (text ∷ texts) (suc place) h apart =
     let k : place < length texts = omega (arith, h) in
     rw (apart-at text texts place k apart.0, text-place texts place k apart.1) (omega arith)

@@ -1,3 +1,5 @@
+pub mod Text
+pub mod Value
 pub mod Bounds
 pub mod Show
 pub mod Refusal

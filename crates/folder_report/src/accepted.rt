@@ -1,9 +1,10 @@
 //! What would be accepted in the place of what is refused.
-use cell_types::{BooleanForm, CellFault, Column, Datatype, DateForm};
+use crate::show::pattern_of;
+use crate::text::quoted;
+use cell_types::{BooleanForm, CellFault, Column, Datatype};
 use csv_index::TextFault;
 use csvw_meta::MetaFault;
 use std::alloc::{AllocError, Global};
-use value_text::quoted;
 
 /// What metadata may have there.
 pub fn accepted_metadata(fault: &MetaFault) -> &'static str {
@@ -74,17 +75,6 @@ pub fn accepted_file(fault: TextFault) -> &'static str {
     }
 }
 
-/// How a date of a form is written.
-fn accepted_date(form: DateForm) -> &'static str {
-    match form {
-        DateForm::YearMonthDay => "a day of the calendar as yyyy-MM-dd",
-        DateForm::Compact => "a day of the calendar as yyyyMMdd",
-        DateForm::DayMonthYear => "a day of the calendar as dd/MM/yyyy",
-        DateForm::MonthDayYear => "a day of the calendar as MM/dd/yyyy",
-        DateForm::Dotted => "a day of the calendar as dd.MM.yyyy",
-    }
-}
-
 /// What a cell of a datatype may be.
 fn accepted_text(alloc: Global, datatype: &Datatype) -> Result<String, AllocError> {
     match datatype {
@@ -99,7 +89,10 @@ fn accepted_text(alloc: Global, datatype: &Datatype) -> Result<String, AllocErro
             let of_false = quoted(alloc, of_false.as_str())?;
             format!(in alloc; "{of_true} or {of_false}")
         }
-        Datatype::Date(form) => String::from_str(alloc, accepted_date(*form)),
+        Datatype::Date(form) => {
+            let pattern = pattern_of(*form);
+            format!(in alloc; "a day of the calendar as {pattern}")
+        }
         Datatype::Decimal => String::from_str(
             alloc,
             "digits with a sign or none and at most one point, of six decimal places at most",

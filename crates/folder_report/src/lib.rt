@@ -4,6 +4,7 @@
 
 mod accepted;
 mod bounds;
+mod json;
 mod metadata;
 mod place;
 mod probe;
@@ -11,8 +12,11 @@ mod refusal;
 mod rows;
 mod show;
 mod table;
+mod text;
+mod value;
 
 pub use metadata::metadata_refusals;
 pub use refusal::{MOST_REFUSALS, Refusal, refusal_lines};
 pub use show::catalog_text;
 pub use table::{table_refusals, text_refusals};
+pub use text::cut;

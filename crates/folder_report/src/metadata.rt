@@ -1,14 +1,15 @@
 //! All that is refused of a metadata text, with its path there.
 use crate::accepted::accepted_metadata;
-use crate::probe::{Level, fault_of, member_fault, with_key};
+use crate::json::{array_member, member, repeated, want_schema};
+use crate::probe::{Level, is_bad_key, is_name, member_fault};
 use crate::refusal::Refusal;
+use crate::text::cut;
 use csv_grammar::mark_len;
 use csvw_meta::{MOST_COLUMNS, MOST_TABLES, MetaFault};
 use message_text::escaped;
 use serde_json::Value;
 use std::alloc::{AllocError, Global};
 use table_store::LoadFault;
-use value_text::cut;
 
 /// The refusals of metadata so far.
 #[derive(Drop)]
@@ -20,16 +21,28 @@ struct Walk {
 impl Walk {
     /// Notes a fault at a path, where a value stands.
     fn note(&mut self, fault: MetaFault, path: &str, value: &Value) -> Result<(), AllocError> {
-        let json = value.to_string(self.alloc)?;
-        let json = cut(self.alloc, json.as_str())?;
-        let path = escaped(self.alloc, if path.is_empty() { "all of it" } else { path })?;
-        let accepted = accepted_metadata(&fault);
-        let detail = format!(in self.alloc; "{path}: {json}; accepted: {accepted}")?;
-        self.refusals.push(Refusal {
-            fault: LoadFault::Meta(fault),
-            detail,
-        })?;
+        let detail = value_detail(self.alloc, accepted_metadata(&fault), path, value)?;
+        let fault = LoadFault::Meta(fault);
+        self.refusals.push(Refusal { fault, detail })?;
         Ok(())
+    }
+
+    /// Notes a fault of a member of what stands at a path.
+    fn note_member(
+        &mut self,
+        fault: MetaFault,
+        path: &str,
+        key: &str,
+        member: &Value,
+    ) -> Result<(), AllocError> {
+        let place = path_of(self.alloc, path, key)?;
+        self.note(fault, place.as_str(), member)
+    }
+
+    /// Notes a member or a datatype that is not served.
+    fn note_unsupported(&mut self, key: &str, path: &str, value: &Value) -> Result<(), AllocError> {
+        let key = String::from_str(self.alloc, key)?;
+        self.note(MetaFault::Unsupported { key }, path, value)
     }
 
     /// The members of a level, each by itself.
@@ -39,32 +52,8 @@ impl Walk {
         };
         for (key, member) in members {
             if let Some(fault) = member_fault(self.alloc, level, key.as_str(), member)? {
-                let place = path_of(self.alloc, path, key.as_str())?;
-                self.note(fault, place.as_str(), member)?;
+                self.note_member(fault, path, key.as_str(), member)?;
             }
-        }
-        Ok(())
-    }
-
-    /// Notes a fault where the url of a table, or the name of a column, is that of an earlier one.
-    fn repeated(
-        &mut self,
-        fault: MetaFault,
-        earlier: &[Value],
-        path: &str,
-        value: &Value,
-    ) -> Result<(), AllocError> {
-        let name = match fault {
-            MetaFault::DuplicateUrl => "url",
-            _ => "name",
-        };
-        let Some(found) = member(value, name) else {
-            return Ok(());
-        };
-        let text = found.as_str();
-        if text.is_some() && earlier.iter().any(|other| text_member(other, name) == text) {
-            let place = path_of(self.alloc, path, name)?;
-            return self.note(fault, place.as_str(), found);
         }
         Ok(())
     }
@@ -75,26 +64,27 @@ impl Walk {
             return self.note(MetaFault::NotObject, path, column);
         }
         if member(column, "name").is_none() {
-            let key = String::from_str(self.alloc, "name")?;
-            self.note(MetaFault::Unsupported { key }, path, column)?;
+            self.note_unsupported("name", path, column)?;
         }
         self.members(Level::Column, path, column)?;
-        self.repeated(MetaFault::DuplicateName, earlier, path, column)
+        match repeated(earlier, column, "name") {
+            Some(name) => self.note_member(MetaFault::DuplicateName, path, "name", name),
+            None => Ok(()),
+        }
     }
 
     /// The columns of a schema.
     fn columns(&mut self, path: &str, schema: &Value) -> Result<(), AllocError> {
         let columns = array_member(schema, "columns");
-        let place = path_of(self.alloc, path, "columns")?;
         if columns.is_empty() {
             return self.note(MetaFault::NoColumns, path, schema);
         }
         if columns.len() > MOST_COLUMNS as usize {
-            self.note(MetaFault::TooManyColumns, place.as_str(), schema)?;
+            self.note_member(MetaFault::TooManyColumns, path, "columns", schema)?;
         }
         for (i, column) in columns.iter().enumerate() {
-            let path = format!(in self.alloc; "{place}[{i}]")?;
-            self.column(&columns[..i], path.as_str(), column)?;
+            let place = item_path(self.alloc, path, "columns", i)?;
+            self.column(&columns[..i], place.as_str(), column)?;
         }
         Ok(())
     }
@@ -104,11 +94,9 @@ impl Walk {
         let Some(key) = member(schema, "primaryKey") else {
             return Ok(());
         };
-        let names = column_names(self.alloc, array_member(schema, "columns"))?;
-        let metadata = with_key(self.alloc, names.as_slice(), key)?;
-        if let Some(MetaFault::BadKey) = fault_of(self.alloc, metadata.as_str())? {
-            let place = path_of(self.alloc, path, "primaryKey")?;
-            self.note(MetaFault::BadKey, place.as_str(), key)?;
+        let columns = named_columns(self.alloc, array_member(schema, "columns"))?;
+        if is_bad_key(self.alloc, columns.as_str(), key)? {
+            self.note_member(MetaFault::BadKey, path, "primaryKey", key)?;
         }
         Ok(())
     }
@@ -116,8 +104,7 @@ impl Walk {
     /// A schema.
     fn schema(&mut self, path: &str, schema: &Value) -> Result<(), AllocError> {
         if schema.is_string() {
-            let key = String::from_str(self.alloc, "tableSchema")?;
-            return self.note(MetaFault::Unsupported { key }, path, schema);
+            return self.note_unsupported("tableSchema", path, schema);
         }
         if !schema.is_object() {
             return self.note(MetaFault::NoColumns, path, schema);
@@ -125,6 +112,18 @@ impl Walk {
         self.members(Level::Schema, path, schema)?;
         self.columns(path, schema)?;
         self.key(path, schema)
+    }
+
+    /// The schema of a table, or that of its group in its place.
+    fn table_schema(&mut self, group: &Value, path: &str, table: &Value) -> Result<(), AllocError> {
+        if let Some(schema) = member(table, "tableSchema") {
+            let place = path_of(self.alloc, path, "tableSchema")?;
+            return self.schema(place.as_str(), schema);
+        }
+        if member(group, "tableSchema").is_none() {
+            return self.note(MetaFault::NoColumns, path, table);
+        }
+        Ok(())
     }
 
     /// A table after the earlier ones of its group.
@@ -141,16 +140,11 @@ impl Walk {
         if member(table, "url").is_none() {
             self.note(MetaFault::BadUrl, path, table)?;
         }
-        self.repeated(MetaFault::DuplicateUrl, earlier, path, table)?;
-        self.members(Level::Table, path, table)?;
-        match (member(table, "tableSchema"), member(group, "tableSchema")) {
-            (Some(schema), _) => {
-                let place = path_of(self.alloc, path, "tableSchema")?;
-                self.schema(place.as_str(), schema)
-            }
-            (None, Some(_)) => Ok(()),
-            (None, None) => self.note(MetaFault::NoColumns, path, table),
+        if let Some(url) = repeated(earlier, table, "url") {
+            self.note_member(MetaFault::DuplicateUrl, path, "url", url)?;
         }
+        self.members(Level::Table, path, table)?;
+        self.table_schema(group, path, table)
     }
 
     /// A group of tables.
@@ -164,15 +158,13 @@ impl Walk {
         }
         self.members(Level::Group, "", group)?;
         if let Some(schema) = member(group, "tableSchema") {
-            if tables.iter().any(|table| table.is_object()
-                && member(table, "tableSchema").is_none())
-            {
+            if want_schema(tables) {
                 self.schema("tableSchema", schema)?;
             }
         }
         for (i, table) in tables.iter().enumerate() {
-            let path = format!(in self.alloc; "tables[{i}]")?;
-            self.table(group, &tables[..i], path.as_str(), table)?;
+            let place = item_path(self.alloc, "", "tables", i)?;
+            self.table(group, &tables[..i], place.as_str(), table)?;
         }
         Ok(())
     }
@@ -197,57 +189,86 @@ impl Walk {
         let column = error.column();
         let accepted = accepted_metadata(&MetaFault::NotJson);
         let detail = format!(in self.alloc; "line {line}, column {column}; accepted: {accepted}")?;
-        self.refusals.push(Refusal {
-            fault: LoadFault::Meta(MetaFault::NotJson),
-            detail,
-        })?;
+        let fault = LoadFault::Meta(MetaFault::NotJson);
+        self.refusals.push(Refusal { fault, detail })?;
         Ok(())
     }
 }
 
-/// The value of a member, where there is one that is not null.
-fn member<'v>(value: &'v Value, name: &str) -> Option<&'v Value> {
-    match value.get(name) {
-        Some(Value::Null) => None,
-        found => found,
+/// A path on one line.
+fn shown_path(alloc: Global, path: &str) -> Result<String, AllocError> {
+    if path.is_empty() {
+        return String::from_str(alloc, "all of it");
     }
+    escaped(alloc, path)
 }
 
-/// The text of a member, where it has one.
-fn text_member<'v>(value: &'v Value, name: &str) -> Option<&'v str> {
-    member(value, name).and_then(Value::as_str)
+/// What is told of a value at a path, in the place of which something else would be accepted.
+fn value_detail(
+    alloc: Global,
+    accepted: &str,
+    path: &str,
+    value: &Value,
+) -> Result<String, AllocError> {
+    let path = shown_path(alloc, path)?;
+    let json = value.to_string(alloc)?;
+    let json = cut(alloc, json.as_str())?;
+    format!(in alloc; "{path}: {json}; accepted: {accepted}")
 }
 
-/// The values of a member, none where it is no array.
-fn array_member<'v>(value: &'v Value, name: &str) -> &'v [Value] {
-    match member(value, name).and_then(Value::as_array) {
-        Some(items) => items.as_slice(),
-        None => &[],
+/// A sign, or nothing where nothing stands before it.
+fn after(text: &str, sign: &'static str) -> &'static str {
+    if text.is_empty() { "" } else { sign }
+}
+
+/// Appends a column of that name.
+fn push_column(alloc: Global, text: &mut String, name: &Value) -> Result<(), AllocError> {
+    text.push_str(after(text.as_str(), ","))?;
+    text.push_str("{\"name\":")?;
+    let json = name.to_string(alloc)?;
+    text.push_str(json.as_str())?;
+    text.push_str("}")
+}
+
+/// The name of a column, where it is a name that no earlier column has.
+fn new_name<'v>(
+    alloc: Global,
+    earlier: &[Value],
+    column: &'v Value,
+) -> Result<Option<&'v Value>, AllocError> {
+    if repeated(earlier, column, "name").is_some() {
+        return Ok(None);
     }
+    let Some(name) = member(column, "name") else {
+        return Ok(None);
+    };
+    if is_name(alloc, name)? {
+        return Ok(Some(name));
+    }
+    Ok(None)
 }
 
-/// The names of columns that are names, each once.
-fn column_names<'v>(alloc: Global, columns: &'v [Value]) -> Result<Vec<&'v str>, AllocError> {
-    let mut names = Vec::new(alloc);
-    for column in columns {
-        let Some(found) = member(column, "name") else {
-            continue;
-        };
-        let Some(name) = found.as_str() else {
-            continue;
-        };
-        let is_new = !names.as_slice().contains(&name);
-        if is_new && member_fault(alloc, Level::Column, "name", found)?.is_none() {
-            names.push(name)?;
+/// Columns of those names that are names, each once.
+fn named_columns(alloc: Global, columns: &[Value]) -> Result<String, AllocError> {
+    let mut text = String::new(alloc);
+    for (i, column) in columns.iter().enumerate() {
+        if let Some(name) = new_name(alloc, &columns[..i], column)? {
+            push_column(alloc, &mut text, name)?;
         }
     }
-    Ok(names)
+    Ok(text)
 }
 
 /// The path of a member.
 fn path_of(alloc: Global, path: &str, key: &str) -> Result<String, AllocError> {
-    let point = if path.is_empty() { "" } else { "." };
+    let point = after(path, ".");
     format!(in alloc; "{path}{point}{key}")
+}
+
+/// The path of an item of a member.
+fn item_path(alloc: Global, path: &str, key: &str, i: usize) -> Result<String, AllocError> {
+    let member = path_of(alloc, path, key)?;
+    format!(in alloc; "{member}[{i}]")
 }
 
 /// All that is refused of a metadata text, each with its path there, what stands at it, and what would be accepted.

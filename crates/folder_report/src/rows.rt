@@ -5,6 +5,8 @@ ghost use Rattle.csv_index.specs.Index.{FitsFile};
 use crate::accepted::accepted_cell;
 use crate::place::{line_feeds, record_line};
 use crate::refusal::{MOST_REFUSALS, Refusal};
+use crate::text::quoted;
+use crate::value::push_value;
 use cell_types::{CellFault, Column, Value};
 use csv_index::{Fields, Index, Raw};
 use csvw_meta::Schema;
@@ -12,43 +14,32 @@ use raw_fields::cell_value;
 use std::alloc::{AllocError, Global};
 use std::collections::BTreeMap;
 use table_store::LoadFault;
-use value_text::{push_value, quoted};
 
 /// The value of a field in a column, or why it has none.
-fn value_or_fault<'f>(
+fn value_in<'f>(
     alloc: Global,
     column: &Column,
     raw: Raw<'f>,
 ) -> Result<Result<Value<'f>, CellFault>, AllocError> {
     match cell_value(alloc, column, raw) {
         Err(CellFault::NoMemory) => Err(AllocError),
-        read => Ok(read),
+        found => Ok(found),
     }
 }
 
-/// A cell that has no value, in the line where it begins.
-#[derive(Clone, Copy)]
-struct BadCell<'f> {
-    line: usize,
-    col: usize,
-    raw: Raw<'f>,
+/// What is told of a cell of a column that has no value, by its line and its column's number.
+fn cell_detail(
+    alloc: Global,
+    column: &Column,
+    (line, number): (usize, usize),
+    raw: Raw<'_>,
     fault: CellFault,
-}
-
-/// What is told of a cell that has no value.
-fn cell_detail(alloc: Global, column: &Column, cell: BadCell<'_>) -> Result<String, AllocError> {
-    let BadCell {
-        line,
-        col,
-        raw,
-        fault,
-    } = cell;
-    let number = col.saturating_add(1);
+) -> Result<String, AllocError> {
     let name = column.name.as_str();
-    let text = raw.text(alloc)?;
-    let cell = quoted(alloc, text.as_str())?;
+    let said = raw.text(alloc)?;
+    let shown = quoted(alloc, said.as_str())?;
     let accepted = accepted_cell(alloc, column, fault)?;
-    format!(in alloc; "line {line}, column {number} {name}: {cell}; accepted: {accepted}")
+    format!(in alloc; "line {line}, column {number} {name}: {shown}; accepted: {accepted}")
 }
 
 /// Adds the cells of a row that have no value. The row's fields are the next of those that are left.
@@ -65,16 +56,10 @@ fn push_row(
         let Some(raw) = fields.next_field() else {
             return Ok(());
         };
-        if let Err(fault) = value_or_fault(alloc, column, raw)? {
-            let first = record_line(text.as_bytes(), row.saturating_add(1));
-            let line = first.saturating_add(before);
-            let cell = BadCell {
-                line,
-                col,
-                raw,
-                fault,
-            };
-            let detail = cell_detail(alloc, column, cell)?;
+        if let Err(fault) = value_in(alloc, column, raw)? {
+            let line = record_line(text.as_bytes(), row.saturating_add(1)).saturating_add(before);
+            let place = (line, col.saturating_add(1));
+            let detail = cell_detail(alloc, column, place, raw, fault)?;
             let table = schema.url.clone()?;
             let fault = LoadFault::Cell {
                 table,
@@ -126,8 +111,8 @@ fn key_of<'f>(
             continue;
         };
         if *place < index.width() {
-            let raw = index.cell(text, row, *place);
-            key.push(value_or_fault(alloc, column, raw)?.unwrap_or(Value::Null))?;
+            let found = value_in(alloc, column, index.cell(text, row, *place))?;
+            key.push(found.unwrap_or(Value::Null))?;
         }
     }
     Ok(key)
@@ -148,16 +133,29 @@ fn key_text(alloc: Global, key: &[Value<'_>]) -> Result<String, AllocError> {
 /// The names of the columns of the key.
 fn key_names(alloc: Global, schema: &Schema) -> Result<String, AllocError> {
     let mut names = String::new(alloc);
-    for place in &schema.key {
-        let Some(column) = schema.columns.get(*place) else {
-            continue;
-        };
+    for col in &schema.key {
         if !names.is_empty() {
             names.push_str(", ")?;
         }
-        names.push_str(column.name.as_str())?;
+        if let Some(column) = schema.columns.get(*col) {
+            names.push_str(column.name.as_str())?;
+        }
     }
     Ok(names)
+}
+
+/// What is told of the key of a row, with the line in which that begins.
+fn key_line(
+    alloc: Global,
+    schema: &Schema,
+    text: &str,
+    row: usize,
+    key: &[Value<'_>],
+) -> Result<String, AllocError> {
+    let line = record_line(text.as_bytes(), row.saturating_add(1));
+    let names = key_names(alloc, schema)?;
+    let key = key_text(alloc, key)?;
+    format!(in alloc; "line {line}, key {names}: {key}")
 }
 
 /// A row whose key has a null.
@@ -168,17 +166,11 @@ fn null_refusal(
     row: usize,
     key: &[Value<'_>],
 ) -> Result<Refusal, AllocError> {
-    let line = record_line(text.as_bytes(), row.saturating_add(1));
-    let names = key_names(alloc, schema)?;
-    let key = key_text(alloc, key)?;
-    let detail = format!(in alloc;
-        "line {line}, key {names}: {key}; accepted: a value in each column of the key"
-    )?;
+    let mut detail = key_line(alloc, schema, text, row, key)?;
+    detail.push_str("; accepted: a value in each column of the key")?;
     let table = schema.url.clone()?;
-    Ok(Refusal {
-        fault: LoadFault::KeyNull { table, row },
-        detail,
-    })
+    let fault = LoadFault::KeyNull { table, row };
+    Ok(Refusal { fault, detail })
 }
 
 /// A row whose key is that of an earlier row, by the numbers of both.
@@ -189,24 +181,24 @@ fn twice_refusal(
     (earlier, row): (usize, usize),
     key: &[Value<'_>],
 ) -> Result<Refusal, AllocError> {
-    let bytes = text.as_bytes();
-    let line = record_line(bytes, row.saturating_add(1));
-    let other = record_line(bytes, earlier.saturating_add(1));
-    let names = key_names(alloc, schema)?;
-    let key = key_text(alloc, key)?;
+    let key = key_line(alloc, schema, text, row, key)?;
+    let line = record_line(text.as_bytes(), earlier.saturating_add(1));
     let detail = format!(in alloc;
-        "line {line}, key {names}: {key} is the key of row {earlier}, line {other}, too; accepted: a key that no other row has"
+        "{key} is the key of row {earlier}, line {line}, too; accepted: a key that no other row has"
     )?;
     let table = schema.url.clone()?;
-    Ok(Refusal {
-        fault: LoadFault::KeyTwice { table, row },
-        detail,
-    })
+    let fault = LoadFault::KeyTwice { table, row };
+    Ok(Refusal { fault, detail })
 }
 
-/// Whether a part of a key is null.
-fn has_null(key: &[Value<'_>]) -> bool {
-    key.iter().any(|value| matches!(value, Value::Null))
+/// Whether one of the values is null.
+fn have_null(values: &[Value<'_>]) -> bool {
+    for value in values {
+        if matches!(value, Value::Null) {
+            return true;
+        }
+    }
+    false
 }
 
 /// The first rows of a table whose key has a null.
@@ -221,7 +213,7 @@ pub fn null_refusals(
     let mut refusals = Vec::new(alloc);
     for row in 0..index.rows() {
         let key = key_of(alloc, schema, text, index, row)?;
-        if has_null(key.as_slice()) {
+        if have_null(key.as_slice()) {
             refusals.push(null_refusal(alloc, schema, text, row, key.as_slice())?)?;
         }
         if refusals.len() >= MOST_REFUSALS {
@@ -229,6 +221,19 @@ pub fn null_refusals(
         }
     }
     Ok(refusals)
+}
+
+/// The earlier row that has the key of a row, with the key; where there is none, the key is kept with the row.
+fn earlier_row<'f>(
+    keys: &mut BTreeMap<Vec<Value<'f>>, usize>,
+    key: Vec<Value<'f>>,
+    row: usize,
+) -> Result<Option<(usize, Vec<Value<'f>>)>, AllocError> {
+    if let Some(earlier) = keys.get(&key) {
+        return Ok(Some((*earlier, key)));
+    }
+    keys.insert(key, row)?;
+    Ok(None)
 }
 
 /// The first rows of a table whose key is that of an earlier row.
@@ -244,14 +249,9 @@ pub fn twice_refusals(
     let mut keys: BTreeMap<Vec<Value<'_>>, usize> = BTreeMap::new(alloc);
     for row in 0..index.rows() {
         let key = key_of(alloc, schema, text, index, row)?;
-        match keys.get(&key) {
-            Some(earlier) => {
-                let both = (*earlier, row);
-                refusals.push(twice_refusal(alloc, schema, text, both, key.as_slice())?)?;
-            }
-            None => {
-                keys.insert(key, row)?;
-            }
+        if let Some((earlier, key)) = earlier_row(&mut keys, key, row)? {
+            let both = (earlier, row);
+            refusals.push(twice_refusal(alloc, schema, text, both, key.as_slice())?)?;
         }
         if refusals.len() >= MOST_REFUSALS {
             return Ok(refusals);

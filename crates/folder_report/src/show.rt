@@ -8,15 +8,15 @@ ghost use Rattle.folder_report.specs.Bounds.{bounds_view};
 ghost use Rattle.folder_report.specs.Show.{bound_text, column_front, column_line, column_lines, datatype_text, is_of_key as is_of_key_in, shown_table, table_text, tables_text};
 
 use crate::bounds::{Bounds, bounds_of};
+use crate::text::quoted;
+use crate::value::push_value;
 use cell_types::{BooleanForm, Column, Datatype, DateForm, Value};
 use csvw_meta::Schema;
-use itoa::Buffer;
 use std::alloc::{AllocError, Global};
 use table_store::{Catalog, Table};
-use value_text::{push_value, quoted};
 
 /// The pattern of a form of dates.
-fn pattern_of(form: DateForm) -> &'static str
+pub fn pattern_of(form: DateForm) -> &'static str
     ensures { result.now ≡ pattern_of_form form }
 {
     match form {

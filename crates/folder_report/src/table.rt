@@ -2,16 +2,16 @@
 ghost use Rattle.csv_index.specs.Index.{FitsFile};
 
 use crate::accepted::accepted_file;
-use crate::place::{UnevenRow, line_at, uneven_rows};
+use crate::place::{Records, line_at};
 use crate::refusal::{MOST_REFUSALS, Refusal};
 use crate::rows::{cell_refusals, null_refusals, twice_refusals};
+use crate::text::quoted;
 use cell_types::Column;
 use csv_index::{Index, TextFault};
 use csvw_meta::{MOST_FILE_BYTES, Schema};
 use std::alloc::{AllocError, Global};
 use std::str::from_utf8;
 use table_store::LoadFault;
-use value_text::quoted;
 
 /// One refusal of a table.
 fn only(alloc: Global, fault: LoadFault, detail: String) -> Result<Vec<Refusal>, AllocError> {
@@ -32,31 +32,51 @@ fn place_in(fault: TextFault) -> usize {
     }
 }
 
-/// What is told of a row of another width than the header.
-fn width_detail(alloc: Global, uneven: UnevenRow) -> Result<String, AllocError> {
-    let line = uneven.record.line;
-    let fields = uneven.record.fields;
-    let wanted = uneven.wanted;
-    let hint = if fields == wanted.saturating_add(1) {
-        "; where each row has one more, the header lacks its first name"
+/// What mends a header, where a row has one field more.
+fn header_hint(fields: usize, wanted: usize) -> &'static str {
+    if fields == wanted.saturating_add(1) {
+        "; where each row has one more, the header lacks its first name: sed '1s/^/Row,/' gives it one"
     } else {
         ""
-    };
+    }
+}
+
+/// What is told of a row that has not the wanted number of fields, by the line in which it begins and its fields.
+fn width_detail(
+    alloc: Global,
+    (line, fields): (usize, usize),
+    wanted: usize,
+) -> Result<String, AllocError> {
+    let hint = header_hint(fields, wanted);
     format!(in alloc; "line {line}: fields {fields}; accepted: {wanted}, as the header has{hint}")
 }
 
-/// The rows of another width than the header.
+/// The first rows of another width than the header.
 fn width_refusals(alloc: Global, url: &str, bytes: &[u8]) -> Result<Vec<Refusal>, AllocError> {
     let mut refusals = Vec::new(alloc);
-    for uneven in uneven_rows(alloc, bytes, MOST_REFUSALS)? {
-        let row = uneven.row;
-        let detail = width_detail(alloc, uneven)?;
-        let table = String::from_str(alloc, url)?;
-        let fault = LoadFault::Text {
-            table,
-            fault: TextFault::Width { row },
+    let mut records = Records {
+        rest: bytes,
+        line: 1,
+    };
+    let Some((_, wanted)) = records.next_record() else {
+        return Ok(refusals);
+    };
+    for row in 0..bytes.len() {
+        let Some(record) = records.next_record() else {
+            return Ok(refusals);
         };
-        refusals.push(Refusal { fault, detail })?;
+        if record.1 != wanted {
+            let detail = width_detail(alloc, record, wanted)?;
+            let table = String::from_str(alloc, url)?;
+            let fault = TextFault::Width { row };
+            refusals.push(Refusal {
+                fault: LoadFault::Text { table, fault },
+                detail,
+            })?;
+        }
+        if refusals.len() >= MOST_REFUSALS {
+            return Ok(refusals);
+        }
     }
     Ok(refusals)
 }
@@ -78,8 +98,11 @@ pub fn text_refusals(
     only(alloc, LoadFault::Text { table, fault }, detail)
 }
 
-/// What a header cell of a column may be: its name or one of its titles.
-fn accepted_header(alloc: Global, column: &Column) -> Result<String, AllocError> {
+/// What a header cell may be: the name of its column or one of its titles, or nothing where there is no column.
+fn accepted_header(alloc: Global, column: Option<&Column>) -> Result<String, AllocError> {
+    let Some(column) = column else {
+        return String::from_str(alloc, "no cell, or a column of it in the metadata");
+    };
     let mut texts = quoted(alloc, column.name.as_str())?;
     for title in &column.titles {
         let title = quoted(alloc, title.as_str())?;
@@ -89,38 +112,32 @@ fn accepted_header(alloc: Global, column: &Column) -> Result<String, AllocError>
     Ok(texts)
 }
 
-/// Whether a header cell of a column may be that text.
-fn is_called(column: &Column, text: &str) -> bool {
-    column.name.as_str() == text || column.titles.iter().any(|title| title.as_str() == text)
+/// Whether there is a column and a header cell may be its own.
+fn is_called(column: Option<&Column>, cell: &str) -> bool {
+    let Some(column) = column else {
+        return false;
+    };
+    for title in &column.titles {
+        if title.as_str() == cell {
+            return true;
+        }
+    }
+    column.name.as_str() == cell
 }
 
-/// What is told of a column and its header cell, where one is missing or they do not match.
-fn header_detail(
+/// The refusal of what stands in the place of a column's header cell.
+fn header_refusal(
     alloc: Global,
-    column: Option<&Column>,
-    cell: Option<&str>,
+    schema: &Schema,
+    came: &str,
     col: usize,
-) -> Result<Option<String>, AllocError> {
+) -> Result<Refusal, AllocError> {
     let number = col.saturating_add(1);
-    match (column, cell) {
-        (Some(column), Some(text)) if is_called(column, text) => Ok(None),
-        (Some(column), Some(text)) => {
-            let came = quoted(alloc, text)?;
-            let accepted = accepted_header(alloc, column)?;
-            Ok(Some(format!(in alloc; "line 1, column {number}: {came}; accepted: {accepted}")?))
-        }
-        (Some(column), None) => {
-            let accepted = accepted_header(alloc, column)?;
-            Ok(Some(format!(in alloc; "line 1, column {number}: no cell; accepted: {accepted}")?))
-        }
-        (None, Some(text)) => {
-            let came = quoted(alloc, text)?;
-            Ok(Some(format!(in alloc;
-                "line 1, column {number}: {came}; accepted: no cell, or a column of it in the metadata"
-            )?))
-        }
-        (None, None) => Ok(None),
-    }
+    let accepted = accepted_header(alloc, schema.columns.get(col))?;
+    let detail = format!(in alloc; "line 1, column {number}: {came}; accepted: {accepted}")?;
+    let table = schema.url.clone()?;
+    let fault = LoadFault::Header { table, col };
+    Ok(Refusal { fault, detail })
 }
 
 /// The header cells that do not match the columns.
@@ -133,21 +150,15 @@ fn header_refusals(
     requires { FitsFile index.now text.now }
 {
     let mut refusals = Vec::new(alloc);
-    let columns = schema.columns.as_slice();
-    for col in 0..index.width().max(columns.len()) {
-        let detail = if col < index.width() {
-            let cell = index.header(text, col).text(alloc)?;
-            header_detail(alloc, columns.get(col), Some(cell.as_str()), col)?
-        } else {
-            header_detail(alloc, columns.get(col), None, col)?
-        };
-        if let Some(detail) = detail {
-            let table = schema.url.clone()?;
-            refusals.push(Refusal {
-                fault: LoadFault::Header { table, col },
-                detail,
-            })?;
+    for col in 0..index.width() {
+        let cell = index.header(text, col).text(alloc)?;
+        if !is_called(schema.columns.get(col), cell.as_str()) {
+            let came = quoted(alloc, cell.as_str())?;
+            refusals.push(header_refusal(alloc, schema, came.as_str(), col)?)?;
         }
+    }
+    for col in index.width()..schema.columns.len() {
+        refusals.push(header_refusal(alloc, schema, "no cell", col)?)?;
     }
     Ok(refusals)
 }

@@ -2,6 +2,7 @@
 use Rattle.std.proofs.Common.{◌≡◌, ◌<◌, ◌≤◌, ◌⊎◌, inl, inr, ℕ, Bool, true, false, List, [], ◌∷◌, ◌++◌, length, take, refl, sym, ap, ap₂, ◌∙◌, subst, arith, MatchBool, length-take, append_assoc, append-nil}
 use Rattle.std.proofs.lemmas.Bool.{false≢true, cases_lt}
 use Rattle.std.proofs.lemmas.List.{take-append-le, take_all}
+use Rattle.http_heads.proofs.CaseLaws.{MatchBool-from_false, MatchBool_elim_two}
 use Rattle.http_heads.specs.declared.checks.Checks.{Checks}
 use Rattle.http_heads.specs.declared.head.TheConstants.{MAX_HEAD}
 use Rattle.http_heads.specs.Head.{HeadOf, BeginsWith, HasNoHead}
@@ -15,14 +16,7 @@ by_bool : {P Q R : Type 0} (b : Bool) → (b ≡ true → P → R) → (b ≡ fa
 by_bool true on off m = on refl m
 by_bool false on off m = off refl m
 
--- the two cases of a test that decides twice
-two_by_bool : {P Q S T R : Type 0} (b : Bool) → (P → S → R) → (Q → T → R) → MatchBool b P Q → MatchBool b S T → R
-two_by_bool true on off m n = on m n
-two_by_bool false on off m n = off m n
-
 -- one case of a test that is known
-pub if_false : (P Q : Type 0) (b : Bool) → b ≡ false → Q → MatchBool b P Q
-if_false P Q b e q = let F : Bool → Type 0 = λ x. MatchBool x P Q in subst F (sym e) q
 
 pub if_true : (P Q : Type 0) (b : Bool) → b ≡ true → P → MatchBool b P Q
 if_true P Q b e p = let F : Bool → Type 0 = λ x. MatchBool x P Q in subst F (sym e) p
@@ -38,7 +32,7 @@ cut_unique s (h ∷ hs) (k ∷ ks) rest left closed shut a b =
     let P : HeadOf → Type 0 = λ x. MatchBool (closes x)
     ((ks ≡ []) × (left ≡ []) × (shut ≡ true)) (IsCut b.0 ks left shut) in
     let Q : List ℕ → Type 0 = λ x. IsCut x hs rest closed in
-    let tails : (hs ≡ ks) × (rest ≡ left) × (closed ≡ shut) = two_by_bool (closes h)
+    let tails : (hs ≡ ks) × (rest ≡ left) × (closed ≡ shut) = MatchBool_elim_two (closes h)
     (λ x y. (x.0 ∙ sym y.0, x.1 ∙ sym y.1, x.2 ∙ sym y.2))
     (λ x y. cut_unique b.0 hs ks rest left closed shut (subst Q same.1 x) y)
     a.2 (subst P (sym same.0) b.2) in
@@ -47,7 +41,7 @@ cut_unique s (h ∷ hs) (k ∷ ks) rest left closed shut a b =
 -- one more head in front, behind which the connection stays open
 pub cut_before : (s : List ℕ) (h : HeadOf) (more : List ℕ) (heads : List HeadOf) (rest : List ℕ) (closed : Bool)
     → BeginsWith s h more → closes h ≡ false → IsCut more heads rest closed → IsCut s (h ∷ heads) rest closed
-cut_before s h more heads rest closed b stays cut = (more, b, if_false _ _ (closes h) stays cut)
+cut_before s h more heads rest closed b stays cut = (more, b, MatchBool-from_false _ _ (closes h) stays cut)
 
 -- a head behind which it closes
 pub cut_last : (s : List ℕ) (h : HeadOf) (more : List ℕ) → BeginsWith s h more → closes h ≡ true → IsCut s (h ∷ []) [] true

@@ -1,29 +1,32 @@
 -- Tests of fields, on what the code keeps and on what contracts see of it; and the blanks behind a value.
-use Rattle.std.proofs.Common.{◌≡◌, ℕ, ◌+◌, Bool, true, false, ◌||◌, ◌&&◌, cond, ◌≢◌, tests, List, [], ◌∷◌, ◌++◌, length, map, refl, ap, arith, ◌==◌}
-use Rattle.std.specs.List.{list_any, count_by, fold}
+use Rattle.std.proofs.Common.{◌≡◌, ℕ, ◌+◌, Bool, true, false, ◌||◌, ◌&&◌, cond, min, ◌≢◌, tests, List, [], ◌∷◌, ◌++◌, length, refl, arith, ◌==◌}
+use Rattle.std.specs.List.{count_by}
+use Rattle.std.proofs.lemmas.List.Sums.{sum_by_push}
 use Rattle.http_heads.specs.Fields.{is_optional_space, without_back}
 
-pub list_any-map : {X Y : Type 0} (p : Y → Bool) (h : X → Y) (xs : List X) → list_any p (map h xs) ≡ list_any (λ x. p (h x)) xs
-list_any-map p h [] = refl
-list_any-map p h (x ∷ xs) = ap (λ rest. p (h x) || rest) (list_any-map p h xs)
+-- what one field more makes of what fields say
+count-more : {X : Type 0} (p : X → Bool) (xs : List X) (x : X) → count_by p (xs ++ x ∷ []) ≡ count_by p xs + cond (p x) 1 0
+count-more p xs x = sum_by_push (λ x. cond (p x) 1 0) xs x
 
-count_from : {X Y : Type 0} (p : Y → Bool) (h : X → Y) (n : ℕ) (xs : List X)
-    → fold (λ a y. a + cond (p y) 1 0) n (map h xs) ≡ fold (λ a x. a + cond (p (h x)) 1 0) n xs
-count_from p h n [] = refl
-count_from p h n (x ∷ xs) = count_from p h (n + cond (p (h x)) 1 0) xs
+-- how many Host fields there are, of which two stand for more: with one that is none, the first, and another
+pub hosts-other : (m n : ℕ) → m ≡ min 2 n → m ≡ min 2 (n + 0)
+hosts-other m n e = grind (arith, e)
 
-pub count_by-map : {X Y : Type 0} (p : Y → Bool) (h : X → Y) (xs : List X) → count_by p (map h xs) ≡ count_by (λ x. p (h x)) xs
-count_by-map p h xs = count_from p h 0 xs
+pub hosts-first : (m n : ℕ) → m ≡ min 2 n → m ≡ 0 → 1 ≡ min 2 (n + 1)
+hosts-first m n e none = grind (arith, e, none)
+
+pub hosts-more : (m n : ℕ) → m ≡ min 2 n → m ≢ 0 → 2 ≡ min 2 (n + 1)
+hosts-more m n e some = grind (arith, e, some)
 
 -- the three cases of the host rule
-pub host_one : (n minor : ℕ) → n ≡ 1 → (n == 1) ≡ ((n == 1) || ((minor == 0) && (n == 0)))
-host_one n minor one = rw one refl
+pub host_one : (m n minor : ℕ) → m ≡ min 2 n → m ≡ 1 → (m == 1) ≡ ((n == 1) || ((minor == 0) && (n == 0)))
+host_one m n minor e one = let same : n ≡ 1 = omega (arith, e, one) in rw (one, same) refl
 
-pub host_none : (n minor : ℕ) → n ≢ 1 → minor ≡ 0 → (n == 0) ≡ ((n == 1) || ((minor == 0) && (n == 0)))
-host_none n minor other old = grind (arith, tests)
+pub host_none : (m n minor : ℕ) → m ≡ min 2 n → m ≢ 1 → minor ≡ 0 → (m == 0) ≡ ((n == 1) || ((minor == 0) && (n == 0)))
+host_none m n minor e other old = grind (arith, tests, e)
 
-pub host_new : (n minor : ℕ) → n ≢ 1 → minor ≢ 0 → (minor == 0) ≡ ((n == 1) || ((minor == 0) && (n == 0)))
-host_new n minor other new = grind (arith, tests)
+pub host_new : (m n minor : ℕ) → m ≡ min 2 n → m ≢ 1 → minor ≢ 0 → (minor == 0) ≡ ((n == 1) || ((minor == 0) && (n == 0)))
+host_new m n minor e other new = grind (arith, tests, e)
 
 -- HTTP/1.0 closes; another version where it is listed
 pub last_old : (minor : ℕ) (listed : Bool) → minor ≡ 0 → (minor == 0) ≡ ((minor == 0) || listed)

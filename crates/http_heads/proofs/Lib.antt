@@ -1,3 +1,5 @@
+pub mod CaseLaws
+pub mod ListLaws
 pub mod HeadLemmas
 pub mod HeadFinds
 pub mod FieldsLemmas
@@ -5,3 +7,4 @@ pub mod CutLemmas
 pub mod CutFinds
 pub mod RestLemmas
 pub mod HopelessLemmas
+pub mod PlaceLemmas

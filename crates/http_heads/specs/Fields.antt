@@ -40,16 +40,26 @@ unfoldable pub host_fits : HeadOf → Bool
 host_fits head =
     (count_named (codes "host") head.fields == 1) || ((head.minor == 0) && (count_named (codes "host") head.fields == 0))
 
+-- a field that announces a body by a coding
+abbrev pub is_coding : List ℕ × List ℕ → Bool
+is_coding field = same_word field.0 (codes "transfer-encoding")
+
+-- one that is no Content-Length, or says that there is no body
+abbrev pub has_no_body : List ℕ × List ℕ → Bool
+has_no_body field = not (same_word field.0 (codes "content-length")) || bytes_eq (stripped field.1) (codes "0")
+
+-- a Connection field that lists `close`
+abbrev pub is_closing : List ℕ × List ℕ → Bool
+is_closing field = same_word field.0 (codes "connection") && lists_close field.1
+
 -- a body is announced by a coding
 unfoldable pub has_coding : HeadOf → Bool
-has_coding head = list_any (λ field. same_word field.0 (codes "transfer-encoding")) head.fields
+has_coding head = list_any is_coding head.fields
 
 -- each Content-Length field says that there is no body
 unfoldable pub has_no_length : HeadOf → Bool
-has_no_length head =
-    list_all (λ field. not (same_word field.0 (codes "content-length")) || bytes_eq (stripped field.1) (codes "0")) head.fields
+has_no_length head = list_all has_no_body head.fields
 
 -- the client wants no further reply: HTTP/1.0, or a Connection field that lists `close` (RFC 9112, section 9.3)
 unfoldable pub asks_to_close : HeadOf → Bool
-asks_to_close head =
-    (head.minor == 0) || list_any (λ field. same_word field.0 (codes "connection") && lists_close field.1) head.fields
+asks_to_close head = (head.minor == 0) || list_any is_closing head.fields

@@ -1,7 +1,10 @@
 -- The heads of requests (RFC 9112, section 2): httparse's grammar, with a bound on the bytes and one on the fields.
-use Rattle.std.specs.Prelude.{◌≡◌, ℕ, ◌≤◌, List, [], ◌∷◌, length, map}
+use Rattle.std.specs.Prelude.{◌≡◌, ℕ, ◌≤◌, List, [], ◌∷◌, length, map, take}
 use Rattle.httparse.specs.Grammar.{RequestHead, print_request, ReadsRequest}
-use Rattle.httparse.specs.Spans.{name_and_value}
+use Rattle.httparse.specs.declared.spans.HeaderSpan.{HeaderSpan}
+use Rattle.httparse.specs.declared.spans.RequestSpans.{RequestSpans}
+use Rattle.httparse.specs.declared.spans.Span.{Span}
+use Rattle.httparse.specs.Spans.{header_bytes, name_and_value, span_bytes}
 use Rattle.http_heads.specs.declared.head.TheConstants.{MAX_HEAD, MAX_FIELDS}
 use Rattle.http_heads.specs.declared.head.Field.{Field}
 use Rattle.http_heads.specs.declared.head.Head.{Head}
@@ -27,6 +30,19 @@ head_view head = record {
   minor = head.minor;
   fields = map field_view head.fields.items;
 }
+
+-- the head whose parts stand at these places of some bytes
+abbrev pub head_at : List ℕ → Span → Span → ℕ → List HeaderSpan → HeadOf
+head_at bytes method target minor fields = record {
+  method = span_bytes bytes method;
+  target = span_bytes bytes target;
+  minor = minor;
+  fields = map (header_bytes bytes) fields;
+}
+
+-- the head whose parts httparse found
+abbrev pub found_head : List ℕ → List HeaderSpan → RequestSpans → HeadOf
+found_head bytes headers spans = head_at bytes spans.method spans.path spans.version (take spans.headers headers)
 
 -- at most so many bytes, and at most so many fields
 pub record IsSmall (h : RequestHead) : Type 0 where

@@ -1,5 +1,6 @@
 pub mod Head
 pub mod Fields
+pub mod Said
 pub mod Method
 pub mod Checks
 pub mod Splitter

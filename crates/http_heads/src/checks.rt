@@ -1,12 +1,12 @@
 //! What a head says whatever its target is.
-ghost use Rattle.std.specs.Prelude.{◌≡◌, Some, true};
+ghost use Rattle.std.specs.Prelude.{◌≡◌, Some, map, true};
 ghost use Rattle.http_heads.specs.Checks.{checks_of, closes};
-ghost use Rattle.http_heads.specs.Head.{head_view};
+ghost use Rattle.http_heads.specs.Head.{HeadOf, field_view, head_view};
+ghost use Rattle.http_heads.specs.Said.{said_by};
 
-use crate::fields::{has_host, is_coded, is_last, is_without_length};
-use crate::head::Head;
+use crate::fields::Said;
+use crate::head::{Field, Head};
 use crate::method::Method;
-use std::marker::Model;
 
 /// What is wrong with a head, whatever its target is. The first of these is told.
 #[derive(Clone, Copy, PartialEq, Eq)]
@@ -40,67 +40,44 @@ fn lost(fault: HeadFault) -> Checks
     }
 }
 
-/// What a head says whatever its target is.
+/// What a head says whatever its target is, by its method, its version and what its fields say.
 #[tactic(auto, unfolding(crate::specs::Checks::head_fault, crate::specs::Checks::closes))]
-pub fn check_head(head: &Head) -> Checks
-    ensures { result ≡ checks_of (head_view head.now) }
+pub(crate) fn checks_by(method: &[u8], minor: u8, said: Said) -> Checks
+    ensures { (head : HeadOf) → head.method ≡ method.now → head.minor ≡ minor
+        → said ≡ said_by head.fields → result ≡ checks_of head }
 {
-    if !has_host(head) {
+    if !said.has_host(minor) {
         return lost(HeadFault::BadHost);
     }
-    if is_coded(head) {
+    if said.is_coded() {
         return lost(HeadFault::NotServed);
     }
-    if !is_without_length(head) {
+    if !said.is_without_length() {
         return lost(HeadFault::BadLength);
     }
-    let closes = is_last(head);
-    let fault = match Method::of(head.method.as_slice()) {
+    let closes = said.is_last(minor);
+    let fault = match Method::of(method) {
         Some(_) => None,
         None => Some(HeadFault::MethodNotAllowed),
     };
     Checks { fault, closes }
 }
 
-/// A head, and what it says whatever its target is: it was checked once, and need not be again. It is seen as the head.
-#[derive(Drop)]
-pub struct CheckedHead {
-    head: Head,
-    checks: Checks,
+/// What fields say.
+fn said_of(fields: &[Field]) -> Said
+    ensures { result ≡ said_by (map field_view fields.now) }
+{
+    let mut said = Said::nothing();
+    for field in fields {
+        said = said.with(field.name.as_slice(), field.value.as_slice());
+    }
+    said
 }
 
-impl Model for CheckedHead {
-    ghost use Rattle.std.specs.Prelude.{◌≡◌};
-    ghost use Rattle.http_heads.specs.Checks.{checks_of};
-    ghost use Rattle.http_heads.specs.Head.{HeadOf, head_view};
-
-    ghost Value = { HeadOf };
-
-    ghost view = { λ checked. head_view checked.head };
-
-    ghost invariant = { λ checked. checked.checks ≡ checks_of (head_view checked.head) };
-}
-
-impl CheckedHead {
-    /// Checks a head.
-    pub fn of(head: Head) -> CheckedHead
-        ensures { result ≡ head_view head }
-    {
-        let checks = check_head(&head);
-        CheckedHead { head, checks }
-    }
-
-    /// The head.
-    pub fn head(&self) -> &Head
-        ensures { head_view result.now ≡ self.now }
-    {
-        &self.head
-    }
-
-    /// What it says whatever its target is.
-    pub fn checks(&self) -> Checks
-        ensures { result ≡ checks_of self.now }
-    {
-        self.checks
-    }
+/// What a head says whatever its target is.
+pub fn check_head(head: &Head) -> Checks
+    ensures { result ≡ checks_of (head_view head.now) }
+{
+    let said = said_of(head.fields.as_slice());
+    checks_by(head.method.as_slice(), head.minor, said)
 }

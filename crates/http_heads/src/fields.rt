@@ -1,11 +1,8 @@
 //! The fields of a head that decide how it is answered (RFC 9110, sections 5 and 7; RFC 9112, sections 3.2, 6 and 9.3).
-ghost use Rattle.std.specs.Prelude.{◌≡◌, ◌&&◌, ◌||◌, not, codes};
-ghost use Rattle.std.specs.List.{count_by, list_all, list_any};
-ghost use Rattle.std.specs.Str.{bytes_eq};
-ghost use Rattle.http_heads.specs.Head.{head_view};
-ghost use Rattle.http_heads.specs.Fields.{asks_to_close, has_coding, has_no_length, host_fits, is_optional_space, lists_close, same_word, stripped, without_back, without_front};
-
-use crate::head::{Field, Head};
+ghost use Rattle.std.specs.Prelude.{◌≡◌, ◌++◌, ℕ, List, [], ◌∷◌};
+ghost use Rattle.http_heads.specs.Head.{HeadOf};
+ghost use Rattle.http_heads.specs.Fields.{asks_to_close, has_coding, has_no_body, has_no_length, host_fits, is_closing, is_optional_space, lists_close, same_word, stripped, without_back, without_front};
+ghost use Rattle.http_heads.specs.Said.{said_by};
 
 /// Whether two names or words are the same, in any case of ASCII letters.
 fn is_same_word(word: &[u8], other: &[u8]) -> bool
@@ -65,84 +62,94 @@ fn has_close(value: &[u8]) -> bool
         .any(|part| is_same_word(strip(part), b"close"))
 }
 
-/// Whether a field has that name.
-fn is_named(field: &Field, name: &[u8]) -> bool
-    ensures { result ≡ same_word field.now.name.items name.now }
-{
-    is_same_word(field.name.as_slice(), name)
-}
-
-/// How many fields have that name.
-fn count_of(fields: &[Field], name: &[u8]) -> usize
-    ensures { result ≡ count_by (λ field. same_word field.name.items name.now) fields.now }
-{
-    fields.iter().filter(|field| is_named(field, name)).count()
-}
-
-/// Whether the Host fields are as many as the version wants.
-pub fn has_host(head: &Head) -> bool
-    ensures { result ≡ host_fits (head_view head.now) }
-{
-    let count = count_of(head.fields.as_slice(), b"host");
-    count == 1 || (head.minor == 0 && count == 0)
-}
-
-/// Whether a field has that name.
-fn has_named(fields: &[Field], name: &[u8]) -> bool
-    ensures { result ≡ list_any (λ field. same_word field.name.items name.now) fields.now }
-{
-    fields.iter().any(|field| is_named(field, name))
-}
-
-/// Whether a coding announces a body.
-pub fn is_coded(head: &Head) -> bool
-    ensures { result ≡ has_coding (head_view head.now) }
-{
-    has_named(head.fields.as_slice(), b"transfer-encoding")
-}
-
 /// Whether a field is no Content-Length, or says that there is no body.
-fn is_bodiless(field: &Field) -> bool
-    ensures { result ≡ (not (same_word field.now.name.items (codes "content-length")) || bytes_eq
-        (stripped field.now.value.items) (codes "0")) }
+fn is_bodiless(name: &[u8], value: &[u8]) -> bool
+    ensures { result ≡ has_no_body (name.now, value.now) }
 {
-    !is_named(field, b"content-length") || strip(field.value.as_slice()) == b"0".as_slice()
-}
-
-/// Whether each of these fields is no Content-Length, or says that there is no body.
-fn are_bodiless(fields: &[Field]) -> bool
-    ensures { result ≡ list_all (λ field. not (same_word field.name.items (codes "content-length"))
-        || bytes_eq (stripped field.value.items) (codes "0")) fields.now }
-{
-    fields.iter().all(is_bodiless)
-}
-
-/// Whether no Content-Length field announces a body.
-pub fn is_without_length(head: &Head) -> bool
-    ensures { result ≡ has_no_length (head_view head.now) }
-{
-    are_bodiless(head.fields.as_slice())
+    !is_same_word(name, b"content-length") || strip(value) == b"0".as_slice()
 }
 
 /// Whether a field is a Connection field that lists `close`.
-fn is_closing(field: &Field) -> bool
-    ensures { result ≡ (same_word field.now.name.items
-        (codes "connection") && lists_close field.now.value.items) }
+fn is_closing(name: &[u8], value: &[u8]) -> bool
+    ensures { result ≡ is_closing (name.now, value.now) }
 {
-    is_named(field, b"connection") && has_close(field.value.as_slice())
+    is_same_word(name, b"connection") && has_close(value)
 }
 
-/// Whether one of these fields is a Connection field that lists `close`.
-fn has_closing(fields: &[Field]) -> bool
-    ensures { result ≡ list_any (λ field. same_word field.name.items
-        (codes "connection") && lists_close field.value.items) fields.now }
-{
-    fields.iter().any(is_closing)
+/// What some fields say that decides how a head is answered.
+#[derive(Clone, Copy)]
+pub(crate) struct Said {
+    /// How many of them are Host fields; 2, where more are.
+    hosts: u8,
+    /// Whether a coding announces a body.
+    is_coded: bool,
+    /// Whether no Content-Length field announces a body.
+    is_bodiless: bool,
+    /// Whether a Connection field lists `close`.
+    lists_close: bool,
 }
 
-/// Whether the client wants no further reply.
-pub fn is_last(head: &Head) -> bool
-    ensures { result ≡ asks_to_close (head_view head.now) }
-{
-    head.minor == 0 || has_closing(head.fields.as_slice())
+impl Said {
+    /// What no fields say.
+    pub(crate) fn nothing() -> Said
+        ensures { result ≡ said_by [] }
+    {
+        Said {
+            hosts: 0,
+            is_coded: false,
+            is_bodiless: true,
+            lists_close: false,
+        }
+    }
+
+    /// One field more.
+    pub(crate) fn with(self, name: &[u8], value: &[u8]) -> Said
+        ensures { (fields : List (List ℕ × List ℕ)) → self ≡ said_by fields
+            → result ≡ said_by (fields ++ (name.now, value.now) ∷ []) }
+    {
+        let hosts = match (is_same_word(name, b"host"), self.hosts) {
+            (false, hosts) => hosts,
+            (true, 0) => 1,
+            (true, _) => 2,
+        };
+        let is_coded = self.is_coded || is_same_word(name, b"transfer-encoding");
+        let is_bodiless = self.is_bodiless && is_bodiless(name, value);
+        let lists_close = self.lists_close || is_closing(name, value);
+        Said {
+            hosts,
+            is_coded,
+            is_bodiless,
+            lists_close,
+        }
+    }
+
+    /// Whether the Host fields are as many as the version wants.
+    pub(crate) fn has_host(&self, minor: u8) -> bool
+        ensures { (head : HeadOf) → head.minor ≡ minor → self.now ≡ said_by head.fields
+            → result ≡ host_fits head }
+    {
+        self.hosts == 1 || (minor == 0 && self.hosts == 0)
+    }
+
+    /// Whether a coding announces a body.
+    pub(crate) fn is_coded(&self) -> bool
+        ensures { (head : HeadOf) → self.now ≡ said_by head.fields → result ≡ has_coding head }
+    {
+        self.is_coded
+    }
+
+    /// Whether no Content-Length field announces a body.
+    pub(crate) fn is_without_length(&self) -> bool
+        ensures { (head : HeadOf) → self.now ≡ said_by head.fields → result ≡ has_no_length head }
+    {
+        self.is_bodiless
+    }
+
+    /// Whether the client wants no further reply.
+    pub(crate) fn is_last(&self, minor: u8) -> bool
+        ensures { (head : HeadOf) → head.minor ≡ minor → self.now ≡ said_by head.fields
+            → result ≡ asks_to_close head }
+    {
+        minor == 0 || self.lists_close
+    }
 }

@@ -1,12 +1,13 @@
 //! The heads of requests (RFC 9112, section 2), cut off the front of some bytes.
 ghost use Rattle.std.specs.Prelude.{◌≡◌, ◌≤◌, IfOk, IfSome, MatchOption, drop, length, map};
 ghost use Rattle.std.specs.List.{All};
-ghost use Rattle.httparse.specs.Spans.{IsHeaderWithin, IsWithin, header_bytes, span_bytes};
-ghost use Rattle.http_heads.specs.Head.{BeginsWith, BeginsWithAll, HasNoHead, IsRest, field_view, head_view};
+ghost use Rattle.httparse.specs.Spans.{IsHeaderWithin, IsRequestWithin, IsWithin, header_bytes, span_bytes};
+ghost use Rattle.http_heads.specs.Head.{BeginsWith, BeginsWithAll, HasNoHead, IsRest, field_view, found_head, head_view};
+ghost use Rattle.http_heads.specs.declared.head.TheConstants.{MAX_HEAD};
 ghost use Rattle.http_heads.specs.Hopeless.{TellsHopeless};
 
 use httparse::Status;
-use httparse::spans::{EMPTY_HEADER_SPAN, HeaderSpan, Span, parse_request};
+use httparse::spans::{EMPTY_HEADER_SPAN, HeaderSpan, RequestSpans, Span, parse_request};
 use std::alloc::{AllocError, Global};
 
 /// The most bytes of a head.
@@ -61,6 +62,22 @@ fn copy_fields(
     Ok(fields)
 }
 
+/// The places of the parts of the head at the front of the bytes, if they begin with one. Those of its fields are put at the front of `headers`.
+pub(crate) fn first_spans(
+    bytes: &[u8],
+    headers: &mut [HeaderSpan; MAX_FIELDS],
+) -> Option<RequestSpans>
+    ensures within { IfSome result (IsRequestWithin bytes.now headers.new) }
+    ensures head { MatchOption result (HasNoHead bytes.now) (λ spans. BeginsWith bytes.now
+        (found_head bytes.now headers.new spans) (drop spans.len bytes.now)) }
+    ensures small { IfSome result (λ spans. spans.len ≤ MAX_HEAD) }
+{
+    match parse_request(bytes, headers) {
+        Ok(Status::Complete(spans)) if spans.len <= MAX_HEAD => Some(spans),
+        _ => None,
+    }
+}
+
 /// The head at the front of the bytes with its length, if they begin with one.
 pub(crate) fn first_head(alloc: Global, bytes: &[u8]) -> Result<Option<(Head, usize)>, AllocError>
     ensures within { IfOk result (λ found. IfSome found (λ first. first.1 ≤ length bytes.now)) }
@@ -68,9 +85,8 @@ pub(crate) fn first_head(alloc: Global, bytes: &[u8]) -> Result<Option<(Head, us
         (λ first. BeginsWith bytes.now (head_view first.0) (drop first.1 bytes.now))) }
 {
     let mut headers = [EMPTY_HEADER_SPAN; MAX_FIELDS];
-    let spans = match parse_request(bytes, &mut headers) {
-        Ok(Status::Complete(spans)) if spans.len <= MAX_HEAD => spans,
-        _ => return Ok(None),
+    let Some(spans) = first_spans(bytes, &mut headers) else {
+        return Ok(None);
     };
     let head = Head {
         method: copy(alloc, bytes, spans.method)?,

@@ -2,6 +2,7 @@
 //! closes. The cut is a relation of the whole stream, and the laws say that a stream has one, whatever pieces it comes in.
 #![tactic(auto)]
 
+mod checked;
 mod checks;
 mod fields;
 mod head;
@@ -9,7 +10,8 @@ mod laws;
 mod method;
 mod splitter;
 
-pub use checks::{CheckedHead, Checks, HeadFault, check_head};
+pub use checked::CheckedHead;
+pub use checks::{Checks, HeadFault, check_head};
 pub use head::{Field, Head, MAX_FIELDS, MAX_HEAD};
 pub use laws::{cuts_join, head_limits, hopeless_rests, one_cut};
 pub use method::Method;

@@ -6,8 +6,8 @@ ghost use Rattle.http_heads.specs.Hopeless.{TellsHopeless};
 ghost use Rattle.http_heads.specs.Splitter.{IsAdded, Splits};
 ghost use Rattle.http_heads.specs.declared.head.TheConstants.{MAX_HEAD};
 
-use crate::checks::CheckedHead;
-use crate::head::{Head, MAX_HEAD, cut_heads, first_head, is_refused};
+use crate::checked::{CheckedHead, first_checked};
+use crate::head::{Head, MAX_HEAD, cut_heads, is_refused};
 use std::alloc::{AllocError, Global};
 use std::marker::Model;
 
@@ -68,8 +68,7 @@ fn cut_checked(alloc: Global, bytes: &[u8]) -> Result<(Cut, usize), AllocError>
 {
     let mut heads = Vec::new(alloc);
     let mut at = 0;
-    while let Some((head, len)) = first_head(alloc, &bytes[at..])? {
-        let head = CheckedHead::of(head);
+    while let Some((head, len)) = first_checked(alloc, &bytes[at..])? {
         let closed = head.checks().closes;
         heads.push(head)?;
         if closed {

@@ -1,7 +1,8 @@
 -- A source that is read to its end.
-use Rattle.std.proofs.Common.{◌≡◌, ◌∙◌, ◌+◌, ◌++◌, ◌-◌, ◌^◌, ◌<◌, ℕ, List, [], Option, None, Some, refl, sym, ap, subst, append_assoc, append-nil, arith}
+use Rattle.std.proofs.Common.{◌≡◌, ◌∙◌, ◌+◌, ◌++◌, ◌-◌, ◌^◌, ◌<◌, ℕ, List, [], Option, None, Some, refl, sym, ap, subst, append-nil, arith}
 use Rattle.std.specs.Prelude.{IfSome}
 use Rattle.std.specs.Io.KnownBytes.{Consumes, IsAtEnd}
+use Rattle.std.proofs.KnownBytes.{Consumes-nil, Consumes-trans}
 use Rattle.odata_http.specs.Device.{Counts, SourceOf}
 
 -- these bytes were read, in so many reads, of which none failed and none told the end
@@ -11,23 +12,13 @@ pub record IsReadTo (old now : SourceOf) (script : List ℕ) (reads : ℕ) : Typ
   pub ends : now.ends ≡ old.ends
   pub failed : now.failed_reads ≡ old.failed_reads
 
-consumed_none : (a : Option (List ℕ)) → Consumes a a []
-consumed_none None = tt
-consumed_none (Some xs) = refl
-
-consumed_more : (a b d : Option (List ℕ)) (xs ys : List ℕ) → Consumes a b xs → Consumes b d ys → Consumes a d (xs ++ ys)
-consumed_more None b d xs ys h k = tt
-consumed_more (Some all) None d xs ys h k = absurd h
-consumed_more (Some all) (Some rest) None xs ys h k = absurd k
-consumed_more (Some all) (Some rest) (Some left) xs ys h k = h ∙ ap (λ (r : List ℕ). xs ++ r) k ∙ sym (append_assoc xs ys left)
-
 consumed_all : (a d : Option (List ℕ)) (xs : List ℕ) → Consumes a d xs → IsAtEnd d → IfSome a (λ all. xs ≡ all)
 consumed_all None d xs h end = tt
 consumed_all (Some all) None xs h end = absurd h
 consumed_all (Some all) (Some left) xs h end = sym (h ∙ ap (λ (r : List ℕ). xs ++ r) end ∙ append-nil xs)
 
 pub read_none : (s : SourceOf) → IsReadTo s s [] 0
-read_none s = record { consumed = consumed_none s.left; reads_are = omega arith; ends = refl; failed = refl }
+read_none s = record { consumed = Consumes-nil s.left; reads_are = omega arith; ends = refl; failed = refl }
 
 pub read_more : {old now next : SourceOf} {script : List ℕ} {reads : ℕ} (piece : List ℕ) → IsReadTo old now script reads
     → old.reads < 2 ^ 63 → reads < 2 ^ 32 → Consumes now.left next.left piece → Counts now.reads next.reads → next.ends ≡ now.ends
@@ -37,7 +28,7 @@ read_more {old} {now} {next} {script} {reads} piece to few small more counts end
     let fits : now.reads < 2 ^ 64 - 1 = omega arith in
     let one : next.reads ≡ now.reads + 1 = counts fits in
     record {
-      consumed = consumed_more old.left now.left next.left script piece to.consumed more;
+      consumed = Consumes-trans old.left now.left next.left script piece to.consumed more;
       reads_are = omega arith;
       ends = ends ∙ to.ends;
       failed = failed ∙ to.failed;
@@ -47,4 +38,4 @@ pub read_all : {old now : SourceOf} {script : List ℕ} {reads : ℕ} (next : So
     → IsAtEnd next.left → IfSome old.left (λ all. script ≡ all)
 read_all {old} {now} {script} next to last end =
     consumed_all old.left next.left script
-    (subst (λ (xs : List ℕ). Consumes old.left next.left xs) (append-nil script) (consumed_more old.left now.left next.left script [] to.consumed last)) end
+    (subst (λ (xs : List ℕ). Consumes old.left next.left xs) (append-nil script) (Consumes-trans old.left now.left next.left script [] to.consumed last)) end

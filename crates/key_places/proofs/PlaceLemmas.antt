@@ -17,6 +17,7 @@ use Rattle.std.proofs.lemmas.Map.Entries.{lookup_from_place, place_from_lookup}
 use Rattle.std.proofs.lemmas.Map.Keys.{any_passes_from_place, apart_from_distinct, IsDistinct-cons, IsDistinct-from_apart, IsDistinct-IsPermutation}
 use Rattle.std.proofs.lemmas.Map.Views.{IfSome-lookup_from_All}
 use Rattle.std.proofs.lemmas.Option.{none-some, same_Some, some_pair_parts, slice_get-get_or, slice_get-map, slice_get_within, get_or_from_slice_get}
+use Rattle.key_places.proofs.ListLaws.{range_with_len-suc}
 use Rattle.key_places.specs.Places.{insert_key, key_of_place, keys_by_place, IsPlacing}
 
 -- ---- the first place in a list
@@ -43,11 +44,6 @@ any-nowhere p [] lacks = refl
 any-nowhere p (x ∷ xs) lacks = rw (lacks 0 x refl, any-nowhere p xs (λ k y. lacks (suc k) y)) refl
 
 -- ---- a range of numbers
-range_more : (a n : ℕ) → range_with_len a (suc n) ≡ range_with_len a n ++ (a + n) ∷ []
-range_more a zero = let e : a + 0 ≡ a = omega arith in rw e refl
-range_more a (suc n) =
-    let e : a + suc n ≡ (a + 1) + n = omega arith in
-    rw e (ap (λ xs. a ∷ xs) (range_more (a + 1) n))
 
 same_along : {K : Type 0} (h g : ℕ → Option K) (a n : ℕ) → ((i : ℕ) → a ≤ i → i < a + n → h i ≡ g i) → filter_map h (range_with_len a n) ≡ filter_map g (range_with_len a n)
 same_along h g a zero same = refl
@@ -244,7 +240,7 @@ module _ {K : Type 0} {eq : K → K → Bool} (laws : IsEquivalence eq) (es : Li
       ] in
       let from : 0 + n ≡ n = omega arith in (
         record { unique = unique; apart = apart; within = All-permutation (λ p. p < length fs) (values_of more) (values_of fs) places below; each = each },
-        ap (λ m. filter_map (key_of_place fs) (range_with_len 0 m)) size ∙ ap (filter_map (key_of_place fs)) (range_more 0 n)
+        ap (λ m. filter_map (key_of_place fs) (range_with_len 0 m)) size ∙ ap (filter_map (key_of_place fs)) (range_with_len-suc 0 n)
             ∙ filter_map-append (key_of_place fs) (range_with_len 0 n) ((0 + n) ∷ [])
             ∙ ap (λ o. filter_map (key_of_place fs) (range_with_len 0 n) ++ cons_option o []) (ap (key_of_place fs) from ∙ last)
             ∙ ap (λ ks. ks ++ k ∷ []) (same_along (key_of_place fs) (key_of_place es) 0 n (λ i _ less. kept i (omega arith))),

@@ -145,5 +145,9 @@ fn ordered_keys<K: Eq + Hash>(
 fn all_keys<K: Eq + Hash>(alloc: Global, places: &HashMap<K, usize>) -> Result<Vec<&K>, AllocError>
     ensures { IfOk result (λ keys. length keys.items ≡ length places.now.entries) }
 {
-    places.keys().collect(alloc)
+    let mut keys = Vec::with_capacity(alloc, places.len())?;
+    for key in places.keys() {
+        keys.push(key)?;
+    }
+    Ok(keys)
 }

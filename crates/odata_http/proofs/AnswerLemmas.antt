@@ -5,12 +5,12 @@ use Rattle.std.proofs.lemmas.Bool.{false≢true}
 use Rattle.std.proofs.lemmas.List.{take-append-drop, take_more}
 use Rattle.http_heads.specs.Head.{HeadOf}
 use Rattle.http_heads.specs.Laws.{OneCut}
+use Rattle.http_heads.proofs.ListLaws.{AllZip-append}
 use Rattle.odata_http.specs.declared.answer.AnswerFault.{AnswerFault}
 use Rattle.odata_http.specs.declared.answer.AnswerFault.TheVariants.{NoMemory}
 use Rattle.odata_http.specs.Reply.{rest_reply}
 use Rattle.odata_http.specs.Replies.{last_reply}
 use Rattle.odata_http.specs.Answer.{TakesAll, AnswersAll, AnswersSome, FailsOnRest, IsTakenIn, IsRestAnswered}
-use Rattle.odata_http.proofs.RepliesLemmas.{zip_append}
 
 takes_snoc : {S : Type 0} (T : S → List ℕ → Result (Unit {0}) AnswerFault → S → Type 0) (a : S) (rs : List (List ℕ)) (b : S) (r : List ℕ) (d : S)
     → TakesAll T a rs b → T b r (Ok tt) d → TakesAll T a (rs ++ r ∷ []) d
@@ -26,7 +26,7 @@ pub all_more : {S : Type 0} {R : HeadOf → List ℕ → Type 0} {T : S → List
     {reply : List ℕ} {a b d : S} → AnswersAll R T heads a b → R head reply → T b reply (Ok tt) d → AnswersAll R T (heads ++ head ∷ []) a d
 all_more {S} {R} {T} {heads} {head} {reply} {a} {b} {d} so_far is took = record {
   replies = so_far.replies ++ reply ∷ [];
-  each = zip_append R heads so_far.replies (head ∷ []) (reply ∷ []) so_far.each (is, tt);
+  each = AllZip-append R heads so_far.replies (head ∷ []) (reply ∷ []) so_far.each (is, tt);
   taken = takes_snoc T a so_far.replies b reply d so_far.taken took;
 }
 

@@ -1,12 +1,12 @@
 -- The row of a key.
-use Rattle.std.proofs.Common.{◌≡◌, ◌<◌, ◌+◌, ◌++◌, not, take, ℕ, zero, suc, Ok, Err, Bool, true, false, List, [], ◌∷◌, length, map, get_or, cond, Option, Some, None, option_map, Bor, Result, refl, sym, ap, ◌∙◌, subst, arith}
-use Rattle.std.specs.Prelude.{slice_get, option_and_then, nat_lt, position, find, if◌then◌else◌, IfOk, IfSome}
+use Rattle.std.proofs.Common.{◌≡◌, ◌<◌, ◌+◌, ◌++◌, take, ℕ, zero, suc, Ok, Err, Bool, true, false, List, [], ◌∷◌, length, map, get_or, Option, Some, None, option_map, Bor, Result, refl, sym, ap, ◌∙◌, subst, arith}
+use Rattle.std.specs.Prelude.{slice_get, option_and_then, nat_lt, position, find, if◌then◌else◌, IfSome}
 use Rattle.std.specs.List.{All, AllByRecursion, position_or_len, list_any, list_all}
 use Rattle.std.proofs.lemmas.Bool.{ltb-true, ltb-false}
 use Rattle.std.proofs.lemmas.List.{length-map, take_all, take_more}
 use Rattle.std.proofs.lemmas.List.Elements.{All-cons, All-nil}
 use Rattle.std.proofs.lemmas.List.Folds.{find_at}
-use Rattle.std.proofs.lemmas.Option.{get_or_from_slice_get, slice_get-get_or, slice_get_past}
+use Rattle.std.proofs.lemmas.Option.{get_or_from_slice_get, slice_get-get_or, slice_get_past, cond_some}
 use Rattle.cell_types.specs.Value.{CellValue, null}
 use Rattle.csvw_meta.specs.Schema.{SchemaOf}
 use Rattle.table_store.specs.Catalog.{CatalogOf}
@@ -29,6 +29,8 @@ use Rattle.query_meaning.specs.Meaning.{keyed_meaning, keyed_row, query_meaning,
 use Rattle.reply_codes.specs.declared.code.Code.TheVariants.{NoSuchRow}
 use Rattle.odata_parse.specs.declared.format.Format.{Format}
 use Rattle.odata_request.specs.Request.{RowsRequestOf}
+use Rattle.row_keys.proofs.ListLaws.{position_or_len-map}
+use Rattle.cell_types.proofs.CaseLaws.{cond_none}
 use Rattle.odata_http.specs.declared.finding.Finding.{Finding}
 use Rattle.odata_http.specs.Exchange.{IsFinding}
 use Rattle.odata_http.specs.Reply.{RespondsWithRows, ResponseOf, error_response, row_response, rows_response}
@@ -58,35 +60,19 @@ row_read rows row width seen less wide so_far =
 
 -- ---- the first row that passes
 
-placed : {X Y : Type 0} (q : Y → Bool) (f : X → Y) (xs : List X) → position_or_len q (map f xs) ≡ position_or_len (λ x. q (f x)) xs
-placed q f [] = refl
-placed q f (y ∷ ys) = ap (λ (n : ℕ). cond (not (q (f y))) (1 + n) 0) (placed q f ys)
-
-place_of : (b : Bool) (n i : ℕ) → cond b (Some n) None ≡ Some i → (b ≡ true) × (n ≡ i)
-place_of true n i e = (refl, ap number_in e)
-  where
-    number_in : Option ℕ → ℕ
-    number_in (Some k) = k
-    number_in None = n
-place_of false n i e = absurd (cc e)
-
-no_place : (b : Bool) (n : ℕ) → cond b (Some n) None ≡ None → b ≡ false
-no_place true n e = absurd (cc e)
-no_place false n e = refl
-
 found_at : {X Y : Type 0} (q : Y → Bool) (f : X → Y) (xs : List X) (i : ℕ) → position q (map f xs) ≡ Some i → (i < length xs) × (find (λ x. q (f x)) xs ≡ slice_get xs i)
 found_at q f xs i e =
-    let first = place_of (nat_lt (position_or_len q (map f xs)) (length (map f xs))) (position_or_len q (map f xs)) i e in
+    let first = cond_some (nat_lt (position_or_len q (map f xs)) (length (map f xs))) (position_or_len q (map f xs)) i e in
     let within = ltb-true (position_or_len q (map f xs)) (length (map f xs)) first.0 in
     let many = length-map xs f in
     let at = first.1 in
-    (omega (arith, within, many, at), find_at (λ x. q (f x)) xs ∙ ap (slice_get xs) (sym (placed q f xs) ∙ first.1))
+    (omega (arith, within, many, at), find_at (λ x. q (f x)) xs ∙ ap (slice_get xs) (sym (position_or_len-map q f xs) ∙ first.1))
 
 not_found : {X Y : Type 0} (q : Y → Bool) (f : X → Y) (xs : List X) → position q (map f xs) ≡ None → find (λ x. q (f x)) xs ≡ None
 not_found q f xs e =
-    let past = ltb-false (position_or_len q (map f xs)) (length (map f xs)) (no_place (nat_lt (position_or_len q (map f xs)) (length (map f xs))) (position_or_len q (map f xs)) e) in
+    let past = ltb-false (position_or_len q (map f xs)) (length (map f xs)) (cond_none (nat_lt (position_or_len q (map f xs)) (length (map f xs))) (position_or_len q (map f xs)) e) in
     let many = length-map xs f in
-    let at = placed q f xs in
+    let at = position_or_len-map q f xs in
     find_at (λ x. q (f x)) xs ∙ slice_get_past xs (position_or_len (λ x. q (f x)) xs) (omega (arith, past, many, at))
 
 -- ---- the row of a key, where the table has one
@@ -242,10 +228,6 @@ finds_row catalog seen finding found asked number row response is same at e read
     let chosen_names = ap (λ (s : Option (List ℕ)). row_response finding.format (selected_names s (table_names is.table.schema)) (selected_values s row)) is.select_is in
     let format = ap (λ (f : Format). row_response f (selected_names asked.query.select (table_names is.table.schema)) (selected_values asked.query.select row)) is.format_is in
     record { table = is.table; table_is = is.table_is; response_is = told ∙ chosen_names ∙ format ∙ ap (rows_response asked.format) (sym means) }
-
-pub if_ok : {X E : Type 0} {P Q : X → Type 0} (r : Result X E) → ((x : X) → P x → Q x) → IfOk r P → IfOk r Q
-if_ok (Ok x) f p = f x p
-if_ok (Err e) f p = tt
 
 -- what the code has of the selection and the schema is what the key says
 pub row_told : (finding : Finding) (found : TableOf) (select : Option (List ℕ)) (schema : SchemaOf) (row : List CellValue) (response : ResponseOf)

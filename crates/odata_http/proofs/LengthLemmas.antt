@@ -18,9 +18,6 @@ use Rattle.odata_request.specs.Request.{RequestOf, RowsRequestOf, refused, rows,
 use Rattle.odata_http.specs.Exchange.{QueryTakes, RequestTakes, query_length}
 use Rattle.odata_http.specs.Laws.{TakesCalls, OneLength}
 
-one_value : {T : Type 0} (x y : T) (o : Option T) → o ≡ Some x → o ≡ Some y → x ≡ y
-one_value x y o a b = cc (a, b)
-
 -- ---- no more than the table has blocks
 
 filters_lead : (es : List TruthExprOf) → leading (map filtering es) ≡ es
@@ -45,7 +42,7 @@ max_below (suc a) b h =
 query_within : PlansNeedBlocks → (catalog : CatalogOf) (asked : RowsRequestOf) (key : Option (List CellValue)) (n : ℕ) (table : TableOf)
     → slice_get catalog.tables asked.table ≡ Some table → QueryTakes catalog asked key n → n ≤ max 1 (block_count (length table.rows))
 query_within law catalog asked None n table is x =
-    let same : x.table ≡ table = one_value x.table table (slice_get catalog.tables asked.table) x.table_is is in
+    let same : x.table ≡ table = cc (x.table_is, is) in
     let calls = x.calls_are ∙ ap (query_length asked.query) same in
     let few = max_below (length (needed_blocks asked.query table.rows)) (block_count (length table.rows)) (needed_few law asked.query table) in
     omega (arith, calls, few)
@@ -61,7 +58,7 @@ request_within law catalog (rows asked) n x = λ table is. query_within law cata
 query_one : (catalog : CatalogOf) (asked : RowsRequestOf) (key : Option (List CellValue)) (m n : ℕ) → QueryTakes catalog asked key m
     → QueryTakes catalog asked key n → m ≡ n
 query_one catalog asked None m n x y =
-    let same : x.table ≡ y.table = one_value x.table y.table (slice_get catalog.tables asked.table) x.table_is y.table_is in
+    let same : x.table ≡ y.table = cc (x.table_is, y.table_is) in
     x.calls_are ∙ ap (query_length asked.query) same ∙ sym y.calls_are
 query_one catalog asked (Some key) m n x y = x ∙ sym y
 

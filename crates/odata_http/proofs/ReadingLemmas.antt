@@ -4,6 +4,7 @@ use Rattle.std.specs.Prelude.{slice_get}
 use Rattle.std.proofs.Math.Nat.{max_comm}
 use Rattle.std.proofs.lemmas.Option.{get_or_from_slice_get, slice_get_within}
 use Rattle.block_summary.specs.Ranges.{RangeOf}
+use Rattle.cell_types.specs.Value.{CellValue}
 use Rattle.csvw_meta.specs.Schema.{SchemaOf}
 use Rattle.table_store.specs.Block.{block_count}
 use Rattle.table_store.specs.Summaries.{AreSummariesOf}
@@ -11,6 +12,7 @@ use Rattle.table_store.specs.Catalog.{CatalogOf}
 use Rattle.table_store.specs.Fits.{HasTableRows}
 use Rattle.table_store.specs.Table.{TableOf}
 use Rattle.odata_parse.specs.declared.format.Format.{Format}
+use Rattle.odata_parse.specs.declared.format.Format.TheVariants.{Json, Csv}
 use Rattle.odata_query.specs.Query.{TypedOf}
 use Rattle.query_plan.specs.Laws.{NeededBlocksAreRead, PlansNeedBlocks}
 use Rattle.query_plan.specs.Needed.{needed_blocks}
@@ -23,13 +25,15 @@ use Rattle.query_exec.specs.declared.run.Run.{Run}
 use Rattle.query_exec.specs.declared.run.Step.{Step}
 use Rattle.query_exec.specs.declared.run.Step.TheVariants.{More, Done}
 use Rattle.query_exec.specs.Answer.{plan_answer}
-use Rattle.query_rows.specs.Rows.{RowsOf}
+use Rattle.query_rows.specs.Rows.{BeginWith, RowsOf}
+use Rattle.reply_text.specs.declared.row_sizes.RowSizes.{RowSizes}
+use Rattle.reply_text.specs.RowSizes.{AreCsvSizes, AreJsonSizes}
 use Rattle.query_exec.specs.Run.{AdvancesTo, RunGives, MayBeHanded, StandsFor, awaited, handed_block, next_block, run_length}
 use Rattle.odata_request.specs.Request.{RowsRequestOf}
 use Rattle.odata_http.specs.declared.reading.Reading.{Reading}
 use Rattle.odata_http.specs.Exchange.{IsReading, query_length}
 use Rattle.odata_http.specs.Work.{MayRead, StartsReading}
-use Rattle.odata_http.specs.Reply.{ResponseOf, RespondsWithRows, rows_response}
+use Rattle.odata_http.specs.Reply.{HaveSizesIn, ResponseOf, RespondsWithRows, rows_response}
 use Rattle.odata_http.proofs.LengthLemmas.{max_below}
 
 -- ---- tables and blocks
@@ -62,6 +66,26 @@ may_be_handed catalog seen reading found block may same at given =
     let is = may.2 in
     awaited (is.plan, is.table, is.handed, is.stands, block_is catalog seen reading found block may.0 may.1 is same at given)
 
+-- ---- sizes of first rows
+
+pub none_counted : (format : Format) (sizes : RowSizes) → ((rows : RowsOf) → AreJsonSizes sizes 0 rows) → ((rows : RowsOf) → AreCsvSizes sizes 0 rows)
+    → (rows : RowsOf) → HaveSizesIn format sizes rows
+none_counted Json sizes json csv rows = (0, json rows)
+none_counted Csv sizes json csv rows = (0, csv rows)
+
+-- more of the first rows, in either format
+pub counted_json : (format : Format) (old new : RowSizes) (rows : RowsOf) (names : List (List ℕ)) (first : List (List CellValue)) → format ≡ Json → BeginWith rows names first
+    → ((all : RowsOf) (count : ℕ) → BeginWith all names first → AreJsonSizes old count all → AreJsonSizes new (max count (length first)) all)
+    → HaveSizesIn format old rows → HaveSizesIn format new rows
+counted_json Json old new rows names first is begin counts has = (max has.0 (length first), counts rows has.0 begin has.1)
+counted_json Csv old new rows names first is begin counts has = absurd (cc)
+
+pub counted_csv : (format : Format) (old new : RowSizes) (rows : RowsOf) (names : List (List ℕ)) (first : List (List CellValue)) → format ≡ Csv → BeginWith rows names first
+    → ((all : RowsOf) (under : List (List ℕ)) (count : ℕ) → BeginWith all under first → AreCsvSizes old count all → AreCsvSizes new (max count (length first)) all)
+    → HaveSizesIn format old rows → HaveSizesIn format new rows
+counted_csv Json old new rows names first is begin counts has = absurd (cc)
+counted_csv Csv old new rows names first is begin counts has = (max has.0 (length first), counts rows names has.0 begin has.1)
+
 -- ---- a run that begins
 
 -- the plan needs the blocks that the query needs
@@ -75,9 +99,10 @@ pub starts : (catalog : CatalogOf) (seen : List TableOf) (asked : RowsRequestOf)
     (summaries : List (List RangeOf)) → slice_get catalog.tables number ≡ Some table → number ≡ asked.table → seen ≡ catalog.tables → found ≡ get_or seen number found
     → schema ≡ found.schema → HasTableRows found → AreSummariesOf found summaries → asked.query.key ≡ None → (first : PlanOf) → MeansQuery first asked.query → MeansTheSame table.schema first plan
     → reading.table ≡ number → reading.format ≡ asked.format → reading.counting ≡ asked.query.counting → reading.most ≡ max (length summaries) 1
+    → ((rows : RowsOf) → HaveSizesIn reading.format reading.sizes rows)
     → ((t : TableOf) → t.schema ≡ schema → HasTableRows t → AreSummariesOf t summaries → StandsFor reading.run plan t 0)
     → PlansNeedBlocks → needed plan table.rows ≡ needed_blocks asked.query table.rows → StartsReading catalog asked reading
-starts catalog seen asked number found table schema reading plan summaries is number_is same at of fit those unkeyed first means alike table_of format counting most stands law blocks =
+starts catalog seen asked number found table schema reading plan summaries is number_is same at of fit those unkeyed first means alike table_of format counting most sizes stands law blocks =
     let here = table_is catalog.tables seen number found table same at is in
     let asked_is = subst (λ (n : ℕ). slice_get catalog.tables n ≡ Some table) number_is is in
     let known : AreSummariesOf table summaries = subst (λ (t : TableOf). AreSummariesOf t summaries) here those in
@@ -101,6 +126,7 @@ starts catalog seen asked number found table schema reading plan summaries is nu
         stands = stood;
         left_are = omega (arith, calls);
         few = omega (arith, calls, bound, within);
+        counted = λ rows is. sizes rows;
       },
     )
   where
@@ -126,8 +152,10 @@ advanced_fault plan table handed run fault e h = subst (λ (f : ExecFault). Adva
 -- one call more
 pub reads_more : (catalog : CatalogOf) (asked : RowsRequestOf) (left : ℕ) (old new : Reading) → (is : IsReading catalog asked left old)
     → new.table ≡ old.table → new.format ≡ old.format → new.counting ≡ old.counting → new.most ≡ old.most → is.handed + 1 < run_length is.plan is.table
-    → StandsFor new.run is.plan is.table (is.handed + 1) → (1 < left) × IsReading catalog asked (left - 1) new
-reads_more catalog asked left old new is number format counting most goes_on stands =
+    → StandsFor new.run is.plan is.table (is.handed + 1)
+    → ((rows : RowsOf) → plan_answer is.plan is.table ≡ Some rows → HaveSizesIn old.format old.sizes rows → HaveSizesIn old.format new.sizes rows)
+    → (1 < left) × IsReading catalog asked (left - 1) new
+reads_more catalog asked left old new is number format counting most goes_on stands counts =
     let all = is.left_are in
     let few = is.few in
     let more : 1 < left = omega (arith, all, goes_on) in (
@@ -145,6 +173,7 @@ reads_more catalog asked left old new is number format counting most goes_on sta
         stands = stands;
         left_are = omega (arith, all, more);
         few = omega (arith, few, most, more);
+        counted = λ rows answers. subst (λ (f : Format). HaveSizesIn f new.sizes rows) (sym format) (counts rows answers (is.counted rows answers));
       },
     )
 

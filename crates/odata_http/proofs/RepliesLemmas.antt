@@ -1,5 +1,5 @@
 -- The replies of a stream, from the laws of its cut and of the replies to heads.
-use Rattle.std.proofs.Common.{◌≡◌, ◌<◌, ℕ, Bool, true, false, List, [], ◌∷◌, ◌++◌, length, take, arith, refl, sym, ap, ap₂, ◌∙◌, subst, MatchBool, append_assoc, append-nil}
+use Rattle.std.proofs.Common.{◌≡◌, ◌<◌, ℕ, Bool, true, false, List, [], ◌∷◌, ◌++◌, length, take, arith, refl, sym, ap, ap₂, ◌∙◌, subst, append_assoc, append-nil}
 use Rattle.std.specs.List.{AllZip, concat}
 use Rattle.std.proofs.lemmas.Bool.{false≢true}
 use Rattle.std.proofs.lemmas.List.Folds.{concat-append}
@@ -8,17 +8,11 @@ use Rattle.http_heads.specs.Head.{HeadOf}
 use Rattle.http_heads.specs.Checks.{closes}
 use Rattle.http_heads.specs.Cut.{IsCut}
 use Rattle.http_heads.specs.Laws.{OneCut, CutsJoin, HopelessRests}
+use Rattle.http_heads.proofs.ListLaws.{AllZip-append}
+use Rattle.http_heads.proofs.CaseLaws.{MatchBool_elim}
 use Rattle.odata_http.specs.Replies.{last_reply, IsCertain, AreReplies, AreFirstReplies}
 use Rattle.odata_http.specs.Reply.{rest_reply}
 use Rattle.odata_http.specs.Laws.{HopelessEnds, OneReply, OneReading, Joins}
-
--- two lists of pairs, one behind the other
-pub zip_append : {A B : Type 0} (R : A → B → Type 0) (xs : List A) (ys : List B) (us : List A) (vs : List B)
-    → AllZip R xs ys → AllZip R us vs → AllZip R (xs ++ us) (ys ++ vs)
-zip_append R [] [] us vs p q = q
-zip_append R [] (y ∷ ys) us vs p q = absurd p
-zip_append R (x ∷ xs) [] us vs p q = absurd p
-zip_append R (x ∷ xs) (y ∷ ys) us vs p q = (p.0, zip_append R xs ys us vs p.1 q)
 
 zip_one : (R : HeadOf → List ℕ → Type 0) → OneReply R → (heads : List HeadOf) (ys vs : List (List ℕ))
     → AllZip R heads ys → AllZip R heads vs → ys ≡ vs
@@ -54,7 +48,7 @@ certain_join R cuts s p c d r q b x y = record {
   heads = x.heads ++ y.heads;
   replies = x.replies ++ y.replies;
   cut = cuts.follows s p x.heads y.heads r q b x.cut y.cut;
-  each = zip_append R x.heads x.replies y.heads y.replies x.each y.each;
+  each = AllZip-append R x.heads x.replies y.heads y.replies x.each y.each;
   certain_is = ap₂ (λ (u v : List ℕ). u ++ v) x.certain_is y.certain_is ∙ sym (concat-append x.replies y.replies);
 }
 
@@ -105,14 +99,10 @@ hopeless_end R rests s p c r x never = record {
 
 -- ---- parts of the replies
 
-by_bool : {P Q R : Type 0} (b : Bool) → (P → R) → (Q → R) → MatchBool b P Q → R
-by_bool true on off m = on m
-by_bool false on off m = off m
-
 -- nothing is kept behind a head that closes
 pub cut_shut : (s : List ℕ) (heads : List HeadOf) (rest : List ℕ) → IsCut s heads rest true → rest ≡ []
 cut_shut s [] rest a = absurd (false≢true (sym a.1))
-cut_shut s (h ∷ hs) rest a = by_bool (closes h) (λ x. x.1) (λ x. cut_shut a.0 hs rest x) a.2
+cut_shut s (h ∷ hs) rest a = MatchBool_elim (closes h) (λ x. x.1) (λ x. cut_shut a.0 hs rest x) a.2
 
 -- behind a reply that closes there is none
 pub closed_replies : {R : HeadOf → List ℕ → Type 0} {s c r : List ℕ} → IsCertain R s c r true → AreReplies R s c true
@@ -153,7 +143,7 @@ first_joins {R} {s} {c} {r} {w} p cuts x y = record {
       subst P (sym (append_assoc x.heads y.answered y.others))
       (cuts.follows s p x.heads (y.answered ++ y.others) r y.rest y.closed x.cut y.cut);
   replies = x.replies ++ y.replies;
-  each = zip_append R x.heads x.replies y.answered y.replies x.each y.each;
+  each = AllZip-append R x.heads x.replies y.answered y.replies x.each y.each;
   some_is = ap₂ (λ (u v : List ℕ). u ++ v) x.certain_is y.some_is ∙ sym (concat-append x.replies y.replies);
 }
 

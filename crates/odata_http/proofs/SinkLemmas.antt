@@ -7,12 +7,12 @@ use Rattle.std.specs.List.{concat}
 use Rattle.std.proofs.lemmas.List.Folds.{concat-append}
 use Rattle.http_heads.specs.Head.{HeadOf}
 use Rattle.http_heads.specs.Cut.{IsCut}
+use Rattle.http_heads.proofs.ListLaws.{AllZip-append}
 use Rattle.odata_http.specs.declared.answer.AnswerFault.{AnswerFault}
 use Rattle.odata_http.specs.declared.answer.AnswerFault.TheVariants.{NoMemory, Write}
 use Rattle.odata_http.specs.Device.{SinkOf}
 use Rattle.odata_http.specs.Replies.{last_reply, IsCertain, AreFirstReplies, IsFrontOfReplies}
 use Rattle.odata_http.specs.Answer.{HasWritten, HasFailed, IsSent, TakesAll, AnswersAll, AnswersSome, FailsOnRest, IsTakenIn, IsRestAnswered}
-use Rattle.odata_http.proofs.RepliesLemmas.{zip_append}
 use Rattle.odata_http.proofs.AnswerLemmas.{failed_rest}
 
 pub written_none : (s : SinkOf) → HasWritten s s []
@@ -89,7 +89,7 @@ front_of_next {S} {R} {T} {answered} {head} {reply} {a} {b} stream rest closed b
         closed = closed;
         cut = let P : List HeadOf → Type 0 = λ hs. IsCut stream hs rest closed in subst P (one_behind answered head behind) cut;
         replies = all.replies ++ reply ∷ [];
-        each = zip_append R answered all.replies (head ∷ []) (reply ∷ []) all.each (is, tt);
+        each = AllZip-append R answered all.replies (head ∷ []) (reply ∷ []) all.each (is, tt);
         some_is = ap (λ (t : List ℕ). so_far ++ t) (sym (append-nil reply)) ∙ sym (concat-append all.replies (reply ∷ []));
       };
       count = length so_far + n;

@@ -13,6 +13,7 @@ use Rattle.query_exec.specs.declared.run.Step.TheVariants.{More, Done}
 use Rattle.query_exec.specs.Answer.{plan_answer}
 use Rattle.query_plan.specs.Needed.{needed_blocks}
 use Rattle.query_exec.specs.Run.{StandsFor, run_length}
+use Rattle.query_rows.specs.Rows.{RowsOf}
 use Rattle.http_heads.specs.Head.{HeadOf}
 use Rattle.http_heads.specs.Checks.{head_fault, closes}
 use Rattle.http_heads.specs.Method.{method_of}
@@ -22,7 +23,7 @@ use Rattle.odata_http.specs.declared.reading.Reading.{Reading}
 use Rattle.odata_http.specs.declared.work.Work.{Work}
 use Rattle.odata_http.specs.declared.work.Work.TheVariants.{Refuse, ListTables, Find, Read, Replied, Failed}
 use Rattle.odata_http.specs.declared.exchange.Exchange.{Exchange}
-use Rattle.odata_http.specs.Reply.{IsReply}
+use Rattle.odata_http.specs.Reply.{HaveSizesIn, IsReply}
 
 -- how many calls a query takes on its table: one for each block that it needs, and one where it needs none
 abbrev pub query_length : TypedOf → TableOf → ℕ
@@ -55,7 +56,7 @@ pub record HeadTakes (catalog : CatalogOf) (head : HeadOf) (calls : ℕ) : Type 
 abbrev pub MeansOn : TableOf → PlanOf → TypedOf → Type 0
 MeansOn table plan query = option_map (answer_of query.counting) (plan_answer plan table) ≡ query_meaning table.schema query table.rows
 
--- a run on its table of a plan that means a query without a key, so many calls before its end
+-- a run on its table of a plan that means a query without a key, so many calls before its end, and the sizes of some first rows of its answer
 pub record IsReading (catalog : CatalogOf) (asked : RowsRequestOf) (left : ℕ) (reading : Reading) : Type 0 where
   pub unkeyed : asked.query.key ≡ None
   pub table : TableOf
@@ -69,6 +70,7 @@ pub record IsReading (catalog : CatalogOf) (asked : RowsRequestOf) (left : ℕ) 
   pub stands : StandsFor reading.run plan table handed
   pub left_are : left + handed ≡ run_length plan table
   pub few : left ≤ reading.most
+  pub counted : (rows : RowsOf) → plan_answer plan table ≡ Some rows → HaveSizesIn reading.format reading.sizes rows
 
 -- the key of a query that fits its table, to be found there
 pub record IsFinding (catalog : CatalogOf) (asked : RowsRequestOf) (finding : Finding) : Type 0 where

@@ -10,7 +10,9 @@ use Rattle.reply_codes.specs.declared.code.Code.{Code}
 use Rattle.reply_codes.specs.declared.code.Code.TheVariants.{BadRequest, MethodNotAllowed, NoSuchRow, DivisionByZero}
 use Rattle.reply_text.specs.Body.{rows_text, service_text, error_text}
 use Rattle.reply_text.specs.Csv.{csv_text}
+use Rattle.reply_text.specs.declared.row_sizes.RowSizes.{RowSizes}
 use Rattle.reply_text.specs.Json.{json_row}
+use Rattle.reply_text.specs.RowSizes.{HaveCsvSizes, HaveJsonSizes}
 use Rattle.odata_parse.specs.declared.format.Format.{Format}
 use Rattle.odata_parse.specs.declared.format.Format.TheVariants.{Json, Csv}
 use Rattle.reply_codes.specs.Code.{status_of}
@@ -84,6 +86,11 @@ service_response catalog = record { status = OK; media = media.Json; body = serv
 abbrev pub rows_body : ResultOf → Format → List ℕ
 rows_body answer Json = rows_text answer
 rows_body answer Csv = csv_text answer
+
+-- these are the sizes of some first ones of the rows in that format
+abbrev pub HaveSizesIn : Format → RowSizes → ResultOf → Type 0
+HaveSizesIn Json sizes answer = HaveJsonSizes sizes answer
+HaveSizesIn Csv sizes answer = HaveCsvSizes sizes answer
 
 -- one row under names
 abbrev pub one_row : List (List ℕ) → List CellValue → ResultOf

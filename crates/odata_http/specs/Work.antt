@@ -1,5 +1,5 @@
 -- What one call makes of the work for a request.
-use Rattle.std.specs.Prelude.{◌≡◌, ◌<◌, ◌-◌, ⊤, ℕ, Bool, List, Option}
+use Rattle.std.specs.Prelude.{◌≡◌, ◌<◌, ◌-◌, ⊤, ℕ, Bool, List, Option, Some}
 use Rattle.http.specs.StatusCode.{IsStatusCode}
 use Rattle.table_store.specs.Catalog.{CatalogOf}
 use Rattle.table_store.specs.Table.{TableOf}
@@ -7,7 +7,11 @@ use Rattle.query_plan.specs.Plan.{PlanOf}
 use Rattle.query_exec.specs.declared.run.Run.{Run}
 use Rattle.query_exec.specs.declared.run.Step.{Step}
 use Rattle.query_exec.specs.declared.run.Step.TheVariants.{More, Done}
+use Rattle.query_exec.specs.Answer.{plan_answer}
 use Rattle.query_exec.specs.Run.{StandsFor}
+use Rattle.query_rows.specs.Rows.{RowsOf}
+use Rattle.odata_parse.specs.declared.format.Format.{Format}
+use Rattle.reply_text.specs.declared.row_sizes.RowSizes.{RowSizes}
 use Rattle.http_heads.specs.declared.checks.HeadFault.{HeadFault}
 use Rattle.http_heads.specs.declared.method.Method.{Method}
 use Rattle.odata_request.specs.Request.{AsksFor, RequestOf, RowsRequestOf}
@@ -19,7 +23,7 @@ use Rattle.odata_http.specs.declared.reading.Reached.TheVariants.{On, Over}
 use Rattle.odata_http.specs.declared.work.Work.{Work}
 use Rattle.odata_http.specs.declared.work.Work.TheVariants.{Find, Read, Replied, Waits}
 use Rattle.odata_http.specs.Exchange.{IsFinding, IsReading, IsWork, RequestTakes, TakesRunCalls}
-use Rattle.odata_http.specs.Reply.{ResponseOf, RespondsWith, RespondsWithRows, reply_of}
+use Rattle.odata_http.specs.Reply.{HaveSizesIn, ResponseOf, RespondsWith, RespondsWithRows, reply_of}
 
 abbrev pub response_view : Response → ResponseOf
 response_view response = record { status = response.status; media = response.media; body = response.body.bytes }
@@ -31,6 +35,15 @@ IsAskedFor catalog request = (fault : Option HeadFault) × (target : List ℕ) �
 -- the run stands for some plan on the table
 abbrev pub NeedsBlocksOf : Run → TableOf → Type 0
 NeedsBlocksOf run table = (plan : PlanOf) × (handed : ℕ) × StandsFor run plan table handed
+
+-- on some table
+abbrev pub NeedsBlocks : Run → Type 0
+NeedsBlocks run = (table : TableOf) × NeedsBlocksOf run table
+
+-- the sizes of some first rows of whatever the run is to answer, in that format, and then of more or as many
+abbrev pub CountsOn : Run → Format → RowSizes → RowSizes → Type 0
+CountsOn run format old new = (plan : PlanOf) (table : TableOf) (handed : ℕ) (rows : RowsOf) → StandsFor run plan table handed → plan_answer plan table ≡ Some rows
+    → HaveSizesIn format old rows → HaveSizesIn format new rows
 
 -- some key is to be found in these tables
 abbrev pub MayFind : CatalogOf → Finding → Type 0

@@ -33,7 +33,7 @@ impl Exchange {
         ensures { IfOk result (Begins catalog.now (head_view head)) }
     {
         let checks = check_head(&head);
-        Exchange::begin_with(alloc, catalog, &head, checks)
+        Exchange::begin_with(alloc, catalog, &head.method, &head.target, checks)
     }
 
     /// The same for a head that was checked before.
@@ -45,22 +45,23 @@ impl Exchange {
         requires { length head.now.target ≤ 8192 }
         ensures { IfOk result (Begins catalog.now head.now) }
     {
-        Exchange::begin_with(alloc, catalog, head.head(), head.checks())
+        Exchange::begin_with(alloc, catalog, head.method(), head.target(), head.checks())
     }
 
-    /// The same for a head with its checks.
+    /// The same for a head of that method and target, with its checks.
     fn begin_with(
         alloc: Global,
         catalog: &Catalog,
-        head: &Head,
+        method: &[u8],
+        target: &[u8],
         checks: Checks,
     ) -> Result<Exchange, AllocError>
-        requires small { length head.now.target.items ≤ 8192 }
-        requires checked { checks ≡ checks_of (head_view head.now) }
-        ensures { IfOk result (Begins catalog.now (head_view head.now)) }
+        requires small { length target.now ≤ 8192 }
+        ensures { (head : HeadOf) → head.method ≡ method.now → head.target ≡ target.now
+            → checks ≡ checks_of head → IfOk result (Begins catalog.now head) }
     {
-        let method = Method::of(head.method.as_slice());
-        let request = request_of(alloc, catalog, checks.fault, head.target.as_slice())?;
+        let method = Method::of(method);
+        let request = request_of(alloc, catalog, checks.fault, target)?;
         let work = Work::start(alloc, catalog, request)?;
         Ok(Exchange {
             method,

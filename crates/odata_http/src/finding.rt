@@ -50,10 +50,7 @@ impl Finding {
     fn selected(&self) -> Option<&[usize]>
         ensures { option_map (λ places. places.now) result ≡ optional_numbers self.now.select }
     {
-        match &self.select {
-            Some(places) => Some(places.as_slice()),
-            None => None,
-        }
+        self.select.as_deref()
     }
 
     /// The row, or that none has the key.

@@ -4,14 +4,14 @@ ghost use Rattle.query_plan.specs.Plan.{PlanOf};
 ghost use Rattle.query_exec.specs.Run.{StandsFor, handed_block};
 ghost use Rattle.odata_request.specs.Request.{IsRowsInside, RowsRequestOf, rows_request_view};
 ghost use Rattle.odata_http.specs.Exchange.{IsReading};
-ghost use Rattle.odata_http.specs.Work.{IsHttpStatus, MayRead, NeedsBlocksOf, ReadsOn, StartsReading};
+ghost use Rattle.odata_http.specs.Work.{CountsOn, IsHttpStatus, MayRead, NeedsBlocks, NeedsBlocksOf, ReadsOn, StartsReading};
 
 use crate::response::{Response, answer_response, error_response};
 use odata_parse::Format;
 use odata_request::RowsRequest;
 use query_exec::{ExecFault, Run, Step};
 use query_plan::{naive, needed_blocks_are_read, plans_need_blocks, rewrite};
-use reply_text::Code;
+use reply_text::{Code, RowSizes};
 use std::alloc::{AllocError, Global};
 use table_store::{Block, Catalog, Table};
 
@@ -27,6 +27,8 @@ pub(crate) struct Reading {
     /// No more calls than so many are left.
     pub(crate) most: usize,
     pub(crate) run: Run,
+    /// Those of some first rows of the answer, in its format.
+    pub(crate) sizes: RowSizes,
 }
 
 /// How far one call came.
@@ -49,6 +51,22 @@ fn next_block<'t>(run: &Run, table: &'t Table) -> Option<Block<'t>>
         Some(number) => Some(table.block(number)),
         None => None,
     }
+}
+
+/// The sizes with those of the rows that a run knows to be the first of its answer.
+fn counted(sizes: RowSizes, run: &Run, format: Format) -> RowSizes
+    requires { NeedsBlocks run.now }
+    ensures { CountsOn run.now format sizes result }
+{
+    let mut sizes = sizes;
+    let Some(front) = run.front() else {
+        return sizes;
+    };
+    match format {
+        Format::Json => sizes.count_json(front.names, front.columns),
+        Format::Csv => sizes.count_csv(front.columns),
+    }
+    sizes
 }
 
 impl Reading {
@@ -77,6 +95,7 @@ impl Reading {
                 counting,
                 most: summaries.len().max(1),
                 run,
+                sizes: RowSizes::none(),
             }),
             Err(_) => Err(AllocError),
         }
@@ -94,19 +113,15 @@ impl Reading {
         let mut run = self.run;
         let block = next_block(&run, table);
         match run.advance(alloc, block) {
-            Ok(Step::More) => Ok(Reached::On(Reading {
-                table: self.table,
-                format: self.format,
-                counting: self.counting,
-                most: self.most,
-                run,
-            })),
-            Ok(Step::Done) => Ok(Reached::Over(answer_response(
-                alloc,
-                run.finish(),
-                self.counting,
-                self.format,
-            )?)),
+            Ok(Step::More) => {
+                let sizes = counted(self.sizes, &run, self.format);
+                Ok(Reached::On(Reading { run, sizes, ..self }))
+            }
+            Ok(Step::Done) => {
+                let rows = run.finish();
+                let answer = answer_response(alloc, rows, self.counting, self.format, self.sizes)?;
+                Ok(Reached::Over(answer))
+            }
             Err(ExecFault::DivisionByZero) => Ok(Reached::Over(error_response(
                 alloc,
                 Code::DivisionByZero,

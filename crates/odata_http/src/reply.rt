@@ -5,8 +5,7 @@ ghost use Rattle.odata_http.specs.Reply.{allow_line, closing_line, field_line, f
 
 use crate::media::Media;
 use http::StatusCode;
-use itoa::Buffer;
-use reply_text::{Code, error_body};
+use reply_text::{Code, error_body, push_number};
 use std::alloc::{AllocError, Global};
 
 /// The phrase that the HTTP standards give a status.
@@ -18,13 +17,6 @@ fn phrase_of(status: u16) -> &'static str
         Ok(code) => code.canonical_reason().unwrap_or(""),
         Err(_) => "",
     }
-}
-
-/// Appends a number in decimal digits.
-fn push_number(out: &mut Vec<u8>, number: u64) -> Result<(), AllocError>
-    ensures { OnOk result (out.new.items ≡ out.old.items ++ decimal number) }
-{
-    out.extend_from_slice(Buffer::new().format(number).as_bytes())
 }
 
 /// Appends the status line.

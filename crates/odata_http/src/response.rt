@@ -4,7 +4,7 @@ ghost use Rattle.cell_types.specs.Value.{CellValue};
 ghost use Rattle.http.specs.StatusCode.{IsStatusCode};
 ghost use Rattle.query_plan.specs.Plan.{answer_of};
 ghost use Rattle.reply_codes.specs.Code.{status_of};
-ghost use Rattle.odata_http.specs.Reply.{body_for, error_response, list_response, meaning_response, number_response, one_row, reply_of, row_body, row_response, rows_body, service_response};
+ghost use Rattle.odata_http.specs.Reply.{body_for, error_response, meaning_response, number_response, one_row, reply_of, row_body, row_response, rows_body, service_response, HaveSizesIn};
 ghost use Rattle.odata_http.specs.Work.{response_view};
 
 use crate::media::Media;
@@ -12,7 +12,7 @@ use crate::reply::lines_before;
 use http_heads::Method;
 use odata_parse::Format;
 use query_exec::Rows;
-use reply_text::{BodyCursor, Code, Reply, error_body, number_body, service_body};
+use reply_text::{BodyCursor, Code, Reply, RowSizes, error_body, number_body, service_body};
 use std::alloc::{AllocError, Global};
 use table_store::Catalog;
 
@@ -62,28 +62,20 @@ pub(crate) fn service_response(alloc: Global, catalog: &Catalog) -> Result<Respo
     })
 }
 
-/// The body of rows in a format.
-fn rows_body(alloc: Global, rows: Rows, format: Format) -> Result<BodyCursor, AllocError>
+/// The body of rows in a format, of which some first ones were counted.
+fn rows_body(
+    alloc: Global,
+    rows: Rows,
+    format: Format,
+    counted: RowSizes,
+) -> Result<BodyCursor, AllocError>
+    requires { HaveSizesIn format counted rows }
     ensures { IfOk result (λ body. body.bytes ≡ rows_body rows format) }
 {
     match format {
-        Format::Json => BodyCursor::json(alloc, rows),
-        Format::Csv => BodyCursor::csv(rows),
+        Format::Json => BodyCursor::json_counted(alloc, rows, counted),
+        Format::Csv => BodyCursor::csv_counted(rows, counted),
     }
-}
-
-/// Rows in a format.
-fn list_response(alloc: Global, rows: Rows, format: Format) -> Result<Response, AllocError>
-    ensures response { IfOk result
-        (λ response. response_view response ≡ list_response format rows) }
-    ensures known { IfOk result (λ response. IsStatusCode response.status) }
-{
-    let body = rows_body(alloc, rows, format)?;
-    Ok(Response {
-        status: OK,
-        media: Media::of(format),
-        body,
-    })
 }
 
 /// A number, as plain text.
@@ -99,22 +91,28 @@ fn number_response(alloc: Global, number: u64) -> Result<Response, AllocError>
     })
 }
 
-/// What the rows of a run answer: where their number alone is asked for, it is their count.
+/// What the rows of a run answer, of which some first ones were counted: where their number alone is asked for, it is their count.
 pub(crate) fn answer_response(
     alloc: Global,
     rows: Rows,
     counting: bool,
     format: Format,
+    counted: RowSizes,
 ) -> Result<Response, AllocError>
+    requires { HaveSizesIn format counted rows }
     ensures response { IfOk result (λ response. response_view response
         ≡ meaning_response format (answer_of counting rows)) }
     ensures known { IfOk result (λ response. IsStatusCode response.status) }
 {
     if counting {
-        number_response(alloc, rows.count().unwrap_or(0))
-    } else {
-        list_response(alloc, rows, format)
+        return number_response(alloc, rows.count().unwrap_or(0));
     }
+    let body = rows_body(alloc, rows, format, counted)?;
+    Ok(Response {
+        status: OK,
+        media: Media::of(format),
+        body,
+    })
 }
 
 /// The body of one row in a format.

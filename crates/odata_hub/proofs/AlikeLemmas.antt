@@ -1,10 +1,11 @@
 -- A connection's answers hang on its own calls alone.
 use Rattle.std.proofs.Common.{◌≡◌, ℕ, Bool, true, false, List, [], ◌∷◌, ◌++◌, Option, Some, None, refl, sym, ap, subst, ◌∙◌}
-use Rattle.std.specs.Prelude.{MatchBool, nat_le}
+use Rattle.std.specs.Prelude.{nat_le}
 use Rattle.table_store.specs.Catalog.{CatalogOf}
 use Rattle.http_heads.specs.Head.{HeadOf}
 use Rattle.http_heads.specs.Laws.{OneCut}
 use Rattle.odata_http.specs.Laws.{OneLength, OneReply, UnderTables}
+use Rattle.http_heads.proofs.CaseLaws.{MatchBool_elim_two}
 use Rattle.odata_hub.specs.Streams.{Asked, asked}
 use Rattle.odata_hub.specs.Connections.{ConnOf, FlightOf, Call, Piece, End, Turn, Take, Answer, IsFed, AddsReply, BeginsNext, IsTurnedBy, IsAfter, answer_to, Own, Run, calls_of, HasMemory}
 use Rattle.odata_hub.proofs.CallLemmas.{answered}
@@ -15,10 +16,6 @@ fed_one cuts c d e catalog bytes f g =
     let fed : List HeadOf → List ℕ → Bool → ConnOf = λ hs l b. record c { rest = l; waiting = c.waiting ++ asked catalog hs; closed = b } in
     f.new_is ∙ ap (λ hs. fed hs f.rest f.closed) same.0 ∙ ap (λ l. fed g.heads l f.closed) same.1
     ∙ ap (λ b. fed g.heads g.rest b) same.2 ∙ sym g.new_is
-
-two_by_bool : {P Q S T R : Type 0} (b : Bool) → (P → S → R) → (Q → T → R) → MatchBool b P Q → MatchBool b S T → R
-two_by_bool true on off m n = on m n
-two_by_bool false on off m n = off m n
 
 reply_one : UnderTables OneReply → (c d e : ConnOf) (a : Asked) → AddsReply c a d → AddsReply c a e → d ≡ e
 reply_one one c d e a x y =
@@ -33,7 +30,7 @@ next_one lengths c d e a waiting x y =
 turned_one : UnderTables OneReply → OneLength → (c d e : ConnOf) (flight : Option FlightOf) (waiting : List Asked) (ended : Bool) (rest : List ℕ)
     → IsTurnedBy c flight waiting ended rest d → IsTurnedBy c flight waiting ended rest e → d ≡ e
 turned_one one lengths c d e (Some f) waiting ended rest x y =
-    two_by_bool (nat_le f.left 1) (λ p q. reply_one one c d e f.asked p q) (λ p q. p ∙ sym q) x y
+    MatchBool_elim_two (nat_le f.left 1) (λ p q. reply_one one c d e f.asked p q) (λ p q. p ∙ sym q) x y
 turned_one one lengths c d e None (a ∷ waiting) ended rest x y = next_one lengths c d e a waiting x y
 turned_one one lengths c d e None [] true rest x y = x ∙ sym y
 turned_one one lengths c d e None [] false rest x y = x ∙ sym y
@@ -41,11 +38,11 @@ turned_one one lengths c d e None [] false rest x y = x ∙ sym y
 -- a call leads to one state
 after_one : OneCut → UnderTables OneReply → OneLength → (c d e : ConnOf) (call : Call) → IsAfter c call d → IsAfter c call e → d ≡ e
 after_one cuts one lengths c d e (Piece catalog bytes) h g =
-    two_by_bool c.failed (λ p q. p ∙ sym q)
-    (two_by_bool c.ended (λ p q. p ∙ sym q) (two_by_bool c.closed (λ p q. p ∙ sym q) (fed_one cuts c d e catalog bytes))) h g
+    MatchBool_elim_two c.failed (λ p q. p ∙ sym q)
+    (MatchBool_elim_two c.ended (λ p q. p ∙ sym q) (MatchBool_elim_two c.closed (λ p q. p ∙ sym q) (fed_one cuts c d e catalog bytes))) h g
 after_one cuts one lengths c d e End h g = h ∙ sym g
 after_one cuts one lengths c d e Turn h g =
-    two_by_bool c.failed (λ p q. p ∙ sym q) (turned_one one lengths c d e c.flight c.waiting c.ended c.rest) h g
+    MatchBool_elim_two c.failed (λ p q. p ∙ sym q) (turned_one one lengths c d e c.flight c.waiting c.ended c.rest) h g
 after_one cuts one lengths c d e (Take room) h g = h ∙ sym g
 
 own_equal : (o p : Own) → o.call ≡ p.call → o.answer ≡ p.answer → o ≡ p

@@ -2,6 +2,7 @@
 use Rattle.std.proofs.Common.{◌≡◌, ◌⊎◌, ℕ, Bool, true, false, List, [], ◌∷◌, ◌++◌, Option, Some, None, refl, sym, ap, subst, ◌∙◌, inl, inr, append_assoc, append-nil}
 use Rattle.std.specs.Prelude.{◌||◌}
 use Rattle.std.specs.List.{AllZip, concat}
+use Rattle.std.proofs.Math.Bool.{or-false}
 use Rattle.table_store.specs.Catalog.{CatalogOf}
 use Rattle.http_heads.specs.Cut.{IsCut}
 use Rattle.http_heads.specs.Laws.{OneCut, CutsJoin}
@@ -56,10 +57,6 @@ Keeps-fresh cuts = record {
   ended_is = λ _. refl;
   rests = λ _ e. absurd (cc e);
 }
-
-pub or-false : (b : Bool) → b || false ≡ b
-or-false true = refl
-or-false false = refl
 
 -- a call that is refused
 pub Keeps-same : (c : ConnOf) (s : List Came) (e : Bool) (t : List ℕ) → Keeps c s e t → Keeps c (s ++ []) (e || false) (t ++ [])

@@ -1,6 +1,7 @@
 -- A connection stands where its calls lead to.
-use Rattle.std.proofs.Common.{◌≡◌, ℕ, Bool, true, false, List, [], ◌∷◌, ◌++◌, Option, refl, subst, inl, inr, append_assoc}
+use Rattle.std.proofs.Common.{ℕ, Bool, true, false, List, [], ◌∷◌, ◌++◌, Option, refl, subst, inl, inr, append_assoc}
 use Rattle.std.specs.Prelude.{◌||◌}
+use Rattle.std.proofs.Math.Bool.{or_assoc}
 use Rattle.table_store.specs.Catalog.{CatalogOf}
 use Rattle.http_heads.specs.Laws.{OneCut, CutsJoin}
 use Rattle.odata_hub.specs.declared.answers.HubFault.TheVariants.{NoMemory}
@@ -79,16 +80,12 @@ Keeps-step : CutsJoin → (c d : ConnOf) (call : Call) (answer : Answer) (s : Li
 Keeps-step joins c d call answer s e t (inl h) k = rw h.0 (Keeps-answered joins c d call s e t h.1 k)
 Keeps-step joins c d call answer s e t (inr h) k = rw h.0 (Keeps-wanting c d call s e t h.2 k)
 
-or-assoc : (a b c : Bool) → (a || b) || c ≡ a || (b || c)
-or-assoc true b c = refl
-or-assoc false b c = refl
-
 -- and so does each run
 Keeps-run : CutsJoin → (c d : ConnOf) (os : List Own) (s : List Came) (e : Bool) (t : List ℕ) → Run c os d → Keeps c s e t
     → Keeps d (s ++ stream_of os) (e || input_ended os) (t ++ taken_of os)
 Keeps-run joins c d [] s e t h k = rw h (Keeps-same c s e t k)
 Keeps-run joins c d (o ∷ os) s e t h k =
-    rw (← append_assoc s (came_with o.call o.answer) (stream_of os), ← or-assoc e (ends_with o.call o.answer) (input_ended os), ← append_assoc t (given_by o.answer) (taken_of os))
+    rw (← append_assoc s (came_with o.call o.answer) (stream_of os), ← or_assoc e (ends_with o.call o.answer) (input_ended os), ← append_assoc t (given_by o.answer) (taken_of os))
     (Keeps-run joins h.0 d os _ _ _ h.2 (Keeps-step joins c h.0 o.call o.answer s e t h.1 k))
 
 -- from the opening on

@@ -1,6 +1,7 @@
 -- Steps of a connection by what it is: failed, ended, closed or none of these.
-use Rattle.std.proofs.Common.{◌≡◌, ℕ, Bool, true, false, List, Option, None, refl, sym, subst, inl, inr}
+use Rattle.std.proofs.Common.{◌≡◌, ℕ, true, false, List, Option, None, refl, sym, subst, inl, inr}
 use Rattle.table_store.specs.Catalog.{CatalogOf}
+use Rattle.http_heads.proofs.CaseLaws.{MatchBool-from_false}
 use Rattle.odata_hub.specs.declared.answers.HubFault.TheVariants.{Ended, Failed, NoMemory}
 use Rattle.odata_hub.specs.declared.answers.Turned.{Turned}
 use Rattle.odata_hub.specs.declared.answers.Turned.TheVariants.{Idle, Worked}
@@ -8,10 +9,7 @@ use Rattle.odata_hub.specs.declared.connection.Connection.{Connection}
 use Rattle.odata_hub.specs.Connections.{ConnOf, FlightOf, Call, Piece, End, Turn, Answer, Done, Went, Refused, IsFed, IsFailed, IsTurned, works, Step}
 use Rattle.odata_hub.specs.Held.{FlightHeld, IsInFlight}
 use Rattle.odata_hub.specs.Stands.{IsConnStep, conn_of}
-use Rattle.std.specs.Prelude.{MatchBool, if◌then◌else◌}
-
-if_false : (P Q : Type 0) (b : Bool) → b ≡ false → Q → MatchBool b P Q
-if_false P Q b e q = let F : Bool → Type 0 = λ x. MatchBool x P Q in subst F (sym e) q
+use Rattle.std.specs.Prelude.{if◌then◌else◌}
 
 pub piece_failed : (c : ConnOf) (catalog : CatalogOf) (bytes : List ℕ) → c.failed ≡ true → Step c (Piece catalog bytes) (Refused Failed) c
 piece_failed c catalog bytes e = inl (rw e refl, rw e refl)
@@ -26,7 +24,7 @@ piece_closed c catalog bytes e f g = inl (rw (e, f) refl, rw (e, f, g) refl)
 
 pub piece_fed : (c d : ConnOf) (catalog : CatalogOf) (bytes : List ℕ) → c.failed ≡ false → c.ended ≡ false → c.closed ≡ false
     → IsFed c catalog bytes d → Step c (Piece catalog bytes) Done d
-piece_fed c d catalog bytes e f g x = inl (rw (e, f) refl, if_false _ _ c.failed e (if_false _ _ c.ended f (if_false _ _ c.closed g x)))
+piece_fed c d catalog bytes e f g x = inl (rw (e, f) refl, MatchBool-from_false _ _ c.failed e (MatchBool-from_false _ _ c.ended f (MatchBool-from_false _ _ c.closed g x)))
 
 pub piece_wants : (c d : ConnOf) (catalog : CatalogOf) (bytes : List ℕ) → c.failed ≡ false → c.ended ≡ false → c.closed ≡ false → IsFailed c d
     → Step c (Piece catalog bytes) (Refused NoMemory) d
@@ -46,7 +44,7 @@ turn_failed c e = inl (rw e refl, rw e refl)
 
 pub turn_went : (c d : ConnOf) (went : Turned) → c.failed ≡ false → IsTurned c d → went ≡ (if works c then Worked else Idle)
     → Step c Turn (Went went) d
-turn_went c d went e x is = inl (rw (e, is) refl, if_false _ _ c.failed e x)
+turn_went c d went e x is = inl (rw (e, is) refl, MatchBool-from_false _ _ c.failed e x)
 
 pub turn_wants : (c d : ConnOf) → c.failed ≡ false → works c ≡ true → IsFailed c d → Step c Turn (Refused NoMemory) d
 turn_wants c d e w x = inr (refl, (e, w), x)

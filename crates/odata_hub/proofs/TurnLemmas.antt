@@ -1,31 +1,23 @@
 -- What a turn adds to the output of a connection, and what is taken of it, leave the replies of its stream as they are.
 use Rattle.std.proofs.Common.{◌≡◌, ℕ, ◌-◌, Bool, true, false, List, [], ◌∷◌, ◌++◌, take, drop, Option, Some, None, refl, sym, ap, subst, ◌∙◌, inl, inr, append_assoc, append-nil}
-use Rattle.std.specs.Prelude.{◌||◌, MatchBool, nat_le}
-use Rattle.std.specs.List.{AllZip, concat}
+use Rattle.std.specs.Prelude.{◌||◌, nat_le}
+use Rattle.std.specs.List.{concat}
 use Rattle.std.proofs.lemmas.List.{take-append-drop}
 use Rattle.std.proofs.lemmas.List.Folds.{concat-append}
+use Rattle.std.proofs.Math.Bool.{or-false}
 use Rattle.odata_http.specs.Replies.{last_reply}
+use Rattle.http_heads.proofs.ListLaws.{AllZip-append}
+use Rattle.http_heads.proofs.CaseLaws.{MatchBool_elim}
 use Rattle.odata_hub.specs.Streams.{Came, Asked, IsCutUnder}
 use Rattle.odata_hub.specs.Replies.{IsReplyTo, IsBehind}
 use Rattle.odata_hub.specs.Connections.{ConnOf, FlightOf, IsTurnedBy}
-use Rattle.odata_hub.proofs.ConnLemmas.{Keeps, conn, heads_in, or-false}
-
-by_bool : {P Q R : Type 0} (b : Bool) → (P → R) → (Q → R) → MatchBool b P Q → R
-by_bool true on off m = on m
-by_bool false on off m = off m
+use Rattle.odata_hub.proofs.ConnLemmas.{Keeps, conn, heads_in}
 
 -- no reply to a rest is there while a head is not answered
 none_before : (ended : Bool) (others : List Asked) (left behind : List ℕ) (a : Asked) (more : List Asked) → a ∷ more ≡ others
     → IsBehind ended others left behind → behind ≡ []
 none_before ended others left behind a more e (inl none) = none
 none_before ended others left behind a more e (inr x) = absurd (cc (e, x.1))
-
-zip_append : {A B : Type 0} (R : A → B → Type 0) (xs : List A) (ys : List B) (us : List A) (vs : List B)
-    → AllZip R xs ys → AllZip R us vs → AllZip R (xs ++ us) (ys ++ vs)
-zip_append R [] [] us vs p q = q
-zip_append R [] (y ∷ ys) us vs p q = absurd p
-zip_append R (x ∷ xs) [] us vs p q = absurd p
-zip_append R (x ∷ xs) (y ∷ ys) us vs p q = (p.0, zip_append R xs ys us vs p.1 q)
 
 -- one more reply in the output
 one_more : (t o r b : List ℕ) (each : List (List ℕ)) → b ≡ [] → t ++ o ≡ concat each ++ b → t ++ (o ++ r) ≡ concat (each ++ r ∷ []) ++ b
@@ -52,7 +44,7 @@ Keeps-reply f waiting ended rest output closed s t reply is k =
       shut = k.shut;
       cut = subst A heads k.cut;
       each = k.each ++ reply ∷ [];
-      are = zip_append IsReplyTo k.answered k.each (f.asked ∷ []) (reply ∷ []) k.are (is, tt);
+      are = AllZip-append IsReplyTo k.answered k.each (f.asked ∷ []) (reply ∷ []) k.are (is, tt);
       behind = k.behind;
       behind_is = inl none;
       all = one_more t output reply k.behind k.each none k.all;
@@ -132,7 +124,7 @@ Keeps-flight flight next waiting others ended rest output closed s t same k = re
 pub Keeps-turn : (flight : Option FlightOf) (waiting : List Asked) (ended : Bool) (rest output : List ℕ) (closed : Bool) (d : ConnOf) (s : List Came)
     (t : List ℕ) → IsTurnedBy (conn rest waiting flight output closed ended false) flight waiting ended rest d
     → Keeps (conn rest waiting flight output closed ended false) s ended t → Keeps d s ended t
-Keeps-turn (Some f) waiting ended rest output closed d s t h k = by_bool (nat_le f.left 1)
+Keeps-turn (Some f) waiting ended rest output closed d s t h k = MatchBool_elim (nat_le f.left 1)
     (λ x. rw x.new_is (Keeps-reply f waiting ended rest output closed s t x.reply x.is k))
     (λ x. rw x (Keeps-flight (Some f) (Some (record { asked = f.asked; left = f.left - 1 })) waiting waiting ended rest output closed s t refl k))
     h

@@ -44,6 +44,13 @@ impl Connection {
         }
     }
 
+    /// Another exchange is in flight, or none. Here alone the one before it is let go, since each function that may let one go is dear to prove.
+    fn set_flight(&mut self, flight: Option<Flight>)
+        ensures { self.new ≡ record self.old { flight = flight } }
+    {
+        self.flight = flight;
+    }
+
     /// Memory ran out: of what the connection held only the output is kept.
     fn fail(&mut self, alloc: Global)
         ensures flight { self.new.flight ≡ None }
@@ -51,7 +58,7 @@ impl Connection {
     {
         self.splitter = Splitter::new(alloc);
         self.waiting = VecDeque::new(alloc);
-        self.flight = None;
+        self.set_flight(None);
         self.failed = true;
     }
 
@@ -107,10 +114,10 @@ impl Connection {
         ensures err { OnErr result (KeepsOutput self.old self.new) }
     {
         match flight.go_on(alloc)? {
-            Gone::On(flight) => self.flight = Some(flight),
+            Gone::On(flight) => self.set_flight(Some(flight)),
             Gone::Replied(reply) => {
                 self.output.give_reply(reply)?;
-                self.flight = None;
+                self.set_flight(None);
             }
         }
         Ok(Turned::Worked)
@@ -145,7 +152,8 @@ impl Connection {
     {
         match self.waiting.pop_front() {
             Some(next) => {
-                self.flight = Some(next.begin(alloc)?);
+                let flight = next.begin(alloc)?;
+                self.set_flight(Some(flight));
                 Ok(Turned::Worked)
             }
             None => self.answer_rest(alloc),

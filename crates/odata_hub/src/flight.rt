@@ -42,17 +42,13 @@ pub(crate) struct Flight {
 
 impl Model for Flight {
     ghost use Rattle.std.specs.Coded.{codes};
-    ghost use Rattle.key_places.specs.Places.{keys_of_code};
-    ghost use Rattle.typed_trees.specs.contracts.tree.DecimalExpr as decimals;
-    ghost use Rattle.typed_trees.specs.contracts.tree.IntegerExpr as integers;
-    ghost use Rattle.typed_trees.specs.contracts.tree.TextExpr as texts;
-    ghost use Rattle.typed_trees.specs.contracts.tree.TruthExpr as truths;
+    ghost use Rattle.odata_http.specs.contracts.lazy.LazyExchange as exchanges;
     ghost use Rattle.odata_http.specs.Lazy.{MayGoOnLazily};
     ghost use Rattle.odata_hub.specs.Held.{FlightHeld};
 
     ghost Value = { FlightHeld };
 
-    ghost coded = { Prim.hlevel (codes, keys_of_code, texts.the_row.coded, integers.the_row.coded, decimals.the_row.coded, truths.the_row.coded) };
+    ghost coded = { Prim.hlevel (codes, exchanges.the_row.coded) };
 
     ghost view = { λ flight. record { catalog = flight.catalog.value; exchange = flight.exchange } };
 

@@ -4,8 +4,8 @@ ghost use Rattle.std.specs.Prelude.{◌<◌, ◌^◌, length};
 use crate::answers::{HubFault, Turned};
 use crate::connection::Connection;
 use crate::places::{
-    closed_at, end_at, first_free, free_at, hopeless_at, piece_at, take_at, took_at, turn_at,
-    waiting_at,
+    closed_at, end_at, first_free, free_at, hopeless_at, piece_at, put_at, take_at, took_at,
+    turn_at, waiting_at,
 };
 use std::alloc::{AllocError, Global};
 use std::rc::Rc;
@@ -52,7 +52,8 @@ impl Hub {
     {
         match first_free(self.places.as_slice()) {
             Some(place) => {
-                self.places[place] = Some(Connection::new(self.alloc));
+                let opened = Connection::new(self.alloc);
+                put_at(&mut self.places, place, Some(opened));
                 Ok(Conn(place as u32))
             }
             None => Err(HubFault::Full),

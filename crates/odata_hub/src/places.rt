@@ -1,5 +1,5 @@
 //! Calls on the connection at a place.
-ghost use Rattle.std.specs.Prelude.{◌≡◌, ◌≤◌, IfOk, OnErr, drop, is_none, length, take};
+ghost use Rattle.std.specs.Prelude.{◌≡◌, ◌<◌, ◌≤◌, IfOk, OnErr, drop, is_none, length, set, take};
 ghost use Rattle.std.specs.List.{position};
 ghost use Rattle.table_store.specs.Catalog.{CatalogOf};
 ghost use Rattle.odata_hub.specs.Connections.{Done, End, Gave, Piece, Take, Turn, Went, call_answer};
@@ -139,6 +139,18 @@ pub(crate) fn took_at(
     }
 }
 
+/// Puts a connection, or none, at a place. Here alone one that was there is let go, since each function that may let one go is dear to prove.
+pub(crate) fn put_at(
+    places: &mut [Option<Connection>],
+    place: usize,
+    connection: Option<Connection>,
+)
+    requires { place < length places.old }
+    ensures { places.new ≡ set places.old place connection }
+{
+    places[place] = connection;
+}
+
 /// Frees a place that is taken.
 pub(crate) fn free_at(places: &mut [Option<Connection>], place: u32) -> Result<(), HubFault>
     ensures step { (catalog : CatalogOf) → IsPlacesStep catalog places.old (Drop place)
@@ -152,7 +164,7 @@ pub(crate) fn free_at(places: &mut [Option<Connection>], place: u32) -> Result<(
     if places[place].is_none() {
         return Err(HubFault::NoSuchConnection);
     }
-    places[place] = None;
+    put_at(places, place, None);
     Ok(())
 }
 

@@ -1,11 +1,10 @@
 -- Each token is a slice of its source, between two boundaries of characters, and each begins where the one before it ends, or later.
 use Rattle.std.proofs.Common.{◌≡◌, ℕ, zero, suc, ◌+◌, ◌-◌, ◌≤◌, ◌<◌, List, [], ◌∷◌, ◌++◌, length, take, drop, get_or, refl, ap, ◌∙◌, sym, subst, arith, length-append, length-drop, length-take, IsUtf8, true, add-zero}
 use Rattle.std.proofs.lemmas.Bool.Decides.{nat_tests}
-use Rattle.std.proofs.lemmas.List.{take_at, drop_at, get_or-drop, get_or-take, get_or_append_left, get_or-append-add, drop-drop, length_push}
+use Rattle.std.proofs.lemmas.List.{take_at, drop_at, get_or-drop, get_or-take, get_or_append_left, get_or-append-add, drop-drop, length_push, get_or_push}
 use Rattle.std.proofs.lemmas.List.Elements.{All-cons, All-nil}
 use Rattle.std.proofs.lemmas.Str.{IsCharBoundary-before_ascii, IsCharBoundary-after_ascii}
 use Rattle.std.proofs.lemmas.Str.Parse.{digit_at}
-use Rattle.std.proofs.Math.Seq.{get_or-append_seam}
 use Rattle.std.specs.List.{All}
 use Rattle.std.specs.Str.Parse.{AllDigits}
 use Rattle.odata_lex.specs.Lexer.{BeginsToken, ReadsTokensFrom, reads_end, reads_blank, reads_token, IsTokenAt, AreTokensInOrder}
@@ -45,10 +44,6 @@ after_dollar name some ends =
     let e : length (dollar ∷ name) - 1 ≡ suc (length name - 1) = omega arith in
     let last : get_or (dollar ∷ name) (length (dollar ∷ name) - 1) 0 < 128 = rw e ends.last in record { first = omega arith; last = last }
 
-last_of : (xs : List ℕ) (y : ℕ) → get_or (xs ++ y ∷ []) (length (xs ++ y ∷ []) - 1) 0 ≡ y
-last_of xs y =
-    let e : length (xs ++ y ∷ []) - 1 ≡ length xs = omega (arith, length_push xs y) in rw e (get_or-append_seam xs y [] 0)
-
 decimal_ends : (whole fraction : List ℕ) → AllDigits 10 whole → AllDigits 10 fraction → 0 < length whole → 0 < length fraction → AsciiEnds (whole ++ point ∷ fraction)
 decimal_ends whole fraction before behind some_before some_behind =
     let long = length-append whole (point ∷ fraction) in
@@ -61,7 +56,10 @@ decimal_ends whole fraction before behind some_before some_behind =
 
 ascii_ends : (kind : TokenKind) (front : List ℕ) → IsOfTokenKind kind front → AsciiEnds front
 ascii_ends Text front form =
-    let last_is : get_or front (length front - 1) 0 ≡ apostrophe = ap (λ (f : List ℕ). get_or f (length f - 1) 0) form.printed ∙ last_of (apostrophe ∷ apostrophes_doubled form.content) apostrophe in
+    let inside = apostrophe ∷ apostrophes_doubled form.content in
+    let last_is : get_or front (length front - 1) 0 ≡ apostrophe =
+    ap (λ (f : List ℕ). get_or f (length f - 1) 0) form.printed
+    ∙ get_or_push inside apostrophe 0 (length (inside ++ apostrophe ∷ []) - 1) (omega (arith, length_push inside apostrophe)) in
     record { first = rw form.printed (omega arith); last = omega (arith, last_is) }
 ascii_ends Date front form =
     let long : length front ≡ 10 = form.form.ten in

@@ -12,10 +12,6 @@ use Rattle.std.specs.List.{after_first, before_first, ends_with, list_any, posit
 use Rattle.table_store.specs.Table.{TableOf}
 use Rattle.odata_request.specs.Resource.{count, has_parenthesis, in_table, is_count_path, is_parenthesis, one_resource, other_resource, path_resource, table_number, without_end}
 
-pub list_any-map : {X Y : Type 0} (p : Y → Bool) (h : X → Y) (xs : List X) → list_any p (map h xs) ≡ list_any (λ x. p (h x)) xs
-list_any-map p h [] = refl
-list_any-map p h (x ∷ xs) = ap (λ (b : Bool). p (h x) || b) (list_any-map p h xs)
-
 -- some element passes where the first place that passes is one, and no other
 pub some_place : {X : Type 0} (p : X → Bool) (xs : List X) → position_or_len p xs < length xs → list_any p xs ≡ true
 some_place p [] less = absurd (omega (arith, less))

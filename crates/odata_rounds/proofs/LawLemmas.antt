@@ -3,6 +3,8 @@ use Rattle.std.proofs.Common.{◌≡◌, ◌≢◌, ℕ, zero, suc, List, [], �
 use Rattle.std.specs.Prelude.{Bool, true, false, ◌==◌, if◌then◌else◌, ◌||◌}
 use Rattle.std.proofs.lemmas.Bool.Decides.{eqb_tells}
 use Rattle.std.specs.Io.KnownBytes.{Appends, Consumes}
+use Rattle.std.proofs.Math.Bool.{or_assoc}
+use Rattle.std.proofs.KnownBytes.{Appends-trans, Consumes-trans}
 use Rattle.odata_hub.specs.Connections.{Answer, Call, End, Own, Piece, Take, Turn, came_with, ends_with, given_by, input_ended, stream_of, taken_of}
 use Rattle.odata_hub.specs.Laws.{GivesReplies}
 use Rattle.odata_hub.specs.Schedules.{Drop, Event, Happening, On, Open, Reload, own_before, own_of}
@@ -24,22 +26,6 @@ given_join (o ∷ os) ps = ap (λ l. given_by o.answer ++ l) (given_join os ps) 
 pieces_join : (os ps : List Own) → pieces_of (os ++ ps) ≡ pieces_of os ++ pieces_of ps
 pieces_join [] ps = refl
 pieces_join (o ∷ os) ps = ap (λ l. piece_of o.call ++ l) (pieces_join os ps) ∙ sym (append_assoc (piece_of o.call) (pieces_of os) (pieces_of ps))
-
-appends_join : (a b c : Option (List ℕ)) (xs ys : List ℕ) → Appends a b xs → Appends b c ys → Appends a c (xs ++ ys)
-appends_join None b c xs ys p q = tt
-appends_join (Some x) None c xs ys p q = absurd p
-appends_join (Some x) (Some y) None xs ys p q = absurd q
-appends_join (Some x) (Some y) (Some z) xs ys p q = q ∙ ap (λ l. l ++ ys) p ∙ append_assoc x xs ys
-
-consumes_join : (a b c : Option (List ℕ)) (xs ys : List ℕ) → Consumes a b xs → Consumes b c ys → Consumes a c (xs ++ ys)
-consumes_join None b c xs ys p q = tt
-consumes_join (Some x) None c xs ys p q = absurd p
-consumes_join (Some x) (Some y) None xs ys p q = absurd q
-consumes_join (Some x) (Some y) (Some z) xs ys p q = p ∙ ap (λ l. xs ++ l) q ∙ sym (append_assoc xs ys z)
-
-or_assoc : (a b c : Bool) → (a || b) || c ≡ a || (b || c)
-or_assoc true b c = refl
-or_assoc false b c = refl
 
 ended_join : (os ps : List Own) → input_ended (os ++ ps) ≡ input_ended os || input_ended ps
 ended_join [] ps = refl
@@ -64,8 +50,8 @@ pub moves_join : MovesJoin
 moves_join a b c os ps p q =
     let P : List ℕ → Type 0 = λ l. Consumes a.left c.left l in
     let Q : List ℕ → Type 0 = λ l. Appends a.taken c.taken l in record {
-      taken = subst Q (sym (given_join os ps)) (appends_join _ _ _ (taken_of os) (taken_of ps) p.taken q.taken);
-      left = subst P (sym (pieces_join os ps)) (consumes_join _ _ _ (pieces_of os) (pieces_of ps) p.left q.left);
+      taken = subst Q (sym (given_join os ps)) (Appends-trans _ _ _ (taken_of os) (taken_of ps) p.taken q.taken);
+      left = subst P (sym (pieces_join os ps)) (Consumes-trans _ _ _ (pieces_of os) (pieces_of ps) p.left q.left);
       ended = λ e. read_out_join _ _ _ (pieces_of os) (pieces_of ps) (input_ended os) (input_ended ps) p.left q.left p.ended q.ended
           (sym (ended_join os ps) ∙ e);
     }

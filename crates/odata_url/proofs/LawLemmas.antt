@@ -11,10 +11,10 @@ use Rattle.percent_encoding.specs.Percent.{percent_encode_byte}
 use Rattle.odata_url.specs.Escapes.{percent_sign, octet, octets_of}
 use Rattle.odata_url.specs.Laws.{Encodes, nothing, itself, escape, escaped_text}
 
--- what an option is made of
-some-option_map : {A B : Type 0} (f : A → B) (o : Option A) (y : B) → option_map f o ≡ Some y → (x : A) × (o ≡ Some x) × (f x ≡ y)
-some-option_map f None y whole = cc
-some-option_map f (Some x) y whole = (x, refl, cc)
+-- octets after a first one
+octets_after : (first : ℕ) (o : Option (List ℕ)) (octets : List ℕ) → option_map (λ rest. first ∷ rest) o ≡ Some octets → (rest : List ℕ) × (o ≡ Some rest) × (first ∷ rest ≡ octets)
+octets_after first None octets whole = cc
+octets_after first (Some rest) octets whole = (rest, refl, cc)
 
 -- where a test fails, what stands behind it is there
 some-if : {A : Type 0} (test : Bool) (o other : Option A) (y : A) → test ≡ true → cond test o other ≡ Some y → o ≡ Some y
@@ -26,13 +26,13 @@ some-unless test o other y is whole = sym (cond-false test o other is) ∙ whole
 -- a byte that stands for itself comes first
 Encodes-itself : (b : ℕ) (text octets : List ℕ) (o : Option (List ℕ)) → (b == percent_sign) ≡ false → option_map (λ rest. b ∷ rest) o ≡ Some octets → ((rest : List ℕ) → o ≡ Some rest → Encodes text rest) → Encodes (b ∷ text) octets
 Encodes-itself b text octets o other whole behind =
-    let rest = some-option_map (λ rest. b ∷ rest) o octets whole in
+    let rest = octets_after b o octets whole in
     subst (Encodes (b ∷ text)) rest.2 (itself b text rest.0 (eqb-false b percent_sign other) (behind rest.0 rest.1))
 
 -- an escape does
 Encodes-escape : (b high low : ℕ) (text octets : List ℕ) (o : Option (List ℕ)) → (b == percent_sign) ≡ true → (is_ascii_hexdigit high && is_ascii_hexdigit low) ≡ true → option_map (λ rest. octet high low ∷ rest) o ≡ Some octets → ((rest : List ℕ) → o ≡ Some rest → Encodes text rest) → Encodes (b ∷ high ∷ low ∷ text) octets
 Encodes-escape b high low text octets o percent hex whole behind =
-    let rest = some-option_map (λ rest. octet high low ∷ rest) o octets whole in
+    let rest = octets_after (octet high low) o octets whole in
     let both = and_parts (is_ascii_hexdigit high) (is_ascii_hexdigit low) hex in
     subst (λ first. Encodes (first ∷ high ∷ low ∷ text) octets) (sym (eqb-true b percent_sign percent))
     (subst (Encodes (percent_sign ∷ high ∷ low ∷ text)) rest.2 (escape high low text rest.0 both.0 both.1 (behind rest.0 rest.1)))

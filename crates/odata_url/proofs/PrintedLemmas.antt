@@ -1,5 +1,5 @@
 -- A target that is written out, read again.
-use Rattle.std.proofs.Common.{◌≡◌, ◌≢◌, ℕ, ◌<◌, ◌/◌, ◌%◌, true, false, not, List, [], ◌∷◌, ◌++◌, map, length, Some, Ok, IsUtf8, All, refl, sym, ap, subst, ◌∙◌, arith, ⊎_elim, append_assoc, append-nil, ltb}
+use Rattle.std.proofs.Common.{◌≡◌, ◌≢◌, ℕ, ◌<◌, ◌/◌, ◌%◌, true, false, not, List, [], ◌∷◌, ◌++◌, map, length, Some, Ok, IsUtf8, All, refl, sym, ap, subst, ◌∙◌, arith, append_assoc, append-nil, ltb}
 use Rattle.std.specs.Prelude.{◌==◌, filter}
 use Rattle.std.specs.Char.{digit_value, to_ascii_lowercase}
 use Rattle.std.specs.Fmt.{digit_glyph}
@@ -8,7 +8,8 @@ use Rattle.std.proofs.lemmas.Bool.{cond_both, ltb-true, and_parts, eq-eqb, eqb-f
 use Rattle.std.proofs.lemmas.List.Elements.{All-from_recursion}
 use Rattle.std.proofs.lemmas.List.Splits.{slice_split_at, slice_split_none}
 use Rattle.std.proofs.lemmas.Str.{is_utf8-from_IsUtf8}
-use lib.Utf8.{encode, encodes, scalar, scalars, scalar_cases}
+use lib.Utf8.{encode, encodes, scalar, scalars}
+use borrow.Table.Char.{scalar_below}
 use Rattle.percent_encoding.specs.Percent.{percent_encode_byte}
 use Rattle.odata_url.specs.declared.option_name.OptionName.{OptionName}
 use Rattle.odata_url.specs.declared.option_name.OptionName.TheVariants.{Apply, Filter, Count, OrderBy, Skip, Top, Select, Format}
@@ -82,9 +83,6 @@ parts-joined byte text (more ∷ texts) each_lacks =
 bytes_append : (text more : List ℕ) → AllByRecursion (λ b. b < 256) text → AllByRecursion (λ b. b < 256) more → AllByRecursion (λ b. b < 256) (text ++ more)
 bytes_append [] more first second = second
 bytes_append (b ∷ text) more first second = (first.0, bytes_append text more first.1 second)
-
-scalar_below : (c : ℕ) → scalar c ≡ true → c < 1114112
-scalar_below c is = ⊎_elim (λ low. omega arith) (λ high. omega arith) (scalar_cases c is)
 
 -- UTF-8 is made of bytes
 encode_bytes : (c : ℕ) → c < 1114112 → AllByRecursion (λ b. b < 256) (encode c)

@@ -14,9 +14,10 @@ pub(crate) fn decode(alloc: Global, text: &[u8]) -> Result<String, UrlFault>
     if has_broken_escape(text) {
         return Err(UrlFault::BadEscape);
     }
-    let octets = percent_decode(text).into_cow(alloc)?;
-    match simdutf8::basic::from_utf8(&octets) {
-        Ok(text) => Ok(String::from_str(alloc, text)?),
+    let octets = percent_decode(text).into_cow(alloc)?.into_owned(alloc)?;
+    match simdutf8::basic::from_utf8(octets.as_slice()) {
+        // The one condition of this call is that the octets are UTF-8, as the check has just answered.
+        Ok(_) => Ok(unsafe { String::from_utf8_unchecked(octets) }),
         Err(_) => Err(UrlFault::BadUtf8),
     }
 }

@@ -11,3 +11,4 @@ pub mod PartsLemmas
 pub mod AdmittedLemmas
 pub mod ReadLemmas
 pub mod RunLemmas
+pub mod FrontLemmas

@@ -1,5 +1,5 @@
 -- What a run has that was handed the first so many of the blocks that are needed.
-use Rattle.std.proofs.Common.{◌≡◌, ℕ, zero, suc, ◌+◌, Option, Some, None, List, [], ◌∷◌, ◌++◌, map, drop, take, refl, sym, ap, ◌∙◌, subst, arith}
+use Rattle.std.proofs.Common.{◌≡◌, ℕ, zero, suc, ◌+◌, Option, Some, None, List, [], ◌∷◌, ◌++◌, map, drop, take, refl, sym, ap, ◌∙◌, subst, arith, append-nil}
 use Rattle.std.specs.Prelude.{count_by, option_and_then, option_map, slice_get}
 use Rattle.std.proofs.lemmas.List.{get_or_append_left, length-append}
 use Rattle.std.proofs.lemmas.List.Concat.{flat_map-append}
@@ -16,7 +16,7 @@ use Rattle.query_meaning.specs.Fitting.{AreTableRows}
 use Rattle.query_meaning.specs.Filter.{passes_each}
 use Rattle.query_meaning.specs.Meaning.{ResultOf}
 use Rattle.query_plan.specs.Laws.{NodesInTurn, ScansReadTableRows}
-use Rattle.query_plan.specs.Plan.{PlanOf, leading, needed, nodes_result, select_nodes, table_result}
+use Rattle.query_plan.specs.Plan.{PlanOf, leading, needed, node_view, nodes_result, select_nodes, table_result}
 use Rattle.query_plan.specs.Scan.{rows_of_blocks, up_to}
 use Rattle.block_filter.specs.Conditions.{rows_joined, passing_all, ConditionsInTurn}
 use Rattle.query_exec.specs.declared.run.Run.{Run}
@@ -26,7 +26,7 @@ use Rattle.query_exec.specs.Intermediate.{without_count}
 use Rattle.query_exec.specs.Kept.{kept_names}
 use Rattle.query_exec.specs.Picked.{selected_rows}
 use Rattle.query_exec.specs.Run.{conditions_of, handed_rows, next_block, passed_answer, passed_rows, places_of, steps_of, wanted_block, HasPassed, HasTakenBlocks, HasTakenIn, IsReady}
-use Rattle.query_exec.specs.Sink.{room_behind, sink_kept}
+use Rattle.query_exec.specs.Sink.{room_behind, sink_kept, sink_nodes}
 use Rattle.query_exec.proofs.NeededLemmas.{all_rows, drop_one, first_left, more_rows, needed_behind, wanted_is_first}
 use Rattle.query_exec.proofs.KeptLemmas.{as_many, still_kept}
 use Rattle.query_exec.proofs.ConditionLemmas.{parts_fit, parts_give, selected_joined}
@@ -47,15 +47,22 @@ front_rows schema front back are =
       count = omega (arith, few, long);
     }
 
+-- the rows of all blocks that are needed
+abbrev pub read_rows : PlanOf → TableOf → List (List CellValue)
+read_rows plan table = rows_of_blocks table.rows (needed plan table.rows)
+
+pub handed_parts : (plan : PlanOf) (table : TableOf) (handed : ℕ)
+    → read_rows plan table ≡ handed_rows plan table handed ++ rows_of_blocks table.rows (drop handed (needed plan table.rows))
+handed_parts plan table handed =
+    let blocks = needed plan table.rows in
+    ap (rows_of_blocks table.rows) (in_two handed blocks) ∙ flat_map-append (block_at table.rows) (take handed blocks) (drop handed blocks)
+
 -- the rows of the first so many blocks that are needed are rows of a table
 pub handed_are_rows : ScansReadTableRows → (plan : PlanOf) (table : TableOf) (handed : ℕ) → AreTableRows table.schema table.rows
     → AreTableRows table.schema (handed_rows plan table handed)
 handed_are_rows scans plan table handed are =
-    let blocks = needed plan table.rows in
-    let parts : rows_of_blocks table.rows blocks ≡ handed_rows plan table handed ++ rows_of_blocks table.rows (drop handed blocks) =
-    ap (rows_of_blocks table.rows) (in_two handed blocks) ∙ flat_map-append (block_at table.rows) (take handed blocks) (drop handed blocks) in
-    front_rows table.schema (handed_rows plan table handed) (rows_of_blocks table.rows (drop handed blocks))
-    (subst (AreTableRows table.schema) parts (scans table.schema plan.scan (leading plan.nodes) table.rows are))
+    front_rows table.schema (handed_rows plan table handed) (rows_of_blocks table.rows (drop handed (needed plan table.rows)))
+    (subst (AreTableRows table.schema) (handed_parts plan table handed) (scans table.schema plan.scan (leading plan.nodes) table.rows are))
 
 -- the block that the run wants next is the next that is needed
 pub wanted_is_next : (run : Run) (plan : PlanOf) (table : TableOf) (blocks : ℕ) → HasTakenBlocks run plan table blocks → wanted_block run ≡ next_block plan table blocks
@@ -65,15 +72,16 @@ wanted_is_next run plan table blocks has =
 
 -- ---- one block more
 
+pub passed_parts : ConditionsInTurn → (run : Run) (front back : List (List CellValue)) → passed_rows run (front ++ back) ≡ rows_joined (passed_rows run front) (passed_rows run back)
+passed_parts law run front back =
+    let es = conditions_of run in
+    ap (option_map (selected_rows (places_of run))) (law.parts es front back) ∙ selected_joined (places_of run) (passing_all es front) (passing_all es back)
+
 -- what passes of the rows before it, and of its own
 pub one_block_more : ConditionsInTurn → (run : Run) (plan : PlanOf) (table : TableOf) (handed number : ℕ) → next_block plan table handed ≡ Some number
     → rows_joined (passed_rows run (handed_rows plan table handed)) (passed_rows run (block_of table number).rows) ≡ passed_rows run (handed_rows plan table (handed + 1))
 one_block_more law run plan table handed number next =
-    let es = conditions_of run in
-    let front = handed_rows plan table handed in
-    let block = (block_of table number).rows in
-    sym (selected_joined (places_of run) (passing_all es front) (passing_all es block))
-    ∙ ap (option_map (selected_rows (places_of run))) (sym (law.parts es front block) ∙ ap (passing_all es) (sym (more_rows plan table handed number next)))
+    sym (passed_parts law run (handed_rows plan table handed) (block_of table number).rows) ∙ ap (passed_rows run) (sym (more_rows plan table handed number next))
 
 pub block_read : ConditionsInTurn → (old new : Run) (plan : PlanOf) (table : TableOf) (handed number : ℕ) → HasTakenBlocks old plan table handed
     → next_block plan table handed ≡ Some number → HasTakenIn old new (block_of table number).rows → HasTakenBlocks new plan table (handed + 1)
@@ -110,10 +118,6 @@ block_read law old new plan table handed number has next taken =
 
 -- ---- where no block is needed
 
--- the rows of all blocks that are needed
-abbrev read_rows : PlanOf → TableOf → List (List CellValue)
-read_rows plan table = rows_of_blocks table.rows (needed plan table.rows)
-
 pub whole_read : (run : Run) (plan : PlanOf) (table : TableOf) (blocks : ℕ) → HasTakenBlocks run plan table blocks → next_block plan table blocks ≡ None
     → HasPassed run (passed_rows run (read_rows plan table))
 whole_read run plan table blocks has beyond = subst (λ rows. HasPassed run (passed_rows run rows)) (all_rows plan table blocks beyond) has.passed
@@ -134,6 +138,10 @@ is_ready law scans run plan table blocks has beyond = record {
   has = whole_read run plan table blocks has (sym (wanted_is_next run plan table blocks has) ∙ beyond);
   fits = λ rows is. passed_fit law run plan table blocks (read_rows plan table) rows has (scans table.schema plan.scan (leading plan.nodes) table.rows has.are_rows) is;
 }
+
+-- where no steps are left, the sink does the only one
+pub no_steps : (run : Run) → map node_view run.steps.items ≡ [] → steps_of run ≡ sink_nodes run.sink
+no_steps run none = ap (λ ns. sink_nodes run.sink ++ ns) none ∙ append-nil (sink_nodes run.sink)
 
 -- what the run gives then is the answer of the plan
 pub answer_is : (run : Run) (plan : PlanOf) (table : TableOf) (blocks : ℕ) → HasTakenBlocks run plan table blocks

@@ -154,7 +154,7 @@ found_of es most rows found are works =
     )
 
 -- rows passed before where no condition divided by zero
-some_passed : (run : Run) (passed : Option (List (List CellValue))) → HasPassed run passed → run.faulted ≡ false
+pub some_passed : (run : Run) (passed : Option (List (List CellValue))) → HasPassed run passed → run.faulted ≡ false
     → (rows : List (List CellValue)) × (passed ≡ Some rows) × HasPushed run.sink rows
 some_passed run None has works = let wrong : false ≡ true = sym works ∙ has.faulted in absurd (cc)
 some_passed run (Some rows) has works = (rows, refl, has.pushed)

@@ -6,15 +6,16 @@ use Rattle.cell_types.specs.Value.{CellValue}
 use Rattle.row_columns.specs.Picked.{numbered, values_at}
 use Rattle.block_filter.specs.declared.block.Passed.{Passed}
 use Rattle.query_meaning.specs.Meaning.{first_rows}
-use Rattle.query_plan.specs.Plan.{slice_view, slicing}
+use Rattle.query_plan.specs.Plan.{nodes_result, slice_view, slicing}
 use Rattle.query_plan.specs.Push.{room_of}
+use Rattle.query_rows.specs.Rows.{RowsOf}
 use Rattle.query_exec.specs.declared.intermediate.Intermediate.{Intermediate}
 use Rattle.query_exec.specs.declared.sink.Sink.TheVariants as sink
 use Rattle.query_exec.specs.declared.slice.SliceSink.{SliceSink}
-use Rattle.query_exec.specs.Intermediate.{Makes}
+use Rattle.query_exec.specs.Intermediate.{without_count, Makes}
 use Rattle.query_exec.specs.Kept.{kept_names, kept_places, HasKept}
 use Rattle.query_exec.specs.Picked.{selected_rows}
-use Rattle.query_exec.specs.Sink.{room_behind, spare_of, AreFound, HasPiece, PushesOn, SinkMakes}
+use Rattle.query_exec.specs.Sink.{room_behind, spare_of, AreFound, HasPiece, PushesOn, SinkGives, SinkMakes}
 use Rattle.query_exec.proofs.CountLemmas.{first_selected, selected_long}
 
 -- ---- a piece of rows and of others behind them
@@ -90,6 +91,14 @@ piece_behind skip (Some zero) xs ys few =
     sym (drop_none (skip - length xs) (take (0 - length xs) ys) (take_none (0 - length xs) ys none))
 piece_behind skip (Some (suc top)) xs ys few = sized skip (suc top) (nat_lt (skip + suc top) (2 ^ 64)) xs ys refl few
 
+-- a piece of the first rows is a beginning of the piece of all
+pub piece_begins : (skip : ℕ) (top : Option ℕ) (xs ys : List (List CellValue))
+    → (rest : List (List CellValue)) × (first_rows top (drop skip (xs ++ ys)) ≡ first_rows top (drop skip xs) ++ rest)
+piece_begins skip None xs ys = (drop (skip - length xs) ys, drop_parts skip xs ys)
+piece_begins skip (Some n) xs ys =
+    let behind = drop (skip - length xs) ys in
+    (take (n - length (drop skip xs)) behind, ap (take n) (drop_parts skip xs ys) ∙ take_parts n (drop skip xs) behind)
+
 -- ---- rows that are pushed
 
 selected_drop : (places : Option (List ℕ)) (n : ℕ) (rows : List (List CellValue)) → selected_rows places (drop n rows) ≡ drop n (selected_rows places rows)
@@ -144,16 +153,20 @@ no_piece s count none = record {
 
 -- ---- the end
 
+piece_given : (s : SliceSink) (rows : List (List CellValue)) → HasPiece s rows
+    → nodes_result (slicing (slice_view s.slice) ∷ []) (without_count (kept_names s.kept) rows)
+    ≡ Some (record { names = kept_names s.kept; rows = s.kept.columns.rows; count = cond s.slice.counts (Some s.count) None })
+piece_given s rows has =
+    let names = kept_names s.kept in
+    ap (λ rs. Some (record { names = names; rows = rs; count = cond s.slice.counts (Some (length rows)) None })) (sym has.piece)
+    ∙ ap (λ n. Some (record { names = names; rows = s.kept.columns.rows; count = cond s.slice.counts (Some n) None })) (sym has.count)
+
+pub slice_gives : (s : SliceSink) (given : RowsOf)
+    → given ≡ record { names = kept_names s.kept; rows = s.kept.columns.rows; count = cond s.slice.counts (Some s.count) None } → SinkGives (sink.Slice s) given
+slice_gives s given is = record { gives = λ rows has. piece_given s rows has ∙ ap Some (sym is) }
+
 pub slice_finishes : (s : SliceSink) (made : Intermediate)
     → Makes (Some (record { names = kept_names s.kept; rows = s.kept.columns.rows; count = cond s.slice.counts (Some s.count) None })) made → SinkMakes (sink.Slice s) made
 slice_finishes s made makes = record {
-  makes = λ rows has.
-      let names = kept_names s.kept in
-      record {
-        result =
-            ap (λ rs. Some (record { names = names; rows = rs; count = cond s.slice.counts (Some (length rows)) None })) (sym has.piece)
-            ∙ ap (λ n. Some (record { names = names; rows = s.kept.columns.rows; count = cond s.slice.counts (Some n) None })) (sym has.count)
-            ∙ makes.result;
-        intermediate = makes.intermediate;
-      };
+  makes = λ rows has. record { result = piece_given s rows has ∙ makes.result; intermediate = makes.intermediate };
 }

@@ -1,6 +1,6 @@
 -- The first rows of an order that never divides by zero.
 use Rattle.std.proofs.Common.{◌≡◌, ℕ, ℤ, pos, suc, ◌+◌, ◌<◌, Bool, true, false, ◌||◌, ◌&&◌, cond, Option, Some, None, List, [], ◌∷◌, ◌++◌, append-nil, get_or, length, map, take, refl, sym, ap, ◌∙◌, subst, arith}
-use Rattle.std.specs.Prelude.{IfOk, Result, Ok, Err, is_none, is_some, not, option_and_then, option_map, slice_get}
+use Rattle.std.specs.Prelude.{is_none, is_some, not, option_and_then, option_map, slice_get}
 use Rattle.std.specs.List.{All, AllByRecursion, list_any}
 use Rattle.std.proofs.lemmas.Bool.{and_parts}
 use Rattle.std.proofs.lemmas.List.{get_or-map, get_or-append-add, length-append, length-map}
@@ -272,9 +272,3 @@ top_n_finishes s numbers made are makes = record {
     intermediate = makes.intermediate;
   };
 }
-
--- ---- what an answer has
-
-pub if_ok : {X E : Type 0} (r : Result X E) (P Q : X → Type 0) → ((x : X) → P x → Q x) → IfOk r P → IfOk r Q
-if_ok (Ok x) P Q f h = f x h
-if_ok (Err e) P Q f h = tt

@@ -7,6 +7,7 @@ use Rattle.odata_query.specs.Query.{optional_numbers}
 use Rattle.row_columns.specs.Kinds.{kinds_of}
 use Rattle.row_columns.specs.Picked.{numbered}
 use Rattle.query_meaning.specs.Meaning.{selected_names, table_names}
+use Rattle.query_exec.specs.declared.front.FirstRows.{FirstRows}
 use Rattle.query_exec.specs.declared.kept.Kept.{Kept}
 use Rattle.query_exec.specs.Picked.{selected_kinds}
 
@@ -22,6 +23,11 @@ pub record AreKeptOf (kept : Kept) (schema : SchemaOf) : Type 0 where
   pub within : IfSome (kept_places kept) (All (λ place. place < length schema.columns))
   pub names_are : kept_names kept ≡ selected_names (kept_places kept) (table_names schema)
   pub kinds_are : kept.columns.kinds ≡ selected_kinds (kept_places kept) (kinds_of schema.columns)
+
+-- the names and the rows that are kept, as they are lent
+pub record AreKeptRows (kept : Kept) (front : FirstRows) : Type 0 where
+  pub names_are : map string_bytes front.names.now ≡ kept_names kept
+  pub columns_are : front.columns.now ≡ kept.columns
 
 -- nothing is another but the rows
 pub record HasSameColumns (old new : Kept) : Type 0 where

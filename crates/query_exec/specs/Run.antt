@@ -1,5 +1,5 @@
 -- What a run stands for, and what its calls make of that.
-use Rattle.std.specs.Prelude.{◌≡◌, ◌<◌, ◌+◌, ◌++◌, ◌^◌, ⊤, ℕ, true, IfSome, Option, Some, None, Result, Ok, Err, List, count_by, drop, is_none, is_some, length, map, max, option_and_then, option_map, slice_get, take}
+use Rattle.std.specs.Prelude.{◌≡◌, ◌<◌, ◌+◌, ◌++◌, ◌^◌, ⊤, ℕ, true, IfSome, Option, Some, None, Result, Ok, Err, List, count_by, drop, is_none, is_some, length, map, max, option_and_then, option_map, slice_get, string_bytes, take}
 use Rattle.std.specs.List.{All}
 use Rattle.cell_types.specs.Value.{CellValue}
 use Rattle.typed_trees.specs.TypedTree.{TruthExprOf, boxed_truth}
@@ -13,11 +13,12 @@ use Rattle.query_plan.specs.Scan.{rows_of_blocks, up_to}
 use Rattle.block_filter.specs.Conditions.{passing_all, rows_joined, ConditionsFit}
 use Rattle.query_exec.specs.declared.fault.ExecFault.{ExecFault}
 use Rattle.query_exec.specs.declared.fault.ExecFault.TheVariants.{DivisionByZero, NoMemory, Failed}
+use Rattle.query_exec.specs.declared.front.FirstRows.{FirstRows}
 use Rattle.query_exec.specs.declared.run.Run.{Run}
 use Rattle.query_exec.specs.declared.run.Stage.TheVariants.{Reading, Ended, Refused}
 use Rattle.query_exec.specs.declared.run.Step.{Step}
 use Rattle.query_exec.specs.declared.run.Step.TheVariants.{More, Done}
-use Rattle.query_rows.specs.Rows.{RowsOf}
+use Rattle.query_rows.specs.Rows.{BeginWith, RowsOf}
 use Rattle.query_exec.specs.Answer.{plan_answer}
 use Rattle.query_exec.specs.Conditions.{condition_nodes}
 use Rattle.query_exec.specs.Intermediate.{without_count}
@@ -107,6 +108,11 @@ AdvancesTo plan table handed run (Ok Done) = (rows : RowsOf) × (handed + 1 ≡ 
 AdvancesTo plan table handed run (Err DivisionByZero) = (handed + 1 ≡ run_length plan table) × (plan_answer plan table ≡ None)
 AdvancesTo plan table handed run (Err NoMemory) = ⊤
 AdvancesTo plan table handed run (Err Failed) = ⊥
+
+-- names, with a column for each, and rows that are those of whatever the plan answers on the table and the first of these
+pub record AreFirstRows (plan : PlanOf) (table : TableOf) (front : FirstRows) : Type 0 where
+  pub width : length front.columns.now.kinds ≡ length front.names.now
+  pub first : (rows : RowsOf) → plan_answer plan table ≡ Some rows → BeginWith rows (map string_bytes front.names.now) front.columns.now.rows
 
 -- ---- inside
 

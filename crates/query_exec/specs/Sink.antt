@@ -1,6 +1,6 @@
 -- What takes in the rows that pass the conditions of a plan. The law of a sink: where rows are pushed, piece by piece, what it finishes with is what its step
 -- makes of all of them.
-use Rattle.std.specs.Prelude.{◌≡◌, ◌<◌, ◌-◌, ◌^◌, ◌++◌, ℕ, true, false, List, [], ◌∷◌, Option, Some, None, drop, length, map}
+use Rattle.std.specs.Prelude.{◌≡◌, ◌<◌, ◌-◌, ◌^◌, ◌++◌, ⊤, ℕ, true, false, List, [], ◌∷◌, Option, Some, None, drop, length, map}
 use Rattle.std.specs.List.{All}
 use Rattle.cell_types.specs.Value.{CellValue}
 use Rattle.odata_query.specs.Aggregate.{aggregates_view}
@@ -15,7 +15,9 @@ use Rattle.query_meaning.specs.Order.{Item}
 use Rattle.query_plan.specs.Fitting.{NodesFit}
 use Rattle.query_plan.specs.Plan.{NodeOf, choosing, nodes_result, slice_view, slicing}
 use Rattle.query_plan.specs.Push.{room_of}
+use Rattle.query_rows.specs.Rows.{RowsOf}
 use Rattle.query_exec.specs.declared.aggregate.AggregateSink.{AggregateSink}
+use Rattle.query_exec.specs.declared.front.FirstRows.{FirstRows}
 use Rattle.query_exec.specs.declared.intermediate.Intermediate.{Intermediate}
 use Rattle.query_exec.specs.declared.kept.Kept.{Kept}
 use Rattle.query_exec.specs.declared.sink.Sink.{Sink}
@@ -24,7 +26,7 @@ use Rattle.query_exec.specs.declared.slice.SliceSink.{SliceSink}
 use Rattle.query_exec.specs.declared.top_n.TopNSink.{TopNSink}
 use Rattle.query_exec.specs.Intermediate.{aggregate_node, without_count, Makes}
 use Rattle.query_exec.specs.Items.{none_can_fault, ItemsFit}
-use Rattle.query_exec.specs.Kept.{kept_names, kept_places, AreKeptOf, HasSameColumns}
+use Rattle.query_exec.specs.Kept.{kept_names, kept_places, AreKeptOf, AreKeptRows, HasSameColumns}
 use Rattle.query_exec.specs.Picked.{selected_rows}
 
 abbrev pub sink_items : TopNSink → List Item
@@ -102,6 +104,16 @@ pub record PushesOn (old new : Sink) (rows : List (List CellValue)) (found : Pas
   pub pushed : (before passing : List (List CellValue)) → AreFound (spare_of old) rows found passing → HasPushed old before
       → HasPushed new (before ++ selected_rows (kept_places (sink_kept old)) passing)
 
+-- ---- before the finish
+
+-- a sink whose step makes of rows what it has kept of them lends that, and another lends nothing
+abbrev pub LendsKept : Sink → Option FirstRows → Type 0
+LendsKept (Collect kept) (Some front) = AreKeptRows kept front
+LendsKept (Slice sink) (Some front) = AreKeptRows sink.kept front
+LendsKept (TopN sink) None = ⊤
+LendsKept (Aggregate sink) None = ⊤
+LendsKept _ _ = ⊥
+
 -- ---- the finish
 
 -- the step fits the rows that were pushed
@@ -114,3 +126,7 @@ pub record MayFinish (sink : Sink) : Type 0 where
 -- that is what its step makes of the rows that were pushed
 pub record SinkMakes (sink : Sink) (made : Intermediate) : Type 0 where
   pub makes : (rows : List (List CellValue)) → HasPushed sink rows → Makes (nodes_result (sink_nodes sink) (without_count (kept_names (sink_kept sink)) rows)) made
+
+-- the same as rows
+pub record SinkGives (sink : Sink) (given : RowsOf) : Type 0 where
+  pub gives : (rows : List (List CellValue)) → HasPushed sink rows → nodes_result (sink_nodes sink) (without_count (kept_names (sink_kept sink)) rows) ≡ Some given

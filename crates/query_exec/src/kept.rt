@@ -5,12 +5,13 @@ ghost use Rattle.csvw_meta.specs.Schema.{schema_view};
 ghost use Rattle.odata_query.specs.Query.{optional_numbers};
 ghost use Rattle.row_columns.specs.Picked.{numbered};
 ghost use Rattle.query_exec.specs.Intermediate.{Makes};
-ghost use Rattle.query_exec.specs.Kept.{kept_names, kept_places, AreKeptOf, HasKept, HasReduced};
+ghost use Rattle.query_exec.specs.Kept.{kept_names, kept_places, AreKeptOf, AreKeptRows, HasKept, HasReduced};
 ghost use Rattle.query_exec.specs.Picked.{selected_rows};
 
+use crate::front::FirstRows;
 use crate::intermediate::Intermediate;
 use csvw_meta::Schema;
-use query_rows::{names_of, picked_names};
+use query_rows::{Rows, names_of, picked_names};
 use row_columns::Columns;
 use std::alloc::{AllocError, Global};
 use table_store::Block;
@@ -89,6 +90,29 @@ impl Kept {
         ensures { OnOk result (HasReduced self.old self.new numbers.now) }
     {
         self.columns.put_in_order(alloc, numbers)
+    }
+
+    /// The names and the rows.
+    pub(crate) fn lent(&self) -> FirstRows<'_>
+        ensures { AreKeptRows self.now result }
+    {
+        FirstRows {
+            names: self.names.as_slice(),
+            columns: &self.columns,
+        }
+    }
+
+    /// All of the rows as an answer, and a count. It takes no memory.
+    pub(crate) fn into_rows(self, count: Option<u64>) -> Rows
+        requires { length self.columns.kinds ≡ length (kept_names self) }
+        ensures { result ≡ record {
+          names = kept_names self;
+          rows = self.columns.rows;
+          count = count;
+        } }
+    {
+        let Kept { names, columns, .. } = self;
+        Rows::new(names, columns, count)
     }
 
     /// All of the rows, and a count.

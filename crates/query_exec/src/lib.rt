@@ -5,6 +5,7 @@
 mod admitted;
 mod aggregate;
 mod fault;
+mod front;
 mod intermediate;
 mod kept;
 mod names;
@@ -16,5 +17,6 @@ mod steps;
 mod top_n;
 
 pub use fault::ExecFault;
+pub use front::FirstRows;
 pub use query_rows::Rows;
 pub use run::{Run, Step};

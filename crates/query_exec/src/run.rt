@@ -1,5 +1,5 @@
 //! A run of a plan on a table that it is handed block by block.
-ghost use Rattle.std.specs.Prelude.{◌≡◌, ◌↔◌, ℕ, None, Ok, IfOk, IfErr, OnErr, OnOk, IsErrOf};
+ghost use Rattle.std.specs.Prelude.{◌≡◌, ◌↔◌, ℕ, None, Ok, IfOk, IfErr, IfSome, OnErr, OnOk, IsErrOf};
 ghost use Rattle.csvw_meta.specs.Schema.{schema_view};
 ghost use Rattle.table_store.specs.Fits.{HasTableRows};
 ghost use Rattle.table_store.specs.Summaries.{AreSummariesOf};
@@ -9,10 +9,11 @@ ghost use Rattle.query_plan.specs.Plan.{plan_view, PlanOf};
 ghost use Rattle.query_rows.specs.Rows.{RowsOf};
 ghost use Rattle.query_exec.specs.declared.fault.ExecFault.TheVariants.{NoMemory, Failed};
 ghost use Rattle.query_exec.specs.declared.run.Step.TheVariants.{Done};
-ghost use Rattle.query_exec.specs.Run.{handed_block, next_block, AdvancesTo, HasTakenIn, RunGives, RunGoesOn, RunIsRefused, IsAwaited, RunIsDone, IsReady, MayBeHanded, MayTakeIn, StandsFor, StepsTo, wanted_block};
+ghost use Rattle.query_exec.specs.Run.{handed_block, next_block, AdvancesTo, AreFirstRows, HasTakenIn, RunGives, RunGoesOn, RunIsRefused, IsAwaited, RunIsDone, IsReady, MayBeHanded, MayTakeIn, StandsFor, StepsTo, wanted_block};
 
 use crate::admitted::admitted;
 use crate::fault::ExecFault;
+use crate::front::FirstRows;
 use crate::kept::Kept;
 use crate::parts::{Parts, split};
 use crate::sink::Sink;
@@ -89,6 +90,9 @@ impl Run {
             return Err(ExecFault::DivisionByZero);
         }
         let sink = mem::replace(&mut self.sink, Sink::Collect(Kept::none(alloc)));
+        if self.steps.is_empty() {
+            return Ok(Some(sink.into_rows(alloc)?));
+        }
         let sunk = sink.finish(alloc)?;
         let made = apply_all(alloc, &self.steps, sunk)?;
         Ok(Some(made.into_rows(alloc)?))
@@ -181,6 +185,21 @@ impl Run {
         match &self.stage {
             Stage::Reading => self.wanted(),
             Stage::Ended(_) | Stage::Refused => None,
+        }
+    }
+
+    /// The names of the answer, and those of its first rows that passed so far, where it has the rows as they pass: in no order and in no groups.
+    pub fn front(&self) -> Option<FirstRows<'_>>
+        ensures { (plan : PlanOf) (table : TableOf) (handed : ℕ)
+            → StandsFor self.now plan table handed → IfSome result (AreFirstRows plan table) }
+    {
+        conditions_in_turn();
+        if self.faulted || !self.steps.is_empty() {
+            return None;
+        }
+        match &self.stage {
+            Stage::Reading => self.sink.front(),
+            Stage::Refused | Stage::Ended(_) => None,
         }
     }
 

@@ -1,15 +1,17 @@
 //! What takes in the rows that pass the conditions of a plan: it does the step after them.
 ghost use Rattle.std.specs.Prelude.{◌≡◌, ◌++◌, [], IfOk, OnOk, map};
 ghost use Rattle.query_plan.specs.Plan.{node_view};
-ghost use Rattle.query_exec.specs.Sink.{sink_kept, sink_nodes, spare_of, SinkMakes, HasPushed, MayFinish, MayPush, PushesOn};
+ghost use Rattle.query_exec.specs.Sink.{sink_kept, sink_nodes, spare_of, LendsKept, SinkGives, SinkMakes, HasPushed, MayFinish, MayPush, PushesOn};
 
 use crate::aggregate::AggregateSink;
+use crate::front::FirstRows;
 use crate::intermediate::Intermediate;
 use crate::kept::Kept;
 use crate::slice::SliceSink;
 use crate::top_n::{TopNSink, none_can_fault};
 use block_filter::{Lanes, Passed};
 use query_plan::Node;
+use query_rows::Rows;
 use std::alloc::{AllocError, Global};
 use table_store::Block;
 
@@ -93,6 +95,32 @@ impl Sink {
             Sink::Slice(sink) => sink.push(alloc, block, found),
             Sink::TopN(sink) => sink.push(alloc, block, found, lanes),
             Sink::Aggregate(sink) => sink.push(alloc, block, found),
+        }
+    }
+
+    /// The rows that it keeps, where these are what its step makes of the rows that it took in.
+    pub(crate) fn front(&self) -> Option<FirstRows<'_>>
+        ensures { LendsKept self.now result }
+    {
+        match self {
+            Sink::Collect(kept) => Some(kept.lent()),
+            Sink::Slice(sink) => Some(sink.kept.lent()),
+            Sink::TopN(_) | Sink::Aggregate(_) => None,
+        }
+    }
+
+    /// What its step makes of all rows that it took in, as an answer. Where it keeps that, it takes no memory.
+    pub(crate) fn into_rows(self, alloc: Global) -> Result<Rows, AllocError>
+        requires { MayFinish self }
+        ensures { IfOk result (SinkGives self) }
+    {
+        match self {
+            Sink::Collect(kept) => Ok(kept.into_rows(None)),
+            Sink::Slice(sink) => Ok(sink.into_rows()),
+            sink => {
+                let made = sink.finish(alloc)?;
+                made.into_rows(alloc)
+            }
         }
     }
 

@@ -1,12 +1,13 @@
 //! A sink of a piece of the rows.
-ghost use Rattle.std.specs.Prelude.{◌≡◌, IfOk, OnOk};
+ghost use Rattle.std.specs.Prelude.{◌≡◌, IfOk, None, OnOk, Some, if◌then◌else◌};
 ghost use Rattle.query_exec.specs.declared.sink.Sink.TheVariants as sink;
-ghost use Rattle.query_exec.specs.Sink.{room_behind, spare_of, SinkMakes, MayFinish, MayPush, PushesOn};
+ghost use Rattle.query_exec.specs.Sink.{room_behind, spare_of, SinkGives, SinkMakes, MayFinish, MayPush, PushesOn};
 
 use crate::intermediate::Intermediate;
 use crate::kept::Kept;
 use block_filter::Passed;
 use query_plan::Slice;
+use query_rows::Rows;
 use row_order::piece;
 use std::alloc::{AllocError, Global};
 use table_store::Block;
@@ -60,14 +61,32 @@ impl SliceSink {
         Ok(())
     }
 
+    /// What is kept, and the number of the rows, where that is asked for.
+    fn parts(self) -> (Kept, Option<u64>)
+        ensures kept { result.0 ≡ self.kept }
+        ensures count { result.1 ≡ (if self.slice.counts then Some self.count else None) }
+    {
+        let SliceSink { kept, slice, count } = self;
+        let count = if slice.counts { Some(count) } else { None };
+        (kept, count)
+    }
+
+    /// The piece of all rows that joined, as an answer. It takes no memory.
+    pub(crate) fn into_rows(self) -> Rows
+        requires { MayFinish (sink.Slice self) }
+        ensures { SinkGives (sink.Slice self) result }
+    {
+        let (kept, count) = self.parts();
+        kept.into_rows(count)
+    }
+
     /// The piece of all rows that joined.
     #[tactic(auto, using(crate::proofs::SliceLemmas::slice_finishes))]
     pub(crate) fn finish(self, alloc: Global) -> Result<Intermediate, AllocError>
         requires { MayFinish (sink.Slice self) }
         ensures { IfOk result (SinkMakes (sink.Slice self)) }
     {
-        let SliceSink { kept, slice, count } = self;
-        let count = if slice.counts { Some(count) } else { None };
+        let (kept, count) = self.parts();
         let made = kept.whole(alloc, count)?;
         Ok(made)
     }

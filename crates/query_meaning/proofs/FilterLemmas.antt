@@ -10,6 +10,7 @@ use Rattle.typed_trees.specs.TypedTree.{TruthExprOf}
 use Rattle.row_eval.specs.declared.truth.Truth.{Truth}
 use Rattle.row_eval.specs.declared.truth.Truth.TheVariants.{False, Null, True}
 use Rattle.row_eval.specs.Outcome.{both, truth_outcome}
+use Rattle.cell_types.proofs.CaseLaws.{cond-None_none, cond-None_some}
 use Rattle.query_meaning.specs.Filter.{faults, is_true, passes, passing}
 
 -- ---- what a filter of a list contains
@@ -74,14 +75,6 @@ none_is (Some t) e = absurd (false≢true e)
 
 -- ---- a division by zero
 
-none_if : {X : Type 0} (b : Bool) (x : X) → cond b None (Some x) ≡ None → b ≡ true
-none_if true x e = refl
-none_if false x e = absurd (false≢true (ap is_none e))
-
-pub some_if : {X : Type 0} (b : Bool) (x y : X) → cond b None (Some x) ≡ Some y → x ≡ y
-some_if true x y e = absurd (false≢true (sym (ap is_none e)))
-some_if false x y e = cc
-
 any_none : (e : TruthExprOf) (rows : List (List CellValue)) → Any (λ row. faults e row ≡ true) rows → Any (λ row. truth_outcome e row ≡ None) rows
 any_none e rows (k, row, h, is, f) = (k, row, h, is, none_is (truth_outcome e row) f)
 
@@ -90,7 +83,7 @@ any_fault e rows (k, row, h, is, f) = (k, row, h, is, ap is_none f)
 
 pub fault : (e : TruthExprOf) (rows : List (List CellValue)) → (passing e rows ≡ None) ↔ Any (λ row. truth_outcome e row ≡ None) rows
 fault e rows = (
-  λ none. any_none e rows (Any-from_list_any (faults e) rows (none_if (list_any (faults e) rows) (filter (passes e) rows) none)),
+  λ none. any_none e rows (Any-from_list_any (faults e) rows (cond-None_none (list_any (faults e) rows) (filter (passes e) rows) none)),
   λ any. ap (λ b. cond b None (Some (filter (passes e) rows))) (list_any-from_Any (faults e) rows (any_fault e rows any)),
 )
 
@@ -99,7 +92,7 @@ fault e rows = (
 pub kept : (e : TruthExprOf) (rows kept : List (List CellValue)) (row : List CellValue) → passing e rows ≡ Some kept
     → Contains kept row ↔ (Contains rows row × (truth_outcome e row ≡ Some True))
 kept e rows few row some =
-    let same = some_if (list_any (faults e) rows) (filter (passes e) rows) few some in (
+    let same = cond-None_some (list_any (faults e) rows) (filter (passes e) rows) few some in (
       λ h. let found = from_filter (passes e) rows row (subst (λ xs. Contains xs row) (sym same) h) in
           (found.0, true_is (truth_outcome e row) found.1),
       λ h. subst (λ xs. Contains xs row) same (into_filter (passes e) rows row (ap is_true h.1) h.0),

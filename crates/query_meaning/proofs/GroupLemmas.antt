@@ -9,21 +9,18 @@ use Rattle.std.proofs.lemmas.List.Folds.{list_any-from_Any}
 use Rattle.std.proofs.lemmas.List.Sorted.{IsPermutation-append, IsPermutation-filter_both, IsPermutation-refl, IsPermutation-trans}
 use Rattle.cell_types.specs.Value.{CellValue, value_eq}
 use Rattle.odata_query.specs.FirstSeen.{first_seen}
+use Rattle.cell_types.proofs.ListLaws.{AllByRecursion-filter}
 use Rattle.query_meaning.specs.Apply.{group_values, rows_of_group, same_values, values_at}
 use Rattle.query_meaning.proofs.FilterLemmas.{first_or_later, from_filter, here, into_filter, later, none_in}
 
 -- ---- lists without what was there before
 
 module _ {X : Type 0} (eq : X → X → Bool) where
-  all_filter : (P : X → Type 0) (p : X → Bool) (zs : List X) → AllByRecursion P zs → AllByRecursion P (filter p zs)
-  all_filter P p [] a = a
-  all_filter P p (z ∷ zs) a = elim (cases_Bool (p z)) [ inl e ↦ rw e (a.0, all_filter P p zs a.1) | inr e ↦ rw e (all_filter P p zs a.1) ]
-
   distinct_filter : (p : X → Bool) (zs : List X) → IsDistinct eq zs → IsDistinct eq (filter p zs)
   unfolding IsDistinct
   distinct_filter p [] d = d
   distinct_filter p (z ∷ zs) d = elim (cases_Bool (p z)) [
-    | inl e ↦ rw e (all_filter (λ y. eq z y ≡ false) p zs d.0, distinct_filter p zs d.1)
+    | inl e ↦ rw e (AllByRecursion-filter (λ y. eq z y ≡ false) p zs d.0, distinct_filter p zs d.1)
     | inr e ↦ rw e (distinct_filter p zs d.1)
   ]
 

@@ -10,6 +10,7 @@ use Rattle.std.proofs.lemmas.List.Folds.{Any-from_list_any, list_any-from_Any}
 use Rattle.std.proofs.lemmas.List.Sorted.{ranks_by}
 use Rattle.cell_types.specs.Value.{CellValue, value_cmp}
 use Rattle.row_eval.specs.Outcome.{outcome}
+use Rattle.cell_types.proofs.CaseLaws.{cond-None_none}
 use Rattle.query_meaning.specs.Order.{Item, directed, item_value, order_faults, ordered, rows_cmp, sorted}
 use Rattle.query_meaning.proofs.SortLemmas.{sorted_in_order, sorted_stable}
 
@@ -37,10 +38,6 @@ none_is : (o : Option CellValue) → is_none o ≡ true → o ≡ None
 none_is None e = refl
 none_is (Some v) e = absurd (false≢true e)
 
-none_if : {X : Type 0} (b : Bool) (x : X) → cond b None (Some x) ≡ None → b ≡ true
-none_if true x e = refl
-none_if false x e = absurd (false≢true (ap is_none e))
-
 some_item : (items : List Item) (row : List CellValue) → Any (λ item. is_none (outcome item.0 row) ≡ true) items → Any (λ item. outcome item.0 row ≡ None) items
 some_item items row (k, item, h, is, f) = (k, item, h, is, none_is (outcome item.0 row) f)
 
@@ -55,6 +52,6 @@ any_fault items rows (k, row, h, is, f) = (k, row, h, is, list_any-from_Any (λ 
 
 pub fault : (items : List Item) (rows : List (List CellValue)) → (ordered items rows ≡ None) ↔ Any (λ row. Any (λ item. outcome item.0 row ≡ None) items) rows
 fault items rows = (
-  λ none. any_none items rows (Any-from_list_any (order_faults items) rows (none_if (list_any (order_faults items) rows) (sorted (rows_cmp items) rows) none)),
+  λ none. any_none items rows (Any-from_list_any (order_faults items) rows (cond-None_none (list_any (order_faults items) rows) (sorted (rows_cmp items) rows) none)),
   λ any. ap (λ b. cond b None (Some (sorted (rows_cmp items) rows))) (list_any-from_Any (order_faults items) rows (any_fault items rows any)),
 )

@@ -24,11 +24,12 @@ use Rattle.odata_query.specs.Selection.{has_name}
 use Rattle.odata_types.specs.Input.{IsOfType, IsRowOf}
 use Rattle.row_eval.specs.Row.{cell, decimal_in, integer_in}
 use Rattle.query_meaning.specs.Apply.{computed_value, computed_values, present_values}
+use Rattle.cell_types.proofs.ListLaws.{length-filter_map-le}
 use Rattle.query_plan.specs.Fitting.{AggregateFits}
 use Rattle.query_meaning.specs.Fitting.{AreSummable}
 use Rattle.query_meaning.specs.Meaning.{ResultOf}
 use Rattle.query_plan.proofs.TypingLemmas.{Told, told_then, told_within}
-use Rattle.query_plan.proofs.ValueLemmas.{AtMost, decimal_sum_fits, decimals_within, distinct_few, filter_map_length, greatest_fits, integer_sum_fits, integers_within, least_fits, numbers_within, values_fit}
+use Rattle.query_plan.proofs.ValueLemmas.{AtMost, decimal_sum_fits, decimals_within, distinct_few, greatest_fits, integer_sum_fits, integers_within, least_fits, numbers_within, values_fit}
 
 -- a result whose rows are rows of an input, no more than 2 to the 30
 pub record Stands (inputs : List InputOf) (r : ResultOf) : Type 0 where
@@ -57,7 +58,7 @@ module _ (inputs : List InputOf) (place : ℕ) (name : List ℕ) where
   integer_sum_good bound is small = record {
     value = λ rows all few. integer_sum_fits bound MOST_ROWS (filter_map (λ row. cell integer_in row place) rows)
         (numbers_within integer_in (column.Integer bound) bound (integers_within bound) inputs place name is rows all)
-        (let fewer : length (filter_map (λ row. cell integer_in row place) rows) ≤ length rows = filter_map_length (λ row. cell integer_in row place) rows in omega arith);
+        (let fewer : length (filter_map (λ row. cell integer_in row place) rows) ≤ length rows = length-filter_map-le (λ row. cell integer_in row place) rows in omega arith);
     fits = λ r stands. (
       let below : place < length inputs = place_below inputs place (record { name = name; column_type = column.Integer bound }) is in let named : length r.names ≡ length inputs = stands.named in omega arith,
       summable bound (filter_map (λ row. cell integer_in row place) r.rows) (length r.rows)
@@ -70,7 +71,7 @@ module _ (inputs : List InputOf) (place : ℕ) (name : List ℕ) where
   decimal_sum_good bound is small = record {
     value = λ rows all few. decimal_sum_fits bound MOST_ROWS (filter_map (λ row. cell decimal_in row place) rows)
         (numbers_within decimal_in (column.Decimal bound) bound (decimals_within bound) inputs place name is rows all)
-        (let fewer : length (filter_map (λ row. cell decimal_in row place) rows) ≤ length rows = filter_map_length (λ row. cell decimal_in row place) rows in omega arith);
+        (let fewer : length (filter_map (λ row. cell decimal_in row place) rows) ≤ length rows = length-filter_map-le (λ row. cell decimal_in row place) rows in omega arith);
     fits = λ r stands. (
       let below : place < length inputs = place_below inputs place (record { name = name; column_type = column.Decimal bound }) is in let named : length r.names ≡ length inputs = stands.named in omega arith,
       summable bound (filter_map (λ row. cell decimal_in row place) r.rows) (length r.rows)

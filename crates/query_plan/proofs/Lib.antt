@@ -1,4 +1,3 @@
-pub mod ListLemmas
 pub mod ScanLemmas
 pub mod PlanLemmas
 pub mod MeaningLemmas

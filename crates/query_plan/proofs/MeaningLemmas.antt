@@ -15,10 +15,10 @@ use Rattle.query_meaning.specs.Apply.{applied, applied_names, transformed, trans
 use Rattle.query_meaning.specs.Filter.{passing}
 use Rattle.query_meaning.specs.Meaning.{ResultOf, asked_count, first_rows, keyed_meaning, filtered_rows, number, skipped_and_topped, result, rows_meaning, selected_names, selected_values, table_names}
 use Rattle.query_meaning.specs.Order.{Item, order_faults, ordered, placed, rows_cmp, sorted}
+use Rattle.cell_types.proofs.CaseLaws.{cond-None_some}
 use Rattle.query_plan.specs.Plan.{MeansQuery, NodeOf, PlanOf, answer_of, apply_nodes, asked_slice, count_nodes, filter_nodes, naive_plan, node_result, nodes_result, order_nodes, leading, piece_nodes, select_nodes, slice_nodes, table_result, transformation_node}
 use Rattle.query_meaning.specs.Query.{filtered}
 use Rattle.query_plan.specs.Scan.{ScanOf}
-use Rattle.query_plan.proofs.ListLemmas.{some_if}
 use Rattle.query_plan.proofs.PlanLemmas.{turn}
 use Rattle.query_plan.proofs.ScanLemmas.{bare_rows}
 
@@ -127,7 +127,7 @@ asked_length false xs ys e = refl
 
 pub ordered_length : (items : List Item) (rows given : List (List CellValue)) → ordered items rows ≡ Some given → length given ≡ length rows
 ordered_length items rows given e =
-    ap length (sym (some_if (list_any (order_faults items) rows) (sorted (rows_cmp items) rows) given e)) ∙ sorted_length (rows_cmp items) rows
+    ap length (sym (cond-None_some (list_any (order_faults items) rows) (sorted (rows_cmp items) rows) given e)) ∙ sorted_length (rows_cmp items) rows
 
 -- what a query makes of the rows that are kept, once they are in order
 abbrev shown : TypedOf → List (List ℕ) → List (List CellValue) → List (List CellValue) → ResultOf

@@ -8,12 +8,14 @@ use Rattle.std.proofs.lemmas.List.{length-append}
 use Rattle.std.proofs.lemmas.List.Elements.{All-filter, All-from_recursion, filter_agree, recursion_from_All}
 use Rattle.std.proofs.lemmas.List.FromFn.{length-range_with_len}
 use Rattle.std.proofs.lemmas.List.Sums.{count_by-le-length, length-filter}
+use Rattle.std.proofs.Math.Bool.{and-true, and-false}
 use Rattle.block_summary.specs.Blocks.{block_at, block_count}
 use Rattle.cell_types.specs.Value.{CellValue}
 use Rattle.typed_trees.specs.CanFault.{truth_can_fault}
 use Rattle.typed_trees.specs.TypedTree.{TruthExprOf}
 use Rattle.odata_query.specs.Aggregate.{TypedTransformationOf, aggregate_rows, filter_rows, group_rows}
 use Rattle.odata_query.specs.Query.{TypedOf}
+use Rattle.cell_types.proofs.ListLaws.{length-filter-le}
 use Rattle.query_plan.specs.Laws.{NeededBlocksAreRead, PlansNeedBlocks}
 use Rattle.query_plan.specs.Needed.{conditions_can_fault, conditions_before, gives_first_rows, is_filter, last_row, row_conditions}
 use Rattle.query_meaning.specs.Order.{Item}
@@ -27,7 +29,6 @@ use Rattle.query_plan.proofs.PushLemmas.{leading-split, passes-split}
 use Rattle.query_plan.proofs.RewriteLemmas.{leading_best}
 use Rattle.query_plan.proofs.ScanLemmas.{all_rows, few_admitted}
 use Rattle.query_plan.proofs.TypedQueryLemmas.{none_last}
-use Rattle.query_plan.proofs.ValueLemmas.{filter_length}
 
 abbrev Row : Type 0
 Row = List CellValue
@@ -116,23 +117,15 @@ stop_of_piece (suc skip) None false select = inl refl
 stop_of_piece (suc skip) (Some top) true select = rw (no_room (suc skip) (Some top)) (inl refl)
 stop_of_piece (suc skip) (Some top) false select = room_is (suc skip) (Some top)
 
-and_true : (a : Bool) → (a && true) ≡ a
-and_true true = refl
-and_true false = refl
-
-and_no : (a : Bool) → (a && false) ≡ false
-and_no true = refl
-and_no false = refl
-
 stop_of_last : (q : TypedOf) (order : List Item) (b : Bool)
     → AreLike (early_stop (cond b count_nodes (order_nodes order ++ slice_nodes (asked_slice q) ++ select_nodes q.select)))
     (stop_when (not b && not q.count && eqb (length order) 0) q.skip q.top)
 stop_of_last q order true = inl refl
 stop_of_last q (item ∷ items) false =
     let some : eqb (length (item ∷ items)) 0 ≡ false = grind (arith, nat_tests) in
-    rw some (rw (and_no (not q.count)) (inl refl))
+    rw some (rw (and-false (not q.count)) (inl refl))
 stop_of_last q [] false =
-    subst (λ (b : Bool). AreLike (early_stop (slice_nodes (asked_slice q) ++ select_nodes q.select)) (stop_when b q.skip q.top)) (sym (and_true (not q.count)))
+    subst (λ (b : Bool). AreLike (early_stop (slice_nodes (asked_slice q) ++ select_nodes q.select)) (stop_when b q.skip q.top)) (sym (and-true (not q.count)))
     (stop_of_piece q.skip q.top q.count q.select)
 
 -- ---- the steps of a query
@@ -194,7 +187,7 @@ needs_when : (q : TypedOf) (rows : List Row) → length rows < 2 ^ 64 → (fault
     → needed (cond (not faulty) (pushed_down (naive_plan q)) (naive_plan q)) rows
     ≡ up_to (stop_if q faulty) (row_conditions q) rows (admitted_blocks (cond faulty [] (filter_map test_of (flat_map conjuncts (row_conditions q)))) rows)
 needs_when q rows h true =
-    ap (λ (b : Bool). up_to (cond b (option_map (last_row q.skip) q.top) None) (row_conditions q) rows (admitted_blocks [] rows)) (sym (and_no (gives_first_rows q)))
+    ap (λ (b : Bool). up_to (cond b (option_map (last_row q.skip) q.top) None) (row_conditions q) rows (admitted_blocks [] rows)) (sym (and-false (gives_first_rows q)))
 needs_when q rows h false =
     let p = naive_plan q in
     let es = row_conditions q in
@@ -206,7 +199,7 @@ needs_when q rows h false =
     ∙ same_conditions conjoined es (λ row. passes-split row es) (early_stop p.nodes) rows blocks
     ∙ alike_read (early_stop p.nodes) (stop_when (gives_first_rows q) q.skip q.top) (stop_alike q) es rows blocks
     (few_rows (λ number. admits_all (filter_map test_of conjoined) (block_at rows number)) rows h)
-    ∙ ap (λ (b : Bool). up_to (stop_when b q.skip q.top) es rows blocks) (sym (and_true (gives_first_rows q)))
+    ∙ ap (λ (b : Bool). up_to (stop_when b q.skip q.top) es rows blocks) (sym (and-true (gives_first_rows q)))
 
 pub needed_blocks_are_read : NeededBlocksAreRead
 needed_blocks_are_read q rows h =
@@ -256,7 +249,7 @@ plans_need_blocks = record {
   few = λ plan rows.
       let ok = λ (number : ℕ). admits_all plan.scan.tests (block_at rows number) in
       let up = up_to_few plan.scan.stop (leading plan.nodes) rows (admitted_blocks plan.scan.tests rows) in
-      let admitted = filter_length ok (block_numbers rows) in
+      let admitted = length-filter-le ok (block_numbers rows) in
       let whole = length-range_with_len 0 (block_count (length rows)) in
       omega (arith, up, admitted, whole);
 }

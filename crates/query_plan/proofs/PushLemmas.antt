@@ -4,6 +4,7 @@ use Rattle.std.specs.Prelude.{filter, is_none, IsSome, option_and_then, option_m
 use Rattle.std.specs.List.{flat_map, list_any}
 use Rattle.std.proofs.lemmas.Bool.{false≢true, or_parts}
 use Rattle.std.proofs.lemmas.List.Folds.{list_any-append}
+use Rattle.std.proofs.Math.Bool.{and-true, or-false}
 use Rattle.cell_types.specs.Value.{CellValue}
 use Rattle.typed_trees.specs.CanFault.{truth_can_fault}
 use Rattle.typed_trees.specs.TypedTree.{TruthExprOf, conjunction}
@@ -66,14 +67,6 @@ and_assoc : (a b c : Bool) → ((a && b) && c) ≡ (a && (b && c))
 and_assoc true b c = refl
 and_assoc false b c = refl
 
-and_true : (a : Bool) → (a && true) ≡ a
-and_true true = refl
-and_true false = refl
-
-or_false : (a : Bool) → (a || false) ≡ a
-or_false true = refl
-or_false false = refl
-
 pub passes-append : (row : Row) (xs ys : List TruthExprOf) → passes_each (xs ++ ys) row ≡ (passes_each xs row && passes_each ys row)
 passes-append row [] ys = refl
 passes-append row (e ∷ xs) ys = ap (λ b. passes e row && b) (passes-append row xs ys) ∙ sym (and_assoc (passes e row) (passes_each xs row) (passes_each ys row))
@@ -84,7 +77,7 @@ passes-conjuncts row (conjunction a b) =
     ∙ ap (λ x. x && passes_each (conjuncts b) row) (passes-conjuncts row a)
     ∙ ap (λ x. passes a row && x) (passes-conjuncts row b)
     ∙ sym (and_passes (truth_outcome a row) (truth_outcome b row))
-passes-conjuncts row e = and_true (passes e row)
+passes-conjuncts row e = and-true (passes e row)
 
 pub passes-split : (row : Row) (es : List TruthExprOf) → passes_each (flat_map conjuncts es) row ≡ passes_each es row
 passes-split row [] = refl
@@ -98,7 +91,7 @@ faults-conjuncts (conjunction a b) =
     list_any-append truth_can_fault (conjuncts a) (conjuncts b)
     ∙ ap (λ x. x || list_any truth_can_fault (conjuncts b)) (faults-conjuncts a)
     ∙ ap (λ x. truth_can_fault a || x) (faults-conjuncts b)
-faults-conjuncts e = or_false (truth_can_fault e)
+faults-conjuncts e = or-false (truth_can_fault e)
 
 pub faults-split : (es : List TruthExprOf) → list_any truth_can_fault (flat_map conjuncts es) ≡ list_any truth_can_fault es
 faults-split [] = refl

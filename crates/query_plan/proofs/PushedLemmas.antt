@@ -1,8 +1,8 @@
 -- A plan that reads fewer blocks means the same.
-use Rattle.std.proofs.Common.{◌≡◌, ℕ, Bool, true, false, cond, eqb, Option, Some, None, List, [], ◌∷◌, length, refl, sym, ap, ◌∙◌, subst, arith, eqb-true}
+use Rattle.std.proofs.Common.{◌≡◌, ℕ, Bool, true, false, cond, eqb, Option, None, List, [], ◌∷◌, length, refl, sym, ap, ◌∙◌, subst, arith, eqb-true}
 use Rattle.std.specs.Prelude.{filter, is_none, not}
 use Rattle.std.specs.List.{AllByRecursion, filter_map, list_any}
-use Rattle.std.proofs.lemmas.Bool.{and_parts, not-true, true≢false}
+use Rattle.std.proofs.lemmas.Bool.{and_parts, not-true}
 use Rattle.std.proofs.lemmas.List.Elements.{filter_agree, recursion_from_All}
 use Rattle.cell_types.specs.Value.{CellValue}
 use Rattle.csvw_meta.specs.Schema.{SchemaOf}
@@ -11,6 +11,7 @@ use Rattle.typed_trees.specs.TypedTree.{TruthExprOf}
 use Rattle.odata_types.specs.Schema.{inputs_of}
 use Rattle.odata_types.specs.Laws.{TablesAreInputs}
 use Rattle.row_eval.specs.Laws.{FaultsAreForeseen}
+use Rattle.cell_types.proofs.CaseLaws.{is_none-None}
 use Rattle.query_plan.specs.Laws.{UnadmittedBlocksPassNone}
 use Rattle.query_plan.specs.Tests.{test_of}
 use Rattle.query_plan.specs.Types.{IsTruthOver, IsTypedPlan}
@@ -39,14 +40,10 @@ is_nil : {X : Type 0} (xs : List X) → eqb (length xs) 0 ≡ true → xs ≡ []
 is_nil [] h = refl
 is_nil (x ∷ xs) h = absurd (omega (arith, eqb-true (length (x ∷ xs)) 0 h))
 
-is_no : {X : Type 0} (o : Option X) → is_none o ≡ true → o ≡ None
-is_no None h = refl
-is_no (Some x) h = absurd (true≢false (sym h))
-
 pub bare_is : (scan : ScanOf) → is_bare scan ≡ true → scan ≡ bare
 bare_is scan h =
     ap (λ (ts : List TestOf). record scan { tests = ts }) (is_nil scan.tests (and_parts (eqb (length scan.tests) 0) (is_none scan.stop) h).0)
-    ∙ ap (λ (o : Option ℕ). record bare { stop = o }) (is_no scan.stop (and_parts (eqb (length scan.tests) 0) (is_none scan.stop) h).1)
+    ∙ ap (λ (o : Option ℕ). record bare { stop = o }) (is_none-None scan.stop (and_parts (eqb (length scan.tests) 0) (is_none scan.stop) h).1)
 
 -- ---- the steps, split
 

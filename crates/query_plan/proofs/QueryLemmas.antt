@@ -27,13 +27,13 @@ use Rattle.odata_types.specs.Input.{IsInput, IsQueried, IsQueriedItem, IsQueried
 use Rattle.odata_types.specs.Laws.{TablesAreInputs}
 use Rattle.query_meaning.specs.Laws.{BoundsHold}
 use Rattle.query_meaning.specs.Apply.{applied, applied_names}
+use Rattle.cell_types.proofs.CaseLaws.{cond-None_some}
 use Rattle.query_plan.specs.Fitting.{AreFitItems, NodesFit}
 use Rattle.query_meaning.specs.Fitting.{AreQueried, AreRowsOf, AreTableRows}
 use Rattle.query_meaning.specs.Meaning.{ResultOf, first_rows}
 use Rattle.query_meaning.specs.Order.{Item, order_faults, placed, plain_column, rows_cmp, sorted}
 use Rattle.query_plan.specs.Plan.{NodeOf, SliceOf, apply_nodes, asked_slice, filter_nodes, filtering, naive_plan, node_result, nodes_result, order_nodes, piece_nodes, select_nodes, slice_nodes, slicing, sorting, table_result}
 use Rattle.query_plan.proofs.AggregateLemmas.{Stands}
-use Rattle.query_plan.proofs.ListLemmas.{some_if}
 use Rattle.query_plan.proofs.MeaningLemmas.{apply_result, last_nodes, sorted_length, under}
 use Rattle.query_plan.proofs.PlainLemmas.{IsThere, expression_there}
 use Rattle.query_plan.proofs.PlanLemmas.{both_fit, turn}
@@ -73,7 +73,7 @@ sorted_each P cmp (x ∷ xs) all = placed_each P cmp x (sorted cmp xs) all.0 (so
 
 sort_gives : (inputs : List InputOf) (items : List Item) → Gives inputs inputs (sorting items)
 sort_gives inputs items = gives_rows inputs inputs (sorting items) (λ r rows stands is.
-    let same : sorted (rows_cmp items) r.rows ≡ rows = some_if (list_any (order_faults items) r.rows) (sorted (rows_cmp items) r.rows) rows is in (
+    let same : sorted (rows_cmp items) r.rows ≡ rows = cond-None_some (list_any (order_faults items) r.rows) (sorted (rows_cmp items) r.rows) rows is in (
       stands.named,
       subst (λ (xs : List (List CellValue)). AllByRecursion (IsRowOf inputs) xs) same
           (sorted_each (IsRowOf inputs) (rows_cmp items) r.rows stands.each),

@@ -4,7 +4,7 @@ use Rattle.std.specs.Prelude.{not, option_and_then, option_map, slice_get}
 use Rattle.std.specs.List.{AllByRecursion, cons_option, filter, list_any}
 use Rattle.std.proofs.lemmas.Option.{same_Some}
 use Rattle.std.proofs.lemmas.List.{length-append, length-map}
-use Rattle.std.proofs.lemmas.List.Elements.{All-filter, All-from_recursion, recursion_from_All}
+use Rattle.std.proofs.lemmas.List.Elements.{All-from_recursion}
 use Rattle.cell_types.specs.Value.{CellValue}
 use Rattle.odata_parse.specs.Tree.{AggregateItemOf, ExprOf, TransformationOf, filter_by, aggregate, group_by}
 use Rattle.odata_types.specs.Columns.{InputOf}
@@ -20,19 +20,17 @@ use Rattle.query_meaning.specs.Laws.{BoundsHold}
 use Rattle.query_meaning.specs.Apply.{computed_values, group_values, names_at, rows_of_group, same_values, value_at, values_at}
 use Rattle.query_meaning.specs.Filter.{faults, passes}
 use Rattle.row_eval.specs.Bounds.{TruthFits}
+use Rattle.cell_types.proofs.CaseLaws.{cond-None_some}
+use Rattle.cell_types.proofs.ListLaws.{AllByRecursion-filter, length-filter-le}
 use Rattle.query_plan.specs.Fitting.{AggregateFits, IsFitNode, NodesFit}
 use Rattle.query_meaning.specs.Meaning.{ResultOf}
 use Rattle.query_plan.specs.Plan.{NodeOf, aggregating, apply_nodes, filtering, grouping, node_count, node_names, node_result, node_rows, nodes_result, transformation_node}
 use Rattle.query_plan.proofs.AggregateLemmas.{AreGood, Stands, aggregates_fit, computed_row, items_good, optional_good, place_below}
-use Rattle.query_plan.proofs.ListLemmas.{some_if}
 use Rattle.query_plan.proofs.ResultLemmas.{GivesInput, transformation_input}
 use Rattle.query_plan.proofs.TypingLemmas.{Told, told_both, told_self, told_then}
-use Rattle.query_plan.proofs.ValueLemmas.{OfColumn, filter_length, value_fits}
+use Rattle.query_plan.proofs.ValueLemmas.{OfColumn, value_fits}
 
 -- ---- lists
-
-pub filter_all : {X : Type 0} (P : X → Type 0) (p : X → Bool) (xs : List X) → AllByRecursion P xs → AllByRecursion P (filter p xs)
-filter_all P p xs all = recursion_from_All P (filter p xs) (All-filter p P xs (All-from_recursion P xs all))
 
 map_all : {X Y : Type 0} (f : X → Y) (P : X → Type 0) (Q : Y → Type 0) → ((x : X) → P x → Q (f x)) → (xs : List X) → AllByRecursion P xs → AllByRecursion Q (map f xs)
 map_all f P Q each [] all = tt
@@ -41,12 +39,12 @@ map_all f P Q each (x ∷ xs) all = (each x all.0, map_all f P Q each xs all.1)
 module _ {X : Type 0} (eq : X → X → Bool) where
   seen_all : (P : X → Type 0) (xs : List X) → AllByRecursion P xs → AllByRecursion P (first_seen eq xs)
   seen_all P [] all = tt
-  seen_all P (x ∷ xs) all = (all.0, filter_all P (λ y. not (eq x y)) (first_seen eq xs) (seen_all P xs all.1))
+  seen_all P (x ∷ xs) all = (all.0, AllByRecursion-filter P (λ y. not (eq x y)) (first_seen eq xs) (seen_all P xs all.1))
 
   seen_length : (xs : List X) → length (first_seen eq xs) ≤ length xs
   seen_length [] = omega arith
   seen_length (x ∷ xs) =
-      let few : length (filter (λ y. not (eq x y)) (first_seen eq xs)) ≤ length (first_seen eq xs) = filter_length (λ y. not (eq x y)) (first_seen eq xs) in
+      let few : length (filter (λ y. not (eq x y)) (first_seen eq xs)) ≤ length (first_seen eq xs) = length-filter-le (λ y. not (eq x y)) (first_seen eq xs) in
       let rest : length (first_seen eq xs) ≤ length xs = seen_length xs in
       omega arith
 
@@ -75,11 +73,11 @@ gives_rows inputs outputs n each r made stands e =
 
 pub filter_gives : (inputs : List InputOf) (e : TruthExprOf) → Gives inputs inputs (filtering e)
 filter_gives inputs e = gives_rows inputs inputs (filtering e) (λ r rows stands is.
-    let same : filter (passes e) r.rows ≡ rows = some_if (list_any (faults e) r.rows) (filter (passes e) r.rows) rows is in (
+    let same : filter (passes e) r.rows ≡ rows = cond-None_some (list_any (faults e) r.rows) (filter (passes e) r.rows) rows is in (
       stands.named,
-      subst (λ (xs : List (List CellValue)). AllByRecursion (IsRowOf inputs) xs) same (filter_all (IsRowOf inputs) (passes e) r.rows stands.each),
+      subst (λ (xs : List (List CellValue)). AllByRecursion (IsRowOf inputs) xs) same (AllByRecursion-filter (IsRowOf inputs) (passes e) r.rows stands.each),
       subst (λ (xs : List (List CellValue)). length xs ≤ MOST_ROWS) same
-          (let few : length (filter (passes e) r.rows) ≤ length r.rows = filter_length (passes e) r.rows in let all : length r.rows ≤ MOST_ROWS = stands.few in omega arith),
+          (let few : length (filter (passes e) r.rows) ≤ length r.rows = length-filter-le (passes e) r.rows in let all : length r.rows ≤ MOST_ROWS = stands.few in omega arith),
     ))
 
 -- ---- `aggregate`
@@ -152,8 +150,8 @@ module _ (inputs : List InputOf) (places : List ℕ) (known : AreKnown inputs pl
   group_rows_are rows all few =
       map_all (group_row rows) (IsRowOf (columns_at inputs places)) (IsRowOf group_columns)
       (λ values is. both_rows (columns_at inputs places) (map item_column xs) values (computed_values (map named_of xs) (rows_of_group places rows values)) is
-      (computed_row inputs xs good (rows_of_group places rows values) (filter_all (IsRowOf inputs) (λ row. same_values values (values_at places row)) rows all)
-      (let fewer : length (rows_of_group places rows values) ≤ length rows = filter_length (λ row. same_values values (values_at places row)) rows in omega arith)))
+      (computed_row inputs xs good (rows_of_group places rows values) (AllByRecursion-filter (IsRowOf inputs) (λ row. same_values values (values_at places row)) rows all)
+      (let fewer : length (rows_of_group places rows values) ≤ length rows = length-filter-le (λ row. same_values values (values_at places row)) rows in omega arith)))
       (group_values places rows)
       (seen_all same_values (IsRowOf (columns_at inputs places)) (map (values_at places) rows)
       (map_all (values_at places) (IsRowOf inputs) (IsRowOf (columns_at inputs places)) (λ row is. row_of_group inputs row is places known) rows all))

@@ -2,7 +2,7 @@
 use Rattle.std.proofs.Common.{◌≡◌, ℕ, ℤ, zero, suc, Bool, true, false, cond, Option, Some, None, List, [], ◌∷◌, get_or, refl, sym, ap, ◌∙◌, subst}
 use Rattle.std.specs.Prelude.{neg_ℤ, nat_le, option_and_then, option_map, pos, slice_get, unsigned_abs, ◌*ℤ◌, ◌*◌}
 use Rattle.std.specs.Cmp.Lexicographic.{slice_cmp}
-use Rattle.std.specs.Ordering.{bool_cmp, int_cmp, is_eq, nat_cmp, ordering_then}
+use Rattle.std.specs.Ordering.{bool_cmp, int_cmp, is_eq, nat_cmp}
 use Rattle.std.specs.declared.cmp.Ordering.{Ordering}
 use Rattle.std.specs.declared.cmp.Ordering.TheVariants.{Less, Equal, Greater}
 use Rattle.std.proofs.lemmas.Bool.{false≢true}
@@ -28,6 +28,7 @@ use Rattle.row_eval.specs.Logic.{option_of_truth, truth_of, truth_of_option}
 use Rattle.row_eval.specs.Outcome.{both, or_null, date_outcome, day_value, decimal_outcome, integer_outcome, text_outcome, truth_outcome}
 use Rattle.row_eval.specs.Row.{boolean_in, cell, day_in, decimal_in, integer_in, text_in}
 use Rattle.query_meaning.specs.Filter.{is_true, passes}
+use Rattle.cell_types.proofs.CaseLaws.{ordering_then_assoc}
 use Rattle.query_plan.specs.Scan.{TestOf, passes_test}
 use Rattle.query_plan.specs.Tests.{test_comparison, compared_with, date_literal_value, decimal_value, integer_value, scaled_number, test_of, text_value, truth_value}
 use Rattle.query_plan.specs.Types.{IsTruthOver, column_kind}
@@ -91,16 +92,11 @@ booleans : IsKindOf boolean bool_cmp
 unfolding value_cmp
 booleans = record { value = λ x. refl; order = λ x y. refl; before = λ x. refl; behind = λ x. refl }
 
-then_then : (a b c : Ordering) → ordering_then a (ordering_then b c) ≡ ordering_then (ordering_then a b) c
-then_then Less b c = refl
-then_then Equal b c = refl
-then_then Greater b c = refl
-
 days : IsKindOf day_value day_cmp
 unfolding value_cmp
 days = record {
   value = λ x. refl;
-  order = λ x y. then_then (int_cmp x.year y.year) (nat_cmp x.month y.month) (nat_cmp x.day y.day);
+  order = λ x y. ordering_then_assoc (int_cmp x.year y.year) (nat_cmp x.month y.month) (nat_cmp x.day y.day);
   before = λ x. refl;
   behind = λ x. refl;
 }

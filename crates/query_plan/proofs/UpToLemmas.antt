@@ -4,14 +4,13 @@ use Rattle.std.specs.Prelude.{count_by, filter}
 use Rattle.std.specs.List.{AllByRecursion, Contains, range_with_len}
 use Rattle.std.proofs.lemmas.Bool.{cases_Bool, cases_lt}
 use Rattle.std.proofs.lemmas.Bool.Decides.{nat_tests}
-use Rattle.std.proofs.lemmas.List.Elements.{All-contains, All-from_recursion}
+use Rattle.std.proofs.lemmas.List.Elements.{All-contains, All-from_recursion, Contains-append_right, Contains-get_or}
 use Rattle.std.proofs.lemmas.List.Sums.{sum_by-append}
 use Rattle.block_summary.specs.Blocks.{block_at, block_count}
 use Rattle.cell_types.specs.Value.{CellValue}
 use Rattle.typed_trees.specs.TypedTree.{TruthExprOf}
 use Rattle.query_plan.specs.Scan.{ScanOf, TestOf, admits_all, admitted_blocks, reached, read_blocks, rows_of_blocks, up_to}
 use Rattle.query_meaning.specs.Filter.{passes_each}
-use Rattle.query_plan.proofs.ListLemmas.{here, later}
 use Rattle.query_plan.proofs.NeededLemmas.{reached_each}
 
 abbrev Row : Type 0
@@ -76,12 +75,12 @@ module _ (es : List TruthExprOf) (rows : List Row) where
   reached_here room [] n behind h =
       let room_left : 0 < room = h in
       let some : eqb room 0 ≡ false = grind (arith, nat_tests, room_left) in
-      rw some (here n (reached es (room - passing_at n) rows behind))
+      rw some (Contains-get_or (n ∷ reached es (room - passing_at n) rows behind) 0 n (omega arith))
   reached_here room (m ∷ ms) n behind h =
       let room_left : 0 < room = omega (arith, h) in
       let some : eqb room 0 ≡ false = grind (arith, nat_tests, room_left) in
       let fewer : passing_in ms < room - passing_at m = omega (arith, h, passing_more m ms) in
-      rw some (later m n (reached es (room - passing_at m) rows (ms ++ n ∷ behind)) (reached_here (room - passing_at m) ms n behind fewer))
+      rw some (Contains-append_right (m ∷ []) (reached es (room - passing_at m) rows (ms ++ n ∷ behind)) n (reached_here (room - passing_at m) ms n behind fewer))
 
   -- where as many do, no more than the blocks before it are
   reached_before : (room : ℕ) (before : List ℕ) (n : ℕ) (behind : List ℕ) → room ≤ passing_in before

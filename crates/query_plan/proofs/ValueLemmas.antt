@@ -1,13 +1,12 @@
 -- What is computed of rows fits the types of columns.
 use Rattle.std.proofs.Common.{◌≡◌, ℕ, zero, suc, ◌+◌, ◌*◌, ◌≤◌, Bool, true, false, cond, Option, Some, None, List, [], ◌∷◌, length, map, subst, arith, inl, inr}
 use Rattle.std.specs.Prelude.{ℤ, ◌+ℤ◌, unsigned_abs, IfSome, option_and_then, slice_get}
-use Rattle.std.specs.List.{AllByRecursion, cons_option, filter, filter_map}
+use Rattle.std.specs.List.{AllByRecursion, cons_option, filter_map}
 use Rattle.std.specs.Ordering.{is_lt}
 use Rattle.std.specs.Set.{distinct_count}
 use Rattle.std.proofs.lemmas.Bool.{cases_Bool}
 use Rattle.std.proofs.lemmas.Int.{ints}
 use Rattle.std.proofs.lemmas.List.{length-map}
-use Rattle.std.proofs.lemmas.List.Sums.{count_by-le-length, length-filter}
 use Rattle.std.proofs.lemmas.Map.Made.{distinct_count-le}
 use Rattle.std.proofs.lemmas.Nat.{mul-le}
 use Rattle.cell_types.specs.Value.{CellValue, null, integer, text, boolean, date, decimal, value_cmp, value_eq}
@@ -17,6 +16,7 @@ use Rattle.odata_types.specs.Columns.{InputOf}
 use Rattle.odata_types.specs.Input.{IsOfType, IsRowOf}
 use Rattle.row_eval.specs.Row.{cell, decimal_in, integer_in}
 use Rattle.query_meaning.specs.Apply.{greatest_value, integer_sum, is_value, least_value, sum_value, value_at, present_values}
+use Rattle.cell_types.proofs.ListLaws.{length-filter-le}
 
 -- ---- values of a row
 
@@ -66,14 +66,6 @@ decimals_within bound (decimal n) h = h
 cons_within : (bound : ℕ) (o : Option ℤ) (ns : List ℤ) → IfSome o (AtMost bound) → AllByRecursion (AtMost bound) ns → AllByRecursion (AtMost bound) (cons_option o ns)
 cons_within bound None ns h all = all
 cons_within bound (Some n) ns h all = (h, all)
-
-cons_length : {X : Type 0} (o : Option X) (xs : List X) → length (cons_option o xs) ≤ suc (length xs)
-cons_length None xs = omega arith
-cons_length (Some x) xs = omega arith
-
-pub filter_map_length : {X Y : Type 0} (f : X → Option Y) (xs : List X) → length (filter_map f xs) ≤ length xs
-filter_map_length f [] = omega arith
-filter_map_length f (x ∷ xs) = omega (arith, cons_length (f x) (filter_map f xs), filter_map_length f xs)
 
 module _ (read : CellValue → Option ℤ) (type : ColumnType) (bound : ℕ) (reads : (v : CellValue) → IsOfType type v → IfSome (read v) (AtMost bound)) where
   read_within : (name : List ℕ) (o : Option CellValue) → CellFits (Some (record { name = name; column_type = type })) o → IfSome (option_and_then read o) (AtMost bound)
@@ -142,12 +134,9 @@ module _ (type : ColumnType) where
 
 -- ---- counts
 
-pub filter_length : {X : Type 0} (p : X → Bool) (xs : List X) → length (filter p xs) ≤ length xs
-filter_length p xs = omega (arith, length-filter p xs, count_by-le-length p xs)
-
 pub distinct_few : (place : ℕ) (rows : List (List CellValue)) → distinct_count value_eq (present_values place rows) ≤ length rows
 distinct_few place rows =
     let few : distinct_count value_eq (present_values place rows) ≤ length (present_values place rows) = distinct_count-le value_eq (present_values place rows) in
-    let values : length (present_values place rows) ≤ length (map (λ row. value_at row place) rows) = filter_length is_value (map (λ row. value_at row place) rows) in
+    let values : length (present_values place rows) ≤ length (map (λ row. value_at row place) rows) = length-filter-le is_value (map (λ row. value_at row place) rows) in
     let mapped : length (map (λ row. value_at row place) rows) ≡ length rows = length-map rows (λ row. value_at row place) in
     omega arith

@@ -1,6 +1,6 @@
 -- The rows of an answer (OData 4.01 Part 2, URL Conventions, section 4.3): names, the values under them row by row, and how many rows there are where that
 -- was asked for.
-use Rattle.std.specs.Prelude.{ℕ, List, [], ◌∷◌, Option, None}
+use Rattle.std.specs.Prelude.{◌≡◌, ℕ, List, [], ◌∷◌, ◌++◌, Option, None}
 use Rattle.cell_types.specs.Value.{CellValue}
 use Rattle.csvw_meta.specs.Schema.{SchemaOf}
 use Rattle.table_store.specs.Table.{TableOf}
@@ -20,3 +20,9 @@ rows_of_row schema select values = record {
   rows = selected_values select values ∷ [];
   count = None;
 }
+
+-- rows under these names, of which these are the first
+pub record BeginWith (rows : RowsOf) (names : List (List ℕ)) (first : List (List CellValue)) : Type 0 where
+  pub names_are : rows.names ≡ names
+  pub rest : List (List CellValue)
+  pub rows_are : rows.rows ≡ first ++ rest

@@ -105,6 +105,14 @@ impl Rows {
         self.names.len()
     }
 
+    /// The columns that the values stand in, one for each name.
+    pub fn columns(&self) -> &Columns
+        ensures rows { result.now.rows ≡ self.now.rows }
+        ensures width { length result.now.kinds ≡ length self.now.names }
+    {
+        &self.columns
+    }
+
     /// How many rows there are.
     pub fn len(&self) -> usize
         ensures { result ≡ length self.now.rows }

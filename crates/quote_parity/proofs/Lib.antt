@@ -1,3 +1,4 @@
+pub mod NumberLaws
 mod WordLemmas
 mod BitLemmas
 mod KindLemmas

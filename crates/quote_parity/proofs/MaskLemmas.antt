@@ -10,6 +10,7 @@ use Rattle.csv_grammar.specs.Faults.{IsViable, cause_at, HasFault}
 use Rattle.csv_grammar.specs.Structure.{Role, separator, record_end, inner, AreRoles}
 use Rattle.csv_grammar.specs.Following.{carry_of, may_follow, following_role}
 use Rattle.csv_grammar.specs.Laws.{OneStructure, WhatFollows}
+use Rattle.csv_grammar.proofs.ListLaws.{slice_get-drop, slice_get-take}
 use Rattle.quote_parity.specs.Words.{NoneBelow, IsLowest}
 use Rattle.quote_parity.specs.Carry.{MarksRole, AreMasks}
 use Rattle.quote_parity.specs.declared.carry.Masks.{Masks}
@@ -17,20 +18,9 @@ use Rattle.quote_parity.proofs.BitLemmas.{bit}
 
 -- ---- parts of lists
 
-slice_get-take : {X : Type 0} (xs : List X) (n i : ℕ) → i < n → slice_get (take n xs) i ≡ slice_get xs i
-slice_get-take xs zero i h = absurd (omega arith)
-slice_get-take [] (suc n) i h = refl
-slice_get-take (x ∷ xs) (suc n) zero h = refl
-slice_get-take (x ∷ xs) (suc n) (suc i) h = slice_get-take xs n i (omega arith)
-
 slice_get-push : {X : Type 0} (xs : List X) (x : X) → slice_get (xs ++ x ∷ []) (length xs) ≡ Some x
 slice_get-push [] x = refl
 slice_get-push (y ∷ xs) x = slice_get-push xs x
-
-slice_get-drop : {X : Type 0} (n : ℕ) (xs : List X) (i : ℕ) → slice_get (drop n xs) i ≡ slice_get xs (n + i)
-slice_get-drop zero xs i = let same : i ≡ 0 + i = omega arith in ap (slice_get xs) same
-slice_get-drop (suc n) [] i = refl
-slice_get-drop (suc n) (x ∷ xs) i = let same : suc n + i ≡ suc (n + i) = omega arith in slice_get-drop n xs i ∙ sym (ap (slice_get (x ∷ xs)) same)
 
 -- ---- tests and bits
 
@@ -167,7 +157,7 @@ module _ (structure : OneStructure) (follows : WhatFollows) (masks : Masks) (tex
     -- the role of a byte hangs on what stands before it
     role_at : (i : ℕ) → i < n → slice_get roles (length text + i) ≡ Some (following_role (carry_of (front i)) (byte_at i))
     role_at i h =
-        sym (slice_get-take roles (length (front (i + 1))) (length text + i) (omega (arith, length-front (i + 1) (omega arith))))
+        sym (slice_get-take (length (front (i + 1))) roles (length text + i) (omega (arith, length-front (i + 1) (omega arith))))
         ∙ (ap (λ rs. slice_get rs (length text + i)) same
         ∙ (ap (slice_get (roles_at i ++ role ∷ [])) (sym (structure.count (front i) (roles_at i) (front_are i (omega arith)) ∙ length-front i (omega arith)))
         ∙ slice_get-push (roles_at i) role))

@@ -3,25 +3,22 @@ use Rattle.std.proofs.Common.{◌≡◌, ℕ, zero, suc, ◌+◌, ◌-◌, ◌*�
 use Rattle.std.proofs.Math.Nat.{mod-eq_of_lt}
 use Rattle.std.specs.Int.{bit_at}
 use Rattle.std.specs.Int.RustNames.{count_ones}
-use Rattle.std.specs.Int.Count.{ones_step}
-use Rattle.std.proofs.lemmas.Nat.{mod-pow-add, ones_cat, ones-le, shr-shr, shr_split, and_mask, pow_pos}
+use Rattle.std.proofs.lemmas.Nat.{mod-pow-add, ones_cat, shr-shr, shr_split, and_mask, pow_pos}
 use Rattle.std.proofs.lemmas.Nat.Bits.{bit_at_cat_low, bit_at_cat_high, bit_at-zero, bit_at-lt, bit_at_xor}
 use Rattle.std.proofs.lemmas.Bool.{cases_lt}
+use Rattle.quote_parity.proofs.NumberLaws.{count_ones-bit}
 use Rattle.quote_parity.specs.Words.{ones_below}
 
 -- ---- bits below a place
 
-one_bit : (b : ℕ) → b < 2 → count_ones b ≡ b
-one_bit b h = let half : b / 2 ≡ 0 = omega arith in omega (arith, ones_step b, ap count_ones half, ones-le 0 0 (omega arith))
-
 pub ones_below-none : (w : ℕ) → ones_below w 0 ≡ 0
-ones_below-none w = let none : w % 2 ^ 0 ≡ 0 = omega arith in ap count_ones none ∙ one_bit 0 (omega arith)
+ones_below-none w = let none : w % 2 ^ 0 ≡ 0 = omega arith in ap count_ones none ∙ count_ones-bit 0 (omega arith)
 
 pub ones_below-more : (w k : ℕ) → ones_below w (k + 1) ≡ ones_below w k + bit_at w k
 ones_below-more w k =
     let b = w / 2 ^ k % 2 in
     let split : w % 2 ^ (k + 1) ≡ b * 2 ^ k + w % 2 ^ k = ap (λ n. w % 2 ^ n) (add_comm k 1) ∙ mod-pow-add w 1 k in
-    omega (arith, ap count_ones split ∙ ones_cat k b (w % 2 ^ k) (omega (arith, pow_pos k)), one_bit b (bit_at-lt w k))
+    omega (arith, ap count_ones split ∙ ones_cat k b (w % 2 ^ k) (omega (arith, pow_pos k)), count_ones-bit b (bit_at-lt w k))
 
 -- the bits of a part above a place
 ones_below-add : (w a b : ℕ) → ones_below w (a + b) ≡ ones_below w a + ones_below (w / 2 ^ a) b

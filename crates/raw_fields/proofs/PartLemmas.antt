@@ -1,26 +1,16 @@
 -- Where the field of a row and a column stands among the places of a part.
-use Rattle.std.proofs.Common.{◌≡◌, ℕ, zero, suc, ◌+◌, ◌*◌, ◌<◌, ◌≤◌, List, [], ◌∷◌, length, take, drop, Some, add-one, refl, ap, sym, ◌∙◌, arith}
-use Rattle.std.proofs.Math.Nat.{mul-le-mul}
+use Rattle.std.proofs.Common.{◌≡◌, ℕ, zero, suc, ◌+◌, ◌*◌, ◌<◌, List, [], ◌∷◌, length, take, drop, Some, add-one, refl, ap, sym, ◌∙◌, arith}
 use Rattle.std.proofs.lemmas.List.{drop-drop}
 use Rattle.std.proofs.lemmas.Option.{slice_get-map}
 use Rattle.std.specs.List.{slice_get, slice_index, slice_range}
 use Rattle.std.specs.Option.{option_and_then, option_map}
+use Rattle.std.proofs.Math.Arith.{digits_lt}
 use Rattle.csv_grammar.specs.Raw.{RawField}
+use Rattle.csv_grammar.proofs.ListLaws.{slice_get-drop, slice_get-take}
 use Rattle.raw_fields.specs.Between.{cut, raw_between}
 use Rattle.raw_fields.specs.Rows.{cell_at, rows_cut}
 use Rattle.raw_fields.specs.Part.{fields_between, part_view, PartOf, StandBetween, StandsBetween}
 use Rattle.raw_fields.specs.declared.part.Part.TheInside.{Inside}
-
-slice_get-drop : {X : Type 0} (n : ℕ) (xs : List X) (i : ℕ) → slice_get (drop n xs) i ≡ slice_get xs (n + i)
-slice_get-drop zero xs i = let e : 0 + i ≡ i = omega arith in rw e refl
-slice_get-drop (suc n) [] i = refl
-slice_get-drop (suc n) (x ∷ xs) i = let e : suc n + i ≡ suc (n + i) = omega arith in rw e (slice_get-drop n xs i)
-
-slice_get-take : {X : Type 0} (n : ℕ) (xs : List X) (i : ℕ) → i < n → slice_get (take n xs) i ≡ slice_get xs i
-slice_get-take zero xs i h = absurd (omega arith)
-slice_get-take (suc n) [] i h = refl
-slice_get-take (suc n) (x ∷ xs) zero h = refl
-slice_get-take (suc n) (x ∷ xs) (suc i) h = slice_get-take n xs i (omega arith)
 
 pub length-rows_cut : (n width : ℕ) (fields : List RawField) → length (rows_cut n width fields) ≡ n
 length-rows_cut zero width fields = refl
@@ -42,14 +32,6 @@ cell-rows_cut : (n width : ℕ) (fields : List RawField) (row col : ℕ) (raw : 
 cell-rows_cut n width fields row col raw r c e =
     ap (option_and_then (λ row_fields. slice_get row_fields col)) (slice_get-rows_cut n width fields row r)
     ∙ slice_get-take width (drop (row * width) fields) col c ∙ slice_get-drop (row * width) fields col ∙ e
-
--- the number of a field of a row
-below_cells : (row rows col width : ℕ) → row < rows → col < width → row * width + col < rows * width
-below_cells row rows col width r c =
-    let more : row + 1 ≤ rows = omega arith in
-    let same : width ≤ width = omega arith in
-    let most : (row + 1) * width ≤ rows * width = mul-le-mul more same in
-    omega (arith, most)
 
 -- the bytes of the field of a number
 piece_at : (places bytes : List ℕ) (count n : ℕ) → count < length places → n < count
@@ -83,7 +65,7 @@ cell_place p part row col is are r c =
     let wide : part.width ≡ p.width = ap (λ (q : PartOf). q.width) (sym is) in
     let row_within : row < p.rows = omega (arith, rows, r) in
     let col_within : col < p.width = omega (arith, wide, c) in
-    let below = below_cells row p.rows col p.width row_within col_within in record {
+    let below = digits_lt row_within col_within in record {
       within = omega (arith, below, are.within);
       place = are.each (row * p.width + col) below;
       cell = ap (λ (q : PartOf). cell_at q.rows row col) (sym is)

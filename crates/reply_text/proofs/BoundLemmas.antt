@@ -28,6 +28,14 @@ sizes_more pieces place all longest size now most inside are is now_is most_is =
       most = omega (arith, longest_more (take place pieces) piece, are.most, is, most_is);
     })
 
+-- one piece more, before the others
+pub sizes_before : (piece : List ℕ) (pieces : List (List ℕ)) (all longest size now most : ℕ) → AreSizesOf pieces all longest → size ≡ told (length piece)
+    → now ≡ told (all + size) → most ≡ max longest size → AreSizesOf (piece ∷ pieces) now most
+sizes_before piece pieces all longest size now most are is now_is most_is = record {
+  counted = omega (arith, length-append piece (concat pieces), are.counted, is, now_is);
+  most = omega (arith, are.most, is, most_is);
+}
+
 -- the longest is no longer than all
 pub longest_within : (pieces : List (List ℕ)) → longest_of pieces ≤ length (concat pieces)
 longest_within [] = omega arith

@@ -10,7 +10,7 @@ pub mod TreeLemmas
 pub mod SizeLemmas
 pub mod PieceLemmas
 pub mod BoundLemmas
+pub mod RowSizeLemmas
 pub mod CursorLemmas
-pub mod RoomLemmas
 pub mod ErrorLemmas
 pub mod WaitingLemmas

@@ -20,7 +20,7 @@ item_at names place (row ∷ rows) (suc n) inside =
     let same : place + 1 + n ≡ place + suc n = omega arith in
     item_at names (place + 1) rows n (omega (arith, inside)) ∙ ap (λ k. comma_before k ++ json_row names (get_or rows n [])) same
 
-end_at : (names : List (List ℕ)) (place : ℕ) (rows : List (List CellValue)) → get_or (json_items names place rows) (length rows) [] ≡ codes "]}"
+pub end_at : (names : List (List ℕ)) (place : ℕ) (rows : List (List CellValue)) → get_or (json_items names place rows) (length rows) [] ≡ codes "]}"
 end_at names place [] = refl
 end_at names place (row ∷ rows) = end_at names (place + 1) rows
 
@@ -28,11 +28,14 @@ pub items_count : (names : List (List ℕ)) (place : ℕ) (rows : List (List Cel
 items_count names place [] = refl
 items_count names place (row ∷ rows) = omega (arith, items_count names (place + 1) rows)
 
-pub json_at : (rows : RowsOf) (row : ℕ) → row < length rows.rows → get_or (json_pieces rows) (row + 1) [] ≡ comma_before row ++ json_row rows.names (get_or rows.rows row [])
-json_at rows row inside =
+pub item_is : (names : List (List ℕ)) (rows : List (List CellValue)) (row : ℕ) → row < length rows
+    → get_or (json_items names 0 rows) row [] ≡ comma_before row ++ json_row names (get_or rows row [])
+item_is names rows row inside =
     let same : 0 + row ≡ row = omega arith in
-    ap (λ n. get_or (json_pieces rows) n []) (add-one row) ∙ item_at rows.names 0 rows.rows row inside
-    ∙ ap (λ k. comma_before k ++ json_row rows.names (get_or rows.rows row [])) same
+    item_at names 0 rows row inside ∙ ap (λ k. comma_before k ++ json_row names (get_or rows row [])) same
+
+pub json_at : (rows : RowsOf) (row : ℕ) → row < length rows.rows → get_or (json_pieces rows) (row + 1) [] ≡ comma_before row ++ json_row rows.names (get_or rows.rows row [])
+json_at rows row inside = ap (λ n. get_or (json_pieces rows) n []) (add-one row) ∙ item_is rows.names rows.rows row inside
 
 pub json_end : (rows : RowsOf) → get_or (json_pieces rows) (length rows.rows + 1) [] ≡ codes "]}"
 json_end rows = ap (λ n. get_or (json_pieces rows) n []) (add-one (length rows.rows)) ∙ end_at rows.names 0 rows.rows

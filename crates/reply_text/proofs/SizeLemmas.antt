@@ -93,6 +93,12 @@ pub length-row : (names : List (List ℕ)) (values : List CellValue) → length 
 length-row names values e =
     omega (arith, braced (join_with_byte 44 (map json_member (zip names values))), length-joined json_member (zip names values), members names values e, zipped names values e, length-frame names)
 
+-- a row by its frame and its values, after what stands before it
+pub object_told : (names : List (List ℕ)) (values : List CellValue) (before : List ℕ) (frame size : ℕ) → length values ≡ length names → frame ≡ told (length (row_frame names))
+    → size ≡ told (frame + length (flat_map json_value values) + length before) → size ≡ told (length (before ++ json_row names values))
+object_told names values before frame size wide frame_is is =
+    omega (arith, length-append before (json_row names values), length-row names values wide, frame_is, is)
+
 -- ---- lines
 
 pub length-line : (values : List CellValue) (width : ℕ) → length values ≡ width → length (row_line values) ≡ length (flat_map csv_value values) + (width - 1) + 2

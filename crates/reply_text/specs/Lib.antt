@@ -4,6 +4,7 @@ pub mod Body
 pub mod Csv
 pub mod Size
 pub mod Pieces
+pub mod RowSizes
 pub mod Cursor
 pub mod Inside
 pub mod Laws

@@ -1,14 +1,17 @@
 //! How many bytes rows take as CSV (RFC 4180, section 2). None is written.
-ghost use Rattle.std.specs.Prelude.{◌≡◌, ◌<◌, [], get_or, length, map, string_bytes};
+ghost use Rattle.std.specs.Prelude.{◌≡◌, ◌<◌, ◌≤◌, [], get_or, length, map, string_bytes};
 ghost use Rattle.std.specs.List.{flat_map};
 ghost use Rattle.reply_text.specs.Csv.{csv_line, csv_text, row_line};
 ghost use Rattle.reply_text.specs.Pieces.{csv_pieces, AreSizesOf};
+ghost use Rattle.reply_text.specs.RowSizes.{CountFirst, HaveCsvSizes};
 ghost use Rattle.reply_values.specs.Csv.{csv_value};
 ghost use Rattle.reply_values.specs.Size.{told};
 
+use crate::row_sizes::RowSizes;
 use crate::sizes::Sizes;
 use query_rows::Rows;
 use reply_values::csv_value_size;
+use row_columns::Columns;
 
 /// How many bytes names take.
 fn names_size(names: &[String]) -> usize
@@ -31,41 +34,55 @@ fn name_line_size(names: &[String]) -> usize
 }
 
 /// How many bytes the values of the row with a number take.
-fn values_size(rows: &Rows, row: usize) -> usize
-    requires { row < length rows.now.rows }
-    ensures { result ≡ told (length (flat_map csv_value (get_or rows.now.rows row []))) }
+fn values_size(columns: &Columns, row: usize) -> usize
+    requires { row < length columns.now.rows }
+    ensures { result ≡ told (length (flat_map csv_value (get_or columns.now.rows row []))) }
 {
+    columns.rows_are_wide();
     let mut size = 0usize;
-    for col in 0..rows.width() {
-        size = size.saturating_add(csv_value_size(&rows.value(row, col)));
+    for col in 0..columns.width() {
+        size = size.saturating_add(csv_value_size(&columns.value(row, col)));
     }
     size
 }
 
 /// How many bytes the row with a number takes, with its commas and its line break.
-fn line_size(rows: &Rows, row: usize) -> usize
-    requires { row < length rows.now.rows }
-    ensures { result ≡ told (length (row_line (get_or rows.now.rows row []))) }
+fn line_size(columns: &Columns, row: usize) -> usize
+    requires { row < length columns.now.rows }
+    ensures { result ≡ told (length (row_line (get_or columns.now.rows row []))) }
 {
-    values_size(rows, row)
-        .saturating_add(rows.width().saturating_sub(1))
+    columns.rows_are_wide();
+    values_size(columns, row)
+        .saturating_add(columns.width().saturating_sub(1))
         .saturating_add(2)
 }
 
-/// How many bytes the lines of rows take as CSV.
-pub fn csv_sizes(rows: &Rows) -> Sizes
-    ensures { AreSizesOf (csv_pieces rows.now) result.all result.longest }
+/// The sizes with those of the rows from a number on, as lines.
+pub fn with_lines(before: Sizes, columns: &Columns, first: usize) -> Sizes
+    requires { first ≤ length columns.now.rows }
+    ensures { let lines = map row_line columns.now.rows in
+        CountFirst first lines before → CountFirst (length columns.now.rows) lines result }
 {
-    let mut sizes = Sizes::none().with(name_line_size(rows.names()));
-    for row in 0..rows.len() {
-        sizes = sizes.with(line_size(rows, row));
+    let mut sizes = before;
+    for row in first..columns.len() {
+        sizes = sizes.with(line_size(columns, row));
     }
     sizes
+}
+
+/// How many bytes the lines of rows take as CSV, of which some first rows were counted.
+pub fn csv_sizes(rows: &Rows, counted: RowSizes) -> Sizes
+    requires { HaveCsvSizes counted rows.now }
+    ensures { AreSizesOf (csv_pieces rows.now) result.all result.longest }
+{
+    let mut counted = counted;
+    counted.count_csv(rows.columns());
+    counted.sizes.with(name_line_size(rows.names()))
 }
 
 /// How many bytes rows take as CSV.
 pub fn csv_size(rows: &Rows) -> usize
     ensures { result ≡ told (length (csv_text rows.now)) }
 {
-    csv_sizes(rows).all
+    csv_sizes(rows, RowSizes::none()).all
 }

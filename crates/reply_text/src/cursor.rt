@@ -6,12 +6,14 @@ ghost use Rattle.reply_text.specs.Csv.{csv_text};
 ghost use Rattle.reply_text.specs.Cursor.{LaysNext};
 ghost use Rattle.reply_text.specs.Inside.{body_pieces, MayLay};
 ghost use Rattle.reply_text.specs.Pieces.{csv_pieces, json_pieces, longest_of, AreSizesOf};
+ghost use Rattle.reply_text.specs.RowSizes.{HaveCsvSizes, HaveJsonSizes};
 
 use crate::body::row_body;
 use crate::csv_sizes::csv_sizes;
 use crate::json_rows::heads_of;
 use crate::json_sizes::json_sizes;
 use crate::pieces::Pieces;
+use crate::row_sizes::RowSizes;
 use crate::sizes::Sizes;
 use query_rows::Rows;
 use std::alloc::{AllocError, Global};
@@ -65,8 +67,21 @@ impl BodyCursor {
         ensures bytes { IfOk result (λ body. body.bytes ≡ rows_text rows) }
         ensures longest { IfOk result (λ body. body.longest ≡ longest_of (json_pieces rows)) }
     {
+        BodyCursor::json_counted(alloc, rows, RowSizes::none())
+    }
+
+    /// The same of rows of which some first ones were counted.
+    pub fn json_counted(
+        alloc: Global,
+        rows: Rows,
+        counted: RowSizes,
+    ) -> Result<BodyCursor, AllocError>
+        requires { HaveJsonSizes counted rows }
+        ensures bytes { IfOk result (λ body. body.bytes ≡ rows_text rows) }
+        ensures longest { IfOk result (λ body. body.longest ≡ longest_of (json_pieces rows)) }
+    {
         let heads = heads_of(alloc, rows.names())?;
-        let sizes = json_sizes(&rows);
+        let sizes = json_sizes(&rows, counted);
         let body = of_pieces(Pieces::Json(rows, heads), sizes)?;
         Ok(body)
     }
@@ -76,7 +91,16 @@ impl BodyCursor {
         ensures bytes { IfOk result (λ body. body.bytes ≡ csv_text rows) }
         ensures longest { IfOk result (λ body. body.longest ≡ longest_of (csv_pieces rows)) }
     {
-        let sizes = csv_sizes(&rows);
+        BodyCursor::csv_counted(rows, RowSizes::none())
+    }
+
+    /// The same of rows of which some first ones were counted.
+    pub fn csv_counted(rows: Rows, counted: RowSizes) -> Result<BodyCursor, AllocError>
+        requires { HaveCsvSizes counted rows }
+        ensures bytes { IfOk result (λ body. body.bytes ≡ csv_text rows) }
+        ensures longest { IfOk result (λ body. body.longest ≡ longest_of (csv_pieces rows)) }
+    {
+        let sizes = csv_sizes(&rows, counted);
         let body = of_pieces(Pieces::Csv(rows), sizes)?;
         Ok(body)
     }

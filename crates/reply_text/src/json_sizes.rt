@@ -1,15 +1,19 @@
 //! How many bytes rows take as JSON (RFC 8259). None is written.
-ghost use Rattle.std.specs.Prelude.{◌≡◌, ◌++◌, [], ◌<◌, get_or, length, map, string_bytes};
+ghost use Rattle.std.specs.Prelude.{◌≡◌, ◌+◌, [], ◌<◌, ◌≤◌, get_or, length, map, string_bytes};
 ghost use Rattle.std.specs.List.{flat_map};
 ghost use Rattle.reply_text.specs.Body.{row_text, rows_text};
-ghost use Rattle.reply_text.specs.Json.{comma_before, json_count, json_row};
-ghost use Rattle.reply_text.specs.Pieces.{json_opening, json_pieces, AreSizesOf};
+ghost use Rattle.reply_text.specs.Json.{comma_before, json_count};
+ghost use Rattle.reply_text.specs.Pieces.{json_items, json_opening, json_pieces, AreSizesOf};
+ghost use Rattle.reply_text.specs.RowSizes.{CountFirst, HaveJsonSizes};
 ghost use Rattle.reply_text.specs.Size.{member_name, row_frame};
+ghost use Rattle.reply_values.specs.Json.{json_value};
 ghost use Rattle.reply_values.specs.Size.{told};
 
+use crate::row_sizes::RowSizes;
 use crate::sizes::Sizes;
 use query_rows::Rows;
 use reply_values::{json_value_size, number_size, text_size};
+use row_columns::Columns;
 
 /// How many bytes names take, each with its colon.
 fn names_size(names: &[String]) -> usize
@@ -34,31 +38,48 @@ fn frame_size(names: &[String]) -> usize
 }
 
 /// How many bytes the row with a number takes, beside whose values so many stand.
-fn object_size(rows: &Rows, row: usize, frame: usize) -> usize
-    requires row { row < length rows.now.rows }
-    requires frame { frame ≡ told (length (row_frame rows.now.names)) }
-    ensures { result ≡ told (length (json_row rows.now.names (get_or rows.now.rows row []))) }
+fn object_size(columns: &Columns, row: usize, frame: usize) -> usize
+    requires { row < length columns.now.rows }
+    ensures { result ≡ told (frame
+        + length (flat_map json_value (get_or columns.now.rows row []))) }
 {
+    columns.rows_are_wide();
     let mut size = frame;
-    for col in 0..rows.width() {
-        size = size.saturating_add(json_value_size(&rows.value(row, col)));
+    for col in 0..columns.width() {
+        size = size.saturating_add(json_value_size(&columns.value(row, col)));
     }
     size
 }
 
 /// The same with the comma before it.
-fn item_size(rows: &Rows, row: usize, frame: usize) -> usize
-    requires row { row < length rows.now.rows }
-    requires frame { frame ≡ told (length (row_frame rows.now.names)) }
-    ensures { result ≡ told (length
-        (comma_before row ++ json_row rows.now.names (get_or rows.now.rows row []))) }
+fn item_size(columns: &Columns, row: usize, frame: usize) -> usize
+    requires { row < length columns.now.rows }
+    ensures { result ≡ told (frame
+        + length (flat_map json_value (get_or columns.now.rows row []))
+        + length (comma_before row)) }
 {
-    let size = object_size(rows, row, frame);
+    let size = object_size(columns, row, frame);
     if row == 0 {
         size
     } else {
         size.saturating_add(1)
     }
+}
+
+/// The sizes with those of the rows from a number on, as objects under these names.
+pub fn with_objects(before: Sizes, names: &[String], columns: &Columns, first: usize) -> Sizes
+    requires width { length columns.now.kinds ≡ length names.now }
+    requires first { first ≤ length columns.now.rows }
+    ensures { let items = json_items (map string_bytes names.now) 0 columns.now.rows in
+        CountFirst first items before → CountFirst (length columns.now.rows) items result }
+{
+    columns.rows_are_wide();
+    let frame = frame_size(names);
+    let mut sizes = before;
+    for row in first..columns.len() {
+        sizes = sizes.with(item_size(columns, row, frame));
+    }
+    sizes
 }
 
 /// How many bytes the number of rows takes, where it was asked for.
@@ -78,23 +99,21 @@ fn opening_size(count: Option<u64>) -> usize
     count_size(count).saturating_add(10)
 }
 
-/// How many bytes the pieces of rows take as a JSON object.
-pub fn json_sizes(rows: &Rows) -> Sizes
+/// How many bytes the pieces of rows take as a JSON object, of which some first rows were counted.
+pub fn json_sizes(rows: &Rows, counted: RowSizes) -> Sizes
+    requires { HaveJsonSizes counted rows.now }
     ensures { AreSizesOf (json_pieces rows.now) result.all result.longest }
 {
-    let frame = frame_size(rows.names());
-    let mut sizes = Sizes::none().with(opening_size(rows.count()));
-    for row in 0..rows.len() {
-        sizes = sizes.with(item_size(rows, row, frame));
-    }
-    sizes.with(2)
+    let mut counted = counted;
+    counted.count_json(rows.names(), rows.columns());
+    counted.sizes.with(opening_size(rows.count())).with(2)
 }
 
 /// How many bytes rows take as a JSON object.
 pub fn json_size(rows: &Rows) -> usize
     ensures { result ≡ told (length (rows_text rows.now)) }
 {
-    json_sizes(rows).all
+    json_sizes(rows, RowSizes::none()).all
 }
 
 /// How many bytes the one row takes as a JSON object.
@@ -102,5 +121,7 @@ pub fn row_size(rows: &Rows) -> usize
     requires { length rows.now.rows ≡ 1 }
     ensures { result ≡ told (length (row_text rows.now)) }
 {
-    object_size(rows, 0, frame_size(rows.names()))
+    let columns = rows.columns();
+    columns.rows_are_wide();
+    object_size(columns, 0, frame_size(rows.names()))
 }

@@ -13,6 +13,7 @@ mod laws;
 mod output;
 mod pieces;
 mod reply;
+mod row_sizes;
 mod sizes;
 
 pub use body::{
@@ -30,3 +31,4 @@ pub use output::Output;
 pub use reply::Reply;
 pub use reply_codes::Code;
 pub use reply_values::{number_size, push_number};
+pub use row_sizes::RowSizes;

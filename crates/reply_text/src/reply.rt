@@ -6,7 +6,8 @@ use crate::cursor::BodyCursor;
 use std::alloc::{AllocError, Global};
 use std::marker::Model;
 
-/// The most bytes of a body that are laid down before they are taken, but for a longer row.
+/// How many bytes of a body are laid down at once before they are taken, beside room for its longest row: so a long row here and there does not have the others
+/// taken one by one.
 const ROOM: usize = 65_536;
 
 /// The bytes that are laid down, of which the first `at` were taken, and the body that is not. It is seen as the bytes that wait. None of the body is left
@@ -60,7 +61,7 @@ impl Reply {
     {
         let mut laid = lines;
         let mut body = body;
-        laid.reserve(body.longest().max(body.size().min(ROOM)))?;
+        laid.reserve(body.longest().saturating_add(body.size().min(ROOM)))?;
         fill(&mut laid, &mut body);
         Ok(Reply { laid, at: 0, body })
     }

@@ -6,15 +6,8 @@ use Rattle.std.proofs.lemmas.List.{take_more}
 use Rattle.std.proofs.lemmas.List.Folds.{list_all-append}
 use Rattle.std.specs.Prelude.{OnOk, unsigned_abs}
 use Rattle.std.proofs.lemmas.Int.{ints}
+use Rattle.std.proofs.Math.Bool.{and-true, and-false}
 use Rattle.cell_types.specs.Decimal.{decimal_text, is_zero, millionths_text, without_last_zeros}
-
-and-true : (b : Bool) → (b && true) ≡ b
-and-true true = refl
-and-true false = refl
-
-and-false : (b : Bool) → (b && false) ≡ false
-and-false true = refl
-and-false false = refl
 
 all_zeros : (ds : List ℕ) (d : ℕ) (b : Bool) → is_zero d ≡ b → list_all is_zero (ds ++ d ∷ []) ≡ (list_all is_zero ds && b)
 all_zeros ds d b e = list_all-append is_zero ds (d ∷ []) ∙ ap (λ t. list_all is_zero ds && t) (and-true (is_zero d) ∙ e)

@@ -5,7 +5,3 @@ use Rattle.std.proofs.Common.{Result, Ok, Err, OnErr}
 pub when_refused : {T E : Type 0} (r : Result T E) (A B : Type 0) → (A → B) → OnErr r A → OnErr r B
 when_refused (Ok x) A B f h = tt
 when_refused (Err e) A B f h = f h
-
-pub when_err : {T E : Type 0} (r : Result T E) (A : Type 0) → A → OnErr r A
-when_err (Ok x) A a = tt
-when_err (Err e) A a = a

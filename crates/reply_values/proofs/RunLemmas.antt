@@ -10,12 +10,10 @@ use Rattle.reply_values.proofs.BlockLemmas.{place_is_first}
 pub escaped_plain : (b : ℕ) → needs_escape b ≡ false → json_escaped b ≡ b ∷ []
 escaped_plain b h = grind (arith, tests)
 
-one_more : (n : ℕ) (b : ℕ) (bs : List ℕ) → take (1 + n) (b ∷ bs) ≡ b ∷ take n bs
-one_more n b bs = grind arith
-
 flat_map_plain_from : (b : ℕ) (bs : List ℕ) (test : Bool) → needs_escape b ≡ test → (n : ℕ) → flat_map json_escaped (take n bs) ≡ take n bs → flat_map json_escaped (take (cond (not test) (1 + n) 0) (b ∷ bs)) ≡ take (cond (not test) (1 + n) 0) (b ∷ bs)
 flat_map_plain_from b bs true e n h = refl
-flat_map_plain_from b bs false e n h = rw (one_more n b bs, escaped_plain b e, h) refl
+flat_map_plain_from b bs false e n h =
+    let more : take (1 + n) (b ∷ bs) ≡ b ∷ take n bs = grind arith in rw (more, escaped_plain b e, h) refl
 
 -- what stands before the first byte that needs an escape stands for itself
 flat_map_plain : (bs : List ℕ) → flat_map json_escaped (take (position_or_len needs_escape bs) bs) ≡ take (position_or_len needs_escape bs) bs

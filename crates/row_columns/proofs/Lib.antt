@@ -1,5 +1,7 @@
 pub mod NumberLemmas
 pub mod PieceLemmas
 pub mod StoreLemmas
+pub mod CodeLemmas
+pub mod PackedLemmas
 pub mod RowLemmas
 pub mod KindLemmas

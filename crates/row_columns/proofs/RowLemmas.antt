@@ -229,9 +229,9 @@ values_taken width rows new taken made e long wide made_is =
           ∙ map_from (value_rows rows.items) taken none;
     }
 
-pub taken_ok : (old new : Store) (rows : List (List CellValue)) (numbers : List ℕ) (result : Result (Vec ℕ Global) AllocError)
-    → ((made : List ℕ) → made ≡ numbers → HasTakenRows old new rows made) → IfOk result (λ made. made.items ≡ numbers) → IfOk result (λ made. HasTakenRows old new rows made.items)
-taken_ok old new rows numbers (Ok made) are h = are made.items h
+pub taken_ok : (old new : Store) (rows : List (List CellValue)) (numbers : List ℕ) (result : Result (List ℕ) AllocError)
+    → ((made : List ℕ) → made ≡ numbers → HasTakenRows old new rows made) → IfOk result (λ made. made ≡ numbers) → IfOk result (λ made. HasTakenRows old new rows made)
+taken_ok old new rows numbers (Ok made) are h = are made h
 taken_ok old new rows numbers (Err e) are h = tt
 
 pub none_taken : (store : Store) → IsStoredWide store → HasTakenRows store store [] []

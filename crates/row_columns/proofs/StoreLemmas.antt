@@ -1,10 +1,10 @@
 -- Where rows stand.
-use Rattle.std.proofs.Common.{◌≡◌, ℕ, zero, suc, ◌+◌, ◌*◌, ◌/◌, ◌%◌, ◌<◌, ◌≤◌, List, [], ◌∷◌, ◌++◌, Option, None, Some, Vec, Global, length, map, take, get_or, refl, sym, ap, ◌∙◌, subst, arith}
+use Rattle.std.proofs.Common.{◌≡◌, ◌==◌, false, ℕ, zero, suc, ◌+◌, ◌*◌, ◌/◌, ◌%◌, ◌<◌, List, [], ◌∷◌, ◌++◌, Option, Vec, Global, length, map, take, get_or, refl, sym, ap, ◌∙◌, subst, arith}
 use Rattle.std.specs.Prelude.{replicate}
-use Rattle.std.specs.List.{All, AllByRecursion}
-use Rattle.std.proofs.lemmas.List.{get_or-map, get_or-replicate, get_or_past, get_or_read, length-map, length-replicate, map_more, map_push}
+use Rattle.std.specs.List.{AllByRecursion}
+use Rattle.std.proofs.lemmas.Bool.{false≢true}
+use Rattle.std.proofs.lemmas.List.{get_or-map, get_or_read, length-map, length-replicate, map_more, map_push}
 use Rattle.std.proofs.lemmas.List.Elements.{All-from_recursion}
-use Rattle.std.proofs.Math.ListN.{get_or-map as get_or-map_default}
 use Rattle.block_summary.specs.Reading.{packed_type_of}
 use Rattle.block_summary.specs.declared.block.TheConstants.{BLOCK_ROWS}
 use Rattle.block_summary.specs.declared.number.PackedType.{PackedType}
@@ -104,6 +104,10 @@ row_long width rows number row wide h at =
     let inside : number < length (value_rows rows) = omega (arith, h, length-map rows (λ (r : Vec Value Global). map value_view r.items)) in
     sym (length-map row.items value_view) ∙ ap (λ (r : List CellValue). length r) (row_of_values rows number row h at)
     ∙ All-from_recursion (λ (r : List CellValue). length r ≡ width) (value_rows rows) wide number none inside
+
+pub some_there : (n : ℕ) → (n == 0) ≡ false → 0 < n
+some_there zero e = absurd (false≢true (sym e))
+some_there (suc n) e = omega arith
 
 -- each row is as wide as there are columns
 pub stored_wide : (store : Store) (number : ℕ) → IsStoredWide store → number < end_of store → length (stored_row store number) ≡ length (stored_kinds store)

@@ -6,9 +6,9 @@ use Rattle.row_columns.specs.Columns.{ColumnsOf}
 use Rattle.row_columns.specs.Store.{end_of, stored_kinds, stored_row, IsStoredWide}
 
 abbrev pub columns_view : Inside → ColumnsOf
-columns_view columns = record { kinds = stored_kinds columns.store; rows = map (stored_row columns.store) columns.numbers.items }
+columns_view columns = record { kinds = stored_kinds columns.store; rows = map (stored_row columns.store) columns.numbers }
 
 -- each number is that of a row, which has a value for each column
 pub record HoldRows (columns : Inside) : Type 0 where
   pub wide : IsStoredWide columns.store
-  pub within : AllByRecursion (λ (number : ℕ). number < end_of columns.store) columns.numbers.items
+  pub within : AllByRecursion (λ (number : ℕ). number < end_of columns.store) columns.numbers

@@ -3,6 +3,7 @@ pub use Rattle.table_store.specs.Block
 pub mod Kinds
 pub mod Picked
 pub mod Columns
+pub mod Codes
 pub mod Numbers
 pub mod Text
 pub mod Piece

@@ -1,16 +1,20 @@
 //! Columns of values.
-ghost use Rattle.std.specs.Prelude.{◌≡◌, ◌+◌, ◌++◌, ◌^◌, [], ◌<◌, ◌≤◌, ℕ, IfOk, OnErr, OnOk, Some, length, map, option_and_then, option_map, replicate, slice_get, slice_index_or};
+ghost use Rattle.std.specs.Prelude.{◌≡◌, ◌+◌, ◌++◌, ◌^◌, [], ◌<◌, ◌≤◌, ℕ, IfOk, IfSome, OnErr, OnOk, Some, length, map, option_and_then, option_map, replicate, slice_get, slice_index_or};
 ghost use Rattle.std.specs.List.{All, AllByRecursion};
+ghost use Rattle.block_summary.specs.Ranges.{column_of};
 ghost use Rattle.cell_types.specs.Column.{column_view};
 ghost use Rattle.cell_types.specs.Value.{value_view, null};
+ghost use Rattle.row_columns.specs.Codes.{HaveCodes};
 ghost use Rattle.row_columns.specs.Columns.{no_columns};
 ghost use Rattle.row_columns.specs.Kinds.{any, kinds_of};
 ghost use Rattle.row_columns.specs.Picked.{kinds_at, numbered, values_at};
 ghost use Rattle.row_columns.specs.Store.{value_rows};
 ghost use Rattle.row_columns.specs.Text.{text_of_cell};
 
-use crate::numbers::{all_numbers, numbers_between, renumbered};
+use crate::numbers::all_numbers;
+use crate::row_numbers::RowNumbers;
 use crate::store::{Store, types_at, types_of};
+use block_summary::PackedColumn;
 use cell_types::{Column, Value};
 use std::alloc::{AllocError, Global};
 use std::marker::Model;
@@ -22,7 +26,7 @@ use table_store::Block;
 pub struct Columns {
     store: Store,
     /// A row of blocks has the number of its block and its own in the block, as one.
-    numbers: Vec<u32>,
+    numbers: RowNumbers,
 }
 
 impl Model for Columns {
@@ -44,7 +48,7 @@ impl Columns {
     {
         Columns {
             store: Store::none(alloc),
-            numbers: Vec::new(alloc),
+            numbers: RowNumbers::none(alloc),
         }
     }
 
@@ -56,7 +60,7 @@ impl Columns {
         let types = types_of(alloc, columns)?;
         Ok(Columns {
             store: Store::Blocks(types, Vec::new(alloc)),
-            numbers: Vec::new(alloc),
+            numbers: RowNumbers::none(alloc),
         })
     }
 
@@ -74,7 +78,7 @@ impl Columns {
         let types = types_at(alloc, columns, places)?;
         Ok(Columns {
             store: Store::Blocks(types, Vec::new(alloc)),
-            numbers: Vec::new(alloc),
+            numbers: RowNumbers::none(alloc),
         })
     }
 
@@ -88,7 +92,7 @@ impl Columns {
         ensures { IfOk result (λ made.
             made ≡ record { kinds = replicate width any; rows = value_rows rows.entry.items }) }
     {
-        let numbers = numbers_between(alloc, 0, rows.len())?;
+        let numbers = RowNumbers::between(alloc, 0, rows.len())?;
         Ok(Columns {
             store: Store::Values(width, rows),
             numbers,
@@ -144,9 +148,9 @@ impl Columns {
         ensures refused { OnErr result (self.new ≡ no_columns) }
     {
         let mut store = mem::replace(&mut self.store, Store::none(alloc));
-        let mut kept = mem::replace(&mut self.numbers, Vec::new(alloc));
+        let mut kept = mem::replace(&mut self.numbers, RowNumbers::none(alloc));
         let made = store.take(alloc, block, places, numbers)?;
-        kept.extend_from_slice(made.as_slice())?;
+        kept.append(&made)?;
         self.store = store;
         self.numbers = kept;
         Ok(())
@@ -181,7 +185,7 @@ impl Columns {
         ensures { option_and_then (λ values. slice_get values col) (slice_get self.now.rows row)
             ≡ Some (value_view result) }
     {
-        self.store.value(self.numbers[row] as usize, col)
+        self.store.value(self.numbers.at(row) as usize, col)
     }
 
     /// The text of a row and a column, both counted from 0; nothing where the value is null, or no text. It takes no memory.
@@ -191,7 +195,26 @@ impl Columns {
         ensures { option_map (λ t. t.now) result
             ≡ text_of_cell (slice_index_or (slice_index_or self.now.rows row []) col null) }
     {
-        self.store.text(self.numbers[row] as usize, col)
+        self.store.text(self.numbers.at(row) as usize, col)
+    }
+
+    /// A code for each row by its value in a column, counted from 0; nothing where the rows are not all of one block, or it has none for the column.
+    pub fn codes(&self, alloc: Global, col: usize) -> Result<Option<Vec<u8>>, AllocError>
+        requires { col < length self.now.kinds }
+        ensures { IfOk result (λ codes.
+            IfSome codes (λ codes. HaveCodes codes.items col self.now.rows)) }
+    {
+        let numbers = self.numbers.to_vec(alloc)?;
+        self.store.codes(alloc, numbers.as_slice(), col)
+    }
+
+    /// The cells of a column as they are packed, where the rows are all those of one block, in their order; nothing where they are others, or the column has texts.
+    pub fn packed(&self, col: usize) -> Option<&PackedColumn>
+        requires { col < length self.now.kinds }
+        ensures { IfSome result (λ cells. cells.now ≡ column_of self.now.rows col) }
+    {
+        let run = self.numbers.run()?;
+        self.store.packed(run, col)
     }
 
     /// The values of a row, counted from 0.
@@ -223,7 +246,7 @@ impl Columns {
             made.rows ≡ map (values_at places.now) (numbered numbers.now self.now.rows)) }
     {
         let store = self.store.picked(alloc, places)?;
-        let numbers = renumbered(alloc, self.numbers.as_slice(), numbers)?;
+        let numbers = self.numbers.picked(alloc, numbers)?;
         Ok(Columns { store, numbers })
     }
 
@@ -234,7 +257,7 @@ impl Columns {
         ensures rows { OnOk result (self.new.rows ≡ numbered numbers.now self.old.rows) }
         ensures refused { OnErr result (self.new ≡ self.old) }
     {
-        self.numbers = renumbered(alloc, self.numbers.as_slice(), numbers)?;
+        self.numbers = self.numbers.picked(alloc, numbers)?;
         Ok(())
     }
 

@@ -6,6 +6,7 @@ mod columns;
 mod keys;
 mod numbers;
 mod piece;
+mod row_numbers;
 mod store;
 mod value_rows;
 mod values;

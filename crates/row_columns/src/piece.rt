@@ -1,11 +1,15 @@
 //! The cells of some columns of a block, which are shared with its table.
-ghost use Rattle.std.specs.Prelude.{◌≡◌, ◌<◌, ℕ, [], IfOk, get_or, length, map, option_map, slice_index_or};
+ghost use Rattle.std.specs.Prelude.{◌≡◌, ◌<◌, ◌%◌, ℕ, [], IfOk, IfSome, get_or, length, map, option_map, slice_index_or};
 ghost use Rattle.std.specs.List.{All};
+ghost use Rattle.block_summary.specs.declared.block.TheConstants.{BLOCK_ROWS};
 ghost use Rattle.cell_types.specs.Value.{null, value_view};
+ghost use Rattle.row_columns.specs.Codes.{HaveCodes};
 ghost use Rattle.row_columns.specs.Picked.{values_at};
 ghost use Rattle.row_columns.specs.Piece.{piece_at, piece_row};
 ghost use Rattle.row_columns.specs.Text.{text_of_cell};
 
+use crate::numbers::codes_at;
+use block_summary::{BLOCK_ROWS, PackedColumn};
 use cell_types::Value;
 use std::alloc::{AllocError, Global};
 use std::marker::Model;
@@ -72,6 +76,35 @@ impl Piece {
             return None;
         }
         texts.text(row)
+    }
+
+    /// The cells of a column as they are packed; nothing for texts.
+    pub(crate) fn packed(&self, col: usize) -> Option<&PackedColumn>
+        requires { col < length self.now }
+        ensures { IfSome result (λ cells. (row : ℕ) → slice_index_or cells.now row null
+            ≡ slice_index_or (piece_row self.now row) col null) }
+    {
+        self.columns[col].packed()
+    }
+
+    /// The codes of the rows with these numbers by their values in a column, where it has codes.
+    pub(crate) fn codes(
+        &self,
+        alloc: Global,
+        numbers: &[u32],
+        col: usize,
+    ) -> Result<Option<Vec<u8>>, AllocError>
+        requires { col < length self.now }
+        ensures { IfOk result (λ codes. IfSome codes (λ codes. HaveCodes codes.items col
+            (map (λ number. piece_row self.now (number % BLOCK_ROWS)) numbers.now))) }
+    {
+        let Some(texts) = self.columns[col].texts() else {
+            return Ok(None);
+        };
+        let Some(codes) = texts.codes() else {
+            return Ok(None);
+        };
+        codes_at(alloc, codes.codes.as_slice(), numbers)
     }
 
     /// The columns with these places.

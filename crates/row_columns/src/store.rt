@@ -1,19 +1,23 @@
 //! Where rows stand.
-ghost use Rattle.std.specs.Prelude.{◌≡◌, ◌<◌, [], IfOk, length, map, option_map, slice_index_or};
+ghost use Rattle.std.specs.Prelude.{◌≡◌, ◌<◌, [], IfOk, IfSome, length, map, option_map, slice_index_or};
 ghost use Rattle.std.specs.List.{All};
+ghost use Rattle.block_summary.specs.Ranges.{column_of};
 ghost use Rattle.cell_types.specs.Column.{column_view};
 ghost use Rattle.cell_types.specs.Value.{null, value_view};
+ghost use Rattle.row_columns.specs.Codes.{HaveCodes};
 ghost use Rattle.row_columns.specs.Kinds.{kinds_of};
+ghost use Rattle.row_columns.specs.Numbers.{numbers_from};
 ghost use Rattle.row_columns.specs.Picked.{kinds_at, numbered, values_at};
 ghost use Rattle.row_columns.specs.Piece.{piece_at};
 ghost use Rattle.row_columns.specs.Store.{end_of, kind_of_type, stored_kinds, stored_row, IsPicked, IsStoredWide, HasTakenRows};
 ghost use Rattle.row_columns.specs.Text.{text_of_cell};
 
-use crate::numbers::{numbers_after, numbers_between};
+use crate::numbers::are_of_block;
 use crate::piece::Piece;
+use crate::row_numbers::RowNumbers;
 use crate::value_rows::{rows_picked, rows_taken, text_of};
 use crate::values::lent;
-use block_summary::{BLOCK_ROWS, PackedType, packed_type_of};
+use block_summary::{BLOCK_ROWS, PackedColumn, PackedType, packed_type_of};
 use cell_types::{Column, Value};
 use std::alloc::{AllocError, Global};
 use table_store::Block;
@@ -144,6 +148,53 @@ impl Store {
         }
     }
 
+    /// The cells of a column as they are packed, where the rows with so many numbers from one on are all those of the last block, and the cells are no texts.
+    pub(crate) fn packed(&self, run: (usize, usize), col: usize) -> Option<&PackedColumn>
+        requires wide { IsStoredWide self.now }
+        requires col { col < length (stored_kinds self.now) }
+        ensures { IfSome result (λ cells.
+            cells.now ≡ column_of (map (stored_row self.now) (numbers_from run.0 run.1)) col) }
+    {
+        let Store::Blocks(_, pieces) = self else {
+            return None;
+        };
+        let (first, count) = run;
+        if pieces.is_empty() || pieces.len() > MOST_PIECES || count > BLOCK_ROWS {
+            return None;
+        }
+        let last = pieces.len() - 1;
+        let cells = pieces[last].packed(col)?;
+        if cells.len() != count || first != last * BLOCK_ROWS {
+            return None;
+        }
+        Some(cells)
+    }
+
+    /// The codes of the rows with these numbers by their values in a column, where all are of the last block and it has such codes.
+    pub(crate) fn codes(
+        &self,
+        alloc: Global,
+        numbers: &[u32],
+        col: usize,
+    ) -> Result<Option<Vec<u8>>, AllocError>
+        requires wide { IsStoredWide self.now }
+        requires col { col < length (stored_kinds self.now) }
+        ensures { IfOk result (λ codes. IfSome codes
+            (λ codes. HaveCodes codes.items col (map (stored_row self.now) numbers.now))) }
+    {
+        let Store::Blocks(_, pieces) = self else {
+            return Ok(None);
+        };
+        if pieces.is_empty() {
+            return Ok(None);
+        }
+        let last = pieces.len() - 1;
+        if !are_of_block(numbers, last) {
+            return Ok(None);
+        }
+        pieces[last].codes(alloc, numbers, col)
+    }
+
     /// The rows under the same numbers, in the columns with these places.
     pub(crate) fn picked(&self, alloc: Global, places: &[usize]) -> Result<Store, AllocError>
         requires wide { IsStoredWide self.now }
@@ -169,17 +220,17 @@ impl Store {
         block: &Block<'_>,
         places: &[usize],
         numbers: &[usize],
-    ) -> Result<Vec<u32>, AllocError>
+    ) -> Result<RowNumbers, AllocError>
         requires wide { IsStoredWide self.old }
         requires width { length (stored_kinds self.old) ≡ length places.now }
         requires places { All (λ place. place < length block.now.schema.columns) places.now }
         requires within { All (λ number. number < length block.now.rows) numbers.now }
         ensures { IfOk result (λ made. HasTakenRows self.old self.new
-            (map (values_at places.now) (numbered numbers.now block.now.rows)) made.items) }
+            (map (values_at places.now) (numbered numbers.now block.now.rows)) made) }
     {
         block.rows_are_few();
         if numbers.is_empty() {
-            return Ok(Vec::new(alloc));
+            return Ok(RowNumbers::none(alloc));
         }
         match self {
             Store::Blocks(_, pieces) => {
@@ -188,12 +239,12 @@ impl Store {
                 }
                 let start = pieces.len() * BLOCK_ROWS;
                 pieces.push(Piece::of_places(alloc, block, places)?)?;
-                numbers_after(alloc, start, numbers)
+                RowNumbers::after(alloc, start, numbers)
             }
             Store::Values(_, rows) => {
                 let start = rows.len();
                 rows_taken(alloc, rows, block, places, numbers)?;
-                numbers_between(alloc, start, rows.len())
+                RowNumbers::between(alloc, start, rows.len())
             }
         }
     }

@@ -7,6 +7,7 @@ use Rattle.std.proofs.lemmas.Bool.Decides.{Decides-eqb}
 use Rattle.std.proofs.lemmas.Slice.Eq.{starts_is}
 use Rattle.memchr.specs.Find.{OccursAt, FindsNeedle}
 use Rattle.memchr.proofs.lemmas.MatchLemmas.{OccursAt-split, OccursAt-from_part}
+use Rattle.cell_types.proofs.ListLaws.{starts_with-append}
 use Rattle.row_eval.specs.Text.{place_of_part}
 
 -- a part occurs behind a front
@@ -29,11 +30,8 @@ abbrev IsPlace : List ℕ → List ℕ → Option ℕ → Type 0
 IsPlace text part None = (k : ℕ) (rest : List ℕ) → drop k text ≡ part ++ rest → ⊥
 IsPlace text part (Some k) = (k ≤ length text) × ((rest : List ℕ) × (drop k text ≡ part ++ rest)) × ((j : ℕ) (rest : List ℕ) → j < k → drop j text ≡ part ++ rest → ⊥)
 
-begins : (text part rest : List ℕ) → text ≡ part ++ rest → starts_with nat_eq text part ≡ true
-begins text part rest h = (starts_is Decides-eqb text part _ refl).1 rest h
-
 no_start : (text part rest : List ℕ) → starts_with nat_eq text part ≡ false → text ≡ part ++ rest → ⊥
-no_start text part rest e h = false≢true (sym e ∙ begins text part rest h)
+no_start text part rest e h = false≢true (sym e ∙ starts_with-append text part rest h)
 
 here : (text part : List ℕ) → starts_with nat_eq text part ≡ true → IsPlace text part (Some 0)
 here text part e = (omega arith, (drop (length part) text, (starts_is Decides-eqb text part _ refl).0 e), λ j rest low h. absurd (omega arith))

@@ -1,5 +1,5 @@
 -- Aggregates that can be computed of some rows can be of some of them.
-use Rattle.std.proofs.Common.{◌≤◌, ℕ, ℤ, suc, Bool, true, false, cond, Option, Some, None, List, [], ◌∷◌, ◌++◌, length, filter, subst, inl, inr, arith}
+use Rattle.std.proofs.Common.{◌≤◌, ℕ, ℤ, Bool, Option, Some, None, List, [], ◌∷◌, ◌++◌, length, filter, subst, inl, inr, arith}
 use Rattle.std.specs.Prelude.{unsigned_abs}
 use Rattle.std.specs.List.{AllByRecursion, cons_option, filter_map}
 use Rattle.std.proofs.Math.Nat.{mul-le-mul_left}
@@ -11,8 +11,9 @@ use Rattle.row_eval.specs.Row.{cell, decimal_in, integer_in}
 use Rattle.odata_query.specs.declared.aggregate.Aggregate.{Aggregate}
 use Rattle.odata_query.specs.declared.aggregate.Aggregate.TheVariants.{Count, SumOfIntegers, SumOfDecimals, Min, Max, CountDistinct}
 use Rattle.query_meaning.specs.Fitting.{AreSummable}
+use Rattle.cell_types.proofs.ListLaws.{AllByRecursion-weaker, length-filter-le}
 use Rattle.row_groups.specs.Tallies.{FitsAll}
-use Rattle.row_groups.proofs.ListLemmas.{all_behind, all_by_each, all_front}
+use Rattle.row_groups.proofs.ListLemmas.{all_behind, all_front}
 
 -- ---- columns of any take all values
 
@@ -34,14 +35,6 @@ module _ {X : Type 0} (f : X → Option ℤ) (keeps : X → Bool) (P : ℤ → T
     | inr e ↦ rw e (all_kept xs (behind_one (f x) (filter_map f xs) a))
   ]
 
-fewer_kept : {X : Type 0} (keeps : X → Bool) (xs : List X) → length (filter keeps xs) ≤ length xs
-fewer_kept keeps [] = omega arith
-fewer_kept keeps (x ∷ xs) = by (keeps x) (fewer_kept keeps xs)
-  where
-    by : (b : Bool) → length (filter keeps xs) ≤ length xs → length (cond b (x ∷ filter keeps xs) (filter keeps xs)) ≤ suc (length xs)
-    by true h = omega arith
-    by false h = omega arith
-
 -- fewer numbers of fewer rows
 fewer_fit : {X : Type 0} (f : X → Option ℤ) (xs zs : List X) → length zs ≤ length xs
     → ((P : ℤ → Type 0) → AllByRecursion P (filter_map f xs) → AllByRecursion P (filter_map f zs))
@@ -58,7 +51,7 @@ fewer_fit f xs zs less some fit =
 
 kept_fit : {X : Type 0} (f : X → Option ℤ) (keeps : X → Bool) (xs : List X) → AreSummable (filter_map f xs) (length xs)
     → AreSummable (filter_map f (filter keeps xs)) (length (filter keeps xs))
-kept_fit f keeps xs = fewer_fit f xs (filter keeps xs) (fewer_kept keeps xs) (λ P. all_kept f keeps P xs)
+kept_fit f keeps xs = fewer_fit f xs (filter keeps xs) (length-filter-le keeps xs) (λ P. all_kept f keeps P xs)
 
 front_fit : {X : Type 0} (f : X → Option ℤ) (xs ys : List X) → AreSummable (filter_map f (xs ++ ys)) (length (xs ++ ys)) → AreSummable (filter_map f xs) (length xs)
 front_fit f xs ys =
@@ -74,7 +67,7 @@ rest_fit f xs ys =
 
 module _ (width : ℕ) where
   pub fits_kept : (keeps : List CellValue → Bool) (rows : List (List CellValue)) (a : Aggregate) → FitsAll width rows a → FitsAll width (filter keeps rows) a
-  fits_kept keeps rows Count fit = let less = fewer_kept keeps rows in omega (arith, fit, less)
+  fits_kept keeps rows Count fit = let less = length-filter-le keeps rows in omega (arith, fit, less)
   fits_kept keeps rows (SumOfIntegers place) fit = (fit.0, kept_fit (λ row. cell integer_in row place) keeps rows fit.1)
   fits_kept keeps rows (SumOfDecimals place) fit = (fit.0, kept_fit (λ row. cell decimal_in row place) keeps rows fit.1)
   fits_kept keeps rows (Min place) fit = fit
@@ -91,11 +84,11 @@ module _ (width : ℕ) where
 
   pub all_fit_kept : (keeps : List CellValue → Bool) (rows : List (List CellValue)) (aggregates : List Aggregate) → AllByRecursion (FitsAll width rows) aggregates
       → AllByRecursion (FitsAll width (filter keeps rows)) aggregates
-  all_fit_kept keeps rows aggregates = all_by_each (FitsAll width rows) (FitsAll width (filter keeps rows)) (fits_kept keeps rows) aggregates
+  all_fit_kept keeps rows aggregates = AllByRecursion-weaker (FitsAll width rows) (FitsAll width (filter keeps rows)) (fits_kept keeps rows) aggregates
 
   pub all_fit_front : (rows more : List (List CellValue)) (aggregates : List Aggregate) → AllByRecursion (FitsAll width (rows ++ more)) aggregates
       → AllByRecursion (FitsAll width rows) aggregates
-  all_fit_front rows more aggregates = all_by_each (FitsAll width (rows ++ more)) (FitsAll width rows) (fits_front rows more) aggregates
+  all_fit_front rows more aggregates = AllByRecursion-weaker (FitsAll width (rows ++ more)) (FitsAll width rows) (fits_front rows more) aggregates
 
   fits_rest : (rows more : List (List CellValue)) (a : Aggregate) → FitsAll width (rows ++ more) a → FitsAll width more a
   fits_rest rows more Count fit = let long = length-append rows more in omega (arith, fit, long)
@@ -107,4 +100,4 @@ module _ (width : ℕ) where
 
   pub all_fit_rest : (rows more : List (List CellValue)) (aggregates : List Aggregate) → AllByRecursion (FitsAll width (rows ++ more)) aggregates
       → AllByRecursion (FitsAll width more) aggregates
-  all_fit_rest rows more aggregates = all_by_each (FitsAll width (rows ++ more)) (FitsAll width more) (fits_rest rows more) aggregates
+  all_fit_rest rows more aggregates = AllByRecursion-weaker (FitsAll width (rows ++ more)) (FitsAll width more) (fits_rest rows more) aggregates

@@ -2,7 +2,7 @@
 use Rattle.std.proofs.Common.{◌≡◌, ◌↔◌, ℕ, ◌<◌, ◌+◌, Bool, true, false, cond, not, IsTrue, Option, Some, None, List, [], ◌∷◌, ◌++◌, Vec, Global, length, map, filter, take, drop, get_or, refl, sym, ap, subst, ◌∙◌, append_assoc, arith}
 use Rattle.std.specs.Prelude.{slice_index_or}
 use Rattle.std.specs.List.{AllByRecursion}
-use Rattle.std.proofs.lemmas.List.{get_or-map, length-append, length-map, map-append, take_more}
+use Rattle.std.proofs.lemmas.List.{get_or-map, length-append, length-map, map-append, take_more, take-append-drop}
 use Rattle.std.proofs.lemmas.List.Elements.{recursion_from_All}
 use Rattle.cell_types.specs.Value.{CellValue, value_eq, value_view}
 use Rattle.cell_types.specs.declared.value.Value.{Value}
@@ -20,7 +20,7 @@ use Rattle.row_groups.specs.Gathered.{gathered_rows, key_width, group_keys, part
 use Rattle.row_groups.specs.Tallies.{AreTallies, FitsAll}
 use Rattle.row_groups.proofs.FitLemmas.{all_fit_front}
 use Rattle.row_groups.proofs.GroupLemmas.{joins}
-use Rattle.row_groups.proofs.ListLemmas.{all_at, in_two, zip_at, zip_long}
+use Rattle.row_groups.proofs.ListLemmas.{all_at, zip_at, zip_long}
 use Rattle.row_groups.proofs.ValueLemmas.{values_append}
 
 -- the tallies of a group
@@ -56,7 +56,7 @@ values_more place before rows numbers i value h at =
 pub rows_front : (before rows : List (List CellValue)) (numbers : List ℕ) (k : ℕ)
     → before ++ numbered numbers rows ≡ (before ++ numbered (take k numbers) rows) ++ numbered (drop k numbers) rows
 rows_front before rows numbers k =
-    ap (λ ns. before ++ numbered ns rows) (in_two numbers k)
+    ap (λ ns. before ++ numbered ns rows) (sym (take-append-drop k numbers))
     ∙ ap (λ rs. before ++ rs) (map-append (λ n. slice_index_or rows n []) (take k numbers) (drop k numbers))
     ∙ sym (append_assoc before (numbered (take k numbers) rows) (numbered (drop k numbers) rows))
 

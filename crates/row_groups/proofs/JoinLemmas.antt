@@ -1,5 +1,5 @@
 -- A row joins the group of its values, which may be a new one.
-use Rattle.std.proofs.Common.{◌≡◌, ℕ, ◌<◌, ◌+◌, true, false, cond, Some, List, [], ◌∷◌, ◌++◌, Vec, Global, length, map, get_or, position, inl, inr, refl, sym, ap, subst, ◌∙◌, append_assoc, arith}
+use Rattle.std.proofs.Common.{◌≡◌, ℕ, ◌<◌, true, false, cond, Some, List, [], ◌∷◌, ◌++◌, Vec, Global, length, map, get_or, position, inl, inr, refl, sym, ap, subst, ◌∙◌, append_assoc, arith}
 use Rattle.std.specs.Prelude.{slice_set}
 use Rattle.std.specs.List.{AllByRecursion, AllZip, IsDistinct, list_any}
 use Rattle.std.proofs.lemmas.List.{append-nil, get_or-map, length-map, map-append}
@@ -15,16 +15,12 @@ use Rattle.row_groups.specs.declared.groups.Groups.{Groups}
 use Rattle.row_groups.specs.declared.tally.Tally.{Tally}
 use Rattle.key_places.specs.Places.{insert_key}
 use Rattle.row_groups.specs.Gathered.{keys_held, HasGroupMore, HasGroups, IsGroupOf}
+use Rattle.row_groups.specs.Parts.{AreBegun}
 use Rattle.row_groups.specs.Tallies.{AreTallies, FitsAll, MayTallyEach}
 use Rattle.row_groups.proofs.FitLemmas.{all_fit_kept}
 use Rattle.row_groups.proofs.GroupLemmas.{found_zip, joins, more_values, no_rows, same_is, same_self}
 use Rattle.row_groups.proofs.ListLemmas.{zip_at, zip_long, zip_push}
 use Rattle.row_groups.proofs.GatheredLemmas.{AreOneType, OfPart, views}
-
--- those are the groups of rows and of more, of which the first joined
-pub record AreBegun (places : List ℕ) (aggregates : List Aggregate) (groups : Groups) (rows more : List (List CellValue)) : Type 0 where
-  pub keys_are : keys_held groups ≡ group_values places (rows ++ more)
-  pub tallies_are : AllZip (OfPart aggregates) (map (rows_of_group places rows) (group_values places (rows ++ more))) groups.tallies.items
 
 front_none : {X : Type 0} (xs ys : List X) → xs ++ ys ≡ [] → xs ≡ []
 front_none [] ys e = refl

@@ -1,10 +1,11 @@
 -- Keys of groups and the values that they stand for.
-use Rattle.std.proofs.Common.{◌≡◌, ℕ, zero, suc, ◌<◌, Bool, Bor, true, false, ◌&&◌, Some, List, [], ◌∷◌, length, map, get_or, position, refl, sym, ap, ◌∙◌, arith}
+use Rattle.std.proofs.Common.{◌≡◌, ℕ, zero, suc, ◌<◌, Bool, Bor, true, Some, List, [], ◌∷◌, length, map, get_or, position, refl, sym, ap, ◌∙◌, arith}
 use Rattle.std.specs.Prelude.{slice_get}
 use Rattle.std.specs.Cmp.Lexicographic.{pointwise}
 use Rattle.std.specs.List.{list_any, position_or_len}
 use Rattle.std.specs.Map.Iter.{deref}
 use Rattle.std.proofs.lemmas.List.{get_or-map, length-map}
+use Rattle.std.proofs.Math.Bool.{and-true}
 use Rattle.cell_types.specs.Value.{CellValue, value_eq}
 use Rattle.query_meaning.specs.Apply.{same_values}
 
@@ -31,13 +32,9 @@ module _ {V : Type 0} (view : V → CellValue) (eq : V → V → Bool) (eq_is : 
 
 -- ---- keys of one value
 
-and_true : (b : Bool) → (b && true) ≡ b
-and_true true = refl
-and_true false = refl
-
 module _ {V : Type 0} (view : V → CellValue) (eq : V → V → Bool) (eq_is : (v w : V) → eq v w ≡ value_eq (view v) (view w)) (key : V) where
   pub same_one : (k : V) → same_values (view key ∷ []) (view k ∷ []) ≡ eq key k
-  same_one k = and_true (value_eq (view key) (view k)) ∙ sym (eq_is key k)
+  same_one k = and-true (value_eq (view key) (view k)) ∙ sym (eq_is key k)
 
   pub any_one : (ks : List V) → list_any (same_values (view key ∷ [])) (map (λ k. view k ∷ []) ks) ≡ list_any (eq key) ks
   any_one [] = refl

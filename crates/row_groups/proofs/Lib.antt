@@ -8,3 +8,6 @@ pub mod KeyLemmas
 pub mod GroupLemmas
 pub mod GatheredLemmas
 pub mod JoinLemmas
+pub mod PartLemmas
+pub mod BegunLemmas
+pub mod KeptLemmas

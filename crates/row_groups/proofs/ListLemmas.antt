@@ -1,15 +1,11 @@
 -- Lists, and how many different elements they have, where one more comes behind them.
-use Rattle.std.proofs.Common.{◌≡◌, ℕ, zero, suc, ◌+◌, ◌<◌, ◌≤◌, Bool, true, false, cond, ◌||◌, List, [], ◌∷◌, ◌++◌, length, take, drop, get_or, inl, inr, refl, sym, ap, subst, ◌∙◌, arith}
-use Rattle.std.specs.Prelude.{Result, Ok, Err, IfOk, OnOk, slice_set}
+use Rattle.std.proofs.Common.{◌≡◌, ℕ, zero, suc, ◌+◌, ◌<◌, ◌≤◌, Bool, true, false, cond, ◌||◌, List, [], ◌∷◌, ◌++◌, length, get_or, inl, inr, refl, sym, ap, subst, ◌∙◌, arith}
+use Rattle.std.specs.Prelude.{Result, Ok, Err, OnOk, slice_set}
 use Rattle.std.specs.List.{AllByRecursion, AllZip, list_any}
 use Rattle.std.specs.Set.{distinct_count, unique_keys}
 use Rattle.std.proofs.lemmas.Bool.{cases_Bool, false≢true}
 use Rattle.std.proofs.lemmas.List.Folds.{list_any-append}
-
-pub in_two : {X : Type 0} (xs : List X) (k : ℕ) → xs ≡ take k xs ++ drop k xs
-in_two xs zero = refl
-in_two [] (suc k) = refl
-in_two (x ∷ xs) (suc k) = ap (λ ys. x ∷ ys) (in_two xs k)
+use Rattle.std.proofs.Math.Bool.{or-false}
 
 module _ {X : Type 0} (P : X → Type 0) where
   pub all_append : (xs ys : List X) → AllByRecursion P xs → AllByRecursion P ys → AllByRecursion P (xs ++ ys)
@@ -29,31 +25,19 @@ module _ {X : Type 0} (P : X → Type 0) where
   all_at (x ∷ xs) zero d a h = a.0
   all_at (x ∷ xs) (suc i) d a h = all_at xs i d a.1 (omega arith)
 
-pub all_by_each : {X : Type 0} (P Q : X → Type 0) → ((x : X) → P x → Q x) → (xs : List X) → AllByRecursion P xs → AllByRecursion Q xs
-all_by_each P Q f [] a = tt
-all_by_each P Q f (x ∷ xs) a = (f x a.0, all_by_each P Q f xs a.1)
-
 pub on_ok : {X E : Type 0} (P Q : Type 0) → (P → Q) → (r : Result X E) → OnOk r P → OnOk r Q
 on_ok P Q f (Ok x) h = f h
 on_ok P Q f (Err e) h = h
 
-pub if_ok : {X E : Type 0} (P Q : X → Type 0) → ((x : X) → P x → Q x) → (r : Result X E) → IfOk r P → IfOk r Q
-if_ok P Q f (Ok x) h = f x h
-if_ok P Q f (Err e) h = h
-
-or_false : (b : Bool) → (b || false) ≡ b
-or_false true = refl
-or_false false = refl
-
 module _ {X : Type 0} (eq : X → X → Bool) (is : (a b : X) → eq a b ≡ true → a ≡ b) (self : (a : X) → eq a a ≡ true) where
   member_more : (xs : List X) (y v : X) → list_any (eq v) (xs ++ y ∷ []) ≡ (list_any (eq v) xs || eq v y)
-  member_more xs y v = list_any-append (eq v) xs (y ∷ []) ∙ ap (λ b. list_any (eq v) xs || b) (or_false (eq v y))
+  member_more xs y v = list_any-append (eq v) xs (y ∷ []) ∙ ap (λ b. list_any (eq v) xs || b) (or-false (eq v y))
 
   -- one that is there already adds nothing
   pub there_already : (xs : List X) (y v : X) → list_any (eq y) xs ≡ true → list_any (eq v) (xs ++ y ∷ []) ≡ list_any (eq v) xs
   there_already xs y v there = member_more xs y v ∙ elim (cases_Bool (eq v y)) as (λ _. (list_any (eq v) xs || eq v y) ≡ list_any (eq v) xs) [
     | inl e ↦ let same : list_any (eq v) xs ≡ true = subst (λ z. list_any (eq z) xs ≡ true) (sym (is v y e)) there in rw same refl
-    | inr e ↦ rw e (or_false (list_any (eq v) xs))
+    | inr e ↦ rw e (or-false (list_any (eq v) xs))
   ]
 
   turned : (a b : X) → eq a b ≡ false → eq b a ≡ false

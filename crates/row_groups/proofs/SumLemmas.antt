@@ -12,6 +12,7 @@ use Rattle.std.proofs.lemmas.List.Elements.{filter_map-append, recursion_from_Al
 use Rattle.cell_types.specs.Value.{CellValue, null}
 use Rattle.row_eval.specs.Row.{cell}
 use Rattle.row_columns.specs.Picked.{numbered}
+use Rattle.cell_types.proofs.ListLaws.{length-filter_map-le}
 use Rattle.row_groups.proofs.RowLemmas.{cells_before, numbered_drop}
 use Rattle.query_meaning.specs.Apply.{integer_sum, sum_value}
 use Rattle.query_meaning.specs.Fitting.{AreSummable}
@@ -31,13 +32,10 @@ no_sum kind (n ∷ ns) e = absurd (cc)
 
 -- ---- sums fit
 
-triangle : (a b : ℤ) → unsigned_abs (a +ℤ b) ≤ unsigned_abs a + unsigned_abs b
-triangle a b = omega (arith, ints)
-
 bounded : (bound : ℕ) (ns : List ℤ) → AllByRecursion (λ n. unsigned_abs n ≤ bound) ns → unsigned_abs (integer_sum ns) ≤ bound * length ns
 bounded bound [] a = omega arith
 bounded bound (n ∷ ns) a =
-    let t = triangle n (integer_sum ns) in
+    let t : unsigned_abs (n +ℤ integer_sum ns) ≤ unsigned_abs n + unsigned_abs (integer_sum ns) = omega (arith, ints) in
     let more = bounded bound ns a.1 in
     let first = a.0 in
     let e : bound * suc (length ns) ≡ bound * length ns + bound = mul-suc bound (length ns) in
@@ -53,14 +51,6 @@ module _ {X : Type 0} (f : X → Option ℤ) (P : ℤ → Type 0) where
   all_drop (suc i) [] a = a
   all_drop (suc i) (x ∷ xs) a = all_drop i xs (all_tail x xs (f x) refl a)
 
-fewer : {X : Type 0} (f : X → Option ℤ) (xs : List X) → length (filter_map f xs) ≤ length xs
-fewer f [] = omega arith
-fewer f (x ∷ xs) = by (f x) (fewer f xs)
-  where
-    by : (o : Option ℤ) → length (filter_map f xs) ≤ length xs → length (cons_option o (filter_map f xs)) ≤ suc (length xs)
-    by None h = omega arith
-    by (Some n) h = omega arith
-
 -- the sum of the numbers of some last rows fits
 pub sum_fits : {X : Type 0} (f : X → Option ℤ) (xs : List X) (i rows : ℕ) → length xs ≤ rows → AreSummable (filter_map f xs) rows
     → FitsSigned w128 (integer_sum (filter_map f (drop i xs)))
@@ -68,7 +58,7 @@ sum_fits f xs i rows few fit =
     let numbers = filter_map f (drop i xs) in
     let all = all_drop f (λ n. unsigned_abs n ≤ fit.bound) i xs (recursion_from_All (λ n. unsigned_abs n ≤ fit.bound) (filter_map f xs) fit.each) in
     let some = bounded fit.bound numbers all in
-    let less = fewer f (drop i xs) in
+    let less = length-filter_map-le f (drop i xs) in
     let behind = length-drop i xs in
     let k : length numbers ≤ rows = omega arith in
     let most = mul-le-mul_left fit.bound k in

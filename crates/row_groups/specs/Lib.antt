@@ -7,6 +7,7 @@ pub use Rattle.row_columns.specs.Kinds
 pub use Rattle.row_columns.specs.Picked
 pub mod Computed
 pub mod Gathered
+pub mod Parts
 pub mod Groups
 pub mod Sums
 pub mod Tallies

@@ -8,6 +8,7 @@ ghost use Rattle.row_columns.specs.Kinds.{any};
 ghost use Rattle.row_columns.specs.Picked.{numbered};
 ghost use Rattle.row_groups.specs.Gathered.{key_width, HasGroupMore, HasGroups, IsGroupOf, JoinsGroups, MakesRows, MayJoinGroups};
 
+use crate::parts::parts_of;
 use crate::tallies::{join_each, row_of, tallies_of_none};
 use crate::tally::Tally;
 use cell_types::Value;
@@ -92,6 +93,31 @@ impl Groups {
     {
         cell_types::values_are_ordered();
         query_meaning::rows_are_in_groups();
+        if let Some(groups) = self.groups_of(alloc, columns, numbers, grouping)? {
+            let parts = parts_of(alloc, self.keys.len(), numbers, &groups)?;
+            return self.join_parts(alloc, columns, &parts, grouping.aggregates);
+        }
+        self.join_each_row(alloc, columns, numbers, grouping)
+    }
+
+    /// The rows with these numbers join the groups of their values, one after another.
+    fn join_each_row(
+        &mut self,
+        alloc: Global,
+        columns: &Columns,
+        numbers: &[usize],
+        grouping: Grouping<'_>,
+    ) -> Result<(), AllocError>
+        requires within { All (λ number. number < length columns.now.rows) numbers.now }
+        requires places { All (λ place. place < length columns.now.kinds) grouping.places.now }
+        requires joins { MayJoinGroups (Some grouping.places.now) grouping.aggregates.now
+            (length columns.now.kinds) self.old (numbered numbers.now columns.now.rows) }
+        ensures { OnOk result (JoinsGroups (Some grouping.entry.places.now)
+            grouping.entry.aggregates.now self.old self.new
+            (numbered numbers.now columns.now.rows)) }
+    {
+        cell_types::values_are_ordered();
+        query_meaning::rows_are_in_groups();
         let Grouping { places, aggregates } = grouping;
         let mut key = Vec::with_capacity(alloc, places.len())?;
         for number in numbers {
@@ -104,7 +130,7 @@ impl Groups {
     }
 
     /// The group of a key. One of no rows comes after the others where the key is none of theirs; the key is looked up before it is copied.
-    fn group_of(
+    pub(crate) fn group_of(
         &mut self,
         alloc: Global,
         key: &[Value<'_>],

@@ -6,6 +6,8 @@
 mod computed;
 mod gathering;
 mod groups;
+mod kept;
+mod parts;
 mod sums;
 mod tallies;
 mod tally;

@@ -10,7 +10,8 @@ ghost use Rattle.row_groups.specs.Sums.{numbers_in, sum_of, sums_joined, FitSums
 ghost use Rattle.row_groups.specs.Tallies.{IsTally, JoinsDistinct, JoinsExtreme, JoinsValues, MayTally, Tallies};
 
 use crate::computed::{greatest, is_null, least};
-use crate::sums::{Summed, sum_of};
+use crate::kept::sum_of_rows;
+use crate::sums::Summed;
 use cell_types::Value;
 use key_places::KeyPlaces;
 use odata_query::Aggregate;
@@ -129,7 +130,7 @@ fn sum_behind(
     ensures { (rows : List (List CellValue)) → sum ≡ sum_of (numbers_in summed place rows)
         → result ≡ sum_of (numbers_in summed place (rows ++ numbered numbers.now columns.now.rows)) }
 {
-    joined_sum(sum, sum_of(columns, numbers, place, summed))
+    joined_sum(sum, sum_of_rows(columns, numbers, place, summed))
 }
 
 /// The least value that some rows and then the rows with these numbers have in a column.

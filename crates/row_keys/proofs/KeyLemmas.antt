@@ -1,5 +1,5 @@
 -- The first row with a null in its key, the first with the key of an earlier row, and the row that has a key; and each of one key more.
-use Rattle.std.proofs.Common.{◌≡◌, ◌≢◌, ℕ, ℤ, pos, zero, suc, ◌+◌, ◌<◌, ◌≤◌, Bool, true, false, not, cond, ◌&&◌, ◌||◌, nat_lt, List, [], ◌∷◌, ◌++◌, length, take, map, get_or, Option, Some, None, position, find, refl, sym, ap, ◌∙◌, inl, inr, arith}
+use Rattle.std.proofs.Common.{◌≡◌, ◌≢◌, ℕ, ℤ, pos, zero, suc, ◌+◌, ◌<◌, ◌≤◌, Bool, true, false, not, cond, nat_lt, List, [], ◌∷◌, ◌++◌, length, take, map, get_or, Option, Some, None, position, find, refl, sym, ap, ◌∙◌, inl, inr, arith}
 use Rattle.std.specs.Cmp.Lexicographic.{pointwise}
 use Rattle.std.specs.List.{list_any, range_with_len, position_or_len}
 use Rattle.std.specs.Option.{option_or}
@@ -11,10 +11,13 @@ use Rattle.std.proofs.lemmas.List.{take_more, take-append-le, get_or-map, get_or
 use Rattle.std.proofs.lemmas.List.Folds.{list_any-append, list_any_at}
 use Rattle.std.proofs.lemmas.List.Quantifiers.{position-Some}
 use Rattle.std.proofs.lemmas.List.Sums.{position_or_len_is, fails_before_first}
+use Rattle.std.proofs.Math.Bool.{and-true, and-false}
 use Rattle.key_places.specs.Places.{insert_key}
 use Rattle.cell_types.specs.Value.{CellValue, null, integer, text, boolean, date, decimal, value_eq, value_view}
 use Rattle.cell_types.specs.declared.value.Value.{Value}
 use Rattle.cell_types.specs.declared.value.Value.TheVariants as V
+use Rattle.cell_types.proofs.ListLaws.{list_any-map}
+use Rattle.row_keys.proofs.ListLaws.{position-map}
 use Rattle.row_keys.specs.Key.{row_key, row_keys, key_eq, has_null, null_row, is_repeated, repeated_row, row_of}
 
 -- ---- the first number of a range
@@ -91,17 +94,6 @@ pub list_any-none : {X : Type 0} (p : X → Bool) (xs : List X) (i : ℕ) (d : X
 list_any-none p [] i d e h = absurd (omega arith)
 list_any-none p (x ∷ xs) zero d e h = (or_parts (p x) (list_any p xs) e).0
 list_any-none p (x ∷ xs) (suc i) d e h = list_any-none p xs i d (or_parts (p x) (list_any p xs) e).1 (omega arith)
-
-position_or_len-map : {X Y : Type 0} (p : Y → Bool) (f : X → Y) (xs : List X) → position_or_len p (map f xs) ≡ position_or_len (λ x. p (f x)) xs
-position_or_len-map p f [] = refl
-position_or_len-map p f (x ∷ xs) = rw (position_or_len-map p f xs) refl
-
-position-map : {X Y : Type 0} (p : Y → Bool) (f : X → Y) (xs : List X) → position p (map f xs) ≡ position (λ x. p (f x)) xs
-position-map p f xs = rw (position_or_len-map p f xs, length-map xs f) refl
-
-list_any-map : {X Y : Type 0} (p : Y → Bool) (f : X → Y) (xs : List X) → list_any p (map f xs) ≡ list_any (λ x. p (f x)) xs
-list_any-map p f [] = refl
-list_any-map p f (x ∷ xs) = ap (λ rest. p (f x) || rest) (list_any-map p f xs)
 
 -- ---- a key among others
 module _ {K : Type 0} (view : K → List CellValue) (eq : K → K → Bool) (eq_is : (x y : K) → eq x y ≡ key_eq (view x) (view y)) where
@@ -191,18 +183,11 @@ module _ {V : Type 0} (view : V → CellValue) (eq : V → V → Bool) (eq_is : 
   values-row items key ks =
       ap (λ t. position t ks) (λ j k. pointwise-view key (items k) j) ∙ sym (position-map (key_eq (map view key)) (λ k. map view (items k)) ks)
 
-and-true : (b : Bool) → b ≡ (b && true)
-and-true true = refl
-and-true false = refl
-
 pub int_eq-view : (a b : ℤ) → int_eq a b ≡ key_eq (integer a ∷ []) (integer b ∷ [])
 unfolding value_eq
-int_eq-view a b = and-true (int_eq a b)
+int_eq-view a b = sym (and-true (int_eq a b))
 
 -- ---- a key of one integer
-and-false : (b : Bool) → (b && false) ≡ false
-and-false true = refl
-and-false false = refl
 
 no_integer : (key : List CellValue) (z : ℤ) → ((a : ℤ) → key ≢ integer a ∷ []) → key_eq key (integer z ∷ []) ≡ false
 unfolding value_eq

@@ -1,3 +1,4 @@
+pub mod ListLaws
 pub mod KeyLemmas
 pub mod KeysLemmas
 pub mod AreKeysLemmas

@@ -12,6 +12,7 @@ use Rattle.std.proofs.lemmas.List.{get_or-map, get_or-take, get_or_append_left, 
 use Rattle.std.proofs.lemmas.List.FromFn.{get_or-range_with_len, length-range_with_len}
 use Rattle.std.proofs.lemmas.List.Sorted.{length_permutation, All-permutation, Contains-permutation}
 use Rattle.cell_types.specs.Value.{CellValue}
+use Rattle.key_places.proofs.ListLaws.{range_with_len-suc}
 use Rattle.row_keys.specs.Key.{key_eq, is_repeated, repeated_row}
 use Rattle.row_keys.specs.Numbers.{integer_key, key_number, ordered_row, Above, IsOrderOf, RisesAlong}
 use Rattle.row_keys.proofs.KeyLemmas.{int_eq-view, list_any-view, position-here, position-nowhere, repeated_row-more}
@@ -63,15 +64,11 @@ rises_further order numbers place some rises step a b less within =
       | inr (inr behind) ↦ absurd (omega arith)
     ]
 
-range-last : (a n : ℕ) → range_with_len a (suc n) ≡ range_with_len a n ++ (a + n) ∷ []
-range-last a zero = let e : a + 0 ≡ a = omega arith in rw e refl
-range-last a (suc n) = let e : a + suc n ≡ (a + 1) + n = omega arith in rw e (ap (λ rest. a ∷ rest) (range-last (a + 1) n))
-
 pub range-more : (n : ℕ) → range_with_len 0 (n + 1) ≡ range_with_len 0 n ++ n ∷ []
 range-more n =
     let e : n + 1 ≡ suc n = omega arith in
     let f : 0 + n ≡ n = omega arith in
-    rw e (range-last 0 n ∙ ap (λ i. range_with_len 0 n ++ i ∷ []) f)
+    rw e (range_with_len-suc 0 n ∙ ap (λ i. range_with_len 0 n ++ i ∷ []) f)
 
 pub order_from_permutation : (order : List ℕ) (numbers : List ℤ) → IsPermutation (range_with_len 0 (length numbers)) order → RisesAlong order numbers (length order) → IsOrderOf order numbers
 order_from_permutation order numbers moved rises =

@@ -1,6 +1,6 @@
 -- Rows that come too late behind others, told by their keys.
 use Rattle.std.proofs.Common.{◌≡◌, inl, inr, ℕ, ℤ, zero, suc, ◌<◌, ◌≤◌, Bool, true, false, not, cond, Some, None, Option, List, [], ◌∷◌, ◌++◌, filter, length, ltb, map, get_or, take, append_assoc, refl, sym, ap, ◌∙◌, subst, arith}
-use Rattle.std.specs.Prelude.{IfOk, IfSome, Result, Ok, Err, option_map}
+use Rattle.std.specs.Prelude.{option_map}
 use Rattle.std.specs.Cmp.{IsStrictWeakOrder, IsTotalOrder}
 use Rattle.std.specs.List.{All, AllByRecursion}
 use Rattle.std.specs.Ordering.{is_lt, ordering_then}
@@ -19,6 +19,7 @@ use Rattle.query_meaning.specs.Order.{Item, directed, item_value, rows_cmp, sort
 use Rattle.odata_query.specs.Query.{order_view}
 use Rattle.odata_query.specs.declared.query.OrderBy.{OrderBy}
 use Rattle.row_columns.specs.Picked.{numbered}
+use Rattle.cell_types.proofs.ListLaws.{AllByRecursion-filter, AllByRecursion-weaker}
 use Rattle.row_order.specs.Best.{best_rows}
 use Rattle.row_order.specs.InTime.{is_before, is_within, AreEnough, HaveKeys, IsKeyColumn, NeverFault}
 use Rattle.row_order.proofs.BestLemmas.{AreUpTo, passed_over, ranked, rising, still_up_to, take_before, take_behind}
@@ -59,18 +60,6 @@ numbers_kept p q rows (n ∷ numbers) alike =
     either true m ms = refl
     either false m ms = refl
 
-within_either : (P : ℕ → Type 0) (b : Bool) (n : ℕ) (ns : List ℕ) → P n → AllByRecursion P ns → AllByRecursion P (cond b (n ∷ ns) ns)
-within_either P true n ns here rest = (here, rest)
-within_either P false n ns here rest = rest
-
-within_kept : (P : ℕ → Type 0) (p : ℕ → Bool) (numbers : List ℕ) → AllByRecursion P numbers → AllByRecursion P (filter p numbers)
-within_kept P p [] all = tt
-within_kept P p (n ∷ numbers) all = within_either P (p n) n (filter p numbers) all.0 (within_kept P p numbers all.1)
-
-all_still : {X : Type 0} (P Q : X → Type 0) → ((x : X) → P x → Q x) → (xs : List X) → AllByRecursion P xs → AllByRecursion Q xs
-all_still P Q f [] all = tt
-all_still P Q f (x ∷ xs) all = (f x all.0, all_still P Q f xs all.1)
-
 -- ---- rows that come too late
 
 module _ (values : IsTotalOrder value_cmp) (law : RowsAreInOrder) (items : List Item) (most : ℕ) where
@@ -103,7 +92,7 @@ module _ (values : IsTotalOrder value_cmp) (law : RowsAreInOrder) (items : List 
         let row = get_or rows n [] in
         let others = numbered (filter p numbers) rows in
         let all = numbered numbers rows in
-        let still = all_still (λ m. p m ≡ false → AreUpTo (rows_cmp items) most (get_or rows m []) (first front))
+        let still = AllByRecursion-weaker (λ m. p m ≡ false → AreUpTo (rows_cmp items) most (get_or rows m []) (first front))
         (λ m. p m ≡ false → AreUpTo (rows_cmp items) most (get_or rows m []) (first (front ++ row ∷ [])))
         (λ m up f. still_up_to (rows_cmp items) (ranked values law items) most (get_or rows m []) row front (up f)) numbers late.1 in
         let rest = without_late rows p (front ++ row ∷ []) numbers still in
@@ -177,13 +166,13 @@ module _ (values : IsTotalOrder value_cmp) (law : RowsAreInOrder) (item : Item) 
   before_are_enough most never kept rows kept_keys key ties bound numbers made none enough have_kept up have within is =
       let p : ℕ → Bool = λ n. is_within item.1 ties bound (key n) in
       let in_rows = recursion_from_All (λ n. n < length rows) numbers within in
-      let late = all_still (λ n. n < length rows) (λ n. p n ≡ false → AreUpTo (rows_cmp items) most (get_or rows n []) (take most (sorted (rows_cmp items) kept)))
+      let late = AllByRecursion-weaker (λ n. n < length rows) (λ n. p n ≡ false → AreUpTo (rows_cmp items) most (get_or rows n []) (take most (sorted (rows_cmp items) kept)))
       (λ n inside out. late_behind values law items most kept (get_or rows n []) enough
       (λ k d h. subst (λ z. less_row (get_or rows n []) z ≡ false) (same_default kept k d h)
       (late_by_key ties none bound (get_or rows n []) (get_or kept k []) (key n) (kept_keys k) (have n inside) (have_kept k h) out (up k h)))) numbers in_rows in
       subst (AreEnough items most kept rows numbers) (sym is)
       (enough_from_first values law items most never kept rows numbers (filter p numbers)
-      (All-from_recursion (λ n. n < length rows) (filter p numbers) (within_kept (λ n. n < length rows) p numbers in_rows))
+      (All-from_recursion (λ n. n < length rows) (filter p numbers) (AllByRecursion-filter (λ n. n < length rows) p numbers in_rows))
       (without_late values law items most rows p kept numbers late))
     where
       same_default : (zs : List (List CellValue)) (k : ℕ) (d : List CellValue) → k < length zs → get_or zs k [] ≡ get_or zs k d
@@ -214,12 +203,12 @@ module _ (values : IsTotalOrder value_cmp) (law : RowsAreInOrder) (item : Item) 
       let p : ℕ → Bool = λ n. is_within item.1 true bound (key n) in
       let q : List CellValue → Bool = is_near bound in
       let in_rows = recursion_from_All (λ n. n < length rows) numbers within in
-      let alike = all_still (λ n. n < length rows) (λ n. p n ≡ q (get_or rows n [])) (λ n inside. near_by_key bound (get_or rows n []) (key n) (have n inside)) numbers in_rows in
+      let alike = AllByRecursion-weaker (λ n. n < length rows) (λ n. p n ≡ q (get_or rows n [])) (λ n inside. near_by_key bound (get_or rows n []) (key n) (have n inside)) numbers in_rows in
       let made_rows : numbered made rows ≡ filter q (numbered numbers rows) = ap (λ ns. numbered ns rows) is ∙ numbers_kept p q rows numbers alike in
       let long : length made ≡ length (filter q (numbered numbers rows)) = sym (length-map made (λ n. get_or rows n [])) ∙ ap length made_rows in
       let near = near_are_enough (rows_cmp items) (ranked values law items) q (near_apart bound) most (numbered numbers rows) (rising values law items) (omega (arith, enough, long)) in
       enough_from_first values law items most never kept rows numbers made
-      (subst (All (λ n. n < length rows)) (sym is) (All-from_recursion (λ n. n < length rows) (filter p numbers) (within_kept (λ n. n < length rows) p numbers in_rows)))
+      (subst (All (λ n. n < length rows)) (sym is) (All-from_recursion (λ n. n < length rows) (filter p numbers) (AllByRecursion-filter (λ n. n < length rows) p numbers in_rows)))
       (take_behind (rows_cmp items) most kept (numbered made rows) (numbered numbers rows)
       (ap (λ rs. take most (sorted (rows_cmp items) rs)) made_rows ∙ near))
 
@@ -262,14 +251,4 @@ module _ (values : IsTotalOrder value_cmp) (law : RowsAreInOrder) where
 pub kept_within : (p : ℕ → Bool) (bound : ℕ) (numbers made : List ℕ) → All (λ n. n < bound) numbers → made ≡ filter p numbers → All (λ n. n < bound) made
 kept_within p bound numbers made within is =
     subst (All (λ n. n < bound)) (sym is)
-    (All-from_recursion (λ n. n < bound) (filter p numbers) (within_kept (λ n. n < bound) p numbers (recursion_from_All (λ n. n < bound) numbers within)))
-
--- ---- what an answer has
-
-pub if_ok : {X E : Type 0} (r : Result X E) (P Q : X → Type 0) → ((x : X) → P x → Q x) → IfOk r P → IfOk r Q
-if_ok (Ok x) P Q f h = f x h
-if_ok (Err e) P Q f h = tt
-
-pub if_some : {X : Type 0} (o : Option X) (P Q : X → Type 0) → ((x : X) → P x → Q x) → IfSome o P → IfSome o Q
-if_some None P Q f h = tt
-if_some (Some x) P Q f h = f x h
+    (All-from_recursion (λ n. n < bound) (filter p numbers) (AllByRecursion-filter (λ n. n < bound) p numbers (recursion_from_All (λ n. n < bound) numbers within)))

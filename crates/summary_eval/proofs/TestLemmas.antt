@@ -19,6 +19,7 @@ use Rattle.typed_trees.specs.declared.operator.ComparisonOperator.TheVariants as
 use Rattle.row_eval.specs.declared.truth.Truth.{Truth}
 use Rattle.row_eval.specs.Comparison.{holds}
 use Rattle.row_eval.specs.Logic.{truth_of}
+use Rattle.cell_types.proofs.CaseLaws.{ordering_then_assoc}
 use Rattle.summary_eval.specs.declared.kinds.Kind.{Kind}
 use Rattle.summary_eval.specs.declared.kinds.Kind.TheVariants.{Date, Decimal, Integer, Text}
 use Rattle.summary_eval.specs.Known.{cell_at_place, comparison_of, holds_between, is_of_kind, opposite_of, cell_passes, Says}
@@ -170,11 +171,6 @@ two_values operators.LessOrEqual a b order.Less e f is = rw (e, f, is) refl
 two_values operators.LessOrEqual a b order.Equal e f is = rw (e, f, is) refl
 two_values operators.LessOrEqual a b order.Greater e f is = rw (e, f, is) refl
 
-in_turn : (a b c : Ordering) → ordering_then a (ordering_then b c) ≡ ordering_then (ordering_then a b) c
-in_turn order.Less b c = refl
-in_turn order.Equal b c = refl
-in_turn order.Greater b c = refl
-
 pub tests-alike : (kind : Kind) (o : ComparisonOperator) (a b : CellValue) → is_of_kind kind a ≡ true → is_of_kind kind b ≡ true → holds_between kind o a b ≡ test_passes (comparison_of o) a b
 unfolding value_cmp
 tests-alike Integer o null null h g = null_null o
@@ -195,7 +191,7 @@ tests-alike Date o null null h g = null_null o
 tests-alike Date o null (date y n e) h g = null_value o (date y n e) refl
 tests-alike Date o null _ h g = absurd (false≢true g)
 tests-alike Date o (date x m d) null h g = value_null o (date x m d) refl refl
-tests-alike Date o (date x m d) (date y n e) h g = two_values o (date x m d) (date y n e) (ordering_then (ordering_then (int_cmp x y) (nat_cmp m n)) (nat_cmp d e)) refl refl (in_turn (int_cmp x y) (nat_cmp m n) (nat_cmp d e))
+tests-alike Date o (date x m d) (date y n e) h g = two_values o (date x m d) (date y n e) (ordering_then (ordering_then (int_cmp x y) (nat_cmp m n)) (nat_cmp d e)) refl refl (ordering_then_assoc (int_cmp x y) (nat_cmp m n) (nat_cmp d e))
 tests-alike Date o (date x m d) _ h g = absurd (false≢true g)
 tests-alike Date o _ _ h g = absurd (false≢true h)
 tests-alike Decimal o null null h g = null_null o

@@ -11,11 +11,11 @@ use Rattle.block_summary.specs.Reading.{packed_type_of}
 use Rattle.cell_types.specs.Column.{ColumnOf}
 use Rattle.cell_types.specs.Datatype.{DatatypeOf, is_text, integer, text, boolean, date, decimal}
 use Rattle.cell_types.specs.Value.{CellValue, null}
+use Rattle.csv_grammar.proofs.ListLaws.{slice_get-drop, slice_get-take}
 use Rattle.table_store.specs.Table.{TableOf}
 use Rattle.table_store.specs.Block.{block_of, packed_cells, part, text_cells, typed_cells_of}
 use Rattle.typed_columns.specs.TypedColumn.{block_in, cells_of_texts, typed_cells, ColumnCells}
 use Rattle.table_store.proofs.ColumnLemmas.{there}
-use Rattle.table_store.proofs.PlaceLemmas.{slice_get-take, slice_get-drop}
 
 -- the first of a list, as many as are asked for or as there are
 take-fewer : {X : Type 0} (xs : List X) (n m : ℕ) → n ≡ min (length xs) m → take n xs ≡ take m xs

@@ -8,6 +8,7 @@ use Rattle.std.proofs.lemmas.List.Sums.{position_or_len_is}
 use Rattle.std.proofs.lemmas.List.Quantifiers.{position-Some}
 use Rattle.std.proofs.lemmas.Slice.Eq.{bytes_eq-Decides}
 use Rattle.std.specs.Str.{bytes_eq}
+use Rattle.cell_types.proofs.CaseLaws.{cond_none}
 use Rattle.table_store.specs.declared.file.NamedFile.{NamedFile}
 use Rattle.table_store.specs.File.{FileOf, file_view, file_named}
 use Rattle.table_store.proofs.PlaceLemmas.{slice_get-from_read}
@@ -30,17 +31,13 @@ find-at_place p xs i x e h =
     let at : position_or_len p xs ≡ i = position_or_len_is p xs i x (omega (arith, first.0)) first.2 (λ _. first.1) in
     find_at p xs ∙ ap (slice_get xs) at ∙ slice_get-from_read xs i x first.0 h
 
-none_at : (b : Bool) (i : ℕ) → cond b (Some i) None ≡ None → b ≡ false
-none_at true i e = cc
-none_at false i e = refl
-
 not_below : (i n : ℕ) → nat_lt i n ≡ false → n ≤ i
 not_below i n e = grind (arith, nat_tests)
 
 -- there is none where there is no place
 pub find-none : {X : Type 0} (p : X → Bool) (xs : List X) → position p xs ≡ None → find p xs ≡ None
 find-none p xs e =
-    let past : nat_lt (position_or_len p xs) (length xs) ≡ false = none_at (nat_lt (position_or_len p xs) (length xs)) (position_or_len p xs) e in
+    let past : nat_lt (position_or_len p xs) (length xs) ≡ false = cond_none (nat_lt (position_or_len p xs) (length xs)) (position_or_len p xs) e in
     find_at p xs ∙ slice_get_past xs (position_or_len p xs) (not_below (position_or_len p xs) (length xs) past)
 
 -- the bytes of the first file of a name

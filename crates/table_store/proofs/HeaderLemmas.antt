@@ -7,8 +7,9 @@ use Rattle.csv_grammar.specs.Records.{Field, content}
 use Rattle.csv_grammar.specs.Raw.{RawField, raw_content, field_of}
 use Rattle.cell_types.specs.Column.{ColumnOf, column_view}
 use Rattle.cell_types.specs.declared.column.Column.{Column}
+use Rattle.cell_types.proofs.ListLaws.{list_any-map}
 use Rattle.table_store.specs.Table.{mismatch_from, is_called}
-use Rattle.table_store.proofs.PlaceLemmas.{drop-from_slice_get, list_any-map}
+use Rattle.table_store.proofs.PlaceLemmas.{drop-from_slice_get}
 
 -- the first place from a column on that does not match
 abbrev pub other_from : ℕ → List Column → List RawField → Option ℕ

@@ -1,5 +1,5 @@
 -- The values of the rows of a file.
-use Rattle.std.proofs.Common.{◌≡◌, ℕ, ◌<◌, ◌≤◌, List, [], ◌∷◌, length, get_or, Result, Ok, Err, IfOk, ◌∙◌, arith}
+use Rattle.std.proofs.Common.{◌≡◌, ℕ, ◌<◌, ◌≤◌, List, [], ◌∷◌, length, get_or, ◌∙◌, arith}
 use Rattle.std.specs.List.{zip, AllByRecursion}
 use Rattle.std.proofs.lemmas.List.{length-map}
 use Rattle.std.proofs.lemmas.List.Elements.{All-from_recursion}
@@ -7,15 +7,6 @@ use Rattle.std.proofs.lemmas.Slice.Zip.{length-zip}
 use Rattle.csv_grammar.specs.Raw.{RawField}
 use Rattle.cell_types.specs.Column.{ColumnOf}
 use Rattle.raw_fields.specs.Values.{rows_in, value_or_null, value_in, values_in}
-
--- what follows from what is said of the value of an `Ok`
-pub IfOk_then : {T E : Type 0} (r : Result T E) {P Q : T → Type 0} → IfOk r P → ((x : T) → P x → Q x) → IfOk r Q
-IfOk_then (Ok x) p f = f x p
-IfOk_then (Err e) p f = tt
-
-pub both_ok : {T E : Type 0} (r : Result T E) {P Q S : T → Type 0} → IfOk r P → IfOk r Q → ((x : T) → P x → Q x → S x) → IfOk r S
-both_ok (Ok x) p q f = f x p q
-both_ok (Err e) p q f = tt
 
 pub length-rows_in : (columns : List ColumnOf) (rows : List (List RawField)) → length (rows_in columns rows) ≡ length rows
 length-rows_in columns rows = length-map rows (values_in columns)

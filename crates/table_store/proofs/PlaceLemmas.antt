@@ -1,14 +1,9 @@
 -- Places in lists, and rows of fields one after another.
-use Rattle.std.proofs.Common.{◌≡◌, Bool, ◌||◌, map, ℕ, zero, suc, ◌+◌, ◌<◌, List, [], ◌∷◌, ◌++◌, length, take, drop, get_or, Some, slice_get, refl, ap, sym, ◌∙◌, arith}
-use Rattle.std.specs.List.{list_any}
+use Rattle.std.proofs.Common.{◌≡◌, map, ℕ, ◌+◌, ◌<◌, List, [], ◌∷◌, ◌++◌, length, take, drop, get_or, Some, slice_get, ap, sym, ◌∙◌}
 use Rattle.std.proofs.lemmas.List.{drop_more, map_push, take_more}
 use Rattle.std.proofs.lemmas.Option.{slice_get-get_or, get_or_from_slice_get, slice_get_within}
 use Rattle.csv_grammar.specs.Raw.{RawField}
 use Rattle.csv_index.specs.Index.{row_fields}
-
-pub list_any-map : {X Y : Type 0} (p : Y → Bool) (f : X → Y) (xs : List X) → list_any p (map f xs) ≡ list_any (λ x. p (f x)) xs
-list_any-map p f [] = refl
-list_any-map p f (x ∷ xs) = ap (λ rest. p (f x) || rest) (list_any-map p f xs)
 
 -- what stands at a place stands first in the rest from there
 pub drop-from_slice_get : {X : Type 0} (xs : List X) (i : ℕ) (x : X) → slice_get xs i ≡ Some x → drop i xs ≡ x ∷ drop (i + 1) xs
@@ -19,24 +14,6 @@ drop-from_slice_get xs i x e =
 -- and a read gives it
 pub slice_get-from_read : {X : Type 0} (xs : List X) (i : ℕ) (x : X) → i < length xs → x ≡ get_or xs i x → slice_get xs i ≡ Some x
 slice_get-from_read xs i x within e = slice_get-get_or xs i x within ∙ ap (λ y. Some y) (sym e)
-
--- the first of the rest from a place stands there, and behind it the rest from the next
-pub drop-first : {X : Type 0} (xs : List X) (i : ℕ) (x : X) (rest : List X) → drop i xs ≡ x ∷ rest → (slice_get xs i ≡ Some x) × (drop (i + 1) xs ≡ rest)
-drop-first [] zero x rest e = cc
-drop-first [] (suc i) x rest e = cc
-drop-first (y ∷ ys) zero x rest e = (cc, cc)
-drop-first (y ∷ ys) (suc i) x rest e = let f : suc i + 1 ≡ suc (i + 1) = omega arith in rw f (drop-first ys i x rest e)
-
-pub slice_get-drop : {X : Type 0} (n : ℕ) (xs : List X) (i : ℕ) → slice_get (drop n xs) i ≡ slice_get xs (n + i)
-slice_get-drop zero xs i = let e : 0 + i ≡ i = omega arith in rw e refl
-slice_get-drop (suc n) [] i = refl
-slice_get-drop (suc n) (x ∷ xs) i = let e : suc n + i ≡ suc (n + i) = omega arith in rw e (slice_get-drop n xs i)
-
-pub slice_get-take : {X : Type 0} (n : ℕ) (xs : List X) (i : ℕ) → i < n → slice_get (take n xs) i ≡ slice_get xs i
-slice_get-take zero xs i h = absurd (omega arith)
-slice_get-take (suc n) [] i h = refl
-slice_get-take (suc n) (x ∷ xs) zero h = refl
-slice_get-take (suc n) (x ∷ xs) (suc i) h = slice_get-take n xs i (omega arith)
 
 -- the fields of rows from a row on are those of that row, and those behind it
 pub row_fields-at : (rows : List (List RawField)) (row : ℕ) → row < length rows

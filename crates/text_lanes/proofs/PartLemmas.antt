@@ -1,9 +1,9 @@
 -- A part stands in a text just where its bytes occur there, and so a mark of that says what `contains` says.
-use Rattle.std.proofs.Common.{◌≡◌, ℕ, zero, suc, ◌+◌, ◌<◌, ◌≤◌, Bool, true, false, List, [], ◌∷◌, ◌++◌, Option, None, Some, length, get_or, take, drop, nat_eq, refl, sym, subst, ap, ◌∙◌, arith, length-append, length-drop}
+use Rattle.std.proofs.Common.{◌≡◌, ℕ, zero, suc, ◌+◌, ◌<◌, ◌≤◌, Bool, true, false, List, [], ◌∷◌, ◌++◌, Option, None, Some, length, get_or, take, drop, nat_eq, refl, subst, ap, ◌∙◌, arith, length-append, length-drop}
 use Rattle.std.specs.Prelude.{◌↔◌, is_some, option_map, if◌then◌else◌}
 use Rattle.std.specs.List.{starts_with}
 use Rattle.std.proofs.Math.Seq.{take-append_seam}
-use Rattle.std.proofs.lemmas.Bool.Decides.{Decides-eqb}
+use Rattle.std.proofs.lemmas.Bool.Decides.{Decides-eqb, same_from_decides}
 use Rattle.std.proofs.lemmas.Slice.Eq.{starts_is}
 use Rattle.memchr.specs.Find.{OccursAt}
 use Rattle.memchr.proofs.lemmas.MatchLemmas.{OccursAt-split, OccursAt-from_part}
@@ -14,6 +14,7 @@ use Rattle.row_eval.specs.Logic.{truth_of}
 use Rattle.row_eval.specs.Row.{text_in}
 use Rattle.row_eval.specs.Text.{has_part, place_of_part}
 use Rattle.text_columns.specs.Search.{AreMarksOfPart, CellHasPart, HasPart}
+use Rattle.cell_types.proofs.ListLaws.{starts_with-append}
 use Rattle.text_lanes.specs.declared.relation.TextRelation.TheVariants.{Test}
 use Rattle.block_lanes.specs.Lanes.{truth_lane, HasTruths}
 use Rattle.text_lanes.specs.Texts.{marked_truth, related}
@@ -23,9 +24,6 @@ occurs hay part rest k within h =
     let size : length (drop k hay) ≡ length part + length rest = ap length h ∙ length-append part rest in
     let fits : k + length part ≤ length hay = omega (arith, length-drop k hay) in
     OccursAt-from_part hay part k fits (ap (take (length part)) h ∙ take-append_seam part rest)
-
-begins : (hay part rest : List ℕ) → hay ≡ part ++ rest → starts_with nat_eq hay part ≡ true
-begins hay part rest h = (starts_is Decides-eqb hay part _ refl).1 rest h
 
 occurs_first : (hay part : List ℕ) → starts_with nat_eq hay part ≡ true → OccursAt hay part 0
 occurs_first hay part e = occurs hay part (drop (length part) hay) 0 (omega arith) ((starts_is Decides-eqb hay part _ refl).0 e)
@@ -54,9 +52,9 @@ stands_there : (hay part : List ℕ) (k : ℕ) → OccursAt hay part k → has_p
 stands_there [] part k o =
     let first : k ≡ 0 = omega (arith, o.fits) in
     let there : OccursAt [] part 0 = subst (OccursAt [] part) first o in
-    ap (λ s. is_some {T = ℕ} (if s then Some 0 else None)) (begins [] part _ (OccursAt-split [] part 0 there))
+    ap (λ s. is_some {T = ℕ} (if s then Some 0 else None)) (starts_with-append [] part _ (OccursAt-split [] part 0 there))
 stands_there (b ∷ bs) part zero o =
-    ap (λ s. is_some {T = ℕ} (if s then Some 0 else option_map suc (place_of_part bs part))) (begins (b ∷ bs) part _ (OccursAt-split (b ∷ bs) part 0 o))
+    ap (λ s. is_some {T = ℕ} (if s then Some 0 else option_map suc (place_of_part bs part))) (starts_with-append (b ∷ bs) part _ (OccursAt-split (b ∷ bs) part 0 o))
 stands_there (b ∷ bs) part (suc k) o = by (starts_with nat_eq (b ∷ bs) part) (place_of_part bs part) (stands_there bs part k (occurs_earlier b bs part k o))
   where
     by : (s : Bool) (r : Option ℕ) → is_some r ≡ true → is_some {T = ℕ} (if s then Some 0 else option_map suc r) ≡ true
@@ -64,14 +62,9 @@ stands_there (b ∷ bs) part (suc k) o = by (starts_with nat_eq (b ∷ bs) part)
     by false (Some j) h = refl
     by false None h = h
 
-both_ways : (a b : Bool) → (a ≡ true → b ≡ true) → (b ≡ true → a ≡ true) → a ≡ b
-both_ways true b f g = sym (f refl)
-both_ways false true f g = g refl
-both_ways false false f g = refl
-
 -- a mark of the cells in which a part stands says what `contains` says of the text there, which is null where there is none
 pub marked-is : (part : List ℕ) (v : CellValue) (mark : Bool) → (mark ≡ true) ↔ CellHasPart part v → marked_truth mark (text_in v) ≡ related (Test Contains) (text_in v) (Some part)
-marked-is part (text t) mark h = ap truth_of (both_ways mark (has_part t part) (λ e. let at : HasPart part t = h.0 e in stands_there t part at.0 at.1) (λ e. h.1 (stands t part e)))
+marked-is part (text t) mark h = ap truth_of (same_from_decides mark (has_part t part) h (λ e. stands t part e, λ at. stands_there t part at.0 at.1))
 marked-is part v mark h = refl
 
 -- and so it is on each row

@@ -1,7 +1,7 @@
 -- The null texts are the bytes of the strings.
 use Rattle.std.proofs.Common.{string_bytes}
 use Rattle.std.specs.Str.{bytes_eq}
-use Rattle.cell_types.proofs.Lists.{list_any-map}
+use Rattle.cell_types.proofs.ListLaws.{list_any-map}
 use Rattle.cell_types.proofs.cell.is_null_text.Goals as goal
 
 pub returns : goal.returns

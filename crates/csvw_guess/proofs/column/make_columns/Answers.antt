@@ -1,6 +1,6 @@
 use Rattle.std.proofs.Common.{◌≡◌, ℕ, ◌<◌, ◌≤◌, List, Option, None, [], ◌∷◌, get_or, length, map, arith, ap, sym, subst, ◌∙◌}
 use Rattle.std.specs.Str.{IsAscii}
-use Rattle.std.proofs.lemmas.List.{map-append, take_all}
+use Rattle.std.proofs.lemmas.List.{map-append, take_all, get_or_default}
 use Rattle.cell_types.specs.Column.{column_view}
 use Rattle.csvw_guess.specs.Names.{name_items, names_after}
 use Rattle.csv_grammar.specs.Raw.{RawTable}
@@ -8,13 +8,12 @@ use Rattle.column_types.specs.declared.seen.Seen.{Seen}
 use Rattle.column_types.specs.Seen.{EndsAs}
 use Rattle.csvw_guess.specs.Table.{file_cells, file_columns, header_cells}
 use Rattle.csvw_guess.proofs.PlaceLemmas.{columns-more, length-columns_in, name-ascii, name-there, names-count}
-use Rattle.csvw_guess.proofs.RowsLemmas.{any_default}
 use Rattle.csvw_guess.proofs.column.make_columns.Goals as goal
 
 -- what is known of a column is known of its cells
 known_at : (known : List (Option Seen)) (one : Option Seen) (file : RawTable) (col : ℕ) → col < length known → one ≡ get_or known col one
     → EndsAs (get_or known col None) (file_cells col file) → EndsAs one (file_cells col file)
-known_at known one file col less e ends = subst (λ k. EndsAs k (file_cells col file)) (sym (e ∙ any_default known col one None less)) ends
+known_at known one file col less e ends = subst (λ k. EndsAs k (file_cells col file)) (sym (e ∙ get_or_default known col one None less)) ends
 
 pub index-requires : goal.index-requires
 index-requires c =

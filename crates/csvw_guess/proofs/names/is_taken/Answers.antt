@@ -1,6 +1,6 @@
 use Rattle.std.proofs.Common.{sym, ◌∙◌}
 use Rattle.std.specs.Str.{bytes_eq}
-use Rattle.csvw_guess.proofs.DistinctLemmas.{list_any-map}
+use Rattle.cell_types.proofs.ListLaws.{list_any-map}
 use Rattle.csvw_guess.proofs.names.is_taken.Goals as goal
 
 pub returns : goal.returns

@@ -1,11 +1,11 @@
 use Rattle.std.proofs.Common.{◌≡◌, ℕ, ◌+◌, ◌<◌, ◌≤◌, List, Option, None, drop, get_or, length, take, arith, ap, sym, subst, ◌∙◌}
 use Rattle.std.specs.Prelude.{All}
-use Rattle.std.proofs.lemmas.List.{take_all}
+use Rattle.std.proofs.lemmas.List.{take_all, get_or_default}
 use Rattle.column_types.specs.declared.seen.Seen.{Seen}
 use Rattle.column_types.specs.Seen.{Knows, IsOpenOrText}
 use Rattle.csvw_guess.specs.Table.{file_cells}
 use Rattle.csvw_guess.proofs.PlaceLemmas.{length-cells}
-use Rattle.csvw_guess.proofs.RowsLemmas.{any_default, ends-all, ends-early, know-more, open-or-text, row-at}
+use Rattle.csvw_guess.proofs.RowsLemmas.{ends-all, ends-early, know-more, open-or-text, row-at}
 use Rattle.csvw_guess.proofs.rows.read_columns.Goals as goal
 
 pub loop-row-init : goal.loop-row-init
@@ -30,7 +30,7 @@ read_row-requires-clause-width c =
 pub read_row-requires-clause-known : goal.read_row-requires-clause-known
 read_row-requires-clause-known c = λ col d less.
     let items : List (Option Seen) = c.loop-row.columns.items in
-    subst IsOpenOrText (any_default items col None d less)
+    subst IsOpenOrText (get_or_default items col None d less)
     (open-or-text (get_or items col None) (take c.loop-row._row (file_cells col c.args.file.now)) (c.loop-row.invariant.known col (omega (arith, less, c.loop-row.invariant.count))))
 
 pub loop-row-preserved : goal.loop-row-preserved

@@ -4,8 +4,8 @@ use Rattle.std.proofs.lemmas.Iterator.{YieldsList-from_slice}
 use Rattle.std.proofs.lemmas.Iterator.Search.{any_from_yields_List}
 use Rattle.std.specs.Str.{bytes_eq}
 use Rattle.serde_json.specs.View.{view}
+use Rattle.cell_types.proofs.ListLaws.{list_any-map}
 use Rattle.csvw_meta.specs.Column.{name_of}
-use Rattle.csvw_meta.proofs.ListLemmas.{list_any-map}
 use Rattle.csvw_meta.proofs.column.has_name.Goals as goal
 
 pub returns : goal.returns

@@ -4,8 +4,8 @@ use Rattle.std.proofs.lemmas.Iterator.{YieldsList-from_slice}
 use Rattle.std.proofs.lemmas.Iterator.Search.{any_from_yields_List}
 use Rattle.std.specs.Str.{bytes_eq}
 use Rattle.serde_json.specs.View.{view}
+use Rattle.cell_types.proofs.ListLaws.{list_any-map}
 use Rattle.csvw_meta.specs.Table.{url_of}
-use Rattle.csvw_meta.proofs.ListLemmas.{list_any-map}
 use Rattle.csvw_meta.proofs.table.has_url.Goals as goal
 
 pub returns : goal.returns

@@ -1,5 +1,4 @@
-use Rattle.std.proofs.Common.{◌≡◌, ◌++◌, drop, map}
-use Rattle.cell_types.specs.Column.{column_view}
+use Rattle.std.proofs.Common.{◌≡◌, ◌++◌, drop}
 use Rattle.folder_report.specs.Show.{column_lines, table_text}
 use Rattle.folder_report.proofs.show.push_table.Given as goal
 

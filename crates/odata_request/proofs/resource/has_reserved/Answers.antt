@@ -2,7 +2,7 @@ use Rattle.std.proofs.Common.{rules, tests, sym, ◌∙◌, string_bytes}
 use Rattle.std.proofs.lemmas.Iterator.{YieldsList-from_slice}
 use Rattle.std.proofs.lemmas.Iterator.Search.{any_from_yields_List}
 use Rattle.odata_url.specs.OptionName.{begins_with, dollar_sign}
-use Rattle.odata_request.proofs.PathLemmas.{list_any-map}
+use Rattle.cell_types.proofs.ListLaws.{list_any-map}
 use Rattle.odata_request.proofs.resource.has_reserved.Goals as goal
 
 pub returns : goal.returns

@@ -7,8 +7,9 @@ use Rattle.row_columns.specs.Picked.{numbered}
 use Rattle.row_groups.specs.Gathered.{gathered_rows, lent_places}
 use Rattle.query_plan.specs.Plan.{node_names}
 use Rattle.row_groups.specs.Tallies.{FitsAll}
+use Rattle.cell_types.proofs.CaseLaws.{IfOk-both}
 use Rattle.query_exec.specs.Intermediate.{aggregate_node, intermediate_view}
-use Rattle.query_exec.proofs.AggregateLemmas.{aggregate_makes, aggregates_fit, both_ok, lent_fit, names_as_wide}
+use Rattle.query_exec.proofs.AggregateLemmas.{aggregate_makes, aggregates_fit, lent_fit, names_as_wide}
 use Rattle.query_exec.proofs.steps.aggregate.Goals as goal
 
 pub gathered-requires-clause-places : goal.gathered-requires-clause-places
@@ -47,6 +48,6 @@ returns c =
     c.in_ok-names.ensures ∙ ap (λ ns. node_names (aggregate_node places aggregates) (map string_bytes ns)) c.as_slice.ensures.value in
     let rows : c.in_ok-columns.columns.rows ≡ gathered_rows places aggregates r.rows =
     c.in_ok-columns.ensures.rows ∙ ap (λ ns. gathered_rows places aggregates (numbered ns u.columns.rows)) c.as_slice-numbers.ensures.value in
-    both_ok c.whole.result _ _ _
+    IfOk-both c.whole.result _ _ _
     (λ made view is. aggregate_makes places aggregates r (map string_bytes c.in_ok-names.names.items) c.in_ok-columns.columns.rows made named rows view is)
     c.whole.ensures.result c.whole.ensures.intermediate

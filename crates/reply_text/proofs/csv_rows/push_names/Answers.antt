@@ -1,8 +1,8 @@
 use Rattle.std.proofs.Common.{◌+◌, ◌<◌, ◌++◌, length, map, string_bytes, vec_capacity, vec_len, refl, arith}
 use Rattle.std.specs.List.{join_with_byte}
+use Rattle.cell_types.proofs.CaseLaws.{OnErr-from}
 use Rattle.reply_text.specs.Json.{comma_before}
 use Rattle.reply_text.proofs.CsvLemmas.{piece_joined, piece_within}
-use Rattle.reply_text.proofs.RoomLemmas.{when_err}
 use Rattle.reply_text.proofs.csv_rows.push_names.Goals as goal
 
 pub loop-place-preserved : goal.loop-place-preserved
@@ -26,4 +26,4 @@ returns-in_err-push_name-clause-full c =
     (piece_joined string_bytes names c.index-names-place.result c.args.out.now.items before (before ++ (comma_before place ++ name)) place c.loop-place.invariant.0 c.loop-place-test.true c.index-names-place.is refl) in
     let less : vec_capacity c.args.out.now < vec_len c.args.out.now + length (join_with_byte 44 (map string_bytes names)) =
     omega (arith, c.loop-place.invariant.1, full, within, c.loop-place.out.ok.0, c.args.out.now.ok.0) in
-    when_err c.from_residual.result _ less
+    OnErr-from c.from_residual.result _ less

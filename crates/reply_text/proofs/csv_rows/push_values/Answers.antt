@@ -1,11 +1,11 @@
 use Rattle.std.proofs.Common.{◌+◌, ◌++◌, ◌<◌, map, vec_capacity, vec_len, get_or, length, [], refl, sym, arith}
 use Rattle.std.specs.List.{join_with_byte}
 use Rattle.cell_types.specs.Value.{value_view}
+use Rattle.cell_types.proofs.CaseLaws.{OnErr-from}
 use Rattle.reply_text.specs.Json.{comma_before}
 use Rattle.reply_values.specs.Csv.{csv_value}
 use Rattle.reply_text.proofs.CsvLemmas.{piece_joined, piece_within}
 use Rattle.reply_text.proofs.MemberLemmas.{row_width, value_in_row}
-use Rattle.reply_text.proofs.RoomLemmas.{when_err}
 use Rattle.reply_text.proofs.csv_rows.push_values.Goals as goal
 
 pub loop-col-preserved : goal.loop-col-preserved
@@ -35,4 +35,4 @@ returns-in_err-push_field-clause-full c =
     (sym (value_in_row rows c.args.row col value value c.requires c.value.ensures)) refl) in
     let less : vec_capacity c.args.out.now < vec_len c.args.out.now + length (join_with_byte 44 (map csv_value values)) =
     omega (arith, c.loop-col.invariant.1, c.in_err-push_field.ensures.full, within, c.loop-col.out.ok.0, c.args.out.now.ok.0) in
-    when_err c.from_residual.result _ less
+    OnErr-from c.from_residual.result _ less

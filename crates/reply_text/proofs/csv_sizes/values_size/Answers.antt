@@ -1,14 +1,22 @@
-use Rattle.std.proofs.Common.{[], get_or, length, ap, arith}
+use Rattle.std.proofs.Common.{[], get_or, length, ap, ◌∙◌, arith, take_all}
+use Rattle.std.specs.List.{flat_map}
 use Rattle.cell_types.specs.Value.{value_view}
 use Rattle.reply_values.specs.Csv.{csv_value}
-use Rattle.reply_text.proofs.MemberLemmas.{row_width, value_in_row}
+use Rattle.reply_values.specs.Size.{told}
+use Rattle.reply_text.proofs.MemberLemmas.{value_in_row}
 use Rattle.reply_text.proofs.SizeLemmas.{item_told, told_one}
 use Rattle.reply_text.proofs.csv_sizes.values_size.Goals as goal
 
 pub loop-col-preserved : goal.loop-col-preserved
 loop-col-preserved c =
-    let rows = c.args.rows.now.rows in
+    let rows = c.args.columns.now.rows in
     let value = value_view c.value.result in
-    let wide = row_width rows c.args.row c.width-col-end.result c.width-col-end.ensures.rows c.requires in
-    item_told csv_value (get_or rows c.args.row []) value c.loop-col.col c.loop-col.size _ (length (csv_value value)) (omega (arith, c.loop-col-test.true, wide)) c.loop-col.invariant
+    let wide = c.rows_are_wide.ensures c.args.row [] c.requires in
+    item_told csv_value (get_or rows c.args.row []) value c.loop-col.col c.loop-col.size _ (length (csv_value value)) (omega (arith, c.loop-col-test.true, c.width-col-end.ensures, wide)) c.loop-col.invariant
     (ap (λ v. length (csv_value v)) (value_in_row rows c.args.row c.loop-col.col value value c.requires c.value.ensures)) (told_one _ _ _ _ c.csv_value_size.ensures c.saturating_add-size.ensures)
+
+pub returns : goal.returns
+returns c =
+    let values = get_or c.args.columns.now.rows c.args.row [] in
+    let wide = c.rows_are_wide.ensures c.args.row [] c.requires in
+    c.loop-col.invariant ∙ ap (λ l. told (length (flat_map csv_value l))) (take_all c.loop-col.col values (omega (arith, c.loop-col-test.false, c.width-col-end.ensures, wide)))

@@ -5,4 +5,4 @@ use Rattle.reply_values.specs.Size.{told}
 use Rattle.reply_text.proofs.csv_sizes.values_size.Given as goal
 
 abbrev pub invariant-loop-col : goal.invariant-loop-col
-invariant-loop-col l = l.size ≡ told (length (flat_map csv_value (take l.col (get_or l.rows.rows l.row []))))
+invariant-loop-col l = l.size ≡ told (length (flat_map csv_value (take l.col (get_or l.columns.rows l.row []))))

@@ -2,12 +2,12 @@ use Rattle.std.proofs.Common.{◌+◌, ◌<◌, ◌++◌, vec_capacity, vec_len,
 use Rattle.std.specs.List.{join_with_byte, zip}
 use Rattle.std.proofs.lemmas.List.{get_or_default, take_all}
 use Rattle.cell_types.specs.Value.{value_view}
+use Rattle.cell_types.proofs.CaseLaws.{OnErr-from}
 use Rattle.reply_text.specs.Json.{comma_before, json_member, json_members}
 use Rattle.reply_values.specs.Json.{json_value}
 use Rattle.reply_text.proofs.CsvLemmas.{piece_within}
 use Rattle.reply_text.proofs.HeadLemmas.{head_there, member_behind}
 use Rattle.reply_text.proofs.MemberLemmas.{length_zip, member_more, row_width, value_in_row}
-use Rattle.reply_text.proofs.RoomLemmas.{when_err}
 use Rattle.reply_text.proofs.json_rows.push_members.Goals as goal
 
 pub loop-col-preserved : goal.loop-col-preserved
@@ -52,7 +52,7 @@ returns-in_err-push_member-clause-full c =
     (member_behind col name value before (before ++ head) _ (ap (λ h. before ++ h) head_is) (sym (append_assoc before head (json_value value))))) in
     let less : vec_capacity c.args.out.now < vec_len c.args.out.now + length (json_members rows.names values) =
     omega (arith, c.loop-col.invariant.1, full, within, c.loop-col.out.ok.0, c.args.out.now.ok.0) in
-    when_err c.from_residual.result _ less
+    OnErr-from c.from_residual.result _ less
 
 pub returns-clause-bytes : goal.returns-clause-bytes
 returns-clause-bytes c =

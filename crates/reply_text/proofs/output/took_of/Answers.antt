@@ -1,4 +1,4 @@
-use Rattle.std.proofs.Common.{◌≡◌, ◌++◌, ◌≤◌, length, drop, arith, ap, length-drop}
+use Rattle.std.proofs.Common.{◌≡◌, ◌++◌, ◌≤◌, length, arith, ap, length-drop}
 use Rattle.std.specs.List.{concat}
 use Rattle.std.proofs.lemmas.Bool.Decides.{nat_tests}
 use Rattle.reply_text.proofs.WaitingLemmas.{pass_next}

@@ -1,9 +1,10 @@
 use Rattle.std.proofs.Common.{◌≡◌, ◌+◌, ◌<◌, ◌++◌, ap, length, vec_capacity, vec_len, arith, rules}
 use Rattle.std.specs.List.{flat_map}
 use Rattle.std.proofs.lemmas.List.{take_rest}
+use Rattle.cell_types.proofs.CaseLaws.{OnErr-from}
 use Rattle.reply_values.specs.Csv.{doubled_byte}
 use Rattle.reply_values.proofs.DoubledLemmas.{write_doubled, left_is_plain, none_doubled, none_found}
-use Rattle.reply_values.proofs.RoomLemmas.{when_err, when_refused}
+use Rattle.reply_values.proofs.RoomLemmas.{when_refused}
 use Rattle.reply_values.proofs.SizeLemmas.{lengths_kept, quote_counted}
 use Rattle.reply_values.proofs.csv_text.push_doubled.Goals as goal
 
@@ -23,7 +24,7 @@ returns-in_err-extend_from_slice-clause-full c =
     let counted = quote_counted _ _ _ _ _ c.in-Some.ensures c.split_at.ensures.front c.split_at.ensures.back (take_rest c.split_at.result.1.now 1) in
     let less : vec_capacity c.args.out.now < vec_len c.args.out.now + length (flat_map doubled_byte c.args.text.now) =
     omega (arith, c.loop-place.invariant.1, c.in_err-extend_from_slice.ensures.full, kept, counted, c.loop-place.out.ok.0, c.args.out.now.ok.0) in
-    when_err c.from_residual.result _ less
+    OnErr-from c.from_residual.result _ less
 
 pub returns-in_err-extend_from_slice-2-clause-room : goal.returns-in_err-extend_from_slice-2-clause-room
 returns-in_err-extend_from_slice-2-clause-room c =
@@ -35,7 +36,7 @@ returns-in_err-extend_from_slice-2-clause-full c =
     let counted = quote_counted _ _ _ _ _ c.in-Some.ensures c.split_at.ensures.front c.split_at.ensures.back (take_rest c.split_at.result.1.now 1) in
     let less : vec_capacity c.args.out.now < vec_len c.args.out.now + length (flat_map doubled_byte c.args.text.now) =
     omega (arith, c.loop-place.invariant.1, c.in_ok-extend_from_slice.ensures.capacity, c.in_ok-extend_from_slice.ensures.len, c.in_err-extend_from_slice-2.ensures.full, kept, counted, c.loop-place.out.ok.0, c.args.out.now.ok.0) in
-    when_err c.from_residual-in_err-extend_from_slice-2.result _ less
+    OnErr-from c.from_residual-in_err-extend_from_slice-2.result _ less
 
 pub returns-clause-bytes : goal.returns-clause-bytes
 returns-clause-bytes c =

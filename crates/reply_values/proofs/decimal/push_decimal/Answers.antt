@@ -4,8 +4,9 @@ use Rattle.std.specs.Int.{w128}
 use Rattle.std.specs.Prelude.{unsigned_abs}
 use Rattle.std.proofs.lemmas.Int.{ints, to_z-of_z}
 use Rattle.cell_types.specs.Decimal.{decimal_text, millionths_text}
+use Rattle.cell_types.proofs.CaseLaws.{OnErr-from}
 use Rattle.reply_values.proofs.DecimalLemmas.{appended, text-negative, text-other}
-use Rattle.reply_values.proofs.RoomLemmas.{when_err, when_refused}
+use Rattle.reply_values.proofs.RoomLemmas.{when_refused}
 use Rattle.reply_values.proofs.decimal.push_decimal.Goals as goal
 
 pub returns-then-millionths-ge0 : goal.returns-then-millionths-ge0
@@ -21,7 +22,7 @@ returns-in_err-extend_from_slice-clause-full c =
     let text : length (decimal_text c.args.millionths) ≡ 1 + length (millionths_text (unsigned_abs c.args.millionths)) =
     ap length (text-negative c.args.millionths below) ∙ omega arith in
     let less : vec_capacity c.args.out.now < vec_len c.args.out.now + length (decimal_text c.args.millionths) = omega (arith, c.in_err-extend_from_slice.ensures.full, text) in
-    when_err c.from_residual.result _ less
+    OnErr-from c.from_residual.result _ less
 
 pub returns-clause-bytes : goal.returns-clause-bytes
 returns-clause-bytes c =

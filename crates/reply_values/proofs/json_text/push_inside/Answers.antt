@@ -1,7 +1,7 @@
 use Rattle.std.proofs.Common.{◌+◌, ◌<◌, length, vec_capacity, vec_len, arith}
 use Rattle.std.specs.List.{flat_map}
+use Rattle.cell_types.proofs.CaseLaws.{OnErr-from}
 use Rattle.reply_values.specs.Json.{json_escaped}
-use Rattle.reply_values.proofs.RoomLemmas.{when_err}
 use Rattle.reply_values.proofs.RunLemmas.{write_last, write_more}
 use Rattle.reply_values.proofs.SizeLemmas.{byte_counted, lengths_kept, run_counted}
 use Rattle.reply_values.proofs.json_text.push_inside.Goals as goal
@@ -28,7 +28,7 @@ returns-in_err-extend_from_slice-clause-full c =
     let counted = run_counted _ _ _ _ c.run_len.ensures c.split_at.ensures.front c.split_at.ensures.back in
     let less : vec_capacity c.args.out.now < vec_len c.args.out.now + length (flat_map json_escaped c.args.text.now) =
     omega (arith, c.loop-byte.invariant.1, c.in_err-extend_from_slice.ensures.full, kept, counted, c.loop-byte.out.ok.0, c.args.out.now.ok.0) in
-    when_err c.from_residual.result _ less
+    OnErr-from c.from_residual.result _ less
 
 pub returns-in_err-push_escaped-clause-room : goal.returns-in_err-push_escaped-clause-room
 returns-in_err-push_escaped-clause-room c =
@@ -40,4 +40,4 @@ returns-in_err-push_escaped-clause-full c =
     let counted = byte_counted _ _ _ _ _ _ c.run_len.ensures c.split_at.ensures.front c.split_at.ensures.back c.in-Some.ensures.cases.0 in
     let less : vec_capacity c.args.out.now < vec_len c.args.out.now + length (flat_map json_escaped c.args.text.now) =
     omega (arith, c.loop-byte.invariant.1, c.in_ok-extend_from_slice.ensures.capacity, c.in_ok-extend_from_slice.ensures.len, c.in_err-push_escaped.ensures.full, kept, counted, c.loop-byte.out.ok.0, c.args.out.now.ok.0) in
-    when_err c.from_residual-in_err-push_escaped.result _ less
+    OnErr-from c.from_residual-in_err-push_escaped.result _ less

@@ -1,7 +1,7 @@
 use Rattle.std.proofs.Common.{◌≡◌, ◌++◌, ◌∷◌, List, [], get_or, map, take, sym, ap, ◌∙◌}
 use Rattle.std.proofs.lemmas.List.{map_more, map_push}
 use Rattle.cell_types.specs.Rows.{value_at}
-use Rattle.cell_types.specs.Value.{CellValue, null, value_view}
+use Rattle.cell_types.specs.Value.{CellValue, value_view}
 use Rattle.row_columns.specs.Picked.{values_at}
 use Rattle.row_columns.proofs.RowLemmas.{cell_is}
 use Rattle.row_columns.proofs.value_rows.values_taken.Goals as goal

@@ -3,8 +3,8 @@ use Rattle.std.proofs.lemmas.Option.{IfSome_then}
 use Rattle.std.proofs.lemmas.Result.{IfErr-weaker}
 use Rattle.cell_types.specs.Column.{column_view}
 use Rattle.csvw_meta.specs.Schema.{schema_view}
+use Rattle.cell_types.proofs.CaseLaws.{IfOk-both}
 use Rattle.table_store.specs.Loading.{table_cause}
-use Rattle.table_store.proofs.InsideLemmas.{both_ok}
 use Rattle.table_store.proofs.LoadingLemmas.{other_header, header_fits, is_table_at, rows_cause}
 use Rattle.table_store.proofs.reading.read_file.Goals as goal
 
@@ -29,5 +29,5 @@ pub returns-clause-parts : goal.returns-clause-parts
 returns-clause-parts c =
     let schema = schema_view c.args.schema.now in
     let first = rw (c.in-Ok-None.field-0-is, c.as_slice.ensures.value) at c.in-Ok-None.ensures in
-    both_ok c.read_rows.result c.read_rows.ensures.values c.read_rows.ensures.parts (λ parts none of.
-    (c.in-Ok.file, is_table_at schema.columns c.args.bytes.items c.in-Ok.file c.in-Ok.ensures.table (sym first) none, of))
+    IfOk-both c.read_rows.result _ _ _ (λ parts none of.
+    (c.in-Ok.file, is_table_at schema.columns c.args.bytes.items c.in-Ok.file c.in-Ok.ensures.table (sym first) none, of)) c.read_rows.ensures.values c.read_rows.ensures.parts

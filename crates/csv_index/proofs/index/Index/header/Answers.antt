@@ -1,7 +1,7 @@
 -- The header is the first fields.
 use Rattle.std.proofs.Common.{◌∙◌}
+use Rattle.csv_grammar.proofs.ListLaws.{slice_get-take}
 use Rattle.csv_index.specs.Index.{raws}
-use Rattle.csv_index.proofs.RowLemmas.{slice_get-take}
 use Rattle.csv_index.proofs.index.Index.header.Goals as goal
 
 pub returns : goal.returns

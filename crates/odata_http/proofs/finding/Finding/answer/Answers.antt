@@ -1,4 +1,5 @@
 use Rattle.std.proofs.Common.{List, Some, ap, length, map, option_map, sym, ◌∙◌}
+use Rattle.std.proofs.lemmas.Result.{IfOk-weaker}
 use Rattle.cell_types.specs.declared.value.Value.{Value}
 use Rattle.cell_types.specs.Value.{value_view}
 use Rattle.csvw_meta.specs.Schema.{SchemaOf, schema_view}
@@ -7,7 +8,7 @@ use Rattle.table_store.specs.Table.{keys_of}
 use Rattle.query_meaning.specs.Meaning.{selected_names, selected_values, table_names}
 use Rattle.row_eval.specs.Row.{row_view}
 use Rattle.odata_http.specs.Work.{response_view}
-use Rattle.odata_http.proofs.FindingLemmas.{finds_none, finds_row, if_ok, row_told, select_there, select_within}
+use Rattle.odata_http.proofs.FindingLemmas.{finds_none, finds_row, row_told, select_there, select_within}
 use Rattle.odata_http.proofs.finding.Finding.answer.Goals as goal
 
 pub of_row-requires-clause-within : goal.of_row-requires-clause-within
@@ -24,7 +25,7 @@ returns-in-Some-clause-responds c = λ asked is.
     let row = row_view c.deref.result.now in
     let schema = schema_view c.schema.result.now in
     let number = sym (c.in-Some.ensures ∙ ap (λ (key : List Value). row_of (keys_of c.index-tables-self.result) (map value_view key)) c.as_slice.ensures.value) in
-    if_ok c.row_response.result (λ response told.
+    IfOk-weaker c.row_response.result _ _ (λ response told.
     finds_row c.args.catalog.now c.tables.result.now c.args.self c.index-tables-self.result asked c.in-Some.row row (response_view response) is c.tables.ensures c.index-tables-self.is number
     (c.in_ok-values-in-Some.ensures.row ∙ ap (λ (values : List Value). Some (row_view values)) (sym c.deref.ensures.value)) (row_told c.args.self c.index-tables-self.result select schema row (response_view response) c.selected.ensures c.schema.ensures
     (told (selected_names select (table_names schema)) (selected_values select row) c.in_ok-rows-in-Some.ensures))) c.row_response.ensures.response
@@ -32,6 +33,6 @@ returns-in-Some-clause-responds c = λ asked is.
 pub returns-clause-responds : goal.returns-clause-responds
 returns-clause-responds c = λ asked is.
     let number = sym (c.in-None.ensures ∙ ap (λ (key : List Value). row_of (keys_of c.index-tables-self.result) (map value_view key)) c.as_slice.ensures.value) in
-    if_ok c.error_response.result (λ response told.
+    IfOk-weaker c.error_response.result _ _ (λ response told.
     finds_none c.args.catalog.now c.tables.result.now c.args.self c.index-tables-self.result asked (response_view response) is c.tables.ensures c.index-tables-self.is number told)
     c.error_response.ensures.response

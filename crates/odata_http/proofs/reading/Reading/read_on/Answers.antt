@@ -1,4 +1,6 @@
-use Rattle.std.proofs.Common.{Some, None, refl, ap, sym, ◌∙◌}
+use Rattle.std.proofs.Common.{◌+◌, Some, None, refl, ap, sym, subst, ◌∙◌}
+use Rattle.query_rows.specs.Rows.{RowsOf}
+use Rattle.odata_http.specs.Reply.{HaveSizesIn}
 use Rattle.odata_http.proofs.ReadingLemmas.{advanced_done, advanced_fault, advanced_more, block_is, may_be_handed, reads_last, reads_more}
 use Rattle.odata_http.proofs.reading.Reading.read_on.Goals as goal
 
@@ -7,6 +9,15 @@ advance-requires c =
     may_be_handed c.args.catalog.now c.tables.result.now c.args.self c.index-tables-self.result c.next_block-block.result c.requires c.tables.ensures c.index-tables-self.is
     c.next_block-block.ensures
 
+pub counted-sizes-requires : goal.counted-sizes-requires
+counted-sizes-requires c =
+    let is = c.requires.2 in
+    let block = block_is c.args.catalog.now c.tables.result.now c.args.self c.index-tables-self.result c.next_block-block.result c.requires.0 c.requires.1 is c.tables.ensures
+    c.index-tables-self.is c.next_block-block.ensures in
+    let on = advanced_more is.plan is.table is.handed _ _ c.in-Ok-More.field-0-is
+    (c.in-Ok-More.ensures.advances is.plan is.table is.handed is.stands block) in
+    (is.table, (is.plan, is.handed + 1, on.1))
+
 pub returns-in-Ok-More-clause-reads : goal.returns-in-Ok-More-clause-reads
 returns-in-Ok-More-clause-reads c = λ asked left is.
     let block = block_is c.args.catalog.now c.tables.result.now c.args.self c.index-tables-self.result c.next_block-block.result asked left is c.tables.ensures
@@ -14,9 +25,10 @@ returns-in-Ok-More-clause-reads c = λ asked left is.
     let on = advanced_more is.plan is.table is.handed _ _ c.in-Ok-More.field-0-is
     (c.in-Ok-More.ensures.advances is.plan is.table is.handed is.stands block) in
     reads_more c.args.catalog.now asked left c.args.self _ is refl refl refl refl on.0 on.1
+    (λ rows answers. c.counted-sizes.ensures is.plan is.table (is.handed + 1) rows on.1 answers)
 
-pub finish-requires : goal.finish-requires
-finish-requires c =
+pub finish-rows-requires : goal.finish-rows-requires
+finish-rows-requires c =
     let is = c.requires.2 in
     let block = block_is c.args.catalog.now c.tables.result.now c.args.self c.index-tables-self.result c.next_block-block.result c.requires.0 c.requires.1 is c.tables.ensures
     c.index-tables-self.is c.next_block-block.ensures in
@@ -24,14 +36,23 @@ finish-requires c =
     (c.in-Ok-Done.ensures.advances is.plan is.table is.handed is.stands block) in
     (on.0, on.3)
 
+pub answer_response-requires : goal.answer_response-requires
+answer_response-requires c =
+    let is = c.requires.2 in
+    let block = block_is c.args.catalog.now c.tables.result.now c.args.self c.index-tables-self.result c.next_block-block.result c.requires.0 c.requires.1 is c.tables.ensures
+    c.index-tables-self.is c.next_block-block.ensures in
+    let on = advanced_done is.plan is.table is.handed _ _ c.in-Ok-Done.field-0-is
+    (c.in-Ok-Done.ensures.advances is.plan is.table is.handed is.stands block) in
+    subst (λ (rows : RowsOf). HaveSizesIn c.args.self.format c.args.self.sizes rows) (sym (c.finish-rows.ensures on.0 on.3)) (is.counted on.0 on.2)
+
 pub returns-in-Ok-Done-clause-reads : goal.returns-in-Ok-Done-clause-reads
 returns-in-Ok-Done-clause-reads c = λ asked left is.
     let block = block_is c.args.catalog.now c.tables.result.now c.args.self c.index-tables-self.result c.next_block-block.result asked left is c.tables.ensures
     c.index-tables-self.is c.next_block-block.ensures in
     let on = advanced_done is.plan is.table is.handed _ _ c.in-Ok-Done.field-0-is
     (c.in-Ok-Done.ensures.advances is.plan is.table is.handed is.stands block) in
-    let rows = c.finish.ensures on.0 on.3 in
-    reads_last c.args.catalog.now asked left c.args.self _ (Some c.finish.result) is on.1 (on.2 ∙ ap Some (sym rows)) c.in_ok-answer_response-in-Ok-Done.ensures.response
+    let rows = c.finish-rows.ensures on.0 on.3 in
+    reads_last c.args.catalog.now asked left c.args.self _ (Some c.finish-rows.result) is on.1 (on.2 ∙ ap Some (sym rows)) c.in_ok-answer-in-Ok-Done.ensures.response
 
 pub returns-in-Err-DivisionByZero-clause-reads : goal.returns-in-Err-DivisionByZero-clause-reads
 returns-in-Err-DivisionByZero-clause-reads c = λ asked left is.

@@ -5,7 +5,7 @@ use Rattle.table_store.specs.Table.{TableOf}
 use Rattle.query_plan.specs.Fitting.{IsFitFor}
 use Rattle.query_plan.specs.Plan.{plan_view}
 use Rattle.odata_request.specs.Request.{rows_request_view}
-use Rattle.odata_http.proofs.ReadingLemmas.{blocks_are, starts, table_is}
+use Rattle.odata_http.proofs.ReadingLemmas.{blocks_are, none_counted, starts, table_is}
 use Rattle.odata_http.proofs.reading.Reading.start.Goals as goal
 
 pub start-requires : goal.start-requires
@@ -23,7 +23,8 @@ returns-in-Ok c =
     starts c.args.catalog.now c.tables.result.now (rows_request_view c.args.asked) c.args.asked.table c.index-tables-asked.result c.requires.inside.table (schema_view c.schema.result.now) _
     (plan_view c.in_ok-plan.plan) c.summary-summaries.result.now c.requires.inside.table_is refl c.tables.ensures c.index-tables-asked.is c.schema.ensures c.values_fit.ensures
     c.summary-summaries.ensures c.requires.unkeyed (plan_view c.in_ok-first.first) c.in_ok-first.ensures.means
-    (c.in_ok-plan.ensures.means c.requires.inside.table.schema (c.in_ok-first.ensures.typed c.requires.inside.table.schema c.requires.inside.typed)) refl refl refl c.max.ensures c.in-Ok.ensures.stands
+    (c.in_ok-plan.ensures.means c.requires.inside.table.schema (c.in_ok-first.ensures.typed c.requires.inside.table.schema c.requires.inside.typed)) refl refl refl c.max.ensures
+    (none_counted c.args.asked.format c.none.result c.none.ensures.json c.none.ensures.csv) c.in-Ok.ensures.stands
     c.plans_need_blocks.ensures
     (blocks_are c.needed_blocks_are_read.ensures (plan_view c.in_ok-plan.plan) (plan_view c.in_ok-first.first) (rows_request_view c.args.asked).query c.requires.inside.table
     c.in_ok-plan.ensures.rewritten c.in_ok-first.ensures.plan (subst HasTableRows here c.values_fit.ensures))

@@ -3,9 +3,10 @@ use Rattle.odata_query.specs.Aggregate.{aggregates_view, named_view}
 use Rattle.odata_query.specs.Query.{optional_numbers}
 use Rattle.query_plan.specs.Plan.{node_names}
 use Rattle.row_groups.specs.Gathered.{lent_places}
+use Rattle.cell_types.proofs.CaseLaws.{IfOk-both}
 use Rattle.query_exec.specs.Intermediate.{aggregate_node}
 use Rattle.query_exec.specs.Kept.{kept_names}
-use Rattle.query_exec.proofs.AggregateLemmas.{both_ok, gathered_finishes, names_as_wide}
+use Rattle.query_exec.proofs.AggregateLemmas.{gathered_finishes, names_as_wide}
 use Rattle.query_exec.proofs.aggregate.AggregateSink.finish.Goals as goal
 
 pub whole-requires : goal.whole-requires
@@ -31,6 +32,6 @@ returns c =
     ∙ ap (λ ps. node_names (aggregate_node ps (map named_view c.as_slice-2.result.now)) (map string_bytes c.as_slice.result.now)) lent
     ∙ ap (λ as_many. node_names (aggregate_node places (map named_view as_many)) (map string_bytes c.as_slice.result.now)) c.as_slice-2.ensures.value
     ∙ ap (λ ns. node_names (aggregate_node places aggregates) (map string_bytes ns)) c.as_slice.ensures.value in
-    both_ok c.whole.result _ _ _
+    IfOk-both c.whole.result _ _ _
     (λ made view is. gathered_finishes c.args.self (map string_bytes c.in_ok-names.names.items) c.in_ok-columns.columns.rows made named c.in_ok-columns.ensures.rows view is)
     c.whole.ensures.result c.whole.ensures.intermediate

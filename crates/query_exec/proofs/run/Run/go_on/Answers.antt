@@ -1,9 +1,12 @@
-use Rattle.std.proofs.Common.{◌≡◌, ◌∙◌, Err, None, Some, ap, map, rules, subst, sym}
+use Rattle.std.proofs.Common.{◌≡◌, ◌∙◌, Err, None, Some, [], ap, length, map, rules, subst, sym}
+use Rattle.std.proofs.lemmas.Bool.{eqb-true}
+use Rattle.std.proofs.lemmas.List.{nil_from_length}
 use Rattle.query_plan.specs.Fitting.{NodesFit}
 use Rattle.query_plan.specs.Plan.{node_view, nodes_result}
 use Rattle.query_exec.specs.Intermediate.{intermediate_view, GivesIntermediate, Makes}
 use Rattle.query_exec.specs.Run.{wanted_block}
-use Rattle.query_exec.specs.Sink.{MayFinish, SinkMakes}
+use Rattle.query_exec.specs.Sink.{MayFinish, SinkGives, SinkMakes}
+use Rattle.query_exec.proofs.FrontLemmas.{answer_given}
 use Rattle.query_exec.proofs.RunLemmas.{answer_made, fault_goes_on, may_finish, steps_fit, sunk_is}
 use Rattle.query_exec.proofs.run.Run.go_on.Goals as goal
 
@@ -13,6 +16,21 @@ finish-requires c =
     let beyond : wanted_block old ≡ None = search rules in
     let is : c.replace-sink.result ≡ old.sink = search rules in
     subst MayFinish (sym is) (may_finish old (c.requires beyond) c.if-self.false c.nodes_in_turn.ensures)
+
+pub into_rows-requires : goal.into_rows-requires
+into_rows-requires c =
+    let old = c.args.self.now in
+    let beyond : wanted_block old ≡ None = search rules in
+    let is : c.replace-sink.result ≡ old.sink = search rules in
+    subst MayFinish (sym is) (may_finish old (c.requires beyond) c.if-self.false c.nodes_in_turn.ensures)
+
+pub returns-then-is_empty : goal.returns-then-is_empty
+returns-then-is_empty c =
+    let old = c.args.self.now in
+    let beyond : wanted_block old ≡ None = search rules in
+    let is : c.replace-sink.result ≡ old.sink = search rules in
+    let none : map node_view old.steps.items ≡ [] = ap (map node_view) (nil_from_length old.steps.items (eqb-true (length old.steps.items) 0 (search rules))) in
+    (beyond, answer_given old c.in_ok-into_rows.field-0 c.if-self.false none (subst (λ s. SinkGives s c.in_ok-into_rows.field-0) is c.in_ok-into_rows.ensures))
 
 pub apply_all-requires-clause-input : goal.apply_all-requires-clause-input
 apply_all-requires-clause-input c =
@@ -51,5 +69,5 @@ returns c =
     subst (λ steps. Makes (nodes_result (map node_view steps) (intermediate_view c.in_ok-sunk.sunk)) c.in_ok-made.made) steps_are c.in_ok-made.ensures in (
       beyond,
       answer_made old (c.requires beyond) c.if-self.false c.nodes_in_turn.ensures c.in_ok-sunk.sunk (subst (λ s. SinkMakes s c.in_ok-sunk.sunk) is c.in_ok-sunk.ensures) _
-          (makes.result ∙ ap Some (sym c.in_ok-into_rows.ensures)),
+          (makes.result ∙ ap Some (sym c.in_ok-into_rows-2.ensures)),
     )

@@ -1,6 +1,4 @@
-use Rattle.std.proofs.Common.{◌∙◌}
-use Rattle.reply_text.proofs.PieceLemmas.{csv_is_pieces}
 use Rattle.reply_text.proofs.cursor.BodyCursor.csv.Goals as goal
 
-pub returns-clause-bytes : goal.returns-clause-bytes
-returns-clause-bytes c = c.in_ok-body.ensures.bytes ∙ csv_is_pieces c.args.rows
+pub csv_counted-requires : goal.csv_counted-requires
+csv_counted-requires c = (0, c.none.ensures.csv c.args.rows)

@@ -1,6 +1,4 @@
-use Rattle.std.proofs.Common.{◌∙◌}
-use Rattle.reply_text.proofs.PieceLemmas.{json_is_pieces}
 use Rattle.reply_text.proofs.cursor.BodyCursor.json.Goals as goal
 
-pub returns-clause-bytes : goal.returns-clause-bytes
-returns-clause-bytes c = c.in_ok-body.ensures.bytes ∙ json_is_pieces c.args.rows
+pub json_counted-requires : goal.json_counted-requires
+json_counted-requires c = (0, c.none.ensures.json c.args.rows)

@@ -1,4 +1,4 @@
-use Rattle.std.proofs.Common.{◌≡◌, ◌++◌, ◌-◌, drop, take, length, ◌<◌, ◌≤◌}
+use Rattle.std.proofs.Common.{◌≡◌, ◌++◌, ◌-◌, drop, take, length, ◌≤◌}
 use Rattle.reply_text.proofs.output.Output.take.Given as goal
 
 abbrev pub invariant-loop-count : goal.invariant-loop-count

@@ -1,4 +1,4 @@
-use Rattle.std.proofs.Common.{◌≡◌, ◌<◌, ◌++◌, ℕ, List, Vec, Global, map, sym, subst, ap, ◌∙◌}
+use Rattle.std.proofs.Common.{◌≡◌, ◌<◌, ◌++◌, ℕ, List, map, sym, subst, ap, ◌∙◌}
 use Rattle.std.specs.List.{AllByRecursion}
 use Rattle.row_columns.specs.declared.store.Store.{Store}
 use Rattle.row_columns.specs.Columns.{ColumnsOf}
@@ -11,13 +11,11 @@ pub invariant_of-self-2 : goal.invariant_of-self-2
 invariant_of-self-2 c =
     let old = c.self.inside.store in
     let new = c.take.new.self in
-    let numbers = c.self.inside.numbers.items in
-    let made = c.in_ok-made.made.items in
+    let numbers = c.self.inside.numbers in
+    let made = c.in_ok-made.made in
     let rows = map (values_at c.args.places.now) (numbered c.args.numbers.now c.args.block.now.rows) in
     let taken : HasTakenRows old new rows made = subst (λ (s : Store). HasTakenRows s new rows made) c.replace-store.ensures.value c.in_ok-made.ensures in
-    let all : c.extend_from_slice.new.self.items ≡ numbers ++ made =
-    c.in_ok-extend_from_slice.ensures.items ∙ ap (λ (v : Vec ℕ Global). v.items ++ c.as_slice.result.now) c.replace-kept.ensures.value
-    ∙ ap (λ (ns : List ℕ). numbers ++ ns) c.as_slice.ensures.value in
+    let all : c.append.new.self ≡ numbers ++ made = c.in_ok-append.ensures ∙ ap (λ (ns : List ℕ). ns ++ made) c.replace-kept.ensures.value in
     record {
       wide = taken.wide;
       within = subst (AllByRecursion (λ n. n < end_of new)) (sym all) (within_with old new numbers made rows taken c.self.invariant.within);
@@ -27,11 +25,9 @@ pub returns-clause-rows : goal.returns-clause-rows
 returns-clause-rows c =
     let old = c.self.inside.store in
     let new = c.take.new.self in
-    let numbers = c.self.inside.numbers.items in
-    let made = c.in_ok-made.made.items in
+    let numbers = c.self.inside.numbers in
+    let made = c.in_ok-made.made in
     let rows = map (values_at c.args.places.now) (numbered c.args.numbers.now c.args.block.now.rows) in
     let taken : HasTakenRows old new rows made = subst (λ (s : Store). HasTakenRows s new rows made) c.replace-store.ensures.value c.in_ok-made.ensures in
-    let all : c.extend_from_slice.new.self.items ≡ numbers ++ made =
-    c.in_ok-extend_from_slice.ensures.items ∙ ap (λ (v : Vec ℕ Global). v.items ++ c.as_slice.result.now) c.replace-kept.ensures.value
-    ∙ ap (λ (ns : List ℕ). numbers ++ ns) c.as_slice.ensures.value in
+    let all : c.append.new.self ≡ numbers ++ made = c.in_ok-append.ensures ∙ ap (λ (ns : List ℕ). ns ++ made) c.replace-kept.ensures.value in
     ap (map (stored_row new)) all ∙ rows_with old new numbers made rows taken c.self.invariant.within ∙ ap (λ (s : ColumnsOf). s.rows ++ rows) c.self.view_is

@@ -1,4 +1,4 @@
-use Rattle.std.proofs.Common.{◌≡◌, ◌+◌, ◌-◌, ◌*◌, ℕ, List, Vec, Global, length, map, sym, subst, ap, ◌∙◌, arith}
+use Rattle.std.proofs.Common.{◌≡◌, ◌+◌, ◌-◌, ◌*◌, ℕ, List, length, map, sym, subst, ap, ◌∙◌, arith}
 use Rattle.std.specs.Prelude.{replicate, IfOk}
 use Rattle.std.specs.List.{AllByRecursion}
 use Rattle.std.proofs.lemmas.List.{length-map, length-replicate}
@@ -24,9 +24,9 @@ returns-in_ok-push-in-Blocks c =
     let width : length (map kind_of_type arm.field-0.items) ≡ length places = rw arm.is at c.requires.width in
     let long : length piece ≡ length arm.field-0.items = c.in_ok-of_places-in-Blocks.ensures.wide ∙ sym width ∙ length-map arm.field-0.items kind_of_type in
     let count : c.len-start.result ≡ length arm.pieces.items = omega (arith, c.len-start.ensures, arm.pieces.ok.0) in
-    let made = subst (λ k. IfOk c.numbers_after.result (λ made. made.items ≡ map (λ n. k * BLOCK_ROWS + n) numbers)) count c.numbers_after.ensures in
+    let made = subst (λ k. IfOk c.after.result (λ made. made ≡ map (λ n. k * BLOCK_ROWS + n) numbers)) count c.after.ensures in
     rw arm.is (taken_ok (Blocks arm.field-0 arm.pieces) (Blocks arm.field-0 c.push.new.self) (map (values_at places) (numbered numbers rows))
-    (map (λ n. length arm.pieces.items * BLOCK_ROWS + n) numbers) c.numbers_after.result
+    (map (λ n. length arm.pieces.items * BLOCK_ROWS + n) numbers) c.after.result
     (λ made is. blocks_taken places numbers made arm.field-0 arm.pieces c.push.new.self piece rows c.in_ok-push-in-Blocks.ensures.items long wide c.rows_are_few.ensures
     c.in_ok-of_places-in-Blocks.ensures.rows c.requires.within is) made)
 
@@ -44,6 +44,6 @@ returns-in_ok-rows_taken-in-Values c =
     let first : c.len-start-in-Values.result ≡ length arm.rows.items = omega (arith, c.len-start-in-Values.ensures, arm.rows.ok.0) in
     let last : c.len-in-Values.result ≡ length new.items = omega (arith, c.len-in-Values.ensures, new.ok.0) in
     let between = ap (λ a. numbers_from a (c.len-in-Values.result - a)) first ∙ ap (λ b. numbers_from (length arm.rows.items) (b - length arm.rows.items)) last in
-    let made = subst (λ (k : List ℕ). IfOk c.numbers_between.result (λ made. made.items ≡ k)) between c.numbers_between.ensures in
-    rw arm.is (taken_ok (Values arm.field-0 arm.rows) (Values arm.field-0 new) taken (numbers_from (length arm.rows.items) (length new.items - length arm.rows.items)) c.numbers_between.result
+    let made = subst (λ (k : List ℕ). IfOk c.between.result (λ made. made ≡ k)) between c.between.ensures in
+    rw arm.is (taken_ok (Values arm.field-0 arm.rows) (Values arm.field-0 new) taken (numbers_from (length arm.rows.items) (length new.items - length arm.rows.items)) c.between.result
     (λ made is. values_taken arm.field-0 arm.rows new taken made c.in_ok-rows_taken-in-Values.ensures long wide is) made)

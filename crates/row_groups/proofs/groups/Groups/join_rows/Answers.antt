@@ -1,70 +1,84 @@
-use Rattle.std.proofs.Common.{◌≡◌, ◌++◌, ◌∷◌, [], Some, get_or, length, map, take, refl, sym, ap, subst, ◌∙◌, arith}
-use Rattle.std.specs.Prelude.{slice_index_or}
-use Rattle.cell_types.specs.Value.{value_view}
-use Rattle.query_meaning.specs.Apply.{values_at}
+use Rattle.std.proofs.Common.{◌≡◌, ◌<◌, ◌++◌, Some, Result, Ok, Err, length, sym, ap, subst, ◌∙◌}
+use Rattle.std.specs.Prelude.{OnOk}
+use Rattle.std.proofs.lemmas.List.Elements.{recursion_from_All}
 use Rattle.row_columns.specs.Picked.{numbered}
-use Rattle.row_groups.specs.Gathered.{HasGroupMore, IsGroupOf}
-use Rattle.row_groups.proofs.GatheredLemmas.{one_row_fits, one_row_more}
-use Rattle.row_groups.proofs.JoinLemmas.{begun_more, inside, may_join, none_more, row_joined, AreBegun}
+use Rattle.row_groups.specs.declared.groups.Groups.{Groups}
+use Rattle.row_groups.specs.Gathered.{JoinsGroups, MayJoinGroups}
+use Rattle.row_groups.specs.Parts.{AreBegun, AreGroupsOf, ArePartsFrom}
+use Rattle.row_groups.proofs.BegunLemmas.{all_inside, as_many_found, may_join_parts, parts_joined}
+use Rattle.row_groups.proofs.PartLemmas.{within_parts}
 use Rattle.row_groups.proofs.groups.Groups.join_rows.Goals as goal
 
-pub index_mut-requires : goal.index_mut-requires
-index_mut-requires c =
-    let places = c.args.grouping.places.now in
-    let aggregates = c.args.grouping.aggregates.now in
-    let rows = c.args.columns.now.rows in
-    let numbers = c.args.numbers.now in
-    let i = c.loop-number.number-index in
-    let row = slice_index_or rows (get_or numbers i 0) [] in
-    let equal = c.values_are_ordered.ensures.equal in
-    let mid = c.group_of.new.self in
-    let g = c.in_ok-group.group in
-    let key : map value_view c.as_slice.result.now ≡ values_at places row = ap (map value_view) c.as_slice.ensures.value ∙ c.in_ok-read_key.ensures in
-    let group : IsGroupOf mid (values_at places row) g = subst (λ k. IsGroupOf mid k g) key c.in_ok-group.ensures.group in
-    let has_more : HasGroupMore aggregates c.loop-number.self mid (values_at places row) = subst (HasGroupMore aggregates c.loop-number.self mid) key c.in_ok-group.ensures.more in
-    let may = c.requires.joins in
-    let some = may.rows ++ numbered (take i numbers) rows in
-    let more : AreBegun places aggregates mid some (row ∷ []) = begun_more equal places aggregates some [] row c.loop-number.self mid
-    (none_more equal places aggregates some c.loop-number.self (c.loop-number.invariant may.rows may.has)) has_more in
-    omega (arith, inside equal places aggregates some row mid more g group, mid.tallies.ok.0)
+both_ok : {X E : Type 0} (r : Result X E) (P Q R : Type 0) → (P → Q → R) → OnOk r P → OnOk r Q → OnOk r R
+both_ok (Ok x) P Q R f p q = f p q
+both_ok (Err e) P Q R f p q = p
 
-pub join_each-requires-clause-joins : goal.join_each-requires-clause-joins
-join_each-requires-clause-joins c =
-    let places = c.args.grouping.places.now in
-    let aggregates = c.args.grouping.aggregates.now in
+pub parts_of-requires-clause-long : goal.parts_of-requires-clause-long
+parts_of-requires-clause-long c =
     let rows = c.args.columns.now.rows in
     let numbers = c.args.numbers.now in
-    let i = c.loop-number.number-index in
-    let row = slice_index_or rows (get_or numbers i 0) [] in
-    let equal = c.values_are_ordered.ensures.equal in
-    let mid = c.group_of.new.self in
-    let g = c.in_ok-group.group in
-    let key : map value_view c.as_slice.result.now ≡ values_at places row = ap (map value_view) c.as_slice.ensures.value ∙ c.in_ok-read_key.ensures in
-    let group : IsGroupOf mid (values_at places row) g = subst (λ k. IsGroupOf mid k g) key c.in_ok-group.ensures.group in
-    let has_more : HasGroupMore aggregates c.loop-number.self mid (values_at places row) = subst (HasGroupMore aggregates c.loop-number.self mid) key c.in_ok-group.ensures.more in
-    let may = c.requires.joins in
-    let some = may.rows ++ numbered (take i numbers) rows in
-    let more : AreBegun places aggregates mid some (row ∷ []) = begun_more equal places aggregates some [] row c.loop-number.self mid
-    (none_more equal places aggregates some c.loop-number.self (c.loop-number.invariant may.rows may.has)) has_more in
-    may_join equal places aggregates some row mid more g group (length c.args.columns.now.kinds) c.index_mut.result.now c.index_mut.ensures.value
-    (one_row_fits (length c.args.columns.now.kinds) may.rows rows numbers i aggregates c.loop-number-test.true may.fits)
+    let found = c.in-Some.groups.items in
+    let are : AreGroupsOf c.groups_of.new.self c.args.grouping.places.now (numbered numbers rows) found = rw c.in-Some.is at c.in_ok-groups.ensures.groups in
+    rw c.deref.ensures.value (as_many_found c.groups_of.new.self c.args.grouping.places.now rows numbers found are)
 
-pub loop-number-preserved : goal.loop-number-preserved
-loop-number-preserved c = λ before has.
+pub parts_of-requires-clause-within : goal.parts_of-requires-clause-within
+parts_of-requires-clause-within c =
+    let rows = c.args.columns.now.rows in
+    let numbers = c.args.numbers.now in
+    let found = c.in-Some.groups.items in
+    let are : AreGroupsOf c.groups_of.new.self c.args.grouping.places.now (numbered numbers rows) found = rw c.in-Some.is at c.in_ok-groups.ensures.groups in
+    rw (c.deref.ensures.value, c.len.ensures) (all_inside c.groups_of.new.self c.args.grouping.places.now (numbered numbers rows) found are)
+
+pub join_parts-requires-clause-within : goal.join_parts-requires-clause-within
+join_parts-requires-clause-within c =
+    let rows = c.args.columns.now.rows in
+    let numbers = c.args.numbers.now in
+    let found = c.in-Some.groups.items in
+    let parts = c.in_ok-parts.parts.items in
+    let from : ArePartsFrom 0 numbers found parts = rw c.deref.ensures.value at c.in_ok-parts.ensures.parts in
+    rw c.deref-in-Some.ensures.value (within_parts (λ n. n < length rows) 0 numbers found parts from (recursion_from_All (λ n. n < length rows) numbers c.requires.within))
+
+pub join_parts-requires-clause-joins : goal.join_parts-requires-clause-joins
+join_parts-requires-clause-joins c =
     let places = c.args.grouping.places.now in
     let aggregates = c.args.grouping.aggregates.now in
     let rows = c.args.columns.now.rows in
     let numbers = c.args.numbers.now in
-    let i = c.loop-number.number-index in
-    let row = slice_index_or rows (get_or numbers i 0) [] in
-    let equal = c.values_are_ordered.ensures.equal in
-    let mid = c.group_of.new.self in
-    let g = c.in_ok-group.group in
-    let key : map value_view c.as_slice.result.now ≡ values_at places row = ap (map value_view) c.as_slice.ensures.value ∙ c.in_ok-read_key.ensures in
-    let group : IsGroupOf mid (values_at places row) g = subst (λ k. IsGroupOf mid k g) key c.in_ok-group.ensures.group in
-    let has_more : HasGroupMore aggregates c.loop-number.self mid (values_at places row) = subst (HasGroupMore aggregates c.loop-number.self mid) key c.in_ok-group.ensures.more in
-    let some = before ++ numbered (take i numbers) rows in
-    let more : AreBegun places aggregates mid some (row ∷ []) = begun_more equal places aggregates some [] row c.loop-number.self mid
-    (none_more equal places aggregates some c.loop-number.self (c.loop-number.invariant before has)) has_more in
-    row_joined equal places aggregates some row mid more g group _ c.index_mut.result.now c.join_each.new.tallies _ (one_row_more before rows numbers i c.loop-number-test.true)
-    (c.rows_are_in_groups.ensures.distinct places (some ++ row ∷ [])) c.index_mut.ensures.value (λ part tallies. c.in_ok-join_each.ensures part tallies) refl refl
+    let mid = c.groups_of.new.self in
+    let found = c.in-Some.groups.items in
+    let parts = c.in_ok-parts.parts.items in
+    let are : AreGroupsOf mid places (numbered numbers rows) found = rw c.in-Some.is at c.in_ok-groups.ensures.groups in
+    let may = c.requires.joins in
+    let begun : AreBegun places aggregates mid may.rows (numbered numbers rows) = (rw c.in-Some.is at c.in_ok-groups.ensures.begun) may.rows may.has in
+    let from : ArePartsFrom 0 numbers found parts = rw c.deref.ensures.value at c.in_ok-parts.ensures.parts in
+    let long : length parts ≡ length mid.keys.keys = c.in_ok-parts.ensures.long ∙ c.len.ensures in
+    rw c.deref-in-Some.ensures.value (may_join_parts c.values_are_ordered.ensures.equal places aggregates may.rows rows numbers mid begun
+    (c.rows_are_in_groups.ensures.distinct places (may.rows ++ numbered numbers rows)) found are parts long from (length c.args.columns.now.kinds) may.fits)
+
+pub returns-in-Some : goal.returns-in-Some
+returns-in-Some c =
+    let places = c.args.grouping.places.now in
+    let aggregates = c.args.grouping.aggregates.now in
+    let rows = c.args.columns.now.rows in
+    let numbers = c.args.numbers.now in
+    let mid = c.groups_of.new.self in
+    let new = c.join_parts.new.self in
+    let found = c.in-Some.groups.items in
+    let parts = c.in_ok-parts.parts.items in
+    let are : AreGroupsOf mid places (numbered numbers rows) found = rw c.in-Some.is at c.in_ok-groups.ensures.groups in
+    let from : ArePartsFrom 0 numbers found parts = rw c.deref.ensures.value at c.in_ok-parts.ensures.parts in
+    let long : length parts ≡ length mid.keys.keys = c.in_ok-parts.ensures.long ∙ c.len.ensures in
+    both_ok c.join_parts.result (new.keys ≡ mid.keys) _ (JoinsGroups (Some places) aggregates c.args.self.now new (numbered numbers rows))
+    (λ same joins before has. parts_joined c.values_are_ordered.ensures.equal places aggregates before rows numbers mid ((rw c.in-Some.is at c.in_ok-groups.ensures.begun) before has)
+    (c.rows_are_in_groups.ensures.distinct places (before ++ numbered numbers rows)) found are parts long from new (ap (λ keys. keys.keys) same) joins)
+    c.join_parts.ensures.keys (rw c.deref-in-Some.ensures.value at c.join_parts.ensures.joins)
+
+pub join_each_row-requires-clause-joins : goal.join_each_row-requires-clause-joins
+join_each_row-requires-clause-joins c =
+    subst (λ (mid : Groups). MayJoinGroups (Some c.args.grouping.places.now) c.args.grouping.aggregates.now (length c.args.columns.now.kinds) mid
+    (numbered c.args.numbers.now c.args.columns.now.rows)) (sym (c.in_ok-groups.ensures.none c.in_default.is)) c.requires.joins
+
+pub returns : goal.returns
+returns c =
+    subst (λ (mid : Groups). OnOk c.join_each_row.result (JoinsGroups (Some c.args.grouping.places.now) c.args.grouping.aggregates.now mid c.join_each_row.new.self
+    (numbered c.args.numbers.now c.args.columns.now.rows))) (c.in_ok-groups.ensures.none c.in_default.is) c.join_each_row.ensures

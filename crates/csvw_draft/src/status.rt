@@ -1,0 +1,26 @@
+//! The exit statuses of the program.
+use std::io::{self, ErrorKind};
+
+/// The exit status where all was done.
+pub const DONE: u8 = 0;
+
+/// The exit status of a refused folder.
+pub const REFUSED: u8 = 1;
+
+/// The exit status of words that are no command of the program.
+pub const USAGE: u8 = 2;
+
+/// The exit status where a file can't be read or written, or is no plain file.
+pub const DEVICE: u8 = 3;
+
+/// The exit status of want of memory.
+pub const MEMORY: u8 = 4;
+
+/// The exit status of an end: its own, or that of an error of the system.
+pub fn status_of(end: io::Result<u8>) -> u8 {
+    match end {
+        Ok(status) => status,
+        Err(error) if error.kind() == ErrorKind::OutOfMemory => MEMORY,
+        Err(_) => DEVICE,
+    }
+}

@@ -1,0 +1,109 @@
+-- Where no steps are left, the rows that a run has kept are its answer at the end, and first rows of it before.
+use Rattle.std.proofs.Common.{◌≡◌, ℕ, false, Option, Some, None, List, [], ◌++◌, drop, length, map, refl, sym, ap, ◌∙◌, string_bytes}
+use Rattle.std.specs.Prelude.{IfSome}
+use Rattle.std.proofs.lemmas.List.{length-map}
+use Rattle.cell_types.specs.Value.{CellValue}
+use Rattle.table_store.specs.Table.{TableOf}
+use Rattle.block_filter.specs.Conditions.{rows_joined, ConditionsInTurn}
+use Rattle.query_plan.specs.Plan.{PlanOf, needed, node_view, nodes_result}
+use Rattle.query_plan.specs.Scan.{rows_of_blocks}
+use Rattle.query_rows.specs.Rows.{BeginWith, RowsOf}
+use Rattle.query_exec.specs.declared.front.FirstRows.{FirstRows}
+use Rattle.query_exec.specs.declared.kept.Kept.{Kept}
+use Rattle.query_exec.specs.declared.run.Run.{Run}
+use Rattle.query_exec.specs.declared.sink.Sink.{Sink}
+use Rattle.query_exec.specs.declared.sink.Sink.TheVariants.{Aggregate, Collect, Slice, TopN}
+use Rattle.query_exec.specs.Intermediate.{without_count}
+use Rattle.query_exec.specs.Kept.{kept_names, AreKeptRows}
+use Rattle.query_exec.specs.Run.{handed_rows, passed_answer, passed_rows, steps_of, AreFirstRows, IsRunAnswer, StandsFor}
+use Rattle.query_exec.specs.Sink.{sink_kept, sink_nodes, HasPushed, LendsKept, SinkGives}
+use Rattle.query_exec.proofs.KeptLemmas.{as_many}
+use Rattle.query_exec.proofs.ReadLemmas.{answer_is, handed_parts, no_steps, passed_parts, read_rows}
+use Rattle.query_exec.proofs.RunLemmas.{some_passed}
+use Rattle.query_exec.proofs.SliceLemmas.{piece_begins}
+
+-- ---- what a sink lends
+
+kept_width : (kept : Kept) (front : FirstRows) → AreKeptRows kept front → length kept.columns.kinds ≡ length (kept_names kept) → length front.columns.now.kinds ≡ length front.names.now
+kept_width kept front are wide =
+    ap (λ (c : _). length c.kinds) are.columns_are ∙ wide ∙ ap length (sym are.names_are) ∙ length-map front.names.now string_bytes
+
+lent_width : (sink : Sink) (front : FirstRows) → LendsKept sink (Some front) → length (sink_kept sink).columns.kinds ≡ length (kept_names (sink_kept sink))
+    → length front.columns.now.kinds ≡ length front.names.now
+lent_width (Collect kept) front lends wide = kept_width kept front lends wide
+lent_width (Slice sink) front lends wide = kept_width sink.kept front lends wide
+lent_width (TopN sink) front lends wide = absurd lends
+lent_width (Aggregate sink) front lends wide = absurd lends
+
+-- what its step makes of more rows begins with that
+lent_first : (sink : Sink) (pushed more : List (List CellValue)) (front : FirstRows) (rows : RowsOf) → HasPushed sink pushed → LendsKept sink (Some front)
+    → nodes_result (sink_nodes sink) (without_count (kept_names (sink_kept sink)) (pushed ++ more)) ≡ Some rows
+    → BeginWith rows (map string_bytes front.names.now) front.columns.now.rows
+lent_first (Collect kept) pushed more front rows has lends made =
+    let same : without_count (kept_names kept) (pushed ++ more) ≡ rows = cc in
+    record {
+      names_are = ap (λ (r : RowsOf). r.names) (sym same) ∙ sym lends.names_are;
+      rest = more;
+      rows_are = ap (λ (r : RowsOf). r.rows) (sym same) ∙ ap (λ rs. rs ++ more) (sym has ∙ ap (λ (c : _). c.rows) (sym lends.columns_are));
+    }
+lent_first (Slice sink) pushed more front rows has lends made =
+    let piece = piece_begins sink.slice.skip sink.slice.top pushed more in
+    let names : kept_names sink.kept ≡ rows.names = ap names_of made in
+    let are = ap rows_in made in
+    record {
+      names_are = sym names ∙ sym lends.names_are;
+      rest = piece.0;
+      rows_are = sym are ∙ piece.1 ∙ ap (λ rs. rs ++ piece.0) (sym has.piece ∙ ap (λ (c : _). c.rows) (sym lends.columns_are));
+    }
+  where
+    names_of : Option RowsOf → List (List ℕ)
+    names_of None = []
+    names_of (Some r) = r.names
+
+    rows_in : Option RowsOf → List (List CellValue)
+    rows_in None = []
+    rows_in (Some r) = r.rows
+lent_first (TopN sink) pushed more front rows has lends made = absurd lends
+lent_first (Aggregate sink) pushed more front rows has lends made = absurd lends
+
+-- ---- the end
+
+pub answer_given : (run : Run) (rows : RowsOf) → run.faulted ≡ false → map node_view run.steps.items ≡ [] → SinkGives run.sink rows → IsRunAnswer run (Some rows)
+answer_given run rows works none gives = λ passed has.
+    let some = some_passed run passed has works in
+    ap (passed_answer run) some.1
+    ∙ ap (λ ns. nodes_result ns (without_count (kept_names (sink_kept run.sink)) some.0)) (no_steps run none)
+    ∙ gives.gives some.0 some.2
+
+-- ---- what a run lends
+
+some_made : (run : Run) (passed : Option (List (List CellValue))) (rows : RowsOf) → passed_answer run passed ≡ Some rows
+    → (all : List (List CellValue)) × (passed ≡ Some all) × (nodes_result (steps_of run) (without_count (kept_names (sink_kept run.sink)) all) ≡ Some rows)
+some_made run None rows is = absurd (cc)
+some_made run (Some all) rows is = (all, refl, is)
+
+joined_more : (front all : List (List CellValue)) (back : Option (List (List CellValue))) → rows_joined (Some front) back ≡ Some all
+    → (more : List (List CellValue)) × (front ++ more ≡ all)
+joined_more front all None is = absurd (cc)
+joined_more front all (Some more) is = (more, cc)
+
+pub front_is_first : ConditionsInTurn → (run : Run) (front : Option FirstRows) → run.faulted ≡ false → map node_view run.steps.items ≡ [] → LendsKept run.sink front
+    → (plan : PlanOf) (table : TableOf) (handed : ℕ) → StandsFor run plan table handed → IfSome front (AreFirstRows plan table)
+front_is_first law run None works none lends plan table handed stands = tt
+front_is_first law run (Some front) works none lends plan table handed stands =
+    let has = stands.read in
+    record {
+      width = lent_width run.sink front lends (as_many (sink_kept run.sink) table.schema has.columns);
+      first = λ rows is.
+          let before = handed_rows plan table handed in
+          let behind = rows_of_blocks table.rows (drop handed (needed plan table.rows)) in
+          let names = kept_names (sink_kept run.sink) in
+          let some = some_passed run (passed_rows run before) has.passed works in
+          let made = some_made run (passed_rows run (read_rows plan table)) rows (sym (answer_is run plan table handed has) ∙ is) in
+          let more = joined_more some.0 made.0 (passed_rows run behind)
+          (ap (λ passed. rows_joined passed (passed_rows run behind)) (sym some.1) ∙ sym (passed_parts law run before behind)
+          ∙ ap (passed_rows run) (sym (handed_parts plan table handed)) ∙ made.1) in
+          lent_first run.sink some.0 more.0 front rows some.2 lends
+          (ap (λ ns. nodes_result ns (without_count names (some.0 ++ more.0))) (sym (no_steps run none))
+          ∙ ap (λ rs. nodes_result (steps_of run) (without_count names rs)) more.1 ∙ made.2);
+    }

@@ -1,0 +1,59 @@
+-- Columns of rows as they are packed.
+use Rattle.std.proofs.Common.{◌≡◌, ℕ, ◌+◌, ◌*◌, ◌/◌, ◌%◌, ◌<◌, ◌≤◌, List, [], Option, None, Some, length, map, get_or, option_map, option_copied, sym, ap, ◌∙◌, arith}
+use Rattle.std.specs.Prelude.{IfSome}
+use Rattle.std.specs.Borrow.{Bor}
+use Rattle.std.proofs.lemmas.List.{ext_get_or, get_or-map, get_or_read, length-map}
+use Rattle.std.proofs.lemmas.Option.{same_Some}
+use Rattle.block_summary.specs.Ranges.{column_of}
+use Rattle.block_summary.specs.declared.block.TheConstants.{BLOCK_ROWS}
+use Rattle.block_summary.specs.declared.number.PackedType.{PackedType}
+use Rattle.cell_types.specs.Value.{CellValue, null}
+use Rattle.typed_columns.specs.ColumnCells.{ColumnCells}
+use Rattle.row_columns.specs.Piece.{piece_row}
+use Rattle.row_columns.specs.Store.{numbered_row}
+use Rattle.row_columns.proofs.PieceLemmas.{cell_of_piece}
+
+-- packed cells are those of a column
+packed_are : (packed : Option (Bor (List CellValue))) (type : Option PackedType) (cells : List CellValue) → option_copied packed ≡ option_map (λ _. cells) type → IfSome packed (λ p. p.now ≡ cells)
+packed_are None type cells e = tt
+packed_are (Some p) None cells e = absurd (cc)
+packed_are (Some p) (Some t) cells e = same_Some p.now cells e
+
+if_some : {X : Type 0} (P Q : X → Type 0) → ((x : X) → P x → Q x) → (o : Option X) → IfSome o P → IfSome o Q
+if_some P Q f None h = tt
+if_some P Q f (Some x) h = f x h
+
+pub packed_column : (piece : List ColumnCells) (col : ℕ) (column : ColumnCells) (packed : Option (Bor (List CellValue))) → col < length piece → column ≡ get_or piece col column
+    → option_copied packed ≡ option_map (λ _. column.cells) column.packed_type
+    → IfSome packed (λ cells. (row : ℕ) → get_or cells.now row null ≡ get_or (piece_row piece row) col null)
+packed_column piece col column packed inside is e =
+    if_some (λ cells. cells.now ≡ column.cells) (λ cells. (row : ℕ) → get_or cells.now row null ≡ get_or (piece_row piece row) col null)
+    (λ p same row. ap (λ cells. get_or cells row null) same ∙ cell_of_piece piece col row column inside is) packed (packed_are packed column.packed_type column.cells e)
+
+-- and the column of all rows of a block
+pub packed_rows : (pieces : List (List ColumnCells)) (last col : ℕ) (piece : List ColumnCells) (cells : List CellValue) (numbers : List ℕ) → last < length pieces → piece ≡ get_or pieces last piece
+    → ((row : ℕ) → get_or cells row null ≡ get_or (piece_row piece row) col null) → length cells ≡ length numbers → length numbers ≤ BLOCK_ROWS
+    → ((i : ℕ) → i < length numbers → get_or numbers i 0 ≡ last * BLOCK_ROWS + i) → cells ≡ column_of (map (numbered_row pieces) numbers) col
+packed_rows pieces last col piece cells numbers inside at are long most from =
+    ext_get_or null cells (column_of (map (numbered_row pieces) numbers) col)
+    (long ∙ sym (length-map (map (numbered_row pieces) numbers) (λ row. get_or row col null) ∙ length-map numbers (numbered_row pieces)))
+    (λ i less. each i (omega (arith, less, long)))
+  where
+    none : List ColumnCells
+    none = []
+
+    row_is : (i : ℕ) → i < length numbers → numbered_row pieces (get_or numbers i 0) ≡ piece_row piece i
+    row_is i less =
+        let number = get_or numbers i 0 in
+        let is : number ≡ last * BLOCK_ROWS + i = from i less in
+        let block : number / BLOCK_ROWS ≡ last = omega (arith, is, less, most) in
+        let own : number % BLOCK_ROWS ≡ i = omega (arith, is, less, most) in
+        ap (λ b. piece_row (get_or pieces b none) (number % BLOCK_ROWS)) block
+        ∙ ap (λ (p : List ColumnCells). piece_row p (number % BLOCK_ROWS)) (sym (get_or_read pieces last piece inside at none))
+        ∙ ap (piece_row piece) own
+
+    each : (i : ℕ) → i < length numbers → get_or cells i null ≡ get_or (column_of (map (numbered_row pieces) numbers) col) i null
+    each i less =
+        are i ∙ ap (λ row. get_or row col null) (sym (row_is i less))
+        ∙ sym (get_or-map (λ row. get_or row col null) (map (numbered_row pieces) numbers) i [] null (omega (arith, less, length-map numbers (numbered_row pieces)))
+        ∙ ap (λ row. get_or row col null) (get_or-map (numbered_row pieces) numbers i 0 [] less))

@@ -1,6 +1,0 @@
-use Rattle.std.proofs.Common.{◌≡◌, get_or, map, take}
-use Rattle.row_columns.proofs.numbers.renumbered.Given as goal
-
--- the numbers of the first places
-abbrev pub invariant-loop-place : goal.invariant-loop-place
-invariant-loop-place l = l.made.items ≡ map (λ place. get_or l.numbers place 0) (take l.place-index l.places)

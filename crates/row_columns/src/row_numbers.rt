@@ -1,0 +1,193 @@
+//! The numbers of rows that are kept, of which the first that rise one by one take no memory.
+ghost use Rattle.std.specs.Prelude.{◌≡◌, ◌+◌, ◌-◌, ◌++◌, ◌<◌, ◌≤◌, ◌^◌, [], IfOk, IfSome, IsTrue, OnOk, length, map, slice_index_or};
+ghost use Rattle.std.specs.List.{All};
+ghost use Rattle.row_columns.specs.Numbers.{numbers_from};
+
+use crate::numbers::numbers_after;
+use block_summary::BLOCK_ROWS;
+use std::alloc::{AllocError, Global};
+use std::marker::Model;
+
+/// How many numbers 32 bits tell.
+const NUMBERS: usize = 1 << 32;
+
+/// Numbers: so many from one on, and others after them. They are seen as one list.
+#[derive(Drop)]
+pub(crate) struct RowNumbers {
+    first: usize,
+    count: usize,
+    listed: Vec<u32>,
+}
+
+impl Model for RowNumbers {
+    ghost use Rattle.std.specs.Prelude.{◌+◌, ◌++◌, ◌≤◌, ◌^◌, ℕ, List};
+    ghost use Rattle.row_columns.specs.Numbers.{numbers_from};
+
+    ghost Value = { List ℕ };
+
+    ghost view = { λ numbers. numbers_from numbers.first numbers.count ++ numbers.listed.items };
+
+    ghost invariant = { λ numbers. numbers.first + numbers.count ≤ 2 ^ 32 };
+}
+
+/// Whether numbers go from one on, each greater by 1. All are looked at, so that it runs in lanes.
+fn rise_from(numbers: &[usize], first: usize) -> bool
+    requires { first + length numbers.now < 2 ^ 64 }
+    ensures { IsTrue result → numbers.now ≡ numbers_from first (length numbers.now) }
+{
+    let mut same = true;
+    for i in 0..numbers.len() {
+        same = same & (numbers[i] == first + i);
+    }
+    same
+}
+
+/// So many numbers from one on come after the others.
+fn push_run(listed: &mut Vec<u32>, first: usize, count: usize) -> Result<(), AllocError>
+    requires { first + count ≤ 2 ^ 32 }
+    ensures { OnOk result (listed.new.items ≡ listed.old.items ++ numbers_from first count) }
+{
+    for i in 0..count {
+        listed.push((first + i) as u32)?;
+    }
+    Ok(())
+}
+
+impl RowNumbers {
+    /// No numbers.
+    pub(crate) fn none(alloc: Global) -> RowNumbers
+        ensures { result ≡ [] }
+    {
+        RowNumbers {
+            first: 0,
+            count: 0,
+            listed: Vec::new(alloc),
+        }
+    }
+
+    /// The numbers from one on up to another.
+    pub(crate) fn between(alloc: Global, start: usize, end: usize) -> Result<RowNumbers, AllocError>
+        requires { start ≤ end }
+        ensures { IfOk result (λ made. made ≡ numbers_from start (end - start)) }
+    {
+        // Rows of so many values would not fit in memory.
+        if end > NUMBERS {
+            return Err(AllocError);
+        }
+        Ok(RowNumbers {
+            first: start,
+            count: end - start,
+            listed: Vec::new(alloc),
+        })
+    }
+
+    /// The numbers, each greater by a start.
+    pub(crate) fn after(
+        alloc: Global,
+        start: usize,
+        numbers: &[usize],
+    ) -> Result<RowNumbers, AllocError>
+        requires { All (λ number. start + number < 2 ^ 32) numbers.now }
+        ensures { IfOk result (λ made. made ≡ map (λ number. start + number) numbers.now) }
+    {
+        match numbers.first() {
+            Some(first) if numbers.len() <= BLOCK_ROWS && rise_from(numbers, *first) => {
+                RowNumbers::between(alloc, start + *first, start + *first + numbers.len())
+            }
+            _ => RowNumbers::listed(numbers_after(alloc, start, numbers)?),
+        }
+    }
+
+    /// These numbers.
+    fn listed(numbers: Vec<u32>) -> Result<RowNumbers, AllocError>
+        ensures { IfOk result (λ made. made ≡ numbers.items) }
+    {
+        Ok(RowNumbers {
+            first: 0,
+            count: 0,
+            listed: numbers,
+        })
+    }
+
+    /// How many there are.
+    pub(crate) fn len(&self) -> usize
+        ensures { result ≡ length self.now }
+    {
+        self.count + self.listed.len()
+    }
+
+    /// The number at a place.
+    #[inline(always)]
+    pub(crate) fn at(&self, place: usize) -> u32
+        requires { place < length self.now }
+        ensures { result ≡ slice_index_or self.now place 0 }
+    {
+        if place < self.count {
+            (self.first + place) as u32
+        } else {
+            self.listed[place - self.count]
+        }
+    }
+
+    /// The first of them and how many they are, where they rise one by one.
+    pub(crate) fn run(&self) -> Option<(usize, usize)>
+        ensures { IfSome result (λ run. self.now ≡ numbers_from run.0 run.1) }
+    {
+        if self.listed.is_empty() {
+            Some((self.first, self.count))
+        } else {
+            None
+        }
+    }
+
+    /// All of them, one by one.
+    pub(crate) fn to_vec(&self, alloc: Global) -> Result<Vec<u32>, AllocError>
+        ensures { IfOk result (λ made. made.items ≡ self.now) }
+    {
+        let mut made = Vec::with_capacity(alloc, self.len())?;
+        push_run(&mut made, self.first, self.count)?;
+        made.extend_from_slice(self.listed.as_slice())?;
+        Ok(made)
+    }
+
+    /// Others come after them.
+    pub(crate) fn append(&mut self, more: &RowNumbers) -> Result<(), AllocError>
+        ensures { OnOk result (self.new ≡ self.old ++ more.now) }
+    {
+        if self.listed.is_empty() && more.listed.is_empty() {
+            if self.count == 0 {
+                self.first = more.first;
+                self.count = more.count;
+                return Ok(());
+            }
+            if self.first + self.count == more.first {
+                self.count += more.count;
+                return Ok(());
+            }
+        }
+        push_run(&mut self.listed, more.first, more.count)?;
+        self.listed.extend_from_slice(more.listed.as_slice())
+    }
+
+    /// Those that have these places.
+    pub(crate) fn picked(&self, alloc: Global, places: &[usize]) -> Result<RowNumbers, AllocError>
+        requires { All (λ place. place < length self.now) places.now }
+        ensures { IfOk result
+            (λ made. made ≡ map (λ place. slice_index_or self.now place 0) places.now) }
+    {
+        let mut made = Vec::with_capacity(alloc, places.len())?;
+        for place in places {
+            made.push(self.at(*place))?;
+        }
+        RowNumbers::listed(made)
+    }
+
+    /// Drops all of them.
+    pub(crate) fn clear(&mut self)
+        ensures { self.new ≡ [] }
+    {
+        self.first = 0;
+        self.count = 0;
+        self.listed.clear();
+    }
+}

@@ -1,0 +1,71 @@
+use Rattle.std.proofs.Common.{◌≡◌, ◌++◌, ◌∷◌, [], get_or, length, map, take, refl, ap, subst, ◌∙◌, arith}
+use Rattle.std.specs.Prelude.{slice_index_or}
+use Rattle.cell_types.specs.Value.{value_view}
+use Rattle.query_meaning.specs.Apply.{values_at}
+use Rattle.row_columns.specs.Picked.{numbered}
+use Rattle.row_groups.specs.Gathered.{HasGroupMore, IsGroupOf}
+use Rattle.row_groups.specs.Parts.{AreBegun}
+use Rattle.row_groups.proofs.GatheredLemmas.{one_row_fits, one_row_more}
+use Rattle.row_groups.proofs.JoinLemmas.{begun_more, inside, may_join, none_more, row_joined}
+use Rattle.row_groups.proofs.groups.Groups.join_each_row.Goals as goal
+
+pub index_mut-requires : goal.index_mut-requires
+index_mut-requires c =
+    let places = c.args.grouping.places.now in
+    let aggregates = c.args.grouping.aggregates.now in
+    let rows = c.args.columns.now.rows in
+    let numbers = c.args.numbers.now in
+    let i = c.loop-number.number-index in
+    let row = slice_index_or rows (get_or numbers i 0) [] in
+    let equal = c.values_are_ordered.ensures.equal in
+    let mid = c.group_of.new.self in
+    let g = c.in_ok-group.group in
+    let key : map value_view c.as_slice.result.now ≡ values_at places row = ap (map value_view) c.as_slice.ensures.value ∙ c.in_ok-read_key.ensures in
+    let group : IsGroupOf mid (values_at places row) g = subst (λ k. IsGroupOf mid k g) key c.in_ok-group.ensures.group in
+    let has_more : HasGroupMore aggregates c.loop-number.self mid (values_at places row) = subst (HasGroupMore aggregates c.loop-number.self mid) key c.in_ok-group.ensures.more in
+    let may = c.requires.joins in
+    let some = may.rows ++ numbered (take i numbers) rows in
+    let more : AreBegun places aggregates mid some (row ∷ []) = begun_more equal places aggregates some [] row c.loop-number.self mid
+    (none_more equal places aggregates some c.loop-number.self (c.loop-number.invariant may.rows may.has)) has_more in
+    omega (arith, inside equal places aggregates some row mid more g group, mid.tallies.ok.0)
+
+pub join_each-requires-clause-joins : goal.join_each-requires-clause-joins
+join_each-requires-clause-joins c =
+    let places = c.args.grouping.places.now in
+    let aggregates = c.args.grouping.aggregates.now in
+    let rows = c.args.columns.now.rows in
+    let numbers = c.args.numbers.now in
+    let i = c.loop-number.number-index in
+    let row = slice_index_or rows (get_or numbers i 0) [] in
+    let equal = c.values_are_ordered.ensures.equal in
+    let mid = c.group_of.new.self in
+    let g = c.in_ok-group.group in
+    let key : map value_view c.as_slice.result.now ≡ values_at places row = ap (map value_view) c.as_slice.ensures.value ∙ c.in_ok-read_key.ensures in
+    let group : IsGroupOf mid (values_at places row) g = subst (λ k. IsGroupOf mid k g) key c.in_ok-group.ensures.group in
+    let has_more : HasGroupMore aggregates c.loop-number.self mid (values_at places row) = subst (HasGroupMore aggregates c.loop-number.self mid) key c.in_ok-group.ensures.more in
+    let may = c.requires.joins in
+    let some = may.rows ++ numbered (take i numbers) rows in
+    let more : AreBegun places aggregates mid some (row ∷ []) = begun_more equal places aggregates some [] row c.loop-number.self mid
+    (none_more equal places aggregates some c.loop-number.self (c.loop-number.invariant may.rows may.has)) has_more in
+    may_join equal places aggregates some row mid more g group (length c.args.columns.now.kinds) c.index_mut.result.now c.index_mut.ensures.value
+    (one_row_fits (length c.args.columns.now.kinds) may.rows rows numbers i aggregates c.loop-number-test.true may.fits)
+
+pub loop-number-preserved : goal.loop-number-preserved
+loop-number-preserved c = λ before has.
+    let places = c.args.grouping.places.now in
+    let aggregates = c.args.grouping.aggregates.now in
+    let rows = c.args.columns.now.rows in
+    let numbers = c.args.numbers.now in
+    let i = c.loop-number.number-index in
+    let row = slice_index_or rows (get_or numbers i 0) [] in
+    let equal = c.values_are_ordered.ensures.equal in
+    let mid = c.group_of.new.self in
+    let g = c.in_ok-group.group in
+    let key : map value_view c.as_slice.result.now ≡ values_at places row = ap (map value_view) c.as_slice.ensures.value ∙ c.in_ok-read_key.ensures in
+    let group : IsGroupOf mid (values_at places row) g = subst (λ k. IsGroupOf mid k g) key c.in_ok-group.ensures.group in
+    let has_more : HasGroupMore aggregates c.loop-number.self mid (values_at places row) = subst (HasGroupMore aggregates c.loop-number.self mid) key c.in_ok-group.ensures.more in
+    let some = before ++ numbered (take i numbers) rows in
+    let more : AreBegun places aggregates mid some (row ∷ []) = begun_more equal places aggregates some [] row c.loop-number.self mid
+    (none_more equal places aggregates some c.loop-number.self (c.loop-number.invariant before has)) has_more in
+    row_joined equal places aggregates some row mid more g group _ c.index_mut.result.now c.join_each.new.tallies _ (one_row_more before rows numbers i c.loop-number-test.true)
+    (c.rows_are_in_groups.ensures.distinct places (some ++ row ∷ [])) c.index_mut.ensures.value (λ part tallies. c.in_ok-join_each.ensures part tallies) refl refl

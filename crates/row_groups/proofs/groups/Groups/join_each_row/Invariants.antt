@@ -1,0 +1,10 @@
+use Rattle.std.proofs.Common.{◌++◌, List, Some, take}
+use Rattle.cell_types.specs.Value.{CellValue}
+use Rattle.row_columns.specs.Picked.{numbered}
+use Rattle.row_groups.specs.Gathered.{HasGroups}
+use Rattle.row_groups.proofs.groups.Groups.join_each_row.Given as goal
+
+-- the rows that joined so far
+abbrev pub invariant-loop-number : goal.invariant-loop-number
+invariant-loop-number l = (rows : List (List CellValue)) → HasGroups (Some l.places) l.aggregates l.initial.self rows
+    → HasGroups (Some l.places) l.aggregates l.self (rows ++ numbered (take l.number-index l.numbers) l.columns.rows)

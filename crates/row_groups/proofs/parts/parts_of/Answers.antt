@@ -1,0 +1,32 @@
+use Rattle.std.proofs.Common.{◌<◌, get_or, length, take, subst, ◌∙◌, arith}
+use Rattle.std.proofs.lemmas.List.{length-set, take_all}
+use Rattle.row_groups.specs.Parts.{ArePartsFrom}
+use Rattle.row_groups.proofs.PartLemmas.{part_more, parts_none}
+use Rattle.row_groups.proofs.parts.parts_of.Goals as goal
+
+pub loop-i-init : goal.loop-i-init
+loop-i-init c = record { long = c.in_ok-parts.ensures.long; parts = parts_none 0 c.in_ok-parts.parts.items c.in_ok-parts.ensures.none }
+
+pub loop-i-preserved : goal.loop-i-preserved
+loop-i-preserved c =
+    let numbers = c.args.numbers.now in
+    let groups = c.args.groups.now in
+    let i = c.loop-i.i in
+    let parts = c.loop-i.parts.items in
+    let g = get_or groups i 0 in
+    let inside : i < length groups = omega (arith, c.loop-i-test.true, c.requires.long) in
+    let within : g < length parts = omega (arith, c.requires.within i 0 inside, c.loop-i.invariant.long) in
+    record {
+      long = length-set parts g c.push.new.self ∙ c.loop-i.invariant.long;
+      parts = part_more numbers groups i parts c.index_mut.result.now c.push.new.self c.requires.long c.loop-i-test.true within c.index_mut.ensures.value c.in_ok-push.ensures.items
+          c.loop-i.invariant.parts;
+    }
+
+pub returns-clause-parts : goal.returns-clause-parts
+returns-clause-parts c =
+    let numbers = c.args.numbers.now in
+    let groups = c.args.groups.now in
+    let i = c.loop-i.i in
+    let parts = c.loop-i.parts.items in
+    subst (λ ns. ArePartsFrom 0 ns groups parts) (take_all i numbers c.loop-i-test.false)
+    (subst (λ gs. ArePartsFrom 0 (take i numbers) gs parts) (take_all i groups (omega (arith, c.loop-i-test.false, c.requires.long))) c.loop-i.invariant.parts)

@@ -1,0 +1,108 @@
+//! Sums of rows of a block by its columns as they are kept (OData Data Aggregation 4.0, section 3.1.3.1): nulls are passed over.
+ghost use Rattle.std.specs.Prelude.{◌≡◌, ◌<◌, ◌≤◌, IfSome, IsTrue, List, length};
+ghost use Rattle.std.specs.List.{All, filter_map};
+ghost use Rattle.block_summary.specs.Types.{cells_of_type, numbers_of};
+ghost use Rattle.cell_types.specs.Value.{CellValue};
+ghost use Rattle.query_meaning.specs.Fitting.{AreSummable};
+ghost use Rattle.row_columns.specs.Picked.{numbered};
+ghost use Rattle.row_groups.specs.declared.sums.Summed.{Summed};
+ghost use Rattle.row_groups.specs.Sums.{numbers_at, numbers_in, read_of, sum_of, summed_type, IsKeptAs};
+
+use crate::sums::{Summed, sum_of};
+use block_summary::{PackedColumn, PackedType};
+use row_columns::Columns;
+
+/// Of fewer rows than this part of all, it is not worth while to ask how their column is kept.
+const SMALL_PART: usize = 16;
+
+/// Whether these are the numbers of so many rows, all of them and in their order. All are looked at, so that it runs in lanes.
+fn are_all(numbers: &[usize], len: usize) -> bool
+    ensures { IsTrue result → (rows : List (List CellValue)) → length rows ≡ len
+        → numbered numbers.now rows ≡ rows }
+{
+    if numbers.len() != len {
+        return false;
+    }
+    let mut same = true;
+    for i in 0..numbers.len() {
+        same = same & (numbers[i] == i);
+    }
+    same
+}
+
+/// Whether numbers of that type are summed so.
+fn is_summed(packed_type: PackedType, summed: Summed) -> bool
+    ensures { IsTrue result → packed_type ≡ summed_type summed }
+{
+    match (summed, packed_type) {
+        (Summed::Integers, PackedType::Integer) => true,
+        (Summed::Decimals, PackedType::Decimal) => true,
+        _ => false,
+    }
+}
+
+/// The column of all rows as it is kept, where it has numbers of that kind.
+fn kept_column(columns: &Columns, place: usize, summed: Summed) -> Option<&PackedColumn>
+    requires { place < length columns.now.kinds }
+    ensures { IfSome result
+        (λ column. IsKeptAs summed place columns.now.rows column.now) }
+{
+    let column = columns.packed(place)?;
+    if !is_summed(column.packed_type(), summed) {
+        return None;
+    }
+    Some(column)
+}
+
+/// The sum of all numbers of a column; None where it has none. No number is looked at.
+fn whole_sum(column: &PackedColumn) -> Option<i128>
+    ensures { (summed : Summed)
+        → cells_of_type (summed_type summed) (numbers_of column.now) ≡ column.now
+        → result ≡ sum_of (filter_map (read_of summed) column.now) }
+{
+    if column.null_count() == column.len() {
+        return None;
+    }
+    Some(column.sum())
+}
+
+/// The sum of the numbers that a column has in some rows; None where it has none there. It goes from the last row to the first.
+fn part_sum(column: &PackedColumn, numbers: &[usize]) -> Option<i128>
+    requires { AreSummable (numbers_at column.now numbers.now) (length numbers.now) }
+    ensures { result ≡ sum_of (numbers_at column.now numbers.now) }
+{
+    let mut sum: Option<i128> = None;
+    let mut i = numbers.len();
+    while i > 0 {
+        i -= 1;
+        if let Some(number) = column.number(numbers[i]) {
+            sum = Some(number as i128 + sum.unwrap_or(0));
+        }
+    }
+    sum
+}
+
+/// The sum of the numbers of that kind that rows have in a column; None where they have none.
+pub(crate) fn sum_of_rows(
+    columns: &Columns,
+    numbers: &[usize],
+    place: usize,
+    summed: Summed,
+) -> Option<i128>
+    requires within { All (λ number. number < length columns.now.rows) numbers.now }
+    requires place { place < length columns.now.kinds }
+    requires fits { AreSummable (numbers_in summed place (numbered numbers.now columns.now.rows))
+        (length numbers.now) }
+    ensures { result ≡ sum_of (numbers_in summed place (numbered numbers.now columns.now.rows)) }
+{
+    if numbers.len() < columns.len() / SMALL_PART {
+        return sum_of(columns, numbers, place, summed);
+    }
+    let Some(column) = kept_column(columns, place, summed) else {
+        return sum_of(columns, numbers, place, summed);
+    };
+    if are_all(numbers, columns.len()) {
+        return whole_sum(column);
+    }
+    part_sum(column, numbers)
+}

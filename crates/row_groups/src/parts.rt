@@ -1,0 +1,205 @@
+//! Rows by their groups, before they join.
+ghost use Rattle.std.specs.Prelude.{◌≡◌, ◌<◌, ℕ, [], IfOk, IfSome, None, OnOk, length, map, slice_index_or};
+ghost use Rattle.std.specs.List.{All, AllByRecursion};
+ghost use Rattle.cell_types.specs.Value.{value_view};
+ghost use Rattle.query_meaning.specs.Apply.{values_at};
+ghost use Rattle.row_columns.specs.Picked.{numbered};
+ghost use Rattle.row_groups.specs.Gathered.{HasGroupMore, IsGroupOf};
+ghost use Rattle.row_groups.specs.Parts.{AreGroupsOf, ArePartsFrom, BeginsGroups, JoinsParts, MayJoinParts};
+
+use crate::groups::{Grouping, Groups};
+use crate::tallies::join_each;
+use cell_types::Value;
+use odata_query::Aggregate;
+use row_columns::Columns;
+use std::alloc::{AllocError, Global};
+
+/// Where there are no more groups than that, rows are parted by them before they join.
+const MOST_PARTS: usize = 1024;
+
+/// Codes are less.
+const CODES: usize = 256;
+
+/// A row of columns.
+#[derive(Clone, Copy)]
+struct RowAt<'a> {
+    columns: &'a Columns,
+    number: usize,
+}
+
+impl Groups {
+    /// The groups of the rows with these numbers, each looked up by the code of its value, where there are such codes and few groups.
+    pub(crate) fn groups_of(
+        &mut self,
+        alloc: Global,
+        columns: &Columns,
+        numbers: &[usize],
+        grouping: Grouping<'_>,
+    ) -> Result<Option<Vec<usize>>, AllocError>
+        requires within { All (λ number. number < length columns.now.rows) numbers.now }
+        requires places { All (λ place. place < length columns.now.kinds) grouping.places.now }
+        ensures none { IfOk result (λ groups. groups ≡ None → self.new ≡ self.old) }
+        ensures groups { IfOk result (λ groups. IfSome groups (λ groups. AreGroupsOf self.new
+            grouping.entry.places.now (numbered numbers.now columns.now.rows) groups.items)) }
+        ensures begun { IfOk result (λ groups. IfSome groups (λ groups. BeginsGroups
+            grouping.entry.places.now grouping.entry.aggregates.now self.old self.new
+            (numbered numbers.now columns.now.rows))) }
+    {
+        cell_types::values_are_ordered();
+        if grouping.places.len() != 1 || self.keys.len() > MOST_PARTS {
+            return Ok(None);
+        }
+        let Some(codes) = columns.codes(alloc, grouping.places[0])? else {
+            return Ok(None);
+        };
+        let mut groups = Vec::with_capacity(alloc, numbers.len())?;
+        let mut known = none_known(alloc)?;
+        for number in numbers {
+            let number = *number;
+            let code = codes[number] as usize;
+            let row = RowAt { columns, number };
+            let group = self.group_of_row(alloc, row, grouping, known[code])?;
+            known[code] = Some(group);
+            groups.push(group)?;
+        }
+        Ok(Some(groups))
+    }
+
+    /// The group of a row, which is known, or looked up by the row's values.
+    fn group_of_row(
+        &mut self,
+        alloc: Global,
+        row: RowAt<'_>,
+        grouping: Grouping<'_>,
+        known: Option<usize>,
+    ) -> Result<usize, AllocError>
+        requires row { row.number < length row.columns.now.rows }
+        requires places { All (λ place. place < length row.columns.now.kinds) grouping.places.now }
+        requires known { IfSome known (IsGroupOf self.old (values_at grouping.places.now
+            (slice_index_or row.columns.now.rows row.number []))) }
+        ensures group { IfOk result (IsGroupOf self.new (values_at grouping.entry.places.now
+            (slice_index_or row.entry.columns.now.rows row.entry.number []))) }
+        ensures more { OnOk result (HasGroupMore grouping.entry.aggregates.now self.old self.new
+            (values_at grouping.entry.places.now
+            (slice_index_or row.entry.columns.now.rows row.entry.number []))) }
+    {
+        cell_types::values_are_ordered();
+        match known {
+            Some(group) => Ok(group),
+            None => self.group_of_values(alloc, row.columns, row.number, grouping),
+        }
+    }
+
+    /// The group of the values of a row.
+    fn group_of_values(
+        &mut self,
+        alloc: Global,
+        columns: &Columns,
+        number: usize,
+        grouping: Grouping<'_>,
+    ) -> Result<usize, AllocError>
+        requires row { number < length columns.now.rows }
+        requires places { All (λ place. place < length columns.now.kinds) grouping.places.now }
+        ensures group { IfOk result (IsGroupOf self.new (values_at grouping.entry.places.now
+            (slice_index_or columns.now.rows number []))) }
+        ensures more { OnOk result (HasGroupMore grouping.entry.aggregates.now self.old self.new
+            (values_at grouping.entry.places.now (slice_index_or columns.now.rows number []))) }
+    {
+        let key = key_of(alloc, columns, number, grouping.places)?;
+        self.group_of(alloc, key.as_slice(), grouping.aggregates)
+    }
+
+    /// The rows join of which each group has a part.
+    pub(crate) fn join_parts(
+        &mut self,
+        alloc: Global,
+        columns: &Columns,
+        parts: &[Vec<usize>],
+        aggregates: &[Aggregate],
+    ) -> Result<(), AllocError>
+        requires within { AllByRecursion (λ part.
+            All (λ number. number < length columns.now.rows) part.items) parts.now }
+        requires joins { MayJoinParts aggregates.now (length columns.now.kinds) self.old
+            columns.now.rows parts.now }
+        ensures keys { OnOk result (self.new.keys ≡ self.old.keys) }
+        ensures joins { OnOk result (JoinsParts aggregates.now self.old self.new columns.now.rows
+            parts.now) }
+    {
+        for group in 0..parts.len() {
+            let numbers = parts[group].as_slice();
+            join_each(
+                alloc,
+                &mut self.tallies[group],
+                columns,
+                numbers,
+                aggregates,
+            )?;
+        }
+        Ok(())
+    }
+}
+
+/// The values that a row has in the columns with these places.
+fn key_of<'a>(
+    alloc: Global,
+    columns: &'a Columns,
+    number: usize,
+    places: &[usize],
+) -> Result<Vec<Value<'a>>, AllocError>
+    requires row { number < length columns.now.rows }
+    requires places { All (λ place. place < length columns.now.kinds) places.now }
+    ensures { IfOk result (λ key. map value_view key.items
+        ≡ values_at places.now (slice_index_or columns.now.rows number [])) }
+{
+    let mut key = Vec::with_capacity(alloc, places.len())?;
+    for place in places {
+        key.push(columns.value(number, *place))?;
+    }
+    Ok(key)
+}
+
+/// The numbers of the rows of each of so many groups.
+pub(crate) fn parts_of(
+    alloc: Global,
+    len: usize,
+    numbers: &[usize],
+    groups: &[usize],
+) -> Result<Vec<Vec<usize>>, AllocError>
+    requires long { length numbers.now ≡ length groups.now }
+    requires within { All (λ group. group < len) groups.now }
+    ensures long { IfOk result (λ parts. length parts.items ≡ len) }
+    ensures parts { IfOk result (λ parts.
+        ArePartsFrom 0 numbers.now groups.now parts.items) }
+{
+    let mut parts = no_parts(alloc, len)?;
+    for i in 0..numbers.len() {
+        parts[groups[i]].push(numbers[i])?;
+    }
+    Ok(parts)
+}
+
+/// No group is known of any code.
+fn none_known(alloc: Global) -> Result<Vec<Option<usize>>, AllocError>
+    ensures long { IfOk result (λ known. length known.items ≡ 256) }
+    ensures none { IfOk result (λ known.
+        (code : ℕ) → slice_index_or known.items code None ≡ None) }
+{
+    let mut known = Vec::with_capacity(alloc, CODES)?;
+    for _ in 0..CODES {
+        known.push(None)?;
+    }
+    Ok(known)
+}
+
+/// So many parts, without rows.
+fn no_parts(alloc: Global, len: usize) -> Result<Vec<Vec<usize>>, AllocError>
+    ensures long { IfOk result (λ parts. length parts.items ≡ len) }
+    ensures none { IfOk result (λ parts.
+        AllByRecursion (λ part. part.items ≡ []) parts.items) }
+{
+    let mut parts = Vec::with_capacity(alloc, len)?;
+    for _ in 0..len {
+        parts.push(Vec::new(alloc))?;
+    }
+    Ok(parts)
+}
