@@ -1,13 +1,13 @@
 -- Numbers that are joined, on the rows that are wanted.
 use Rattle.std.proofs.Common.{◌≡◌, Bool, Option, None, Some, List, refl, sym, subst, ap, ◌∙◌, arith}
-use Rattle.std.specs.Prelude.{ℤ, pos, neg_ℤ, ◌+ℤ◌, ◌-ℤ◌, ◌*ℤ◌, option_and_then, option_map}
+use Rattle.std.specs.Prelude.{ℤ, pos, neg_ℤ, ◌-ℤ◌, ◌*ℤ◌, option_and_then, option_map}
 use Rattle.std.proofs.lemmas.Int.{ints}
 use Rattle.cell_types.specs.Value.{CellValue}
 use Rattle.typed_trees.specs.declared.operator.ArithmeticOperator.{ArithmeticOperator}
 use Rattle.typed_trees.specs.declared.operator.ArithmeticOperator.TheVariants as operators
-use Rattle.typed_trees.specs.TypedTree.{arithmetic, decimal_difference, decimal_negated, decimal_sum, negated, scaled, DecimalExprOf, IntegerExprOf}
+use Rattle.typed_trees.specs.TypedTree.{arithmetic, negated, scaled, NumberExprOf}
 use Rattle.typed_trees.specs.declared.tree.TheConstants.{MILLIONTHS}
-use Rattle.row_eval.specs.Outcome.{both, computed, decimal_outcome, integer_outcome, joined}
+use Rattle.row_eval.specs.Outcome.{computed, number_outcome}
 use Rattle.block_eval.specs.declared.bounded.Bounded.{Bounded}
 use Rattle.block_eval.specs.declared.columns.Column.{Column}
 use Rattle.block_eval.specs.Bounded.{AreJoined, GivesBounded, IsSame}
@@ -48,58 +48,16 @@ gives-as f g columns wanted v same is = record {
 }
 
 -- expressions that have one value on all rows
-pub integer-same : (lane : Option ℤ) (e t : IntegerExprOf) (columns : List Column) (wanted : List Bool) (v : Bounded) → e ≡ t → ((cells : List CellValue) → integer_outcome e cells ≡ Some lane)
-    → IsSame lane v → GivesBounded (integer_outcome t) columns wanted v
-integer-same lane e t columns wanted v tree each is =
-    subst (λ x. GivesBounded (integer_outcome x) columns wanted v) tree (gives-as (λ cells. Some lane) (integer_outcome e) columns wanted v each (same-gives lane columns wanted v is))
+pub number-same : (lane : Option ℤ) (e t : NumberExprOf) (columns : List Column) (wanted : List Bool) (v : Bounded) → e ≡ t → ((cells : List CellValue) → number_outcome e cells ≡ Some lane)
+    → IsSame lane v → GivesBounded (number_outcome t) columns wanted v
+number-same lane e t columns wanted v tree each is =
+    subst (λ x. GivesBounded (number_outcome x) columns wanted v) tree (gives-as (λ cells. Some lane) (number_outcome e) columns wanted v each (same-gives lane columns wanted v is))
 
-pub decimal-same : (lane : Option ℤ) (e t : DecimalExprOf) (columns : List Column) (wanted : List Bool) (v : Bounded) → e ≡ t → ((cells : List CellValue) → decimal_outcome e cells ≡ Some lane)
-    → IsSame lane v → GivesBounded (decimal_outcome t) columns wanted v
-decimal-same lane e t columns wanted v tree each is =
-    subst (λ x. GivesBounded (decimal_outcome x) columns wanted v) tree (gives-as (λ cells. Some lane) (decimal_outcome e) columns wanted v each (same-gives lane columns wanted v is))
-
--- the outcome of an operator on integers
-pub arithmetic-is : (o : ArithmeticOperator) (l r t : IntegerExprOf) (columns : List Column) (wanted : List Bool) (a b v : Bounded) → arithmetic o l r ≡ t
-    → GivesBounded (integer_outcome l) columns wanted a → GivesBounded (integer_outcome r) columns wanted b → AreJoined o a b wanted v → GivesBounded (integer_outcome t) columns wanted v
+-- the outcome of an operator
+pub arithmetic-is : (o : ArithmeticOperator) (l r t : NumberExprOf) (columns : List Column) (wanted : List Bool) (a b v : Bounded) → arithmetic o l r ≡ t
+    → GivesBounded (number_outcome l) columns wanted a → GivesBounded (number_outcome r) columns wanted b → AreJoined o a b wanted v → GivesBounded (number_outcome t) columns wanted v
 arithmetic-is o l r t columns wanted a b v tree left right is =
-    subst (λ x. GivesBounded (integer_outcome x) columns wanted v) tree (joined-gives o (integer_outcome l) (integer_outcome r) columns wanted a b v left right is)
-
-sum-computed : (x y : Option ℤ) → Some (joined (λ a b. a +ℤ b) x y) ≡ computed operators.Add x y
-sum-computed None None = refl
-sum-computed None (Some y) = refl
-sum-computed (Some x) None = refl
-sum-computed (Some x) (Some y) = refl
-
-difference-computed : (x y : Option ℤ) → Some (joined (λ a b. a -ℤ b) x y) ≡ computed operators.Sub x y
-difference-computed None None = refl
-difference-computed None (Some y) = refl
-difference-computed (Some x) None = refl
-difference-computed (Some x) (Some y) = refl
-
-both-computed : (o : ArithmeticOperator) (j : ℤ → ℤ → ℤ) → ((x y : Option ℤ) → Some (joined j x y) ≡ computed o x y) → (f g : Option (Option ℤ))
-    → both (joined j) f g ≡ option_and_then (λ x. option_and_then (λ y. computed o x y) g) f
-both-computed o j same None g = refl
-both-computed o j same (Some x) None = refl
-both-computed o j same (Some x) (Some y) = same x y
-
--- the outcomes of a sum and of a difference of decimals
-pub sum-is : (l r t : DecimalExprOf) (columns : List Column) (wanted : List Bool) (a b v : Bounded) → decimal_sum l r ≡ t
-    → GivesBounded (decimal_outcome l) columns wanted a → GivesBounded (decimal_outcome r) columns wanted b → AreJoined operators.Add a b wanted v → GivesBounded (decimal_outcome t) columns wanted v
-sum-is l r t columns wanted a b v tree left right is =
-    let f = decimal_outcome l in
-    let g = decimal_outcome r in
-    subst (λ x. GivesBounded (decimal_outcome x) columns wanted v) tree
-    (gives-as (computed_of operators.Add f g) (decimal_outcome (decimal_sum l r)) columns wanted v (λ cells. both-computed operators.Add (λ a b. a +ℤ b) sum-computed (f cells) (g cells))
-    (joined-gives operators.Add f g columns wanted a b v left right is))
-
-pub difference-is : (l r t : DecimalExprOf) (columns : List Column) (wanted : List Bool) (a b v : Bounded) → decimal_difference l r ≡ t
-    → GivesBounded (decimal_outcome l) columns wanted a → GivesBounded (decimal_outcome r) columns wanted b → AreJoined operators.Sub a b wanted v → GivesBounded (decimal_outcome t) columns wanted v
-difference-is l r t columns wanted a b v tree left right is =
-    let f = decimal_outcome l in
-    let g = decimal_outcome r in
-    subst (λ x. GivesBounded (decimal_outcome x) columns wanted v) tree
-    (gives-as (computed_of operators.Sub f g) (decimal_outcome (decimal_difference l r)) columns wanted v (λ cells. both-computed operators.Sub (λ a b. a -ℤ b) difference-computed (f cells) (g cells))
-    (joined-gives operators.Sub f g columns wanted a b v left right is))
+    subst (λ x. GivesBounded (number_outcome x) columns wanted v) tree (joined-gives o (number_outcome l) (number_outcome r) columns wanted a b v left right is)
 
 -- ---- numbers that are made of one other
 zero_less : (n : ℤ) → neg_ℤ n ≡ pos 0 -ℤ n
@@ -122,22 +80,17 @@ opposite-gives f columns wanted zero a v same gives is =
     gives-as (computed_of operators.Sub (λ cells. Some (Some (pos 0))) f) (λ cells. option_map (option_map neg_ℤ) (f cells)) columns wanted v (λ cells. negated-computed (f cells))
     (joined-gives operators.Sub (λ cells. Some (Some (pos 0))) f columns wanted zero a v (same-gives (Some (pos 0)) columns wanted zero same) gives is)
 
-pub integer-negated : (e t : IntegerExprOf) (columns : List Column) (wanted : List Bool) (zero a v : Bounded) → negated e ≡ t → IsSame (Some (pos 0)) zero
-    → GivesBounded (integer_outcome e) columns wanted a → AreJoined operators.Sub zero a wanted v → GivesBounded (integer_outcome t) columns wanted v
-integer-negated e t columns wanted zero a v tree same gives is =
-    subst (λ x. GivesBounded (integer_outcome x) columns wanted v) tree (opposite-gives (integer_outcome e) columns wanted zero a v same gives is)
-
-pub decimal-negated : (e t : DecimalExprOf) (columns : List Column) (wanted : List Bool) (zero a v : Bounded) → decimal_negated e ≡ t → IsSame (Some (pos 0)) zero
-    → GivesBounded (decimal_outcome e) columns wanted a → AreJoined operators.Sub zero a wanted v → GivesBounded (decimal_outcome t) columns wanted v
-decimal-negated e t columns wanted zero a v tree same gives is =
-    subst (λ x. GivesBounded (decimal_outcome x) columns wanted v) tree (opposite-gives (decimal_outcome e) columns wanted zero a v same gives is)
+pub number-negated : (e t : NumberExprOf) (columns : List Column) (wanted : List Bool) (zero a v : Bounded) → negated e ≡ t → IsSame (Some (pos 0)) zero
+    → GivesBounded (number_outcome e) columns wanted a → AreJoined operators.Sub zero a wanted v → GivesBounded (number_outcome t) columns wanted v
+number-negated e t columns wanted zero a v tree same gives is =
+    subst (λ x. GivesBounded (number_outcome x) columns wanted v) tree (opposite-gives (number_outcome e) columns wanted zero a v same gives is)
 
 -- integers as decimals, in millionths
-pub decimal-scaled : (e : IntegerExprOf) (t : DecimalExprOf) (columns : List Column) (wanted : List Bool) (millionths a v : Bounded) → scaled e ≡ t → IsSame (Some (pos MILLIONTHS)) millionths
-    → GivesBounded (integer_outcome e) columns wanted a → AreJoined operators.Mul a millionths wanted v → GivesBounded (decimal_outcome t) columns wanted v
-decimal-scaled e t columns wanted millionths a v tree same gives is =
-    let f = integer_outcome e in
+pub number-scaled : (e t : NumberExprOf) (columns : List Column) (wanted : List Bool) (millionths a v : Bounded) → scaled e ≡ t → IsSame (Some (pos MILLIONTHS)) millionths
+    → GivesBounded (number_outcome e) columns wanted a → AreJoined operators.Mul a millionths wanted v → GivesBounded (number_outcome t) columns wanted v
+number-scaled e t columns wanted millionths a v tree same gives is =
+    let f = number_outcome e in
     let m = pos MILLIONTHS in
-    subst (λ x. GivesBounded (decimal_outcome x) columns wanted v) tree
-    (gives-as (computed_of operators.Mul f (λ cells. Some (Some m))) (decimal_outcome (scaled e)) columns wanted v (λ cells. scaled-computed m (f cells))
+    subst (λ x. GivesBounded (number_outcome x) columns wanted v) tree
+    (gives-as (computed_of operators.Mul f (λ cells. Some (Some m))) (number_outcome (scaled e)) columns wanted v (λ cells. scaled-computed m (f cells))
     (joined-gives operators.Mul f (λ cells. Some (Some m)) columns wanted a millionths v gives (same-gives (Some m) columns wanted millionths same) is))

@@ -8,18 +8,15 @@ use Rattle.std.specs.Ordering.{int_cmp, nat_cmp}
 use Rattle.std.specs.declared.cmp.Ordering.{Ordering}
 use Rattle.cell_types.specs.Value.{CellValue}
 use Rattle.typed_trees.specs.declared.operator.ComparisonOperator.TheVariants as operators
-use Rattle.typed_trees.specs.TypedTree.{DayOf}
 use Rattle.row_eval.specs.declared.truth.Truth.{Truth}
-use Rattle.row_eval.specs.Comparison.{compared, day_cmp, is_among, is_equal}
+use Rattle.row_eval.specs.Comparison.{compared, is_among, is_equal}
 use Rattle.row_eval.specs.Logic.{greatest, truth_of}
 use Rattle.block_eval.specs.declared.columns.Column.{Column}
 use Rattle.block_lanes.specs.declared.numbers.Numbers.{Numbers}
 use Rattle.text_lanes.specs.declared.texts.Texts.{Texts}
-use Rattle.block_eval.specs.Dates.{day_of, GivesDays}
 use Rattle.block_eval.specs.Lanes.{comparison, number_lane, truth_lane, GivesNumbers, GivesTruths, HasTruths}
 use Rattle.text_lanes.specs.Texts.{AreAmong}
 use Rattle.block_eval.specs.Texts.{GivesTexts}
-use Rattle.block_eval.proofs.DateLemmas.{day-order}
 use Rattle.block_eval.proofs.LogicLemmas.{all-gives, wanted_within}
 
 -- ---- values under other names that keep their order
@@ -81,16 +78,6 @@ pub numbers-among : (f : List CellValue → Option (Option ℤ)) (columns : List
 numbers-among f columns wanted v items ts gives has =
     all-gives (λ cells. option_map (λ x. truth_of (is_among int_cmp x items)) (f cells)) (λ row. truth_of (is_among int_cmp (number_lane v row) items)) columns wanted ts has
     (λ row cells h at. ap (option_map (λ x. truth_of (is_among int_cmp x items))) (gives.each row cells h at))
-
-pub days-among : (f : List CellValue → Option DayOf) (columns : List Column) (wanted : List Bool) (v : Numbers) (items : List (Option ℤ)) (days : List (Option DayOf)) (ts : List Truth) → GivesDays f columns wanted v
-    → map (option_map day_of) items ≡ days → HasTruths (length wanted) (λ row. truth_of (is_among int_cmp (number_lane v row) items)) ts
-    → GivesTruths (λ cells. Some (truth_of (is_among day_cmp (f cells) days))) columns wanted ts
-days-among f columns wanted v items days ts gives e has =
-    all-gives (λ cells. Some (truth_of (is_among day_cmp (f cells) days))) (λ row. truth_of (is_among int_cmp (number_lane v row) items)) columns wanted ts has
-    (λ row cells h at.
-    ap (λ x. Some (truth_of (is_among day_cmp x days))) (gives.each row cells h at)
-    ∙ ap (λ ds. Some (truth_of (is_among day_cmp (option_map day_of (number_lane v row)) ds))) (sym e)
-    ∙ ap (λ b. Some (truth_of b)) (among-map day_of int_cmp day_cmp day-order (number_lane v row) items))
 
 pub texts-among : (f : List CellValue → Option (List ℕ)) (columns : List Column) (wanted : List Bool) (v : Texts) (items : List (Option (List ℕ))) (ts : List Truth) → GivesTexts f columns wanted v
     → AreAmong v items wanted ts → GivesTruths (λ cells. Some (truth_of (is_among (slice_cmp nat_cmp) (f cells) items))) columns wanted ts

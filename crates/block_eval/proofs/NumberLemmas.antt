@@ -1,23 +1,27 @@
 -- The numbers of a column, and comparisons between numbers, on the rows that are wanted.
-use Rattle.std.proofs.Common.{◌≡◌, ◌<◌, ℕ, Bool, true, false, Option, None, Some, List, length, get_or, slice_get, refl, sym, subst, ap, ◌∙◌, arith}
-use Rattle.std.specs.Prelude.{ℤ, pos, option_and_then}
+use Rattle.std.proofs.Common.{◌≡◌, ◌<◌, ◌/◌, ◌%◌, ℕ, Bool, true, false, Option, None, Some, List, length, get_or, slice_get, refl, sym, subst, ap, ◌∙◌, arith}
+use Rattle.std.specs.Prelude.{ℤ, pos, negsuc, option_and_then}
+use Rattle.std.specs.Int.{int_div_euclid}
+use Rattle.std.proofs.lemmas.Int.{ints}
 use Rattle.std.proofs.lemmas.Option.{slice_get-get_or}
 use denote.Ref.{Bor}
 use Rattle.cell_types.specs.Value.{CellValue}
 use Rattle.block_summary.specs.declared.bounds.Bounds.{Bounds}
 use Rattle.block_summary.specs.declared.number.PackedType.{PackedType}
-use Rattle.block_summary.specs.declared.number.PackedType.TheVariants.{Boolean, Decimal, Integer}
-use Rattle.block_summary.specs.Types.{cell_of, number_of}
+use Rattle.block_summary.specs.declared.number.PackedType.TheVariants.{Boolean}
+use Rattle.block_summary.specs.Types.{cell_of, day_number, number_of, place_in_year}
 use Rattle.typed_trees.specs.declared.operator.ComparisonOperator.{ComparisonOperator}
+use Rattle.typed_trees.specs.declared.tree.NumberKind.{NumberKind}
+use Rattle.typed_trees.specs.declared.tree.NumberKind.TheVariants as kinds
 use Rattle.row_eval.specs.declared.truth.Truth.{Truth}
 use Rattle.row_eval.specs.Logic.{truth_of_option}
 use Rattle.row_eval.specs.Outcome.{both}
-use Rattle.row_eval.specs.Row.{boolean_in, cell, decimal_in, integer_in}
+use Rattle.row_eval.specs.Row.{boolean_in, cell, number_in}
 use Rattle.block_eval.specs.declared.columns.Column.{Column}
 use Rattle.block_eval.specs.declared.columns.Column.TheVariants.{Numbers}
 use Rattle.block_lanes.specs.declared.numbers.Numbers as vector
 use Rattle.block_lanes.specs.declared.numbers.Numbers.TheVariants.{Cells}
-use Rattle.block_eval.specs.Columns.{number_at, unless_null, IsRowAt}
+use Rattle.block_eval.specs.Columns.{number_at, type_of_kind, unless_null, IsRowAt}
 use Rattle.block_eval.specs.Lanes.{comparison, number_lane, truth_in, AreLong, GivesNumbers, GivesTruths, HasTruths}
 use Rattle.block_eval.specs.declared.bounded.Bounded.{Bounded}
 use Rattle.block_eval.specs.Bounded.{GivesBounded, IsLaneWithin}
@@ -44,21 +48,27 @@ number-within columns place row type values nulls bounds cells e at =
     let is = at.each place (Numbers type values nulls bounds) e in
     is.1
 
-pub integer-cell : (n : Option ℤ) → integer_in (cell_of Integer n) ≡ n
-integer-cell None = refl
-integer-cell (Some n) = refl
+-- a day by its number is the day of that number again
+day-back : (n : ℤ) → day_number (int_div_euclid n (pos 512)) (place_in_year n / 32) (place_in_year n % 32) ≡ n
+day-back (pos n) = omega (arith, ints)
+day-back (negsuc n) = omega (arith, ints)
 
-pub decimal-cell : (n : Option ℤ) → decimal_in (cell_of Decimal n) ≡ n
-decimal-cell None = refl
-decimal-cell (Some n) = refl
+-- the number of a kind in the cell that a number of its type stands for
+pub kind-cell : (k : NumberKind) (n : Option ℤ) → number_in k (cell_of (type_of_kind k) n) ≡ n
+kind-cell kinds.Integer None = refl
+kind-cell kinds.Decimal None = refl
+kind-cell kinds.Date None = refl
+kind-cell kinds.Integer (Some n) = refl
+kind-cell kinds.Decimal (Some n) = refl
+kind-cell kinds.Date (Some n) = ap (λ z. Some z) (day-back n)
 
-integer-number : (n : Option ℤ) → number_of (cell_of Integer n) ≡ n
-integer-number None = refl
-integer-number (Some n) = refl
-
-decimal-number : (n : Option ℤ) → number_of (cell_of Decimal n) ≡ n
-decimal-number None = refl
-decimal-number (Some n) = refl
+kind-number : (k : NumberKind) (n : Option ℤ) → number_of (cell_of (type_of_kind k) n) ≡ n
+kind-number kinds.Integer None = refl
+kind-number kinds.Decimal None = refl
+kind-number kinds.Date None = refl
+kind-number kinds.Integer (Some n) = refl
+kind-number kinds.Decimal (Some n) = refl
+kind-number kinds.Date (Some n) = ap (λ z. Some z) (day-back n)
 
 truth-cell : (null : Bool) (n : ℤ) → truth_of_option (boolean_in (cell_of Boolean (unless_null null n))) ≡ truth_in null n
 truth-cell true n = refl
@@ -68,37 +78,23 @@ bounds-within : (bounds : Bounds) (v : Bounded) (numbers : vector.Numbers) (row 
 bounds-within bounds v numbers row is within h =
     subst (λ k. IsWithinKnown k (number_lane v.numbers row)) (sym within) (subst (λ x. LiesWithin bounds (number_lane x row)) (sym is) h)
 
--- the integers of a column
-pub integers-give : (columns : List Column) (place : ℕ) (values : Bor (List ℤ)) (nulls : Bor (List Bool)) (bounds : Bounds) (wanted : List Bool) (v : Bounded)
-    → slice_get columns place ≡ Some (Numbers Integer values nulls bounds) → v.numbers ≡ Cells values nulls → v.bounds ≡ Some bounds → AreLong (length wanted) v.numbers
-    → GivesBounded (λ cells. Some (cell integer_in cells place)) columns wanted v
-integers-give columns place values nulls bounds wanted v e is within long = record {
-  numbers = record {
-    each = λ row cells h at.
-        ap (λ n. Some n) (read-numbers integer_in columns place row Integer values nulls bounds cells e at ∙ integer-cell (number_at values.now nulls.now row))
-        ∙ ap (λ x. Some (number_lane x row)) (sym is);
-    long = long;
-  };
-  within = λ row cells h at.
-      let lies = subst (LiesWithin bounds) (integer-number (number_at values.now nulls.now row)) (number-within columns place row Integer values nulls bounds cells e at) in
-      bounds-within bounds v (Cells values nulls) row is within lies;
-}
-
--- the decimals of a column
-pub decimals-give : (columns : List Column) (place : ℕ) (values : Bor (List ℤ)) (nulls : Bor (List Bool)) (bounds : Bounds) (wanted : List Bool) (v : Bounded)
-    → slice_get columns place ≡ Some (Numbers Decimal values nulls bounds) → v.numbers ≡ Cells values nulls → v.bounds ≡ Some bounds → AreLong (length wanted) v.numbers
-    → GivesBounded (λ cells. Some (cell decimal_in cells place)) columns wanted v
-decimals-give columns place values nulls bounds wanted v e is within long = record {
-  numbers = record {
-    each = λ row cells h at.
-        ap (λ n. Some n) (read-numbers decimal_in columns place row Decimal values nulls bounds cells e at ∙ decimal-cell (number_at values.now nulls.now row))
-        ∙ ap (λ x. Some (number_lane x row)) (sym is);
-    long = long;
-  };
-  within = λ row cells h at.
-      let lies = subst (LiesWithin bounds) (decimal-number (number_at values.now nulls.now row)) (number-within columns place row Decimal values nulls bounds cells e at) in
-      bounds-within bounds v (Cells values nulls) row is within lies;
-}
+-- the numbers of a column of a kind
+pub numbers-give : (columns : List Column) (k : NumberKind) (place : ℕ) (type : PackedType) (values : Bor (List ℤ)) (nulls : Bor (List Bool)) (bounds : Bounds) (wanted : List Bool) (v : Bounded)
+    → slice_get columns place ≡ Some (Numbers type values nulls bounds) → type ≡ type_of_kind k → v.numbers ≡ Cells values nulls → v.bounds ≡ Some bounds → AreLong (length wanted) v.numbers
+    → GivesBounded (λ cells. Some (cell (number_in k) cells place)) columns wanted v
+numbers-give columns k place type values nulls bounds wanted v e same is within long =
+    let n = λ (row : ℕ). number_at values.now nulls.now row in
+    record {
+      numbers = record {
+        each = λ row cells h at.
+            ap (λ n. Some n) (read-numbers (number_in k) columns place row type values nulls bounds cells e at ∙ ap (λ t. number_in k (cell_of t (n row))) same ∙ kind-cell k (n row))
+            ∙ ap (λ x. Some (number_lane x row)) (sym is);
+        long = long;
+      };
+      within = λ row cells h at.
+          let lies = subst (LiesWithin bounds) (ap (λ t. number_of (cell_of t (n row))) same ∙ kind-number k (n row)) (number-within columns place row type values nulls bounds cells e at) in
+          bounds-within bounds v (Cells values nulls) row is within lies;
+    }
 
 -- the truths of a column
 pub truths-give : (columns : List Column) (place : ℕ) (values : Bor (List ℤ)) (nulls : Bor (List Bool)) (bounds : Bounds) (wanted : List Bool) (ts : List Truth) → slice_get columns place ≡ Some (Numbers Boolean values nulls bounds)

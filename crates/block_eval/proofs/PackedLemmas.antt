@@ -1,6 +1,6 @@
 -- The numbers of a column as a block keeps them, compared with a literal.
 use Rattle.std.proofs.Common.{◌≡◌, ◌<◌, ℕ, zero, suc, Bool, false, List, [], ◌∷◌, ◌++◌, take, Option, None, Some, length, map, get_or, slice_get, refl, sym, subst, ap, ◌∙◌, arith, not}
-use Rattle.std.specs.Prelude.{ℤ, option_and_then, option_map}
+use Rattle.std.specs.Prelude.{ℤ, option_and_then}
 use Rattle.std.specs.Ordering.{int_cmp, is_eq, is_ge, is_gt, is_le, is_lt}
 use Rattle.std.specs.declared.cmp.Ordering.{Ordering}
 use Rattle.std.specs.declared.cmp.Ordering.TheVariants.{Less, Equal, Greater}
@@ -11,28 +11,26 @@ use Rattle.cell_types.specs.Value.{CellValue, null}
 use Rattle.typed_trees.specs.declared.operator.ComparisonOperator.{ComparisonOperator}
 use Rattle.typed_trees.specs.declared.operator.ComparisonOperator.TheVariants as operators
 use Rattle.typed_trees.specs.TypedTree as typed
-use Rattle.typed_trees.specs.TypedTree.{DateExprOf, DayOf, DecimalExprOf, IntegerExprOf}
+use Rattle.typed_trees.specs.TypedTree.{NumberExprOf}
+use Rattle.typed_trees.specs.declared.tree.NumberKind.{NumberKind}
 use Rattle.block_summary.specs.Passing.{number_passes}
 use Rattle.block_summary.specs.Types.{cell_of, cells_of_type, numbers_of}
 use Rattle.block_summary.specs.declared.number.PackedType.{PackedType}
-use Rattle.block_summary.specs.declared.number.PackedType.TheVariants.{Date, Decimal, Integer}
 use Rattle.row_eval.specs.declared.truth.Truth.{Truth}
 use Rattle.row_eval.specs.declared.truth.Truth.TheVariants.{False}
-use Rattle.row_eval.specs.Comparison.{compared, day_cmp, holds, is_equal}
+use Rattle.row_eval.specs.Comparison.{compared, holds, is_equal}
 use Rattle.row_eval.specs.Logic.{truth_of}
-use Rattle.row_eval.specs.Outcome.{both, date_outcome, decimal_outcome, integer_outcome}
-use Rattle.row_eval.specs.Row.{cell, day_in, decimal_in, integer_in}
+use Rattle.row_eval.specs.Outcome.{both, number_outcome}
+use Rattle.row_eval.specs.Row.{cell, number_in}
 use Rattle.block_eval.specs.declared.columns.Column.{Column}
 use Rattle.block_eval.specs.declared.columns.Column.TheVariants.{Packed}
-use Rattle.block_eval.specs.Columns.{IsRowAt}
-use Rattle.block_eval.specs.Dates.{day_of}
+use Rattle.block_eval.specs.Columns.{type_of_kind, IsRowAt}
 use Rattle.block_eval.specs.Lanes.{comparison, AreOutcomes, GivesTruths, HasTruths}
 use Rattle.block_eval.specs.declared.packed.ColumnTest.{ColumnTest}
 use Rattle.block_eval.specs.Packed.{ComparesPacked, HasNumbersAt, AreNumbersCompared}
 use Rattle.summary_eval.specs.Known.{comparison_of}
-use Rattle.block_eval.proofs.DateLemmas.{compared-days, day-cell}
 use Rattle.block_eval.proofs.LogicLemmas.{all-gives}
-use Rattle.block_eval.proofs.NumberLemmas.{decimal-cell, integer-cell}
+use Rattle.block_eval.proofs.NumberLemmas.{kind-cell}
 
 -- ---- the numbers of a column at a place
 
@@ -48,19 +46,10 @@ packed-numbers columns place column type e typed = λ row cells at.
     ∙ ap (λ vs. Some (get_or vs row null)) (sym typed)
     ∙ ap (λ v. Some v) (cell-at type (numbers_of column.now) row)
 
-pub integers-packed : (columns : List Column) (place row : ℕ) (numbers : List (Option ℤ)) (cells : List CellValue) → HasNumbersAt columns place Integer numbers → IsRowAt columns row cells
-    → ◌≡◌ {A = Option (Option ℤ)} (Some (cell integer_in cells place)) (Some (get_or numbers row None))
-integers-packed columns place row numbers cells has at =
-    ap (λ v. Some (option_and_then integer_in v)) (has row cells at) ∙ ap (λ n. Some n) (integer-cell (get_or numbers row None))
-
-pub decimals-packed : (columns : List Column) (place row : ℕ) (numbers : List (Option ℤ)) (cells : List CellValue) → HasNumbersAt columns place Decimal numbers → IsRowAt columns row cells
-    → ◌≡◌ {A = Option (Option ℤ)} (Some (cell decimal_in cells place)) (Some (get_or numbers row None))
-decimals-packed columns place row numbers cells has at =
-    ap (λ v. Some (option_and_then decimal_in v)) (has row cells at) ∙ ap (λ n. Some n) (decimal-cell (get_or numbers row None))
-
-pub days-packed : (columns : List Column) (place row : ℕ) (numbers : List (Option ℤ)) (cells : List CellValue) → HasNumbersAt columns place Date numbers → IsRowAt columns row cells
-    → cell day_in cells place ≡ option_map day_of (get_or numbers row None)
-days-packed columns place row numbers cells has at = ap (option_and_then day_in) (has row cells at) ∙ day-cell (get_or numbers row None)
+numbers-packed : (columns : List Column) (k : NumberKind) (place row : ℕ) (numbers : List (Option ℤ)) (cells : List CellValue) → HasNumbersAt columns place (type_of_kind k) numbers → IsRowAt columns row cells
+    → ◌≡◌ {A = Option (Option ℤ)} (Some (cell (number_in k) cells place)) (Some (get_or numbers row None))
+numbers-packed columns k place row numbers cells has at =
+    ap (λ v. Some (option_and_then (number_in k) v)) (has row cells at) ∙ ap (λ n. Some n) (kind-cell k (get_or numbers row None))
 
 -- ---- what passes is what holds
 
@@ -140,43 +129,13 @@ packed-gives o f g columns wanted numbers l ts size left right has =
     ap (λ x. both (comparison o) x (g cells)) (left row cells at)
     ∙ ap (both (comparison o) (Some (get_or numbers row None))) (right cells))
 
-pub integers-outcomes : (o : ComparisonOperator) (a b : IntegerExprOf) (place : ℕ) (l : ℤ) (test : ColumnTest) (columns : List Column) (rows : ℕ) (wanted : List Bool) (ts : List Truth)
-    → a ≡ typed.integer_column place → b ≡ typed.integer_literal l → ComparesPacked test columns rows ts → test ≡ record { operator = o; place = place; packed_type = Integer; number = l } → length wanted ≡ rows
-    → AreOutcomes (typed.compare_integers o a b) columns wanted ts
-integers-outcomes o a b place l test columns rows wanted ts e f given test_is size =
+pub numbers-outcomes : (o : ComparisonOperator) (a b : NumberExprOf) (k : NumberKind) (type : PackedType) (place : ℕ) (l : ℤ) (test : ColumnTest) (columns : List Column) (rows : ℕ) (wanted : List Bool) (ts : List Truth)
+    → a ≡ typed.number_column k place → b ≡ typed.number_literal l → type ≡ type_of_kind k → ComparesPacked test columns rows ts → test ≡ record { operator = o; place = place; packed_type = type; number = l }
+    → length wanted ≡ rows → AreOutcomes (typed.compare_numbers o a b) columns wanted ts
+numbers-outcomes o a b k type place l test columns rows wanted ts e f same given test_is size =
     let is = subst (λ t. ComparesPacked t columns rows ts) test_is given in
-    subst (λ x. AreOutcomes (typed.compare_integers o x b) columns wanted ts) (sym e)
-    (subst (λ y. AreOutcomes (typed.compare_integers o (typed.integer_column place) y) columns wanted ts) (sym f)
-    (packed-gives o (integer_outcome (typed.integer_column place)) (integer_outcome (typed.integer_literal l)) columns wanted is.numbers l ts (size ∙ sym is.long)
-    (λ row cells at. integers-packed columns place row is.numbers cells is.stand at) (λ cells. refl) is.passed))
-
-pub decimals-outcomes : (o : ComparisonOperator) (a b : DecimalExprOf) (place : ℕ) (l : ℤ) (test : ColumnTest) (columns : List Column) (rows : ℕ) (wanted : List Bool) (ts : List Truth)
-    → a ≡ typed.decimal_column place → b ≡ typed.decimal_literal l → ComparesPacked test columns rows ts → test ≡ record { operator = o; place = place; packed_type = Decimal; number = l } → length wanted ≡ rows
-    → AreOutcomes (typed.compare_decimals o a b) columns wanted ts
-decimals-outcomes o a b place l test columns rows wanted ts e f given test_is size =
-    let is = subst (λ t. ComparesPacked t columns rows ts) test_is given in
-    subst (λ x. AreOutcomes (typed.compare_decimals o x b) columns wanted ts) (sym e)
-    (subst (λ y. AreOutcomes (typed.compare_decimals o (typed.decimal_column place) y) columns wanted ts) (sym f)
-    (packed-gives o (decimal_outcome (typed.decimal_column place)) (decimal_outcome (typed.decimal_literal l)) columns wanted is.numbers l ts (size ∙ sym is.long)
-    (λ row cells at. decimals-packed columns place row is.numbers cells is.stand at) (λ cells. refl) is.passed))
-
-packed-days-give : (o : ComparisonOperator) (f g : List CellValue → Option DayOf) (columns : List Column) (wanted : List Bool) (numbers : List (Option ℤ)) (l : ℤ) (ts : List Truth)
-    → length wanted ≡ length numbers → ((row : ℕ) (cells : List CellValue) → IsRowAt columns row cells → f cells ≡ option_map day_of (get_or numbers row None))
-    → ((cells : List CellValue) → g cells ≡ Some (day_of l)) → AreNumbersCompared o numbers l ts → GivesTruths (λ cells. Some (truth_of (holds o (compared day_cmp (f cells) (g cells))))) columns wanted ts
-packed-days-give o f g columns wanted numbers l ts size left right has =
-    all-gives (λ cells. Some (truth_of (holds o (compared day_cmp (f cells) (g cells))))) (λ row. comparison o (get_or numbers row None) (Some l)) columns wanted ts
-    (subst (λ n. HasTruths n (λ row. comparison o (get_or numbers row None) (Some l)) ts) (sym size) has)
-    (λ row cells h at.
-    ap (λ x. Some (truth_of (holds o (compared day_cmp x (g cells))))) (left row cells at)
-    ∙ ap (λ y. Some (truth_of (holds o (compared day_cmp (option_map day_of (get_or numbers row None)) y)))) (right cells)
-    ∙ ap (λ c. Some (truth_of (holds o c))) (compared-days (get_or numbers row None) (Some l)))
-
-pub days-outcomes : (o : ComparisonOperator) (a b : DateExprOf) (place : ℕ) (day : DayOf) (l : ℤ) (test : ColumnTest) (columns : List Column) (rows : ℕ) (wanted : List Bool) (ts : List Truth)
-    → a ≡ typed.date_column place → b ≡ typed.date_literal day → day_of l ≡ day → ComparesPacked test columns rows ts → test ≡ record { operator = o; place = place; packed_type = Date; number = l } → length wanted ≡ rows
-    → AreOutcomes (typed.compare_dates o a b) columns wanted ts
-days-outcomes o a b place day l test columns rows wanted ts e f same given test_is size =
-    let is = subst (λ t. ComparesPacked t columns rows ts) test_is given in
-    subst (λ x. AreOutcomes (typed.compare_dates o x b) columns wanted ts) (sym e)
-    (subst (λ y. AreOutcomes (typed.compare_dates o (typed.date_column place) y) columns wanted ts) (sym f)
-    (packed-days-give o (date_outcome (typed.date_column place)) (date_outcome (typed.date_literal day)) columns wanted is.numbers l ts (size ∙ sym is.long)
-    (λ row cells at. days-packed columns place row is.numbers cells is.stand at) (λ cells. ap (λ d. Some d) (sym same)) is.passed))
+    let stand = subst (λ t. HasNumbersAt columns place t is.numbers) same is.stand in
+    subst (λ x. AreOutcomes (typed.compare_numbers o x b) columns wanted ts) (sym e)
+    (subst (λ y. AreOutcomes (typed.compare_numbers o (typed.number_column k place) y) columns wanted ts) (sym f)
+    (packed-gives o (number_outcome (typed.number_column k place)) (number_outcome (typed.number_literal l)) columns wanted is.numbers l ts (size ∙ sym is.long)
+    (λ row cells at. numbers-packed columns k place row is.numbers cells stand at) (λ cells. refl) is.passed))

@@ -3,9 +3,19 @@ pub use Rattle.block_lanes.specs.Lanes.{number_at, unless_null}
 use Rattle.std.specs.Prelude.{◌≡◌, ℕ, Option, Some, List, slice_get, slice_index_or}
 use Rattle.cell_types.specs.Value.{CellValue, null}
 use Rattle.block_summary.specs.Types.{cell_of, number_of}
+use Rattle.block_summary.specs.declared.number.PackedType.{PackedType}
+use Rattle.block_summary.specs.declared.number.PackedType.TheVariants.{Date, Decimal, Integer}
+use Rattle.typed_trees.specs.declared.tree.NumberKind.{NumberKind}
+use Rattle.typed_trees.specs.declared.tree.NumberKind.TheVariants as kinds
 use Rattle.block_eval.specs.Bounds.{LiesWithin}
 use Rattle.block_eval.specs.declared.columns.Column.{Column}
 use Rattle.block_eval.specs.declared.columns.Column.TheVariants.{Numbers, Packed, Texts, Unread}
+
+-- the type of the packed numbers of a kind
+abbrev pub type_of_kind : NumberKind → PackedType
+type_of_kind kinds.Integer = Integer
+type_of_kind kinds.Decimal = Decimal
+type_of_kind kinds.Date = Date
 
 -- the cell of a row, in a column that was read
 abbrev pub cell_in_column : Column → ℕ → CellValue

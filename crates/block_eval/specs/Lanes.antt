@@ -3,8 +3,8 @@ pub use Rattle.block_lanes.specs.Lanes.{comparison, number_lane, truth_in, truth
 use Rattle.std.specs.Prelude.{◌≡◌, ℕ, ℤ, Bool, Option, Some, List, length}
 use Rattle.cell_types.specs.Value.{CellValue}
 use Rattle.row_eval.specs.declared.truth.Truth.{Truth}
-use Rattle.typed_trees.specs.TypedTree.{DecimalExprOf, IntegerExprOf, TruthExprOf}
-use Rattle.row_eval.specs.Outcome.{decimal_outcome, integer_outcome, truth_outcome}
+use Rattle.typed_trees.specs.TypedTree.{NumberExprOf, TruthExprOf}
+use Rattle.row_eval.specs.Outcome.{number_outcome, truth_outcome}
 use Rattle.block_eval.specs.declared.columns.Column.{Column}
 use Rattle.block_eval.specs.declared.columns.WantedRows.{WantedRows}
 use Rattle.block_lanes.specs.declared.numbers.Numbers.{Numbers}
@@ -19,11 +19,8 @@ pub record GivesNumbers (f : List CellValue → Option (Option ℤ)) (columns : 
   pub each : (row : ℕ) (cells : List CellValue) → IsWanted wanted row → IsRowAt columns row cells → f cells ≡ Some (number_lane v row)
   pub long : AreLong (length wanted) v
 
-abbrev pub AreIntegers : IntegerExprOf → List Column → List Bool → Numbers → Type 0
-AreIntegers e columns wanted v = GivesNumbers (integer_outcome e) columns wanted v
-
-abbrev pub AreDecimals : DecimalExprOf → List Column → List Bool → Numbers → Type 0
-AreDecimals e columns wanted v = GivesNumbers (decimal_outcome e) columns wanted v
+abbrev pub AreNumbers : NumberExprOf → List Column → List Bool → Numbers → Type 0
+AreNumbers e columns wanted v = GivesNumbers (number_outcome e) columns wanted v
 
 -- ---- truths
 

@@ -9,6 +9,5 @@ pub mod Columns
 pub mod Lanes
 pub mod Bounded
 pub mod Texts
-pub mod Dates
 pub mod Packed
 pub mod Truths

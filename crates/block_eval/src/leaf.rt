@@ -5,9 +5,8 @@ ghost use Rattle.typed_trees.specs.TypedTree.{truth_view};
 ghost use Rattle.block_eval.specs.Lanes.{AreOutcomes};
 
 use crate::columns::{Column, WantedRows};
-use crate::comparison::{compare_decimals, compare_integers};
-use crate::dates::compare_dates;
-use crate::lists::{dates_in, decimals_in, integers_in, texts_in};
+use crate::comparison::compare_numbers;
+use crate::lists::{numbers_in, texts_in};
 use crate::relation::{compare_texts, test_texts};
 use crate::truths::truths_in;
 use block_lanes::{Fallback, same_truth};
@@ -36,23 +35,15 @@ pub fn eval_leaf(
             Ok(truths)
         }
         TruthExpr::Column(place) => truths_in(alloc, columns, *place, wanted),
-        TruthExpr::CompareIntegers(operator, left, right) => {
-            compare_integers(alloc, *operator, left, right, rows)
-        }
-        TruthExpr::CompareDecimals(operator, left, right) => {
-            compare_decimals(alloc, *operator, left, right, rows)
+        TruthExpr::CompareNumbers(operator, left, right) => {
+            compare_numbers(alloc, *operator, left, right, rows)
         }
         TruthExpr::CompareTexts(operator, left, right) => {
             compare_texts(alloc, *operator, left, right, rows)
         }
-        TruthExpr::CompareDates(operator, left, right) => {
-            compare_dates(alloc, *operator, left, right, rows)
-        }
         TruthExpr::TestText(test, text, part) => test_texts(alloc, *test, text, part, rows),
-        TruthExpr::IntegerIn(operand, items) => integers_in(alloc, operand, items, columns, wanted),
-        TruthExpr::DecimalIn(operand, items) => decimals_in(alloc, operand, items, columns, wanted),
+        TruthExpr::NumberIn(operand, items) => numbers_in(alloc, operand, items, columns, wanted),
         TruthExpr::TextIn(operand, items) => texts_in(alloc, operand, items, columns, wanted),
-        TruthExpr::DateIn(operand, items) => dates_in(alloc, operand, items, columns, wanted),
         _ => Err(Fallback::Rows),
     }
 }

@@ -7,7 +7,6 @@ mod bounded;
 mod bounds;
 mod columns;
 mod comparison;
-mod dates;
 mod leaf;
 mod lists;
 mod numbers;

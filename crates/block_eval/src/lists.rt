@@ -1,24 +1,21 @@
 //! Lists of values on the rows of a block (`in`, OData 4.01 URL Conventions, section 5.1.1.1.11): a value is in a list where it equals one
 //! of the items. The value is evaluated once.
 
-ghost use Rattle.std.specs.Prelude.{◌≡◌, ℕ, IfOk, length, map, option_map};
+ghost use Rattle.std.specs.Prelude.{◌≡◌, ℕ, IfOk, length, map};
 ghost use Rattle.std.specs.Ordering.{int_cmp};
-ghost use Rattle.typed_trees.specs.TypedTree.{date_in as date_in_of, date_view, decimal_in as decimal_in_of, decimal_view, integer_in as integer_in_of, integer_view, optional_day, optional_text, text_in as text_in_of, text_view};
+ghost use Rattle.typed_trees.specs.TypedTree.{number_in as number_in_of, number_view, optional_text, text_in as text_in_of, text_view};
 ghost use Rattle.row_eval.specs.Comparison.{is_among};
 ghost use Rattle.row_eval.specs.Logic.{greatest, truth_of as truth_of_bool};
-ghost use Rattle.block_eval.specs.Dates.{day_of};
 ghost use Rattle.block_eval.specs.Lanes.{comparison, number_lane, truth_lane, AreLong, AreOutcomes, HasTruths};
 
 use crate::columns::Column;
-use crate::dates::{eval_dates, number_of};
-use crate::numbers::{eval_decimals, eval_integers};
+use crate::numbers::eval_numbers;
 use crate::texts::eval_texts;
 use block_lanes::{Fallback, Numbers, compare, disjunction};
-use jiff_core::civil::Date;
 use row_eval::Truth;
 use std::alloc::Global;
 use text_lanes::texts_among;
-use typed_trees::{ComparisonOperator, DateExpr, DecimalExpr, IntegerExpr, TextExpr};
+use typed_trees::{ComparisonOperator, NumberExpr, TextExpr};
 
 /// An item on each row.
 fn item_of<'a>(item: Option<i64>) -> Numbers<'a>
@@ -95,78 +92,19 @@ fn number_items(alloc: Global, items: &[Option<i128>]) -> Result<Vec<Option<i64>
     Ok(numbers)
 }
 
-/// The number of a day.
-fn day_item(item: Option<Date>) -> Option<i64>
-    ensures { option_map day_of result ≡ optional_day item }
-{
-    match item {
-        Some(day) => Some(number_of(day)),
-        None => None,
-    }
-}
-
-/// The numbers of days.
-fn day_items(alloc: Global, items: &[Option<Date>]) -> Result<Vec<Option<i64>>, Fallback>
-    ensures { IfOk result
-        (λ numbers. map (option_map day_of) numbers.items ≡ map optional_day items.now) }
-{
-    let mut numbers = Vec::with_capacity(alloc, items.len())?;
-    for item in items {
-        if numbers.push(day_item(*item)).is_err() {
-            return Err(Fallback::NoMemory);
-        }
-    }
-    Ok(numbers)
-}
-
-/// Whether integers are in a list, on the wanted rows of a block.
-pub fn integers_in(
+/// Whether numbers are in a list, on the wanted rows of a block.
+pub fn numbers_in(
     alloc: Global,
-    operand: &IntegerExpr,
+    operand: &NumberExpr,
     items: &[Option<i128>],
     columns: &[Column<'_>],
     wanted: &[bool],
 ) -> Result<Vec<Truth>, Fallback>
     ensures { IfOk result (λ truths. AreOutcomes
-        (integer_in_of (integer_view operand.now) items.now) columns.now wanted.now truths.items) }
+        (number_in_of (number_view operand.now) items.now) columns.now wanted.now truths.items) }
 {
     let items = number_items(alloc, items)?;
-    let numbers = eval_integers(alloc, operand, columns, wanted)?;
-    let truths = among(alloc, &numbers, items.as_slice(), wanted.len())?;
-    Ok(truths)
-}
-
-/// Whether decimals are in a list, on the wanted rows of a block.
-pub fn decimals_in(
-    alloc: Global,
-    operand: &DecimalExpr,
-    items: &[Option<i128>],
-    columns: &[Column<'_>],
-    wanted: &[bool],
-) -> Result<Vec<Truth>, Fallback>
-    ensures { IfOk result (λ truths. AreOutcomes
-        (decimal_in_of (decimal_view operand.now) items.now) columns.now wanted.now truths.items) }
-{
-    let items = number_items(alloc, items)?;
-    let numbers = eval_decimals(alloc, operand, columns, wanted)?;
-    let truths = among(alloc, &numbers, items.as_slice(), wanted.len())?;
-    Ok(truths)
-}
-
-/// Whether dates are in a list, on the wanted rows of a block.
-pub fn dates_in(
-    alloc: Global,
-    operand: &DateExpr,
-    items: &[Option<Date>],
-    columns: &[Column<'_>],
-    wanted: &[bool],
-) -> Result<Vec<Truth>, Fallback>
-    ensures { IfOk result (λ truths. AreOutcomes
-        (date_in_of (date_view operand.now) (map optional_day items.now)) columns.now wanted.now
-        truths.items) }
-{
-    let items = day_items(alloc, items)?;
-    let numbers = eval_dates(operand, columns, wanted)?;
+    let numbers = eval_numbers(alloc, operand, columns, wanted)?;
     let truths = among(alloc, &numbers, items.as_slice(), wanted.len())?;
     Ok(truths)
 }

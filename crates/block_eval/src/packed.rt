@@ -3,6 +3,7 @@
 ghost use Rattle.std.specs.Prelude.{◌≡◌, ◌<◌, ℕ, false, IfOk, IfSome, IsTrue, length, slice_index_or};
 ghost use Rattle.block_summary.specs.Types.{numbers_of};
 ghost use Rattle.row_eval.specs.Logic.{truth_of};
+ghost use Rattle.block_eval.specs.Columns.{type_of_kind as type_of_number_kind};
 ghost use Rattle.block_eval.specs.Lanes.{truth_lane};
 ghost use Rattle.block_eval.specs.Packed.{ComparesPacked, HasNumbersAt, AreNumbersCompared};
 
@@ -12,7 +13,7 @@ use block_summary::{PackedColumn, PackedType};
 use row_eval::{Truth, truth_of};
 use std::alloc::Global;
 use summary_eval::comparison_of;
-use typed_trees::ComparisonOperator;
+use typed_trees::{ComparisonOperator, NumberKind};
 
 /// A column of numbers of a type, compared with a number.
 #[derive(Clone, Copy)]
@@ -23,8 +24,19 @@ pub struct ColumnTest {
     pub number: i128,
 }
 
+/// The type of the packed numbers of a kind.
+pub fn type_of_kind(kind: NumberKind) -> PackedType
+    ensures { result ≡ type_of_number_kind kind }
+{
+    match kind {
+        NumberKind::Integer => PackedType::Integer,
+        NumberKind::Decimal => PackedType::Decimal,
+        NumberKind::Date => PackedType::Date,
+    }
+}
+
 /// Whether these are the same type, of those that are compared with a literal.
-fn are_same(given: PackedType, asked: PackedType) -> bool
+pub fn are_same(given: PackedType, asked: PackedType) -> bool
     ensures { IsTrue result → given ≡ asked }
 {
     match asked {

@@ -6,6 +6,8 @@ use Rattle.std.proofs.lemmas.Bool.{cases_lt}
 use Rattle.std.proofs.lemmas.List.{append-nil, drop_more, map_push, nil_from_length}
 use Rattle.std.proofs.lemmas.List.Elements.{All-push}
 use Rattle.std.proofs.lemmas.List.Sums.{length-filter}
+use Rattle.cell_types.specs.Column.{ColumnOf}
+use Rattle.cell_types.specs.Rows.{IsTableRow}
 use Rattle.cell_types.specs.Value.{CellValue}
 use Rattle.typed_trees.specs.declared.tree.TruthExpr.{TruthExpr}
 use Rattle.typed_trees.specs.TypedTree.{boxed_truth, TruthExprOf}
@@ -59,26 +61,26 @@ passing_marked law e (row ∷ rows) (w ∷ was) (n ∷ now) h g each =
     ∙ ap (λ xs. Some xs) (sym (marked_head n now row rows))
 
 -- what the truths of a block leave of the rows that were wanted
-pub narrowed_by : (e : TruthExprOf) (rows : List (List CellValue)) (ranges : List RangeOf) (columns : List Column) (was now : List Bool) (truths : List Truth) → AreColumnsOf rows columns
-    → AreRangesOf ranges rows → AreOutcomesWithin e ranges columns was truths → length was ≡ length rows → ((row : ℕ) → row < length was → get_or now row false ≡ (get_or was row false && keeps_row (truth_lane truths row)))
+pub narrowed_by : (e : TruthExprOf) (schema : List ColumnOf) (rows : List (List CellValue)) (ranges : List RangeOf) (columns : List Column) (was now : List Bool) (truths : List Truth) → AreColumnsOf rows columns
+    → All (IsTableRow schema) rows → AreRangesOf ranges rows → AreOutcomesWithin e ranges columns was truths → length was ≡ length rows → ((row : ℕ) → row < length was → get_or now row false ≡ (get_or was row false && keeps_row (truth_lane truths row)))
     → (row : ℕ) → row < length rows → IsNarrowed e (get_or rows row []) (get_or was row false) (get_or now row false)
-narrowed_by e rows ranges columns was now truths are within outcomes long each row h =
+narrowed_by e schema rows ranges columns was now truths are fit within outcomes long each row h =
     let inside : row < length was = omega arith in
     let is = each row inside in
     record {
       out = λ unmarked. is ∙ ap (λ b. b && keeps_row (truth_lane truths row)) unmarked;
       stays = λ marked_is. (
         truth_lane truths row,
-        outcomes.each row (get_or rows row []) marked_is (are row h) (record { rows = rows; row = row; are_ranges = within; within = h; cells_are = refl }),
+        outcomes.each row (get_or rows row []) marked_is (are row h) (record { rows = rows; row = row; are_ranges = within; within = h; cells_are = refl; columns = schema; fits = fit row [] h }),
         is ∙ ap (λ b. b && keeps_row (truth_lane truths row)) marked_is,
       );
     }
 
-pub filter_narrows : TrueRowsPass → (e : TruthExprOf) (rows : List (List CellValue)) (ranges : List RangeOf) (columns : List Column) (was now : List Bool) (truths : List Truth) → AreColumnsOf rows columns
-    → AreRangesOf ranges rows → AreOutcomesWithin e ranges columns was truths → length was ≡ length rows → length now ≡ length was
+pub filter_narrows : TrueRowsPass → (e : TruthExprOf) (schema : List ColumnOf) (rows : List (List CellValue)) (ranges : List RangeOf) (columns : List Column) (was now : List Bool) (truths : List Truth) → AreColumnsOf rows columns
+    → All (IsTableRow schema) rows → AreRangesOf ranges rows → AreOutcomesWithin e ranges columns was truths → length was ≡ length rows → length now ≡ length was
     → ((row : ℕ) → row < length was → get_or now row false ≡ (get_or was row false && keeps_row (truth_lane truths row))) → passing e (marked was rows) ≡ Some (marked now rows)
-filter_narrows law e rows ranges columns was now truths are within outcomes long same each =
-    passing_marked law e rows was now long (same ∙ long) (narrowed_by e rows ranges columns was now truths are within outcomes long each)
+filter_narrows law e schema rows ranges columns was now truths are fit within outcomes long same each =
+    passing_marked law e rows was now long (same ∙ long) (narrowed_by e schema rows ranges columns was now truths are fit within outcomes long each)
 
 -- ---- all rows, and rows by their numbers
 

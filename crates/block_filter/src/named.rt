@@ -3,7 +3,7 @@ ghost use Rattle.std.specs.Prelude.{◌<◌, IsTrue, length};
 
 use block_summary::Summary;
 use summary_eval::known_truth;
-use typed_trees::{DateExpr, DecimalExpr, IntegerExpr, TextExpr, TruthExpr};
+use typed_trees::{DateExpr, NumberExpr, TextExpr, TruthExpr};
 
 /// Whether a place is marked.
 pub(crate) fn is_marked(marks: &[bool], place: usize) -> bool
@@ -39,60 +39,31 @@ fn mark_text(expr: &TextExpr, named: &mut [bool]) {
     }
 }
 
-fn mark_integer(expr: &IntegerExpr, named: &mut [bool]) {
+fn mark_number(expr: &NumberExpr, named: &mut [bool]) {
     match expr {
-        IntegerExpr::Null | IntegerExpr::Literal(_) => {}
-        IntegerExpr::Column(place) => mark(*place, named),
-        IntegerExpr::Negate(operand) => mark_integer(operand, named),
-        IntegerExpr::Arithmetic(_, left, right) => {
-            mark_integer(left, named);
-            mark_integer(right, named);
+        NumberExpr::Null | NumberExpr::Literal(_) => {}
+        NumberExpr::Column(_, place) => mark(*place, named),
+        NumberExpr::Negate(operand) | NumberExpr::Scaled(operand) => mark_number(operand, named),
+        NumberExpr::Arithmetic(_, left, right) => {
+            mark_number(left, named);
+            mark_number(right, named);
         }
-        IntegerExpr::Length(text) => mark_text(text, named),
-        IntegerExpr::IndexOf(text, part) => {
+        NumberExpr::Length(text) => mark_text(text, named),
+        NumberExpr::IndexOf(text, part) => {
             mark_text(text, named);
             mark_text(part, named);
         }
-        IntegerExpr::PartOf(_, date) => mark_date(date, named),
-    }
-}
-
-fn mark_decimal(expr: &DecimalExpr, named: &mut [bool]) {
-    match expr {
-        DecimalExpr::Null | DecimalExpr::Literal(_) => {}
-        DecimalExpr::Column(place) => mark(*place, named),
-        DecimalExpr::Negate(operand) => mark_decimal(operand, named),
-        DecimalExpr::Add(left, right) | DecimalExpr::Sub(left, right) => {
-            mark_decimal(left, named);
-            mark_decimal(right, named);
-        }
-        DecimalExpr::Scaled(integer) => mark_integer(integer, named),
+        NumberExpr::PartOf(_, date) => mark_date(date, named),
     }
 }
 
 /// Marks what a comparison names; a column that is compared with a literal is not unpacked.
-fn mark_integers(left: &IntegerExpr, right: &IntegerExpr, named: &mut [bool]) {
-    if let (IntegerExpr::Column(_), IntegerExpr::Literal(_)) = (left, right) {
+fn mark_numbers(left: &NumberExpr, right: &NumberExpr, named: &mut [bool]) {
+    if let (NumberExpr::Column(_, _), NumberExpr::Literal(_)) = (left, right) {
         return;
     }
-    mark_integer(left, named);
-    mark_integer(right, named);
-}
-
-fn mark_decimals(left: &DecimalExpr, right: &DecimalExpr, named: &mut [bool]) {
-    if let (DecimalExpr::Column(_), DecimalExpr::Literal(_)) = (left, right) {
-        return;
-    }
-    mark_decimal(left, named);
-    mark_decimal(right, named);
-}
-
-fn mark_dates(left: DateExpr, right: DateExpr, named: &mut [bool]) {
-    if let (DateExpr::Column(_), DateExpr::Literal(_)) = (left, right) {
-        return;
-    }
-    mark_date(&left, named);
-    mark_date(&right, named);
+    mark_number(left, named);
+    mark_number(right, named);
 }
 
 /// Marks the columns that a condition names and that are unpacked for it, by their numbers, on a block with these ranges: those of a part whose truth the ranges tell are
@@ -111,17 +82,13 @@ pub(crate) fn mark_truth(expr: &TruthExpr, summary: &Summary, named: &mut [bool]
             mark_truth(left, summary, named);
             mark_truth(right, summary, named);
         }
-        TruthExpr::CompareIntegers(_, left, right) => mark_integers(left, right, named),
-        TruthExpr::CompareDecimals(_, left, right) => mark_decimals(left, right, named),
+        TruthExpr::CompareNumbers(_, left, right) => mark_numbers(left, right, named),
         TruthExpr::CompareTexts(_, left, right) | TruthExpr::TestText(_, left, right) => {
             mark_text(left, named);
             mark_text(right, named);
         }
-        TruthExpr::CompareDates(_, left, right) => mark_dates(*left, *right, named),
-        TruthExpr::IntegerIn(operand, _) => mark_integer(operand, named),
-        TruthExpr::DecimalIn(operand, _) => mark_decimal(operand, named),
+        TruthExpr::NumberIn(operand, _) => mark_number(operand, named),
         TruthExpr::TextIn(operand, _) => mark_text(operand, named),
-        TruthExpr::DateIn(operand, _) => mark_date(operand, named),
         TruthExpr::TruthIn(operand, _) => mark_truth(operand, summary, named),
     }
 }

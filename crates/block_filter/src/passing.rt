@@ -59,6 +59,7 @@ fn narrow_by(
         ≡ Some (marked wanted.new block.now.rows)) }
 {
     true_rows_pass();
+    block.values_fit();
     let truths = eval_block(alloc, condition, columns, block.summary(), wanted)?;
     keep_true(truths.as_slice(), wanted);
     Ok(())

@@ -44,33 +44,17 @@ where
     }
 }
 
-/// Does what a line of words asks for.
-fn read_status<R>(rt: &R, line: &[&str], tells: bool) -> io::Result<u8>
-where
-    R: Files + Print + Eprint + AllocGlobal + Clone + Drop,
-{
-    match read_words(rt.alloc(), line) {
-        Ok(words) => Ok(words_status(rt, words, tells)),
-        Err(fault) => told_status(rt, fault),
-    }
-}
-
-/// Does what words ask for.
-fn texts_status<R>(rt: &R, words: &[String], tells: bool) -> io::Result<u8>
-where
-    R: Files + Print + Eprint + AllocGlobal + Clone + Drop,
-{
-    let line = line_of(rt.alloc(), words)?;
-    read_status(rt, line.as_slice(), tells)
-}
-
 /// Does what the system's words ask for.
 fn line_status<R>(rt: &R, tells: bool) -> io::Result<u8>
 where
     R: Env + Files + Print + Eprint + AllocGlobal + Clone + Drop,
 {
     let words = system_words(rt)?;
-    texts_status(rt, words.as_slice(), tells)
+    let line = line_of(rt.alloc(), words.as_slice())?;
+    match read_words(rt.alloc(), line.as_slice()) {
+        Ok(words) => Ok(words_status(rt, words, tells)),
+        Err(fault) => told_status(rt, fault),
+    }
 }
 
 /// Does what the command line asks for, and gives the exit status. Where someone looks on, it tells of long work.

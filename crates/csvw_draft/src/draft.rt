@@ -1,13 +1,12 @@
 //! The draft of a folder.
 use crate::folder::{csv_files, path_in};
-use crate::status::DONE;
-use crate::told::{refuse, refuse_for, warn};
-use crate::warning::warning_lines;
+use crate::status::{DONE, MEMORY, REFUSED};
+use crate::told::{refuse, refuse_for};
+use crate::warning::warn_of;
 use csv_index::TextFault;
-use csvw_guess::{Draft, DraftFault, draft_of};
-use csvw_meta::{Limits, MOST_FILE_BYTES, Schema};
-use csvw_writer::write_schemas;
-use folder_report::{refusal_lines, text_refusals};
+use csvw_guess::{Draft, DraftFault, draft_of, write_schemas};
+use csvw_meta::{Limits, MOST_FILE_BYTES};
+use folder_report::{Report, refusal_lines, refuse_text};
 use message_text::escaped;
 use served_folders::{METADATA, look};
 use std::alloc::{AllocError, Global};
@@ -32,60 +31,64 @@ fn file_lines(
     fault: TextFault,
 ) -> Result<Vec<String>, AllocError> {
     let table = escaped(alloc, file.name.as_str())?;
-    let refusals = text_refusals(alloc, table.as_str(), file.bytes.as_slice(), fault)?;
+    let mut report = Report::new(alloc);
+    refuse_text(&mut report, table.as_str(), file.bytes.as_slice(), fault);
+    let refusals = report.end()?;
     let cause = LoadFault::Text { table, fault };
     refusal_lines(alloc, &cause, refusals.as_slice())
 }
 
-/// The line of a file above the limit.
-fn large_line(alloc: Global, file: &NamedFile) -> Result<String, AllocError> {
-    let table = escaped(alloc, file.name.as_str())?;
-    format!(in alloc; "{table}: FileTooLarge: accepted: {MOST_FILE_BYTES} bytes at most")
+/// Tells that a file is no table for that fault, and gives the exit status.
+fn refuse_file<R>(rt: &R, file: &NamedFile, fault: TextFault) -> io::Result<u8>
+where
+    R: Eprint + AllocGlobal,
+{
+    let lines = file_lines(rt.alloc(), file, fault)?;
+    refuse(rt, lines.as_slice())
 }
 
-/// One line.
-fn one_line(alloc: Global, line: Result<String, AllocError>) -> Result<Vec<String>, AllocError> {
-    let line = line?;
-    let mut lines = Vec::new(alloc);
-    lines.push(line)?;
-    Ok(lines)
+/// Tells that a file is above the limit, and gives the exit status.
+fn refuse_large<R>(rt: &R, file: &NamedFile) -> io::Result<u8>
+where
+    R: Eprint + AllocGlobal,
+{
+    let table = escaped(rt.alloc(), file.name.as_str())?;
+    eprintln!(rt; "refused: {table}: FileTooLarge: accepted: {MOST_FILE_BYTES} bytes at most")?;
+    Ok(REFUSED)
 }
 
-/// The lines that tell why files have no draft.
-fn fault_lines(
-    alloc: Global,
-    files: &[NamedFile],
-    fault: DraftFault,
-) -> Result<Vec<String>, AllocError> {
+/// Tells why files have no draft, and gives the exit status.
+fn refuse_files<R>(rt: &R, files: &[NamedFile], fault: DraftFault) -> io::Result<u8>
+where
+    R: Eprint + AllocGlobal,
+{
     match fault {
         DraftFault::FileTooLarge { file } => match files.get(file) {
-            Some(found) => one_line(alloc, large_line(alloc, found)),
-            None => Ok(Vec::new(alloc)),
+            Some(found) => refuse_large(rt, found),
+            None => Ok(REFUSED),
         },
         DraftFault::Text { file, fault } => match files.get(file) {
-            Some(found) => file_lines(alloc, found, fault),
-            None => Ok(Vec::new(alloc)),
+            Some(found) => refuse_file(rt, found, fault),
+            None => Ok(REFUSED),
         },
-        DraftFault::NoTables => one_line(alloc, String::from_str(alloc, NO_TABLES)),
-        DraftFault::TooManyTables => one_line(alloc, String::from_str(alloc, TOO_MANY_TABLES)),
-        DraftFault::NoMemory => Err(AllocError),
+        DraftFault::NoTables => refuse_for(rt, NO_TABLES),
+        DraftFault::TooManyTables => refuse_for(rt, TOO_MANY_TABLES),
+        DraftFault::NoMemory => Ok(MEMORY),
     }
 }
 
-/// The same schemas without keys.
-fn drop_keys(alloc: Global, schemas: &mut Vec<Schema>) {
-    for schema in schemas.iter_mut() {
-        schema.key = Vec::new(alloc);
-    }
-}
-
-/// The text of drafted schemas, with their keys or without.
-fn draft_text(alloc: Global, draft: Draft, keys: bool) -> Result<Vec<u8>, AllocError> {
-    let mut schemas = draft.schemas;
+/// Tells what the publisher of files should look at, and gives the text of the metadata, with keys or without.
+fn told_text<R>(rt: &R, draft: &mut Draft, files: &[NamedFile], keys: bool) -> io::Result<Vec<u8>>
+where
+    R: Eprint + AllocGlobal,
+{
+    warn_of(rt, draft, files)?;
     if !keys {
-        drop_keys(alloc, &mut schemas);
+        for schema in draft.schemas.iter_mut() {
+            schema.key.clear();
+        }
     }
-    write_schemas(alloc, schemas.as_slice())
+    Ok(write_schemas(rt.alloc(), draft.schemas.as_slice())?)
 }
 
 /// Whether a folder has metadata, whatever it is.
@@ -101,21 +104,16 @@ where
     }
 }
 
-/// What is told of a file that was written.
-fn wrote_text(alloc: Global, path: &str) -> Result<String, AllocError> {
-    format!(in alloc; "wrote {path}")
-}
-
 /// Writes a text into the file of that path, which is taken away where it is not written whole.
 fn fill_file<R>(rt: &R, path: &str, mut file: R::File, text: &[u8]) -> io::Result<u8>
 where
-    R: Files + Print + AllocGlobal,
+    R: Files + Print,
 {
     if let Err(error) = file.write_all(text) {
         let _ = fs::remove_file(rt, path);
         return Err(error);
     }
-    rt.println(wrote_text(rt.alloc(), path)?)?;
+    println!(rt; "wrote {path}")?;
     Ok(DONE)
 }
 
@@ -142,27 +140,14 @@ where
     Ok(DONE)
 }
 
-/// Tells what the publisher of files should look at, and gives the text of the metadata, with keys or without.
-fn told_text<R>(rt: &R, draft: Draft, files: &[NamedFile], keys: bool) -> io::Result<Vec<u8>>
-where
-    R: Eprint + AllocGlobal,
-{
-    let lines = warning_lines(rt.alloc(), &draft, files)?;
-    warn(rt, lines.as_slice())?;
-    Ok(draft_text(rt.alloc(), draft, keys)?)
-}
-
 /// Tells of the draft of files, and gives the text of the metadata, with keys or without; or the exit status of files that have none.
 fn files_text<R>(rt: &R, files: &[NamedFile], keys: bool) -> io::Result<Result<Vec<u8>, u8>>
 where
     R: Eprint + AllocGlobal,
 {
     match draft_of(rt.alloc(), &Limits::greatest(), files) {
-        Ok(draft) => Ok(Ok(told_text(rt, draft, files, keys)?)),
-        Err(fault) => {
-            let lines = fault_lines(rt.alloc(), files, fault)?;
-            Ok(Err(refuse(rt, lines.as_slice())?))
-        }
+        Ok(mut draft) => Ok(Ok(told_text(rt, &mut draft, files, keys)?)),
+        Err(fault) => Ok(Err(refuse_files(rt, files, fault)?)),
     }
 }
 

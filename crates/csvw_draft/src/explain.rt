@@ -4,7 +4,7 @@ use crate::status::{DEVICE, DONE, MEMORY};
 use crate::told::{refuse, refuse_for};
 use csvw_meta::{Limits, MetaFault, Schema, Schemas};
 use folder_report::{
-    MOST_REFUSALS, Refusal, catalog_text, metadata_refusals, refusal_lines, table_refusals,
+    Refusal, Report, catalog_text, metadata_refusals, refusal_lines, refuse_table,
 };
 use served_folders::{Disk, FolderFault, Folders, METADATA};
 use std::io::{self, ErrorKind, Write};
@@ -18,34 +18,14 @@ const NO_METADATA: &str = "csv-metadata.json: NoMetadata";
 const NO_METADATA_DETAIL: &str =
     "csv-metadata.json: NoMetadata: the folder has no such file; accepted: one, as csvw_draft FOLDER --write makes it";
 
-/// What is refused of the table of a schema.
-fn schema_refusals<R>(rt: &R, folder: &str, schema: &Schema) -> io::Result<Vec<Refusal>>
+/// Adds what is refused of the table of a schema.
+fn refuse_schema<R>(rt: &R, folder: &str, schema: &Schema, report: &mut Report) -> io::Result<()>
 where
     R: Files + AllocGlobal,
 {
     match file_in(rt, folder, schema.url.as_str())? {
-        Some(bytes) => Ok(table_refusals(rt.alloc(), schema, Some(bytes.as_slice()))?),
-        None => Ok(table_refusals(rt.alloc(), schema, None)?),
-    }
-}
-
-/// Adds the refusals of tables, in the order of the metadata, until there are as many as are told.
-fn push_refusals<R>(
-    rt: &R,
-    folder: &str,
-    schemas: &[Schema],
-    refusals: &mut Vec<Refusal>,
-) -> io::Result<()>
-where
-    R: Files + AllocGlobal,
-{
-    for schema in schemas {
-        for refusal in schema_refusals(rt, folder, schema)? {
-            refusals.push(refusal)?;
-        }
-        if refusals.len() >= MOST_REFUSALS {
-            return Ok(());
-        }
+        Some(bytes) => refuse_table(report, schema, Some(bytes.as_slice())),
+        None => refuse_table(report, schema, None),
     }
     Ok(())
 }
@@ -55,9 +35,13 @@ fn tables_refusals<R>(rt: &R, folder: &str, schemas: &[Schema]) -> io::Result<Ve
 where
     R: Files + AllocGlobal,
 {
-    let mut refusals = Vec::new(rt.alloc());
-    push_refusals(rt, folder, schemas, &mut refusals)?;
-    Ok(refusals)
+    let mut report = Report::new(rt.alloc());
+    for schema in schemas {
+        if !report.is_full() {
+            refuse_schema(rt, folder, schema, &mut report)?;
+        }
+    }
+    Ok(report.end()?)
 }
 
 /// All refusals of a folder with that metadata.
@@ -96,23 +80,6 @@ where
     refuse(rt, lines.as_slice())
 }
 
-/// Tells why a folder is refused, and all that is refused of it, a line for each; and of one that is not, that it is accepted.
-pub fn explain_folder<R>(rt: &R, folder: &str) -> io::Result<u8>
-where
-    R: Files + Print + Eprint + AllocGlobal,
-{
-    match Disk::new(rt).load(rt.alloc(), folder) {
-        Ok(_) => {
-            rt.println("accepted")?;
-            Ok(DONE)
-        }
-        Err(FolderFault::NoMetadata) => refuse_for(rt, NO_METADATA_DETAIL),
-        Err(FolderFault::Load(cause)) => explain_cause(rt, folder, &cause),
-        Err(FolderFault::Device) => Ok(DEVICE),
-        Err(FolderFault::NoMemory) => Ok(MEMORY),
-    }
-}
-
 /// Tells the one cause why a folder is refused, as the service does.
 fn tell_cause<R>(rt: &R, cause: &LoadFault) -> io::Result<u8>
 where
@@ -123,6 +90,35 @@ where
     }
     let line = cause.text(rt.alloc())?;
     refuse_for(rt, line.as_str())
+}
+
+/// Tells why a folder is refused: the one cause, or all that is refused of it.
+fn tell_fault<R>(rt: &R, folder: &str, fault: FolderFault, explains: bool) -> io::Result<u8>
+where
+    R: Files + Eprint + AllocGlobal,
+{
+    match fault {
+        FolderFault::NoMetadata if explains => refuse_for(rt, NO_METADATA_DETAIL),
+        FolderFault::NoMetadata => refuse_for(rt, NO_METADATA),
+        FolderFault::Load(cause) if explains => explain_cause(rt, folder, &cause),
+        FolderFault::Load(cause) => tell_cause(rt, &cause),
+        FolderFault::Device => Ok(DEVICE),
+        FolderFault::NoMemory => Ok(MEMORY),
+    }
+}
+
+/// Tells why a folder is refused, and all that is refused of it, a line for each; and of one that is not, that it is accepted.
+pub fn explain_folder<R>(rt: &R, folder: &str) -> io::Result<u8>
+where
+    R: Files + Print + Eprint + AllocGlobal,
+{
+    match Disk::new(rt).load(rt.alloc(), folder) {
+        Ok(_) => {
+            rt.println("accepted")?;
+            Ok(DONE)
+        }
+        Err(fault) => tell_fault(rt, folder, fault, true),
+    }
 }
 
 /// Prints what the service understands of the tables of a folder.
@@ -142,9 +138,6 @@ where
 {
     match Disk::new(rt).load(rt.alloc(), folder) {
         Ok(catalog) => show_catalog(rt, &catalog),
-        Err(FolderFault::NoMetadata) => refuse_for(rt, NO_METADATA),
-        Err(FolderFault::Load(cause)) => tell_cause(rt, &cause),
-        Err(FolderFault::Device) => Ok(DEVICE),
-        Err(FolderFault::NoMemory) => Ok(MEMORY),
+        Err(fault) => tell_fault(rt, folder, fault, false),
     }
 }

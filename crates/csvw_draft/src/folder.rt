@@ -1,7 +1,7 @@
 //! The CSV files of a folder on a disk.
-use crate::told::tell;
+use crate::told::warn;
 use csvw_meta::MOST_FILE_BYTES;
-use folder_report::cut;
+use folder_report::{Line, cut};
 use served_folders::look;
 use std::alloc::{AllocError, Global};
 use std::fs::{self, DirEntry, File, OpenFile};
@@ -86,40 +86,18 @@ pub fn path_in(alloc: Global, folder: &str, name: &str) -> Result<String, AllocE
     format!(in alloc; "{folder}/{name}")
 }
 
-/// The bytes of the plain file of a path, where there is anything of that path; of a file above the limit its front alone.
-fn file_at<R>(rt: &R, path: &str) -> io::Result<Option<Vec<u8>>>
-where
-    R: Files + AllocGlobal,
-{
-    match look(rt, path, true) {
-        Ok(found) if found.is_file() => Ok(Some(read_plain(rt, path)?)),
-        Ok(_) => Err(io::Error::from(ErrorKind::InvalidInput)),
-        Err(error) if error.kind() == ErrorKind::NotFound => Ok(None),
-        Err(error) => Err(error),
-    }
-}
-
 /// The bytes of the plain file of a name in a folder, where there is anything of that name; of a file above the limit its front alone.
 pub fn file_in<R>(rt: &R, folder: &str, name: &str) -> io::Result<Option<Vec<u8>>>
 where
     R: Files + AllocGlobal,
 {
     let path = path_in(rt.alloc(), folder, name)?;
-    file_at(rt, path.as_str())
-}
-
-/// What is told of a name that is that of no plain file.
-fn other_text(alloc: Global, name: &str) -> Result<String, AllocError> {
-    let mut text = cut(alloc, name)?;
-    text.push_str(": left out: no plain file")?;
-    Ok(text)
-}
-
-/// What is told before so many bytes are read.
-fn reading_text(alloc: Global, name: &str, bytes: u64) -> Result<String, AllocError> {
-    let shown = cut(alloc, name)?;
-    let megabytes = bytes / 1_000_000;
-    format!(in alloc; "reading {shown}, {megabytes} MB")
+    match look(rt, path.as_str(), true) {
+        Ok(found) if found.is_file() => Ok(Some(read_plain(rt, path.as_str())?)),
+        Ok(_) => Err(io::Error::from(ErrorKind::InvalidInput)),
+        Err(error) if error.kind() == ErrorKind::NotFound => Ok(None),
+        Err(error) => Err(error),
+    }
 }
 
 /// Tells that so many bytes are read.
@@ -127,60 +105,52 @@ fn tell_long<R>(rt: &R, name: &str, bytes: u64) -> io::Result<()>
 where
     R: Eprint + AllocGlobal,
 {
-    rt.eprintln(reading_text(rt.alloc(), name, bytes)?)
+    let shown = cut(rt.alloc(), name)?;
+    let megabytes = bytes / 1_000_000;
+    eprintln!(rt; "reading {shown}, {megabytes} MB")
 }
 
 /// Tells that a name is that of no plain file.
-fn tell_other<R>(rt: &R, name: &str) -> io::Result<()>
+fn warn_other<R>(rt: &R, name: &str) -> io::Result<()>
 where
     R: Eprint + AllocGlobal,
 {
-    let text = other_text(rt.alloc(), name)?;
-    tell(rt, "warning", text.as_str())
+    let mut line = Line::new(rt.alloc());
+    line.push_made(cut(rt.alloc(), name));
+    line.push(": left out: no plain file");
+    warn(rt, line)
 }
 
-/// The bytes of the file of a path and that name, where it is a plain one; else that is told.
-fn bytes_at<R>(rt: &R, path: &str, name: &str, tells: bool) -> io::Result<Option<Vec<u8>>>
-where
-    R: Files + Eprint + AllocGlobal,
-{
-    let found = look(rt, path, true)?;
-    if !found.is_file() {
-        tell_other(rt, name)?;
-        return Ok(None);
-    }
-    if tells && found.len() > LONG {
-        tell_long(rt, name, found.len())?;
-    }
-    Ok(Some(read_plain(rt, path)?))
-}
-
-/// The bytes of a file of a folder, where it is a plain one; else that is told.
-fn csv_bytes<R>(rt: &R, folder: &str, name: &str, tells: bool) -> io::Result<Option<Vec<u8>>>
-where
-    R: Files + Eprint + AllocGlobal,
-{
-    let path = path_in(rt.alloc(), folder, name)?;
-    bytes_at(rt, path.as_str(), name, tells)
-}
-
-/// The file of a name in a folder, where it is a plain one.
+/// The file of a name in a folder, where it is a plain one; else that is told.
 fn csv_file<R>(rt: &R, folder: &str, name: String, tells: bool) -> io::Result<Option<NamedFile>>
 where
     R: Files + Eprint + AllocGlobal,
 {
-    match csv_bytes(rt, folder, name.as_str(), tells)? {
-        Some(bytes) => Ok(Some(NamedFile { name, bytes })),
-        None => Ok(None),
+    let path = path_in(rt.alloc(), folder, name.as_str())?;
+    let found = look(rt, path.as_str(), true)?;
+    if !found.is_file() {
+        warn_other(rt, name.as_str())?;
+        return Ok(None);
     }
+    if tells && found.len() > LONG {
+        tell_long(rt, name.as_str(), found.len())?;
+    }
+    let bytes = read_plain(rt, path.as_str())?;
+    Ok(Some(NamedFile { name, bytes }))
 }
 
-/// Adds the CSV files of a folder, in the order of their names.
-fn push_files<R>(rt: &R, folder: &str, tells: bool, files: &mut Vec<NamedFile>) -> io::Result<()>
+/// Adds the files of those names in a folder, in their order.
+fn push_files<R>(
+    rt: &R,
+    folder: &str,
+    names: Vec<String>,
+    tells: bool,
+    files: &mut Vec<NamedFile>,
+) -> io::Result<()>
 where
-    R: Files + Eprint + AllocGlobal + Clone + Drop,
+    R: Files + Eprint + AllocGlobal,
 {
-    for name in csv_names(rt, folder)? {
+    for name in names {
         if let Some(file) = csv_file(rt, folder, name, tells)? {
             files.push(file)?;
         }
@@ -193,7 +163,8 @@ pub fn csv_files<R>(rt: &R, folder: &str, tells: bool) -> io::Result<Vec<NamedFi
 where
     R: Files + Eprint + AllocGlobal + Clone + Drop,
 {
+    let names = csv_names(rt, folder)?;
     let mut files = Vec::new(rt.alloc());
-    push_files(rt, folder, tells, &mut files)?;
+    push_files(rt, folder, names, tells, &mut files)?;
     Ok(files)
 }

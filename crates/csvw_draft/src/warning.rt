@@ -1,8 +1,10 @@
 //! What the publisher of files should look at, and what mends it.
+use crate::told::warn;
 use csvw_guess::{Draft, Warning};
 use csvw_meta::Schema;
-use folder_report::cut;
-use std::alloc::{AllocError, Global};
+use folder_report::{Line, cut};
+use std::alloc::Global;
+use std::io;
 use table_store::NamedFile;
 
 /// The file of a warning.
@@ -29,35 +31,6 @@ fn column_name<'s>(schemas: &'s [Schema], url: &str, col: usize) -> &'s str {
         }
     }
     ""
-}
-
-/// A column of the file of that name, by its number from 1 on and its name.
-fn column_text(
-    alloc: Global,
-    schemas: &[Schema],
-    url: &str,
-    col: usize,
-) -> Result<String, AllocError> {
-    let number = col.saturating_add(1);
-    let name = column_name(schemas, url, col);
-    format!(in alloc; ": column {number} {name}")
-}
-
-/// What of the file of that name a warning speaks of: all of it, or a column, or how many there are.
-fn place_text(
-    alloc: Global,
-    warning: Warning,
-    schemas: &[Schema],
-    url: &str,
-) -> Result<String, AllocError> {
-    match warning {
-        Warning::TwoDates { col, .. } => column_text(alloc, schemas, url, col),
-        Warning::TooFine { col, .. } => column_text(alloc, schemas, url, col),
-        Warning::ManyColumns { columns, .. } => {
-            format!(in alloc; ": left out: {columns} columns")
-        }
-        _ => Ok(String::new(alloc)),
-    }
 }
 
 /// What reads fields that are parted by that byte.
@@ -87,32 +60,45 @@ fn hint_of(warning: Warning) -> &'static str {
     }
 }
 
-/// The line of a warning of the file of that name.
-fn warning_line(
-    alloc: Global,
-    warning: Warning,
-    schemas: &[Schema],
-    url: &str,
-) -> Result<String, AllocError> {
-    let mut line = cut(alloc, url)?;
-    let place = place_text(alloc, warning, schemas, url)?;
-    line.push_str(place.as_str())?;
-    line.push_str(hint_of(warning))?;
-    Ok(line)
+/// Appends a column of the file of that name, by its number from 1 on and its name.
+fn push_column(line: &mut Line, schemas: &[Schema], url: &str, col: usize) {
+    line.push(": column ");
+    line.push_number(col.saturating_add(1));
+    line.push(" ");
+    line.push(column_name(schemas, url, col));
 }
 
-/// The lines of what the publisher of files should look at, as their draft has it.
-pub fn warning_lines(
-    alloc: Global,
-    draft: &Draft,
-    files: &[NamedFile],
-) -> Result<Vec<String>, AllocError> {
+/// The line of a warning of the file of that name: all of it, or a column, or how many there are; and what mends it.
+fn warning_line(alloc: Global, warning: Warning, schemas: &[Schema], url: &str) -> Line {
+    let mut line = Line::new(alloc);
+    line.push_made(cut(alloc, url));
+    match warning {
+        Warning::TwoDates { col, .. } => push_column(&mut line, schemas, url, col),
+        Warning::TooFine { col, .. } => push_column(&mut line, schemas, url, col),
+        Warning::ManyColumns { columns, .. } => {
+            line.push(": left out: ");
+            line.push_number(columns);
+            line.push(" columns");
+        }
+        _ => {}
+    }
+    line.push(hint_of(warning));
+    line
+}
+
+/// Tells what the publisher of files should look at, as their draft has it.
+pub fn warn_of<R>(rt: &R, draft: &Draft, files: &[NamedFile]) -> io::Result<()>
+where
+    R: Eprint + AllocGlobal,
+{
     let schemas = draft.schemas.as_slice();
-    let mut lines = Vec::new(alloc);
     for warning in &draft.warnings {
         if let Some(file) = files.get(file_of(*warning)) {
-            lines.push(warning_line(alloc, *warning, schemas, file.name.as_str())?)?;
+            warn(
+                rt,
+                warning_line(rt.alloc(), *warning, schemas, file.name.as_str()),
+            )?;
         }
     }
-    Ok(lines)
+    Ok(())
 }

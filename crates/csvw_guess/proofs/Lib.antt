@@ -1,3 +1,14 @@
+pub mod TokenLemmas
+pub mod PrettyLemmas
+pub mod DataLemmas
+pub mod FieldLemmas
+pub mod DatatypeLemmas
+pub mod WalkLemmas
+pub mod KeyTextLemmas
+pub mod ColumnLemmas
+pub mod TableLemmas
+pub mod GroupLemmas
+pub mod TextLemmas
 pub mod UrlLemmas
 pub mod MatchLemmas
 pub mod RowLemmas

@@ -12,7 +12,7 @@ use Rattle.csvw_meta.specs.Datatype.{is_bar}
 use Rattle.csvw_meta.specs.Limits.{LimitsOf}
 use Rattle.csvw_meta.specs.Schema.{SchemaOf}
 use Rattle.csvw_meta.specs.Laws.{HasShortDefaults}
-use Rattle.csvw_writer.specs.Laws.{AreFormatTexts, CanBeSaid, HasSaidDatatypes}
+use Rattle.csvw_guess.specs.TextLaws.{AreFormatTexts, CanBeSaid, HasSaidDatatypes}
 use Rattle.table_store.specs.File.{FileOf}
 use Rattle.csvw_guess.specs.Draft.{HaveDrafts, IsDraft}
 use Rattle.csvw_guess.specs.Names.{names_after}

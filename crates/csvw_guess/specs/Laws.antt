@@ -1,6 +1,6 @@
 -- What holds of every draft.
 use Rattle.std.specs.Prelude.{◌≡◌, ◌≤◌, ◌^◌, List, ℕ, IsUtf8, Some, Ok, length}
-use Rattle.csvw_writer.specs.Text.{schemas_text}
+use Rattle.csvw_guess.specs.Text.{schemas_text}
 use Rattle.csvw_meta.specs.Limits.{LimitsOf}
 use Rattle.csvw_meta.specs.Schema.{SchemaOf}
 use Rattle.csvw_meta.specs.Document.{schemas_of}

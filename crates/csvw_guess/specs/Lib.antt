@@ -1,3 +1,8 @@
+pub mod Members
+pub mod ColumnText
+pub mod TableText
+pub mod Text
+pub mod TextLaws
 pub mod Rows
 pub mod Names
 pub mod Table

@@ -1,7 +1,11 @@
-//! The laws of drafts: each function is a theorem, and does nothing.
+//! The laws of drafts and of the text of schemas: each function is a theorem, and does nothing.
 ghost use Rattle.csvw_guess.specs.Laws.{DraftsAreAccepted, DraftsAreServed, DraftsAreWellFormed, DraftsHaveTables};
+ghost use Rattle.csvw_guess.specs.TextLaws.{SchemasReadBack};
 
-use csvw_writer::schemas_read_back;
+/// The text of schemas that metadata can say is read as these schemas.
+pub fn schemas_read_back()
+    ensures { SchemasReadBack }
+{}
 
 /// Each schema of a draft has a table, that of its file.
 pub fn drafts_have_tables()

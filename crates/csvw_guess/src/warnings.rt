@@ -2,10 +2,11 @@
 ghost use Rattle.std.specs.Prelude.{◌<◌, length};
 
 use crate::fault::Warning;
-use cell_types::{CellFault, Column, Datatype, Value, read_cell};
+use cell_types::{CellFault, Column, Datatype, Value};
 use column_types::{Candidates, DAY_FIRST, DECIMAL, MONTH_FIRST};
 use csv_index::IndexedText;
 use csvw_meta::Schema;
+use raw_fields::{Raw, cell_value};
 use std::alloc::{AllocError, Global};
 
 /// The bytes that may part fields in the place of a comma.
@@ -25,8 +26,8 @@ enum Fit {
 }
 
 /// What a cell is to a column.
-fn fit_of(alloc: Global, column: &Column, cell: &str) -> Result<Fit, AllocError> {
-    match read_cell(alloc, column, cell) {
+fn fit_of(alloc: Global, column: &Column, field: Raw<'_>) -> Result<Fit, AllocError> {
+    match cell_value(alloc, column, field) {
         Ok(Value::Null) => Ok(Fit::Nulls),
         Ok(_) => Ok(Fit::Values),
         Err(CellFault::TooFine) => Ok(Fit::TooFine),
@@ -62,8 +63,7 @@ fn column_fit(
     };
     let mut fit = Fit::Nulls;
     for row in 0..file.rows() {
-        let cell = file.cell(row, col).text(alloc)?;
-        fit = joined(fit, fit_of(alloc, column, cell.as_str())?);
+        fit = joined(fit, fit_of(alloc, column, file.cell(row, col))?);
         if let Fit::Others = fit {
             return Ok(fit);
         }
@@ -86,24 +86,6 @@ fn stands_in_each(file: &IndexedText, byte: u8) -> bool
     true
 }
 
-/// Whether the cells of a column are dates, of which the day or the month comes first.
-fn are_two_dates(
-    alloc: Global,
-    candidates: &Candidates,
-    file: &IndexedText,
-    col: usize,
-) -> Result<bool, AllocError>
-    requires { col < length file.now.header }
-{
-    match column_fit(alloc, candidates, DAY_FIRST, file, col)? {
-        Fit::Values => {
-            let fit = column_fit(alloc, candidates, MONTH_FIRST, file, col)?;
-            Ok(matches!(fit, Fit::Values))
-        }
-        _ => Ok(false),
-    }
-}
-
 /// What there is to look at in a column of texts.
 fn text_warning(
     alloc: Global,
@@ -114,8 +96,10 @@ fn text_warning(
 ) -> Result<Option<Warning>, AllocError>
     requires { col < length file.now.header }
 {
-    if are_two_dates(alloc, candidates, file, col)? {
-        return Ok(Some(Warning::TwoDates { file: number, col }));
+    if let Fit::Values = column_fit(alloc, candidates, DAY_FIRST, file, col)? {
+        if let Fit::Values = column_fit(alloc, candidates, MONTH_FIRST, file, col)? {
+            return Ok(Some(Warning::TwoDates { file: number, col }));
+        }
     }
     match column_fit(alloc, candidates, DECIMAL, file, col)? {
         Fit::TooFine => Ok(Some(Warning::TooFine { file: number, col })),
@@ -143,8 +127,7 @@ fn is_data(
     if let Datatype::Text = column.datatype {
         return Ok(false);
     }
-    let cell = file.header(col).text(alloc)?;
-    let fit = fit_of(alloc, column, cell.as_str())?;
+    let fit = fit_of(alloc, column, file.header(col))?;
     Ok(matches!(fit, Fit::Values))
 }
 

@@ -1,10 +1,9 @@
 //! What would be accepted in the place of what is refused.
+use crate::line::Line;
 use crate::show::pattern_of;
-use crate::text::quoted;
 use cell_types::{BooleanForm, CellFault, Column, Datatype};
 use csv_index::TextFault;
 use csvw_meta::MetaFault;
-use std::alloc::{AllocError, Global};
 
 /// What metadata may have there.
 pub fn accepted_metadata(fault: &MetaFault) -> &'static str {
@@ -75,39 +74,28 @@ pub fn accepted_file(fault: TextFault) -> &'static str {
     }
 }
 
-/// What a cell of a datatype may be.
-fn accepted_text(alloc: Global, datatype: &Datatype) -> Result<String, AllocError> {
-    match datatype {
-        Datatype::Integer => String::from_str(
-            alloc,
+/// Appends what a cell of a column may be, where it has no value for that fault.
+pub fn push_accepted_cell(detail: &mut Line, column: &Column, fault: CellFault) {
+    if matches!(fault, CellFault::Missing) {
+        return detail.push("a value, which the column requires");
+    }
+    match &column.datatype {
+        Datatype::Integer => detail.push(
             "digits with a sign or none, from -9223372036854775808 to 9223372036854775807",
         ),
-        Datatype::Text => String::from_str(alloc, "a text"),
-        Datatype::Boolean(BooleanForm::Standard) => String::from_str(alloc, "true, false, 1 or 0"),
+        Datatype::Text => detail.push("a text"),
+        Datatype::Boolean(BooleanForm::Standard) => detail.push("true, false, 1 or 0"),
         Datatype::Boolean(BooleanForm::Texts(of_true, of_false)) => {
-            let of_true = quoted(alloc, of_true.as_str())?;
-            let of_false = quoted(alloc, of_false.as_str())?;
-            format!(in alloc; "{of_true} or {of_false}")
+            detail.push_quoted(of_true.as_str());
+            detail.push(" or ");
+            detail.push_quoted(of_false.as_str());
         }
         Datatype::Date(form) => {
-            let pattern = pattern_of(*form);
-            format!(in alloc; "a day of the calendar as {pattern}")
+            detail.push("a day of the calendar as ");
+            detail.push(pattern_of(*form));
         }
-        Datatype::Decimal => String::from_str(
-            alloc,
+        Datatype::Decimal => detail.push(
             "digits with a sign or none and at most one point, of six decimal places at most",
         ),
-    }
-}
-
-/// What a cell of a column may be, where it has no value for that fault.
-pub fn accepted_cell(
-    alloc: Global,
-    column: &Column,
-    fault: CellFault,
-) -> Result<String, AllocError> {
-    match fault {
-        CellFault::Missing => String::from_str(alloc, "a value, which the column requires"),
-        _ => accepted_text(alloc, &column.datatype),
     }
 }

@@ -22,21 +22,9 @@ pub fn repeated<'v>(earlier: &[Value], value: &'v Value, name: &str) -> Option<&
     let found = member(value, name)?;
     let text = found.as_str()?;
     for other in earlier {
-        if let Some(Value::String(same)) = other.get(name) {
-            if same.as_str() == text {
-                return Some(found);
-            }
+        if matches!(other.get(name), Some(Value::String(same)) if same.as_str() == text) {
+            return Some(found);
         }
     }
     None
-}
-
-/// Whether one of the tables has no schema of its own.
-pub fn want_schema(tables: &[Value]) -> bool {
-    for table in tables {
-        if table.is_object() && member(table, "tableSchema").is_none() {
-            return true;
-        }
-    }
-    false
 }

@@ -5,18 +5,22 @@
 mod accepted;
 mod bounds;
 mod json;
+mod line;
 mod metadata;
 mod place;
 mod probe;
 mod refusal;
+mod report;
 mod rows;
 mod show;
 mod table;
 mod text;
 mod value;
 
+pub use line::Line;
 pub use metadata::metadata_refusals;
 pub use refusal::{MOST_REFUSALS, Refusal, refusal_lines};
+pub use report::Report;
 pub use show::catalog_text;
-pub use table::{table_refusals, text_refusals};
+pub use table::{refuse_table, refuse_text};
 pub use text::cut;

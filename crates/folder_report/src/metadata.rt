@@ -1,8 +1,10 @@
 //! All that is refused of a metadata text, with its path there.
 use crate::accepted::accepted_metadata;
-use crate::json::{array_member, member, repeated, want_schema};
-use crate::probe::{Level, is_bad_key, is_name, member_fault};
+use crate::json::{array_member, member, repeated};
+use crate::line::Line;
+use crate::probe::{Level, is_bad_key, member_fault};
 use crate::refusal::Refusal;
+use crate::report::Report;
 use crate::text::cut;
 use csv_grammar::mark_len;
 use csvw_meta::{MOST_COLUMNS, MOST_TABLES, MetaFault};
@@ -11,276 +13,254 @@ use serde_json::Value;
 use std::alloc::{AllocError, Global};
 use table_store::LoadFault;
 
-/// The refusals of metadata so far.
+/// The refusals of metadata so far, and the path of what is looked at.
 #[derive(Drop)]
 struct Walk {
-    alloc: Global,
-    refusals: Vec<Refusal>,
+    report: Report,
+    path: Line,
 }
 
 impl Walk {
-    /// Notes a fault at a path, where a value stands.
-    fn note(&mut self, fault: MetaFault, path: &str, value: &Value) -> Result<(), AllocError> {
-        let detail = value_detail(self.alloc, accepted_metadata(&fault), path, value)?;
-        let fault = LoadFault::Meta(fault);
-        self.refusals.push(Refusal { fault, detail })?;
-        Ok(())
+    /// Goes to a member of what is looked at. The path had so many bytes.
+    fn enter(&mut self, key: &str) -> usize {
+        let len = self.path.text.len();
+        self.path.push(if len == 0 { "" } else { "." });
+        self.path.push(key);
+        len
     }
 
-    /// Notes a fault of a member of what stands at a path.
-    fn note_member(
-        &mut self,
-        fault: MetaFault,
-        path: &str,
-        key: &str,
-        member: &Value,
-    ) -> Result<(), AllocError> {
-        let place = path_of(self.alloc, path, key)?;
-        self.note(fault, place.as_str(), member)
+    /// Goes to an item of a member. The path had so many bytes.
+    fn enter_item(&mut self, key: &str, i: usize) -> usize {
+        let len = self.enter(key);
+        self.path.push("[");
+        self.path.push_number(i);
+        self.path.push("]");
+        len
     }
 
-    /// Notes a member or a datatype that is not served.
-    fn note_unsupported(&mut self, key: &str, path: &str, value: &Value) -> Result<(), AllocError> {
-        let key = String::from_str(self.alloc, key)?;
-        self.note(MetaFault::Unsupported { key }, path, value)
+    /// Refuses the value that is looked at.
+    fn refuse(&mut self, fault: MetaFault, value: &Value) {
+        let alloc = self.report.alloc;
+        let mut detail = Line::new(alloc);
+        match self.path.text.as_str() {
+            "" => detail.push("all of it"),
+            path => detail.push_made(escaped(alloc, path)),
+        }
+        detail.push(": ");
+        match value.to_string(alloc) {
+            Ok(json) => detail.push_made(cut(alloc, json.as_str())),
+            Err(_) => detail.is_short = true,
+        }
+        detail.push("; accepted: ");
+        detail.push(accepted_metadata(&fault));
+        self.report.refuse(LoadFault::Meta(fault), detail);
+    }
+
+    /// Refuses a member of what is looked at.
+    fn refuse_member(&mut self, fault: MetaFault, key: &str, member: &Value) {
+        let len = self.enter(key);
+        self.refuse(fault, member);
+        self.path.shorten(len);
+    }
+
+    /// Refuses a member or a datatype that is not served.
+    fn refuse_unsupported(&mut self, key: &str, value: &Value) {
+        let key = self.report.owned(key);
+        self.refuse(MetaFault::Unsupported { key }, value);
     }
 
     /// The members of a level, each by itself.
-    fn members(&mut self, level: Level, path: &str, value: &Value) -> Result<(), AllocError> {
+    fn members(&mut self, level: Level, value: &Value) {
         let Some(members) = value.as_object() else {
-            return Ok(());
+            return;
         };
         for (key, member) in members {
-            if let Some(fault) = member_fault(self.alloc, level, key.as_str(), member)? {
-                self.note_member(fault, path, key.as_str(), member)?;
+            match member_fault(self.report.alloc, level, key.as_str(), member) {
+                Ok(Some(fault)) => self.refuse_member(fault, key.as_str(), member),
+                Ok(None) => {}
+                Err(_) => self.report.is_short = true,
             }
         }
-        Ok(())
     }
 
     /// A column after the earlier ones.
-    fn column(&mut self, earlier: &[Value], path: &str, column: &Value) -> Result<(), AllocError> {
+    fn column(&mut self, earlier: &[Value], column: &Value) {
         if !column.is_object() {
-            return self.note(MetaFault::NotObject, path, column);
+            return self.refuse(MetaFault::NotObject, column);
         }
         if member(column, "name").is_none() {
-            self.note_unsupported("name", path, column)?;
+            self.refuse_unsupported("name", column);
         }
-        self.members(Level::Column, path, column)?;
-        match repeated(earlier, column, "name") {
-            Some(name) => self.note_member(MetaFault::DuplicateName, path, "name", name),
-            None => Ok(()),
+        self.members(Level::Column, column);
+        if let Some(name) = repeated(earlier, column, "name") {
+            self.refuse_member(MetaFault::DuplicateName, "name", name);
         }
     }
 
     /// The columns of a schema.
-    fn columns(&mut self, path: &str, schema: &Value) -> Result<(), AllocError> {
+    fn columns(&mut self, schema: &Value) {
         let columns = array_member(schema, "columns");
         if columns.is_empty() {
-            return self.note(MetaFault::NoColumns, path, schema);
+            return self.refuse(MetaFault::NoColumns, schema);
         }
         if columns.len() > MOST_COLUMNS as usize {
-            self.note_member(MetaFault::TooManyColumns, path, "columns", schema)?;
+            self.refuse_member(MetaFault::TooManyColumns, "columns", schema);
         }
         for (i, column) in columns.iter().enumerate() {
-            let place = item_path(self.alloc, path, "columns", i)?;
-            self.column(&columns[..i], place.as_str(), column)?;
+            let len = self.enter_item("columns", i);
+            self.column(&columns[..i], column);
+            self.path.shorten(len);
         }
-        Ok(())
     }
 
     /// The key of a schema.
-    fn key(&mut self, path: &str, schema: &Value) -> Result<(), AllocError> {
+    fn key(&mut self, schema: &Value) {
         let Some(key) = member(schema, "primaryKey") else {
-            return Ok(());
+            return;
         };
-        let columns = named_columns(self.alloc, array_member(schema, "columns"))?;
-        if is_bad_key(self.alloc, columns.as_str(), key)? {
-            self.note_member(MetaFault::BadKey, path, "primaryKey", key)?;
+        let columns = named_columns(self.report.alloc, array_member(schema, "columns"));
+        match is_bad_key(&columns, key) {
+            Ok(true) => self.refuse_member(MetaFault::BadKey, "primaryKey", key),
+            Ok(false) => {}
+            Err(_) => self.report.is_short = true,
         }
-        Ok(())
     }
 
     /// A schema.
-    fn schema(&mut self, path: &str, schema: &Value) -> Result<(), AllocError> {
+    fn schema(&mut self, schema: &Value) {
         if schema.is_string() {
-            return self.note_unsupported("tableSchema", path, schema);
+            return self.refuse_unsupported("tableSchema", schema);
         }
         if !schema.is_object() {
-            return self.note(MetaFault::NoColumns, path, schema);
+            return self.refuse(MetaFault::NoColumns, schema);
         }
-        self.members(Level::Schema, path, schema)?;
-        self.columns(path, schema)?;
-        self.key(path, schema)
+        self.members(Level::Schema, schema);
+        self.columns(schema);
+        self.key(schema);
+    }
+
+    /// A schema that is a member of what is looked at.
+    fn schema_member(&mut self, schema: &Value) {
+        let len = self.enter("tableSchema");
+        self.schema(schema);
+        self.path.shorten(len);
     }
 
     /// The schema of a table, or that of its group in its place.
-    fn table_schema(&mut self, group: &Value, path: &str, table: &Value) -> Result<(), AllocError> {
+    fn table_schema(&mut self, group: &Value, table: &Value) {
         if let Some(schema) = member(table, "tableSchema") {
-            let place = path_of(self.alloc, path, "tableSchema")?;
-            return self.schema(place.as_str(), schema);
+            return self.schema_member(schema);
         }
         if member(group, "tableSchema").is_none() {
-            return self.note(MetaFault::NoColumns, path, table);
+            self.refuse(MetaFault::NoColumns, table);
         }
-        Ok(())
     }
 
     /// A table after the earlier ones of its group.
-    fn table(
-        &mut self,
-        group: &Value,
-        earlier: &[Value],
-        path: &str,
-        table: &Value,
-    ) -> Result<(), AllocError> {
+    fn table(&mut self, group: &Value, earlier: &[Value], table: &Value) {
         if !table.is_object() {
-            return self.note(MetaFault::NotObject, path, table);
+            return self.refuse(MetaFault::NotObject, table);
         }
         if member(table, "url").is_none() {
-            self.note(MetaFault::BadUrl, path, table)?;
+            self.refuse(MetaFault::BadUrl, table);
         }
         if let Some(url) = repeated(earlier, table, "url") {
-            self.note_member(MetaFault::DuplicateUrl, path, "url", url)?;
+            self.refuse_member(MetaFault::DuplicateUrl, "url", url);
         }
-        self.members(Level::Table, path, table)?;
-        self.table_schema(group, path, table)
+        self.members(Level::Table, table);
+        self.table_schema(group, table);
     }
 
     /// A group of tables.
-    fn group(&mut self, group: &Value) -> Result<(), AllocError> {
+    fn group(&mut self, group: &Value) {
         let tables = array_member(group, "tables");
         if tables.is_empty() {
-            return self.note(MetaFault::NoTables, "tables", group);
+            return self.refuse_member(MetaFault::NoTables, "tables", group);
         }
         if tables.len() > MOST_TABLES as usize {
-            self.note(MetaFault::TooManyTables, "tables", group)?;
+            self.refuse_member(MetaFault::TooManyTables, "tables", group);
         }
-        self.members(Level::Group, "", group)?;
+        self.members(Level::Group, group);
         if let Some(schema) = member(group, "tableSchema") {
-            if want_schema(tables) {
-                self.schema("tableSchema", schema)?;
+            if tables.iter().any(|table| table.is_object()
+                && member(table, "tableSchema").is_none())
+            {
+                self.schema_member(schema);
             }
         }
         for (i, table) in tables.iter().enumerate() {
-            let place = item_path(self.alloc, "", "tables", i)?;
-            self.table(group, &tables[..i], place.as_str(), table)?;
+            let len = self.enter_item("tables", i);
+            self.table(group, &tables[..i], table);
+            self.path.shorten(len);
         }
-        Ok(())
     }
 
     /// Metadata.
-    fn metadata(&mut self, metadata: &Value) -> Result<(), AllocError> {
+    fn metadata(&mut self, metadata: &Value) {
         if !metadata.is_object() {
-            return self.note(MetaFault::NotObject, "", metadata);
+            return self.refuse(MetaFault::NotObject, metadata);
         }
         if member(metadata, "tables").is_some() {
             return self.group(metadata);
         }
         if member(metadata, "url").is_none() {
-            return self.note(MetaFault::NoTables, "", metadata);
+            return self.refuse(MetaFault::NoTables, metadata);
         }
-        self.table(&Value::Null, &[], "", metadata)
+        self.table(&Value::Null, &[], metadata);
     }
 
     /// A text that is no JSON text, with the place where it ends to be one.
-    fn no_json(&mut self, error: &serde_json::Error) -> Result<(), AllocError> {
-        let line = error.line();
-        let column = error.column();
-        let accepted = accepted_metadata(&MetaFault::NotJson);
-        let detail = format!(in self.alloc; "line {line}, column {column}; accepted: {accepted}")?;
-        let fault = LoadFault::Meta(MetaFault::NotJson);
-        self.refusals.push(Refusal { fault, detail })?;
-        Ok(())
+    fn no_json(&mut self, error: &serde_json::Error) {
+        let mut detail = Line::of_column(self.report.alloc, error.line(), error.column());
+        detail.push("; accepted: ");
+        detail.push(accepted_metadata(&MetaFault::NotJson));
+        self.report
+            .refuse(LoadFault::Meta(MetaFault::NotJson), detail);
     }
 }
 
-/// A path on one line.
-fn shown_path(alloc: Global, path: &str) -> Result<String, AllocError> {
-    if path.is_empty() {
-        return String::from_str(alloc, "all of it");
-    }
-    escaped(alloc, path)
-}
-
-/// What is told of a value at a path, in the place of which something else would be accepted.
-fn value_detail(
-    alloc: Global,
-    accepted: &str,
-    path: &str,
-    value: &Value,
-) -> Result<String, AllocError> {
-    let path = shown_path(alloc, path)?;
-    let json = value.to_string(alloc)?;
-    let json = cut(alloc, json.as_str())?;
-    format!(in alloc; "{path}: {json}; accepted: {accepted}")
-}
-
-/// A sign, or nothing where nothing stands before it.
-fn after(text: &str, sign: &'static str) -> &'static str {
-    if text.is_empty() { "" } else { sign }
-}
-
-/// Appends a column of that name.
-fn push_column(alloc: Global, text: &mut String, name: &Value) -> Result<(), AllocError> {
-    text.push_str(after(text.as_str(), ","))?;
-    text.push_str("{\"name\":")?;
-    let json = name.to_string(alloc)?;
-    text.push_str(json.as_str())?;
-    text.push_str("}")
-}
-
-/// The name of a column, where it is a name that no earlier column has.
-fn new_name<'v>(
-    alloc: Global,
-    earlier: &[Value],
-    column: &'v Value,
-) -> Result<Option<&'v Value>, AllocError> {
-    if repeated(earlier, column, "name").is_some() {
-        return Ok(None);
-    }
+/// Appends the column of a name, where it has one that no earlier column has.
+fn push_named(named: &mut Line, earlier: &[Value], column: &Value) {
+    let alloc = named.alloc;
+    let comma = if named.text.len() == 0 { "" } else { "," };
     let Some(name) = member(column, "name") else {
-        return Ok(None);
+        return;
     };
-    if is_name(alloc, name)? {
-        return Ok(Some(name));
+    if repeated(earlier, column, "name").is_some() {
+        return;
     }
-    Ok(None)
+    match member_fault(alloc, Level::Column, "name", name) {
+        Ok(None) => {
+            named.push(comma);
+            named.push("{\"name\":");
+            named.push_made(name.to_string(alloc));
+            named.push("}");
+        }
+        Ok(_) => {}
+        Err(_) => named.is_short = true,
+    }
 }
 
 /// Columns of those names that are names, each once.
-fn named_columns(alloc: Global, columns: &[Value]) -> Result<String, AllocError> {
-    let mut text = String::new(alloc);
+fn named_columns(alloc: Global, columns: &[Value]) -> Line {
+    let mut named = Line::new(alloc);
     for (i, column) in columns.iter().enumerate() {
-        if let Some(name) = new_name(alloc, &columns[..i], column)? {
-            push_column(alloc, &mut text, name)?;
-        }
+        push_named(&mut named, &columns[..i], column);
     }
-    Ok(text)
-}
-
-/// The path of a member.
-fn path_of(alloc: Global, path: &str, key: &str) -> Result<String, AllocError> {
-    let point = after(path, ".");
-    format!(in alloc; "{path}{point}{key}")
-}
-
-/// The path of an item of a member.
-fn item_path(alloc: Global, path: &str, key: &str, i: usize) -> Result<String, AllocError> {
-    let member = path_of(alloc, path, key)?;
-    format!(in alloc; "{member}[{i}]")
+    named
 }
 
 /// All that is refused of a metadata text, each with its path there, what stands at it, and what would be accepted.
 pub fn metadata_refusals(alloc: Global, bytes: &[u8]) -> Result<Vec<Refusal>, AllocError> {
     let mut walk = Walk {
-        alloc,
-        refusals: Vec::new(alloc),
+        report: Report::new(alloc),
+        path: Line::new(alloc),
     };
     match Value::from_slice(alloc, &bytes[mark_len(bytes)..]) {
-        Ok(value) => walk.metadata(&value)?,
-        Err(error) if error.is_memory() => return Err(AllocError),
-        Err(error) => walk.no_json(&error)?,
+        Ok(value) => walk.metadata(&value),
+        Err(error) if error.is_memory() => walk.report.is_short = true,
+        Err(error) => walk.no_json(&error),
     }
-    Ok(walk.refusals)
+    walk.report.is_short = walk.report.is_short || walk.path.is_short;
+    walk.report.end()
 }

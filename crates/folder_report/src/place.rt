@@ -3,13 +3,7 @@ ghost use Rattle.std.specs.Prelude.{◌≤◌, length};
 
 /// How many line feeds stand in a text.
 pub fn line_feeds(bytes: &[u8]) -> usize {
-    let mut count: usize = 0;
-    for byte in bytes {
-        if *byte == b'\n' {
-            count = count.saturating_add(1);
-        }
-    }
-    count
+    bytes.iter().filter(|byte| **byte == b'\n').count()
 }
 
 /// The line in which the byte at a place stands.
@@ -64,9 +58,7 @@ pub fn record_line(bytes: &[u8], number: usize) -> usize {
         line: 1,
     };
     for _before in 0..number {
-        if records.next_record().is_none() {
-            return records.line;
-        }
+        let _ = records.next_record();
     }
     records.line
 }

@@ -1,4 +1,5 @@
 //! What is wrong with a part of metadata, told by metadata that is right but for that part.
+use crate::line::Line;
 use csvw_meta::{Limits, MetaFault, Schemas};
 use serde_json::Value;
 use std::alloc::{AllocError, Global};
@@ -14,8 +15,7 @@ pub enum Level {
 
 /// A text as a JSON text.
 fn json_text(alloc: Global, text: &str) -> Result<String, AllocError> {
-    let value = Value::String(String::from_str(alloc, text)?);
-    value.to_string(alloc)
+    Value::String(String::from_str(alloc, text)?).to_string(alloc)
 }
 
 // Metadata of one table with one column, as far as a further member of a group, of the table, of its schema and of the column.
@@ -39,21 +39,24 @@ fn around(level: Level) -> (&'static str, &'static str) {
 }
 
 /// Metadata of one table with one column that has that member at a level.
-fn with_member(
-    alloc: Global,
-    level: Level,
-    key: &str,
-    value: &Value,
-) -> Result<String, AllocError> {
-    let name = json_text(alloc, key)?;
-    let json = value.to_string(alloc)?;
+fn with_member(alloc: Global, level: Level, key: &str, value: &Value) -> Line {
     let (front, end) = around(level);
-    format!(in alloc; "{front}{name}:{json}{end}")
+    let mut metadata = Line::new(alloc);
+    metadata.push(front);
+    metadata.push_made(json_text(alloc, key));
+    metadata.push(":");
+    metadata.push_made(value.to_string(alloc));
+    metadata.push(end);
+    metadata
 }
 
 /// What is wrong with metadata.
-fn fault_of(alloc: Global, metadata: &str) -> Result<Option<MetaFault>, AllocError> {
-    match Schemas::read(alloc, metadata.as_bytes(), &Limits::greatest()) {
+fn fault_of(metadata: &Line) -> Result<Option<MetaFault>, AllocError> {
+    if metadata.is_short {
+        return Err(AllocError);
+    }
+    let bytes = metadata.text.as_str().as_bytes();
+    match Schemas::read(metadata.alloc, bytes, &Limits::greatest()) {
         Ok(_) => Ok(None),
         Err(MetaFault::NoMemory) => Err(AllocError),
         Err(fault) => Ok(Some(fault)),
@@ -61,13 +64,16 @@ fn fault_of(alloc: Global, metadata: &str) -> Result<Option<MetaFault>, AllocErr
 }
 
 /// Whether a key is none of a table with those columns.
-pub fn is_bad_key(alloc: Global, columns: &str, key: &Value) -> Result<bool, AllocError> {
-    let key = key.to_string(alloc)?;
-    let metadata = format!(in alloc;
-        "{{\"url\":\"a.csv\",\"tableSchema\":{{\"columns\":[{columns}],\"primaryKey\":{key}}}}}"
-    )?;
-    let fault = fault_of(alloc, metadata.as_str())?;
-    Ok(matches!(fault, Some(MetaFault::BadKey)))
+pub fn is_bad_key(columns: &Line, key: &Value) -> Result<bool, AllocError> {
+    let alloc = columns.alloc;
+    let mut metadata = Line::new(alloc);
+    metadata.is_short = columns.is_short;
+    metadata.push("{\"url\":\"a.csv\",\"tableSchema\":{\"columns\":[");
+    metadata.push(columns.text.as_str());
+    metadata.push("],\"primaryKey\":");
+    metadata.push_made(key.to_string(alloc));
+    metadata.push("}}");
+    Ok(matches!(fault_of(&metadata)?, Some(MetaFault::BadKey)))
 }
 
 /// What is wrong with a member of a level, whatever stands around it. Members that hold levels of their own are not looked into.
@@ -77,15 +83,8 @@ pub fn member_fault(
     key: &str,
     value: &Value,
 ) -> Result<Option<MetaFault>, AllocError> {
-    if matches!(key, "tables" | "tableSchema" | "columns" | "primaryKey") {
-        return Ok(None);
+    match key {
+        "tables" | "tableSchema" | "columns" | "primaryKey" => Ok(None),
+        _ => fault_of(&with_member(alloc, level, key, value)),
     }
-    let metadata = with_member(alloc, level, key, value)?;
-    fault_of(alloc, metadata.as_str())
-}
-
-/// Whether a value is a name of a column.
-pub fn is_name(alloc: Global, value: &Value) -> Result<bool, AllocError> {
-    let fault = member_fault(alloc, Level::Column, "name", value)?;
-    Ok(matches!(fault, None))
 }

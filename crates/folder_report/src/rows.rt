@@ -2,10 +2,10 @@
 ghost use Rattle.std.specs.Prelude.{◌<◌};
 ghost use Rattle.csv_index.specs.Index.{FitsFile};
 
-use crate::accepted::accepted_cell;
+use crate::accepted::push_accepted_cell;
+use crate::line::Line;
 use crate::place::{line_feeds, record_line};
-use crate::refusal::{MOST_REFUSALS, Refusal};
-use crate::text::quoted;
+use crate::report::Report;
 use crate::value::push_value;
 use cell_types::{CellFault, Column, Value};
 use csv_index::{Fields, Index, Raw};
@@ -15,16 +15,17 @@ use std::alloc::{AllocError, Global};
 use std::collections::BTreeMap;
 use table_store::LoadFault;
 
-/// The value of a field in a column, or why it has none.
+/// The value of a field in a column, or why it has none. Want of memory is kept in the report.
 fn value_in<'f>(
-    alloc: Global,
+    report: &mut Report,
     column: &Column,
     raw: Raw<'f>,
-) -> Result<Result<Value<'f>, CellFault>, AllocError> {
-    match cell_value(alloc, column, raw) {
-        Err(CellFault::NoMemory) => Err(AllocError),
-        found => Ok(found),
+) -> Result<Value<'f>, CellFault> {
+    let found = cell_value(report.alloc, column, raw);
+    if let Err(CellFault::NoMemory) = found {
+        report.is_short = true;
     }
+    found
 }
 
 /// What is told of a cell of a column that has no value, by its line and its column's number.
@@ -32,90 +33,93 @@ fn cell_detail(
     alloc: Global,
     column: &Column,
     (line, number): (usize, usize),
-    raw: Raw<'_>,
+    field: Raw<'_>,
     fault: CellFault,
-) -> Result<String, AllocError> {
-    let name = column.name.as_str();
-    let said = raw.text(alloc)?;
-    let shown = quoted(alloc, said.as_str())?;
-    let accepted = accepted_cell(alloc, column, fault)?;
-    format!(in alloc; "line {line}, column {number} {name}: {shown}; accepted: {accepted}")
+) -> Line {
+    let mut detail = Line::of_column(alloc, line, number);
+    detail.push(" ");
+    detail.push(column.name.as_str());
+    detail.push(": ");
+    match field.text(alloc) {
+        Ok(text) => detail.push_quoted(text.as_str()),
+        Err(_) => detail.is_short = true,
+    }
+    detail.push("; accepted: ");
+    push_accepted_cell(&mut detail, column, fault);
+    detail
 }
 
-/// Adds the cells of a row that have no value. The row's fields are the next of those that are left.
-fn push_row(
+/// Adds the refusals of the cells of a row that have no value. The row's fields are the next of those that are left.
+fn refuse_row(
+    report: &mut Report,
     schema: &Schema,
     text: &str,
     row: usize,
     fields: &mut Fields<'_, '_>,
-    refusals: &mut Vec<Refusal>,
-) -> Result<(), AllocError> {
-    let alloc = *refusals.allocator();
+) {
     let mut before: usize = 0;
     for (col, column) in schema.columns.iter().enumerate() {
-        let Some(raw) = fields.next_field() else {
-            return Ok(());
+        let Some(field) = fields.next_field() else {
+            return;
         };
-        if let Err(fault) = value_in(alloc, column, raw)? {
-            let line = record_line(text.as_bytes(), row.saturating_add(1)).saturating_add(before);
+        if let Err(fault) = value_in(report, column, field) {
+            let line = line_of(text, row).saturating_add(before);
             let place = (line, col.saturating_add(1));
-            let detail = cell_detail(alloc, column, place, raw, fault)?;
-            let table = schema.url.clone()?;
+            let detail = cell_detail(report.alloc, column, place, field, fault);
+            let table = report.owned(schema.url.as_str());
             let fault = LoadFault::Cell {
                 table,
                 row,
                 col,
                 fault,
             };
-            refusals.push(Refusal { fault, detail })?;
+            report.refuse(fault, detail);
         }
-        before = before.saturating_add(line_feeds(raw.bytes.as_bytes()));
+        before = before.saturating_add(line_feeds(field.bytes.as_bytes()));
     }
-    Ok(())
 }
 
-/// The first cells of a table, row by row, that have no value.
-pub fn cell_refusals(
-    alloc: Global,
-    schema: &Schema,
-    text: &str,
-    index: &Index,
-) -> Result<Vec<Refusal>, AllocError>
+/// Adds the refusals of the first cells of a table, row by row, that have no value.
+pub fn refuse_cells(report: &mut Report, schema: &Schema, text: &str, index: &Index)
     requires { FitsFile index.now text.now }
 {
-    let mut refusals = Vec::new(alloc);
     let mut fields = index.fields(text, 0);
     for row in 0..index.rows() {
-        push_row(schema, text, row, &mut fields, &mut refusals)?;
-        if refusals.len() >= MOST_REFUSALS {
-            return Ok(refusals);
+        refuse_row(report, schema, text, row, &mut fields);
+        if report.is_full() {
+            return;
         }
     }
-    Ok(refusals)
+}
+
+/// The line in which a row begins.
+fn line_of(text: &str, row: usize) -> usize {
+    record_line(text.as_bytes(), row.saturating_add(1))
 }
 
 /// The values that a row has in the columns of the key.
 fn key_of<'f>(
-    alloc: Global,
+    report: &mut Report,
     schema: &Schema,
     text: &'f str,
     index: &Index,
     row: usize,
-) -> Result<Vec<Value<'f>>, AllocError>
+) -> Vec<Value<'f>>
     requires bytes { FitsFile index.now text.now }
     requires row { row < index.now.rows }
 {
-    let mut key = Vec::new(alloc);
+    let mut key = Vec::new(report.alloc);
     for place in &schema.key {
-        let Some(column) = schema.columns.get(*place) else {
-            continue;
-        };
-        if *place < index.width() {
-            let found = value_in(alloc, column, index.cell(text, row, *place))?;
-            key.push(found.unwrap_or(Value::Null))?;
+        if let Some(column) = schema.columns.get(*place) {
+            if *place < index.width() {
+                let found = value_in(report, column, index.cell(text, row, *place));
+                if key.push(found.unwrap_or(Value::Null)).is_err() {
+                    report.is_short = true;
+                }
+            }
         }
     }
-    Ok(key)
+    key
 }
 
 /// A key as the texts of its values.
@@ -130,132 +134,83 @@ fn key_text(alloc: Global, key: &[Value<'_>]) -> Result<String, AllocError> {
     String::from_utf8_lossy(alloc, text.as_slice())
 }
 
-/// The names of the columns of the key.
-fn key_names(alloc: Global, schema: &Schema) -> Result<String, AllocError> {
-    let mut names = String::new(alloc);
-    for col in &schema.key {
-        if !names.is_empty() {
-            names.push_str(", ")?;
+/// Appends the names of the columns of the key.
+fn push_names(detail: &mut Line, schema: &Schema) {
+    for (place, col) in schema.key.iter().enumerate() {
+        if place > 0 {
+            detail.push(", ");
         }
         if let Some(column) = schema.columns.get(*col) {
-            names.push_str(column.name.as_str())?;
+            detail.push(column.name.as_str());
         }
     }
-    Ok(names)
 }
 
 /// What is told of the key of a row, with the line in which that begins.
-fn key_line(
-    alloc: Global,
-    schema: &Schema,
-    text: &str,
-    row: usize,
-    key: &[Value<'_>],
-) -> Result<String, AllocError> {
-    let line = record_line(text.as_bytes(), row.saturating_add(1));
-    let names = key_names(alloc, schema)?;
-    let key = key_text(alloc, key)?;
-    format!(in alloc; "line {line}, key {names}: {key}")
+fn key_detail(alloc: Global, schema: &Schema, text: &str, row: usize, key: &[Value<'_>]) -> Line {
+    let mut detail = Line::of_line(alloc, line_of(text, row));
+    detail.push(", key ");
+    push_names(&mut detail, schema);
+    detail.push(": ");
+    detail.push_made(key_text(alloc, key));
+    detail
 }
 
-/// A row whose key has a null.
-fn null_refusal(
-    alloc: Global,
-    schema: &Schema,
-    text: &str,
-    row: usize,
-    key: &[Value<'_>],
-) -> Result<Refusal, AllocError> {
-    let mut detail = key_line(alloc, schema, text, row, key)?;
-    detail.push_str("; accepted: a value in each column of the key")?;
-    let table = schema.url.clone()?;
-    let fault = LoadFault::KeyNull { table, row };
-    Ok(Refusal { fault, detail })
+/// Adds the refusal of a row whose key has a null.
+fn refuse_null(report: &mut Report, schema: &Schema, text: &str, row: usize, key: &[Value<'_>]) {
+    let mut detail = key_detail(report.alloc, schema, text, row, key);
+    detail.push("; accepted: a value in each column of the key");
+    let table = report.owned(schema.url.as_str());
+    report.refuse(LoadFault::KeyNull { table, row }, detail);
 }
 
-/// A row whose key is that of an earlier row, by the numbers of both.
-fn twice_refusal(
-    alloc: Global,
+/// Adds the refusals of the first rows of a table whose key has a null.
+pub fn refuse_nulls(report: &mut Report, schema: &Schema, text: &str, index: &Index)
+    requires { FitsFile index.now text.now }
+{
+    for row in 0..index.rows() {
+        let key = key_of(report, schema, text, index, row);
+        if key.iter().any(|value| matches!(value, Value::Null)) {
+            refuse_null(report, schema, text, row, key.as_slice());
+        }
+        if report.is_full() {
+            return;
+        }
+    }
+}
+
+/// Adds the refusal of a row whose key is that of an earlier row, by the numbers of both.
+fn refuse_again(
+    report: &mut Report,
     schema: &Schema,
     text: &str,
     (earlier, row): (usize, usize),
     key: &[Value<'_>],
-) -> Result<Refusal, AllocError> {
-    let key = key_line(alloc, schema, text, row, key)?;
-    let line = record_line(text.as_bytes(), earlier.saturating_add(1));
-    let detail = format!(in alloc;
-        "{key} is the key of row {earlier}, line {line}, too; accepted: a key that no other row has"
-    )?;
-    let table = schema.url.clone()?;
-    let fault = LoadFault::KeyTwice { table, row };
-    Ok(Refusal { fault, detail })
+) {
+    let mut detail = key_detail(report.alloc, schema, text, row, key);
+    detail.push(" is the key of row ");
+    detail.push_number(earlier);
+    detail.push(", line ");
+    detail.push_number(line_of(text, earlier));
+    detail.push(", too; accepted: a key that no other row has");
+    let table = report.owned(schema.url.as_str());
+    report.refuse(LoadFault::KeyTwice { table, row }, detail);
 }
 
-/// Whether one of the values is null.
-fn have_null(values: &[Value<'_>]) -> bool {
-    for value in values {
-        if matches!(value, Value::Null) {
-            return true;
-        }
-    }
-    false
-}
-
-/// The first rows of a table whose key has a null.
-pub fn null_refusals(
-    alloc: Global,
-    schema: &Schema,
-    text: &str,
-    index: &Index,
-) -> Result<Vec<Refusal>, AllocError>
+/// Adds the refusals of the first rows of a table whose key is that of an earlier row.
+pub fn refuse_twice(report: &mut Report, schema: &Schema, text: &str, index: &Index)
     requires { FitsFile index.now text.now }
 {
-    let mut refusals = Vec::new(alloc);
+    let mut keys: BTreeMap<Vec<Value<'_>>, usize> = BTreeMap::new(report.alloc);
     for row in 0..index.rows() {
-        let key = key_of(alloc, schema, text, index, row)?;
-        if have_null(key.as_slice()) {
-            refusals.push(null_refusal(alloc, schema, text, row, key.as_slice())?)?;
+        let key = key_of(report, schema, text, index, row);
+        if let Some(earlier) = keys.get(&key) {
+            refuse_again(report, schema, text, (*earlier, row), key.as_slice());
+        } else if keys.insert(key, row).is_err() {
+            report.is_short = true;
         }
-        if refusals.len() >= MOST_REFUSALS {
-            return Ok(refusals);
-        }
-    }
-    Ok(refusals)
-}
-
-/// The earlier row that has the key of a row, with the key; where there is none, the key is kept with the row.
-fn earlier_row<'f>(
-    keys: &mut BTreeMap<Vec<Value<'f>>, usize>,
-    key: Vec<Value<'f>>,
-    row: usize,
-) -> Result<Option<(usize, Vec<Value<'f>>)>, AllocError> {
-    if let Some(earlier) = keys.get(&key) {
-        return Ok(Some((*earlier, key)));
-    }
-    keys.insert(key, row)?;
-    Ok(None)
-}
-
-/// The first rows of a table whose key is that of an earlier row.
-pub fn twice_refusals(
-    alloc: Global,
-    schema: &Schema,
-    text: &str,
-    index: &Index,
-) -> Result<Vec<Refusal>, AllocError>
-    requires { FitsFile index.now text.now }
-{
-    let mut refusals = Vec::new(alloc);
-    let mut keys: BTreeMap<Vec<Value<'_>>, usize> = BTreeMap::new(alloc);
-    for row in 0..index.rows() {
-        let key = key_of(alloc, schema, text, index, row)?;
-        if let Some((earlier, key)) = earlier_row(&mut keys, key, row)? {
-            let both = (earlier, row);
-            refusals.push(twice_refusal(alloc, schema, text, both, key.as_slice())?)?;
-        }
-        if refusals.len() >= MOST_REFUSALS {
-            return Ok(refusals);
+        if report.is_full() {
+            break;
         }
     }
-    Ok(refusals)
 }

@@ -9,7 +9,7 @@ use Rattle.http_heads.proofs.ListLaws.{AllZip-append}
 use Rattle.odata_http.specs.declared.answer.AnswerFault.{AnswerFault}
 use Rattle.odata_http.specs.declared.answer.AnswerFault.TheVariants.{NoMemory}
 use Rattle.odata_http.specs.Reply.{rest_reply}
-use Rattle.odata_http.specs.Replies.{last_reply}
+use Rattle.odata_http.proofs.RepliesLemmas.{last_some}
 use Rattle.odata_http.specs.Answer.{TakesAll, AnswersAll, AnswersSome, FailsOnRest, IsTakenIn, IsRestAnswered}
 
 takes_snoc : {S : Type 0} (T : S → List ℕ → Result (Unit {0}) AnswerFault → S → Type 0) (a : S) (rs : List (List ℕ)) (b : S) (r : List ℕ) (d : S)
@@ -87,10 +87,6 @@ rest_none T found (b ∷ rest) a e none =
 pub rest_long : {A : Type 0} {found : Option A} {x : A} (rest : List ℕ) → (IsSome found ↔ (0 < length rest)) → found ≡ Some x → 0 < length rest
 rest_long {A} {found} {x} rest e is = e.0 (rw is refl)
 
-last_long : (rest : List ℕ) → 0 < length rest → last_reply rest ≡ rest_reply
-last_long [] long = absurd (omega (arith, long))
-last_long (b ∷ rest) long = refl
-
 pub rest_some : {S : Type 0} (T : S → List ℕ → Result (Unit {0}) AnswerFault → S → Type 0) (rest : List ℕ) (a b : S)
     → 0 < length rest → T a rest_reply (Ok tt) b → IsRestAnswered T rest a b (Ok true)
 rest_some T [] a b long took = absurd (omega (arith, long))
@@ -102,7 +98,7 @@ rest_unmade T rest a fault long want = record { some = long; stop = inl (record 
 
 pub rest_untaken : {S : Type 0} (T : S → List ℕ → Result (Unit {0}) AnswerFault → S → Type 0) (rest : List ℕ) (a b : S) (fault : AnswerFault)
     → 0 < length rest → T a rest_reply (Err fault) b → FailsOnRest T rest fault a b
-rest_untaken T rest a b fault long failed = record { some = long; stop = inr (rw (last_long rest long) failed) }
+rest_untaken T rest a b fault long failed = record { some = long; stop = inr (rw (last_some rest long) failed) }
 
 -- the fault of a rest, whatever its bytes are
 pub rest_failed : {S : Type 0} (T : S → List ℕ → Result (Unit {0}) AnswerFault → S → Type 0) (rest : List ℕ) (a b : S) (fault : AnswerFault)

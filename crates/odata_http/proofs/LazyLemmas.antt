@@ -1,5 +1,5 @@
 -- An exchange call by call, before its reply is laid down and after.
-use Rattle.std.proofs.Common.{◌≡◌, ◌<◌, ◌≤◌, ◌+◌, ◌-◌, ℕ, List, Ok, refl, sym, subst, arith}
+use Rattle.std.proofs.Common.{◌≡◌, ◌<◌, ◌+◌, ◌-◌, ℕ, List, Ok, sym, subst, arith}
 use Rattle.table_store.specs.Catalog.{CatalogOf}
 use Rattle.odata_request.specs.Request.{RequestOf, refused, rows, service}
 use Rattle.http_heads.specs.Head.{HeadOf}
@@ -9,7 +9,7 @@ use Rattle.odata_http.specs.declared.exchange.Exchange.{Exchange}
 use Rattle.odata_http.specs.declared.lazy.LazyExchange.{LazyExchange}
 use Rattle.odata_http.specs.declared.work.Work.{Work}
 use Rattle.odata_http.specs.declared.work.Work.TheVariants.{Refuse, ListTables, Find, Read, Waits, Replied, Failed}
-use Rattle.odata_http.specs.Exchange.{Answers, Begins, GivesReply, GoesOn, IsReplied, IsWork, MayGoOn, answers as stands, done as gave, failed as lacked, most_calls}
+use Rattle.odata_http.specs.Exchange.{Begins, GivesReply, GoesOn, IsReplied, IsWork, MayGoOn, answers as stands, done as gave, failed as lacked, most_calls}
 use Rattle.odata_http.specs.Lazy.{BeginsLazily, GoesUnlaid, IsWaiting, MayGoOnLazily, answers, done, failed}
 use Rattle.odata_http.specs.Reply.{IsReply}
 use Rattle.odata_http.specs.Work.{MayWork}

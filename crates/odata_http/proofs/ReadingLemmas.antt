@@ -32,7 +32,7 @@ use Rattle.query_exec.specs.Run.{AdvancesTo, RunGives, MayBeHanded, StandsFor, a
 use Rattle.odata_request.specs.Request.{RowsRequestOf}
 use Rattle.odata_http.specs.declared.reading.Reading.{Reading}
 use Rattle.odata_http.specs.Exchange.{IsReading, query_length}
-use Rattle.odata_http.specs.Work.{MayRead, StartsReading}
+use Rattle.odata_http.specs.Work.{MayRead, NeedsBlocksOf, StartsReading}
 use Rattle.odata_http.specs.Reply.{HaveSizesIn, ResponseOf, RespondsWithRows, rows_response}
 use Rattle.odata_http.proofs.LengthLemmas.{max_below}
 
@@ -58,6 +58,13 @@ block_is catalog seen reading found block asked left is same at given =
     let here = table_is catalog.tables seen reading.table found is.table same at (subst (λ (n : ℕ). slice_get catalog.tables n ≡ Some is.table) (sym is.number_is) is.table_is) in
     let stands = subst (λ (t : TableOf). StandsFor reading.run is.plan t is.handed) (sym here) is.stands in
     subst (λ (t : TableOf). block ≡ handed_block is.plan t is.handed) here (given is.plan is.handed stands)
+
+pub needs_blocks : (catalog : CatalogOf) (seen : List TableOf) (reading : Reading) (found : TableOf) → MayRead catalog reading → seen ≡ catalog.tables
+    → found ≡ get_or seen reading.table found → NeedsBlocksOf reading.run found
+needs_blocks catalog seen reading found may same at =
+    let is = may.2 in
+    let here : found ≡ is.table = table_is catalog.tables seen reading.table found is.table same at (subst (λ (n : ℕ). slice_get catalog.tables n ≡ Some is.table) (sym is.number_is) is.table_is) in
+    (is.plan, is.handed, subst (λ (t : TableOf). StandsFor reading.run is.plan t is.handed) (sym here) is.stands)
 
 pub may_be_handed : (catalog : CatalogOf) (seen : List TableOf) (reading : Reading) (found : TableOf) (block : Option TableOf) → MayRead catalog reading
     → seen ≡ catalog.tables → found ≡ get_or seen reading.table found

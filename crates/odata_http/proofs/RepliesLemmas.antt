@@ -79,7 +79,8 @@ all_join R cuts = record {
   };
 }
 
-last_some : (r : List ℕ) → 0 < length r → last_reply r ≡ rest_reply
+-- a rest that is not empty is answered
+pub last_some : (r : List ℕ) → 0 < length r → last_reply r ≡ rest_reply
 last_some [] some = absurd (omega (arith, some))
 last_some (b ∷ r) some = refl
 

@@ -1,5 +1,5 @@
 -- The work for a request, call by call.
-use Rattle.std.proofs.Common.{◌≡◌, ◌<◌, ◌≤◌, ◌+◌, ◌-◌, ℕ, Bool, List, Option, Some, None, Ok, Vec, Global, refl, sym, ap, ap₂, ◌∙◌, subst, arith}
+use Rattle.std.proofs.Common.{◌≡◌, ◌<◌, ◌≤◌, ◌-◌, ℕ, Bool, List, Option, Some, None, Ok, Vec, Global, refl, sym, ap, ap₂, ◌∙◌, subst, arith}
 use Rattle.cell_types.specs.Value.{CellValue}
 use Rattle.table_store.specs.Catalog.{CatalogOf}
 use Rattle.odata_query.specs.Query.{optional_numbers, values_view}

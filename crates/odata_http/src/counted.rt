@@ -67,12 +67,8 @@ impl<T: Write> Sink for Counted<T> {
 
     fn write(&mut self, bytes: &[u8]) -> Result<usize, DeviceFault> {
         match self.inner.write(bytes) {
-            Ok(0) if !bytes.is_empty() => {
-                self.failed = one_more(self.failed);
-                Err(DeviceFault)
-            }
-            Ok(n) => Ok(n),
-            Err(_) => {
+            Ok(n) if n > 0 || bytes.is_empty() => Ok(n),
+            Ok(_) | Err(_) => {
                 self.failed = one_more(self.failed);
                 Err(DeviceFault)
             }

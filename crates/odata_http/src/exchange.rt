@@ -9,7 +9,7 @@ ghost use Rattle.odata_http.specs.Reply.{IsReply};
 ghost use Rattle.odata_http.specs.Work.{MayWork};
 
 use crate::lazy::lazy_reply_to;
-use crate::work::Work;
+use crate::work::{Work, let_go};
 use http_heads::{CheckedHead, Checks, Head, Method, check_head};
 use odata_request::request_of;
 use query_exec::Step;
@@ -85,7 +85,7 @@ impl Exchange {
         let work = mem::replace(&mut self.work, Work::Failed);
         let work = work.go_on(alloc, catalog, self.method, self.closes)?;
         let step = work.step();
-        let _failed = mem::replace(&mut self.work, work);
+        let_go(mem::replace(&mut self.work, work));
         Ok(step)
     }
 
@@ -99,7 +99,7 @@ impl Exchange {
     {
         let work = mem::replace(&mut self.work, Work::Failed);
         let work = work.lay_down()?;
-        let _failed = mem::replace(&mut self.work, work);
+        let_go(mem::replace(&mut self.work, work));
         Ok(())
     }
 
@@ -141,6 +141,5 @@ pub fn reply_to(alloc: Global, catalog: &Catalog, head: &CheckedHead) -> Result<
     requires { length head.now.target ≤ 8192 }
     ensures { IfOk result (λ reply. IsReply catalog.now head.now reply.items) }
 {
-    let reply = lazy_reply_to(alloc, catalog, head)?;
-    reply.into_bytes()
+    lazy_reply_to(alloc, catalog, head)?.into_bytes()
 }

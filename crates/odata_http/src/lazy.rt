@@ -6,7 +6,7 @@ ghost use Rattle.odata_http.specs.Lazy.{AnswersLazily, BeginsLazily, GivesLazily
 ghost use Rattle.odata_http.specs.Reply.{IsReply};
 
 use crate::exchange::Exchange;
-use crate::work::Work;
+use crate::work::{Work, let_go};
 use http_heads::CheckedHead;
 use query_exec::Step;
 use reply_text::Reply;
@@ -73,9 +73,13 @@ pub(crate) fn lazy_reply_to(
 {
     let mut lazy = LazyExchange::begin_checked(alloc, catalog, head)?;
     for _call in 0..lazy.exchange.work.most_calls() {
-        match lazy.advance(alloc, catalog)? {
-            Step::More => {}
-            Step::Done => return Ok(lazy.reply()),
+        match lazy.advance(alloc, catalog) {
+            Ok(Step::More) => {}
+            Ok(Step::Done) => return Ok(lazy.reply()),
+            Err(fault) => {
+                let_go(lazy.exchange.work);
+                return Err(fault);
+            }
         }
     }
     unreachable!()

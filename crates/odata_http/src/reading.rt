@@ -69,6 +69,9 @@ fn counted(sizes: RowSizes, run: &Run, format: Format) -> RowSizes
     sizes
 }
 
+/// A run is let go, here alone: each function that may let one go is dear to prove.
+fn let_go(_run: Run) {}
+
 impl Reading {
     /// Before the first block. No block is read.
     pub(crate) fn start(
@@ -122,11 +125,14 @@ impl Reading {
                 let answer = answer_response(alloc, rows, self.counting, self.format, self.sizes)?;
                 Ok(Reached::Over(answer))
             }
-            Err(ExecFault::DivisionByZero) => Ok(Reached::Over(error_response(
-                alloc,
-                Code::DivisionByZero,
-            )?)),
-            Err(ExecFault::NoMemory | ExecFault::Failed) => Err(AllocError),
+            Err(ExecFault::DivisionByZero) => {
+                let_go(run);
+                Ok(Reached::Over(error_response(alloc, Code::DivisionByZero)?))
+            }
+            Err(ExecFault::NoMemory | ExecFault::Failed) => {
+                let_go(run);
+                Err(AllocError)
+            }
         }
     }
 }

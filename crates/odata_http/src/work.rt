@@ -35,6 +35,9 @@ pub(crate) enum Work {
     Failed,
 }
 
+/// Work is let go, here alone: each function that may let some go is dear to prove.
+pub(crate) fn let_go(_work: Work) {}
+
 impl Work {
     /// The work for a query: the row of a key is found in one call, and any other query is a run.
     fn for_query(alloc: Global, catalog: &Catalog, asked: RowsRequest) -> Result<Work, AllocError>
@@ -43,24 +46,16 @@ impl Work {
         ensures { IfOk result (StartsWork catalog.now (rows (rows_request_view asked))) }
     {
         keys_stand_alone();
-        let RowsRequest {
-            table,
-            mut query,
-            format,
-        } = asked;
+        let mut query = asked.query;
         match query.key.take() {
             Some(key) => Ok(Work::Find(Finding {
-                table,
+                table: asked.table,
                 key,
                 select: query.select,
-                format,
+                format: asked.format,
             })),
             None => {
-                let asked = RowsRequest {
-                    table,
-                    query,
-                    format,
-                };
+                let asked = RowsRequest { query, ..asked };
                 Ok(Work::Read(Reading::start(alloc, catalog, asked)?))
             }
         }

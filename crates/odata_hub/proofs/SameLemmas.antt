@@ -1,5 +1,6 @@
 -- The replies of a stream whose pieces came under the same tables are those of its bytes.
 use Rattle.std.proofs.Common.{◌≡◌, ℕ, Bool, true, false, List, [], ◌∷◌, ◌++◌, refl, sym, ap, subst, ◌∙◌, append_assoc, append-nil}
+use Rattle.std.specs.Prelude.{if◌then◌else◌}
 use Rattle.std.specs.List.{AllZip, concat}
 use Rattle.table_store.specs.Catalog.{CatalogOf}
 use Rattle.http_heads.specs.Head.{HeadOf}
@@ -7,7 +8,7 @@ use Rattle.http_heads.specs.Cut.{IsCut}
 use Rattle.http_heads.specs.Laws.{OneCut, CutsJoin}
 use Rattle.odata_http.specs.Replies.{IsCertain, last_reply}
 use Rattle.odata_http.specs.Reply.{IsReply}
-use Rattle.odata_hub.specs.Streams.{Came, Asked, asked, heads_of, bytes_of, AreAskedBehind, IsCutUnder}
+use Rattle.odata_hub.specs.Streams.{Came, Asked, asked, heads_of, bytes_of, AreAskedBehind}
 use Rattle.odata_hub.specs.Replies.{AreHubReplies, IsReplyTo}
 use Rattle.odata_hub.specs.Laws.{AreRepliesUnder, CameUnder, HaveCatalog, SameReplies}
 use Rattle.odata_hub.proofs.StreamLemmas.{have_behind, heads_of-behind}
@@ -103,18 +104,9 @@ replies_under catalog s false all u r =
     let P : List ℕ → Type 0 = λ l. IsCertain (IsReply catalog) (bytes_of s) l r.rest r.closed in
     (r.rest, r.closed, subst P (sym (r.replies_are ∙ append-nil (concat r.each))) (certain_under catalog s false all u r))
 
--- the heads of a stream, and the replies to each
-record Each (s : List Came) (certain rest : List ℕ) : Type 0 where
-  heads : List Asked
-  closed : Bool
-  cut : IsCutUnder s heads rest closed
-  each : List (List ℕ)
-  are : AllZip IsReplyTo heads each
-  certain_is : certain ≡ concat each
-
-each_of : OneCut → CutsJoin → (catalog : CatalogOf) (s : List Came) (certain rest : List ℕ) (closed : Bool) → CameUnder catalog s
-    → IsCertain (IsReply catalog) (bytes_of s) certain rest closed → Each s certain rest
-each_of cuts joins catalog s certain rest closed u x =
+replies_of : OneCut → CutsJoin → (catalog : CatalogOf) (s : List Came) (ended : Bool) (certain rest : List ℕ) (closed : Bool) → CameUnder catalog s
+    → IsCertain (IsReply catalog) (bytes_of s) certain rest closed → AreHubReplies s ended (certain ++ (if ended then last_reply rest else []))
+replies_of cuts joins catalog s ended certain rest closed u x =
     let e = under cuts joins [] [] [] false s cuts.empty in
     let same = cuts.one (bytes_of s) (heads_of e.heads) x.heads e.rest rest e.closed closed e.whole x.cut in
     let R : List ℕ → Type 0 = λ l. IsCut (bytes_of s) (heads_of e.heads) l e.closed in
@@ -122,37 +114,20 @@ each_of cuts joins catalog s certain rest closed u x =
     let have = have_behind catalog [] [] s e.heads u e.behind in
     record {
       heads = e.heads;
+      rest = rest;
       closed = e.closed;
       cut = record { cut = subst R same.1 e.whole; asked = e.behind };
       each = x.replies;
       are = zip_each catalog e.heads x.replies have (subst Z (sym same.0) x.each);
-      certain_is = x.certain_is;
+      replies_are = ap (λ (l : List ℕ). l ++ (if ended then last_reply rest else [])) x.certain_is;
     }
 
 replies_each : OneCut → CutsJoin → (catalog : CatalogOf) (s : List Came) (ended : Bool) (all : List ℕ) → CameUnder catalog s
     → AreRepliesUnder catalog (bytes_of s) ended all → AreHubReplies s ended all
 replies_each cuts joins catalog s true all u x =
-    let e = each_of cuts joins catalog s x.1.certain x.1.rest x.0 u x.1.is in
-    record {
-      heads = e.heads;
-      rest = x.1.rest;
-      closed = e.closed;
-      cut = e.cut;
-      each = e.each;
-      are = e.are;
-      replies_are = x.1.all_is ∙ ap (λ (l : List ℕ). l ++ last_reply x.1.rest) e.certain_is;
-    }
+    subst (AreHubReplies s true) (sym x.1.all_is) (replies_of cuts joins catalog s true x.1.certain x.1.rest x.0 u x.1.is)
 replies_each cuts joins catalog s false all u x =
-    let e = each_of cuts joins catalog s all x.0 x.1 u x.2 in
-    record {
-      heads = e.heads;
-      rest = x.0;
-      closed = e.closed;
-      cut = e.cut;
-      each = e.each;
-      are = e.are;
-      replies_are = e.certain_is ∙ sym (append-nil (concat e.each));
-    }
+    subst (AreHubReplies s false) (append-nil all) (replies_of cuts joins catalog s false all x.0 x.1 u x.2)
 
 pub same_replies : OneCut → CutsJoin → SameReplies
 same_replies cuts joins = record { under = replies_under; each = replies_each cuts joins }

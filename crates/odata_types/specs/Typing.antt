@@ -32,7 +32,8 @@ use Rattle.typed_trees.specs.declared.tree.DatePart.TheVariants as part
 use Rattle.typed_trees.specs.declared.tree.TextTest.TheVariants as test
 use Rattle.odata_types.specs.Columns.{InputOf}
 use Rattle.odata_types.specs.Result.{◌>>=◌}
-use Rattle.typed_trees.specs.TypedTree.{DayOf, DateExprOf, TextExprOf, IntegerExprOf, DecimalExprOf, TruthExprOf, TypedExprOf, null_date, date_column, date_literal, null_text, text_column, text_literal, concat, null_integer, integer_column, integer_literal, negated, arithmetic, length_of, index_of, part_of, null_decimal, decimal_column, decimal_literal, decimal_negated, decimal_sum, decimal_difference, scaled, null_truth, truth_column, truth_literal, negation, conjunction, disjunction, compare_integers, compare_decimals, compare_texts, compare_dates, compare_truths, integer_in, decimal_in, text_in, date_in, truth_in, test_text, nothing, integer, text, truth, date, decimal}
+use Rattle.typed_trees.specs.declared.tree.NumberKind.TheVariants as numbers
+use Rattle.typed_trees.specs.TypedTree.{DateExprOf, TextExprOf, NumberExprOf, TruthExprOf, TypedExprOf, null_date, date_column, date_literal, null_text, text_column, text_literal, concat, null_number, number_column, number_literal, number_of_date, negated, arithmetic, length_of, index_of, part_of, scaled, null_truth, truth_column, truth_literal, negation, conjunction, disjunction, compare_numbers, compare_texts, compare_truths, number_in, text_in, truth_in, test_text, nothing, integer, text, truth, date, decimal, number_of_day}
 
 -- a typed expression, or the cause
 abbrev pub Typing : Type 0
@@ -47,17 +48,17 @@ within size x = if nat_le size MOST_SIZE then Ok x else Err TooLarge
 abbrev pub literal_typing : LiteralOf → Typing
 literal_typing tree.null = Ok nothing
 literal_typing (tree.boolean b) = Ok (truth (truth_literal b))
-literal_typing (tree.number n) = within (unsigned_abs n) (integer (integer_literal n) (unsigned_abs n))
+literal_typing (tree.number n) = within (unsigned_abs n) (integer (number_literal n) (unsigned_abs n))
 literal_typing (tree.text t) = Ok (text (text_literal t))
-literal_typing (tree.decimal n) = within (unsigned_abs n) (decimal (decimal_literal n) (unsigned_abs n))
+literal_typing (tree.decimal n) = within (unsigned_abs n) (decimal (number_literal n) (unsigned_abs n))
 literal_typing (tree.date y m d) = Ok (date (date_literal (record { year = y; month = m; day = d })))
 
 abbrev pub column_expr : ℕ → ColumnType → TypedExprOf
-column_expr place (column.Integer bound) = integer (integer_column place) bound
+column_expr place (column.Integer bound) = integer (number_column numbers.Integer place) bound
 column_expr place column.Text = text (text_column place)
 column_expr place column.Boolean = truth (truth_column place)
 column_expr place column.Date = date (date_column place)
-column_expr place (column.Decimal bound) = decimal (decimal_column place) bound
+column_expr place (column.Decimal bound) = decimal (number_column numbers.Decimal place) bound
 
 -- the number of the first column with the name
 abbrev pub place_of : List InputOf → List ℕ → ℕ
@@ -72,14 +73,14 @@ name_typing inputs name = column_at (place_of inputs name) (slice_get inputs (pl
 
 -- ---- an operand where a type is asked for: null fits each, an integer stands for a decimal too
 
-abbrev pub as_integer : TypedExprOf → Result (IntegerExprOf × ℕ) TypeFault
-as_integer nothing = Ok (null_integer, 0)
+abbrev pub as_integer : TypedExprOf → Result (NumberExprOf × ℕ) TypeFault
+as_integer nothing = Ok (null_number, 0)
 as_integer (integer e bound) = Ok (e, bound)
 as_integer _ = Err Mismatch
 
 -- an integer counts as its value times 1,000,000
-abbrev pub as_decimal : TypedExprOf → Result (DecimalExprOf × ℕ) TypeFault
-as_decimal nothing = Ok (null_decimal, 0)
+abbrev pub as_decimal : TypedExprOf → Result (NumberExprOf × ℕ) TypeFault
+as_decimal nothing = Ok (null_number, 0)
 as_decimal (integer e bound) = within (bound * MILLIONTHS) (scaled e, bound * MILLIONTHS)
 as_decimal (decimal e bound) = Ok (e, bound)
 as_decimal _ = Err Mismatch
@@ -99,10 +100,16 @@ as_truth nothing = Ok null_truth
 as_truth (truth e) = Ok e
 as_truth _ = Err Mismatch
 
+-- numbers of a type beside each other: of two days the later has the greater number
+abbrev pub as_number : ExprType → TypedExprOf → Result NumberExprOf TypeFault
+as_number kind.Decimal a = as_decimal a >>= λ x. Ok x.0
+as_number kind.Date a = as_date a >>= λ x. Ok (number_of_date x)
+as_number type a = as_integer a >>= λ x. Ok x.0
+
 -- ---- operators
 
 abbrev pub unary_typing : UnaryOperator → TypedExprOf → Typing
-unary_typing Negate (decimal e bound) = Ok (decimal (decimal_negated e) bound)
+unary_typing Negate (decimal e bound) = Ok (decimal (negated e) bound)
 unary_typing Negate a = as_integer a >>= λ n. Ok (integer (negated n.0) n.1)
 unary_typing Not a = as_truth a >>= λ e. Ok (truth (negation e))
 
@@ -124,8 +131,8 @@ computed_size Mod a b = a
 abbrev pub integers_typing : ArithmeticOperator → TypedExprOf → TypedExprOf → Typing
 integers_typing o a b = as_integer a >>= λ x. as_integer b >>= λ y. within (computed_size o x.1 y.1) (integer (arithmetic o x.0 y.0) (computed_size o x.1 y.1))
 
-abbrev pub decimals_typing : (DecimalExprOf → DecimalExprOf → DecimalExprOf) → TypedExprOf → TypedExprOf → Typing
-decimals_typing join a b = as_decimal a >>= λ x. as_decimal b >>= λ y. within (x.1 + y.1) (decimal (join x.0 y.0) (x.1 + y.1))
+abbrev pub decimals_typing : ArithmeticOperator → TypedExprOf → TypedExprOf → Typing
+decimals_typing o a b = as_decimal a >>= λ x. as_decimal b >>= λ y. within (computed_size o x.1 y.1) (decimal (arithmetic o x.0 y.0) (computed_size o x.1 y.1))
 
 -- the type of an expression
 abbrev pub type_of : TypedExprOf → ExprType
@@ -143,8 +150,8 @@ common_type kind.Integer kind.Decimal = kind.Decimal
 common_type a b = a
 
 abbrev pub arithmetic_as : ExprType → ArithmeticOperator → TypedExprOf → TypedExprOf → Typing
-arithmetic_as kind.Decimal Add a b = decimals_typing decimal_sum a b
-arithmetic_as kind.Decimal Sub a b = decimals_typing decimal_difference a b
+arithmetic_as kind.Decimal Add a b = decimals_typing Add a b
+arithmetic_as kind.Decimal Sub a b = decimals_typing Sub a b
 arithmetic_as _ o a b = integers_typing o a b
 
 abbrev pub arithmetic_typing : ArithmeticOperator → TypedExprOf → TypedExprOf → Typing
@@ -152,11 +159,10 @@ arithmetic_typing o a b = arithmetic_as (common_type (type_of a) (type_of b)) o 
 
 -- null beside null is compared as truths are
 abbrev pub comparison_as : ExprType → ComparisonOperator → TypedExprOf → TypedExprOf → Result TruthExprOf TypeFault
-comparison_as kind.Integer o a b = as_integer a >>= λ x. as_integer b >>= λ y. Ok (compare_integers o x.0 y.0)
-comparison_as kind.Decimal o a b = as_decimal a >>= λ x. as_decimal b >>= λ y. Ok (compare_decimals o x.0 y.0)
 comparison_as kind.Text o a b = as_text a >>= λ x. as_text b >>= λ y. Ok (compare_texts o x y)
-comparison_as kind.Date o a b = as_date a >>= λ x. as_date b >>= λ y. Ok (compare_dates o x y)
-comparison_as _ o a b = as_truth a >>= λ x. as_truth b >>= λ y. Ok (compare_truths o x y)
+comparison_as kind.Boolean o a b = as_truth a >>= λ x. as_truth b >>= λ y. Ok (compare_truths o x y)
+comparison_as kind.Null o a b = as_truth a >>= λ x. as_truth b >>= λ y. Ok (compare_truths o x y)
+comparison_as type o a b = as_number type a >>= λ x. as_number type b >>= λ y. Ok (compare_numbers o x y)
 
 abbrev pub comparison_typing : ComparisonOperator → TypedExprOf → TypedExprOf → Typing
 comparison_typing o a b = comparison_as (common_type (type_of a) (type_of b)) o a b >>= λ e. Ok (truth e)
@@ -198,37 +204,31 @@ type_fits kind.Boolean kind.Boolean = true
 type_fits kind.Date kind.Date = true
 type_fits wanted type = false
 
-abbrev pub integer_item : LiteralOf → Option ℤ
-integer_item (tree.number n) = Some n
-integer_item _ = None
+-- a value as a number of a type: an integer among decimals is scaled
+abbrev pub number_item : ExprType → LiteralOf → Result (Option ℤ) TypeFault
+number_item kind.Integer (tree.number n) = Ok (Some n)
+number_item kind.Decimal (tree.number n) = within (unsigned_abs n * MILLIONTHS) (Some (n *ℤ pos MILLIONTHS))
+number_item kind.Decimal (tree.decimal n) = Ok (Some n)
+number_item kind.Date (tree.date y m d) = Ok (Some (number_of_day (record { year = y; month = m; day = d })))
+number_item _ _ = Ok None
+
+abbrev pub number_items : ExprType → List LiteralOf → Result (List (Option ℤ)) TypeFault
+number_items type [] = Ok []
+number_items type (v ∷ vs) = number_item type v >>= λ x. number_items type vs >>= λ xs. Ok (x ∷ xs)
 
 abbrev pub text_item : LiteralOf → Option (List ℕ)
 text_item (tree.text t) = Some t
 text_item _ = None
 
-abbrev pub date_item : LiteralOf → Option DayOf
-date_item (tree.date y m d) = Some (record { year = y; month = m; day = d })
-date_item _ = None
-
 abbrev pub truth_item : LiteralOf → Option Bool
 truth_item (tree.boolean b) = Some b
 truth_item _ = None
 
-abbrev pub decimal_item : LiteralOf → Result (Option ℤ) TypeFault
-decimal_item (tree.number n) = within (unsigned_abs n * MILLIONTHS) (Some (n *ℤ pos MILLIONTHS))
-decimal_item (tree.decimal n) = Ok (Some n)
-decimal_item _ = Ok None
-
-abbrev pub decimal_items : List LiteralOf → Result (List (Option ℤ)) TypeFault
-decimal_items [] = Ok []
-decimal_items (v ∷ vs) = decimal_item v >>= λ x. decimal_items vs >>= λ xs. Ok (x ∷ xs)
-
 abbrev pub list_as : ExprType → TypedExprOf → List LiteralOf → Result TruthExprOf TypeFault
-list_as kind.Integer a vs = as_integer a >>= λ x. Ok (integer_in x.0 (map integer_item vs))
-list_as kind.Decimal a vs = as_decimal a >>= λ x. decimal_items vs >>= λ items. Ok (decimal_in x.0 items)
 list_as kind.Text a vs = as_text a >>= λ x. Ok (text_in x (map text_item vs))
-list_as kind.Date a vs = as_date a >>= λ x. Ok (date_in x (map date_item vs))
-list_as _ a vs = as_truth a >>= λ x. Ok (truth_in x (map truth_item vs))
+list_as kind.Boolean a vs = as_truth a >>= λ x. Ok (truth_in x (map truth_item vs))
+list_as kind.Null a vs = as_truth a >>= λ x. Ok (truth_in x (map truth_item vs))
+list_as type a vs = as_number type a >>= λ x. number_items type vs >>= λ items. Ok (number_in x items)
 
 -- the operand and all items are of one type or null; each integer among decimals is scaled
 abbrev pub list_in_type : ExprType → TypedExprOf → List LiteralOf → Typing

@@ -19,7 +19,8 @@ use Rattle.odata_types.specs.declared.fault.TypeFault.TheVariants.{UnknownName, 
 use Rattle.typed_trees.specs.declared.tree.DatePart.TheVariants as part
 use Rattle.typed_trees.specs.declared.tree.TextTest.TheVariants as test
 use Rattle.odata_types.specs.Columns.{InputOf}
-use Rattle.typed_trees.specs.TypedTree.{DayOf, TypedExprOf, null_date, date_column, date_literal, null_text, text_column, text_literal, concat, null_integer, integer_column, integer_literal, negated, arithmetic, length_of, index_of, part_of, decimal_column, decimal_literal, decimal_negated, decimal_sum, decimal_difference, scaled, null_truth, truth_column, truth_literal, negation, conjunction, disjunction, compare_integers, compare_decimals, compare_texts, compare_dates, compare_truths, integer_in, decimal_in, text_in, date_in, truth_in, test_text, nothing, integer, text, truth, date, decimal}
+use Rattle.typed_trees.specs.declared.tree.NumberKind.TheVariants as numbers
+use Rattle.typed_trees.specs.TypedTree.{DayOf, NumberExprOf, TypedExprOf, date_column, date_literal, null_text, text_column, text_literal, concat, null_number, number_column, number_literal, negated, arithmetic, length_of, index_of, part_of, scaled, null_truth, truth_column, truth_literal, negation, conjunction, disjunction, compare_numbers, compare_texts, compare_truths, number_in, text_in, truth_in, test_text, nothing, integer, text, truth, date, decimal, number_of_day}
 use Rattle.odata_types.specs.Typing.{filter_typing, typing}
 
 abbrev pub input_column : List ℕ → ColumnType → InputOf
@@ -84,6 +85,16 @@ arithmetic_expr o a b = tree.binary (operator.Arithmetic o) a b
 abbrev pub comparison_tree : ComparisonOperator → ExprOf → ExprOf → ExprOf
 comparison_tree o a b = tree.binary (operator.Comparison o) a b
 
+-- columns as numbers
+abbrev pub integer_column : ℕ → NumberExprOf
+integer_column place = number_column numbers.Integer place
+
+abbrev pub price_column : NumberExprOf
+price_column = number_column numbers.Decimal 5
+
+abbrev pub since_number : NumberExprOf
+since_number = number_column numbers.Date 4
+
 -- an expression has this type and tree, or no type for this cause
 abbrev pub Has : ExprOf → TypedExprOf → Type 0
 Has e t = typing columns e ≡ Ok t
@@ -103,28 +114,28 @@ pub record WorkedOperands : Type 0 where
   -- `null`, `true`, `5`, `2.5`, `'a'` and `2024-02-29`
   pub null_literal : Has null nothing
   pub boolean_literal : Has yes_literal (truth (truth_literal true))
-  pub number_literal : Has (number 5) (integer (integer_literal (pos 5)) 5)
-  pub negative_literal : Has (tree.literal (tree.number (negsuc 4))) (integer (integer_literal (negsuc 4)) 5)
-  pub fraction_literal : Has (tree.literal (tree.decimal (pos 2_500_000))) (decimal (decimal_literal (pos 2_500_000)) 2_500_000)
+  pub integer_literal : Has (number 5) (integer (number_literal (pos 5)) 5)
+  pub negative_literal : Has (tree.literal (tree.number (negsuc 4))) (integer (number_literal (negsuc 4)) 5)
+  pub fraction_literal : Has (tree.literal (tree.decimal (pos 2_500_000))) (decimal (number_literal (pos 2_500_000)) 2_500_000)
   pub letter_literal : Has letter (text (text_literal (codes "a")))
   pub day_literal : Has leap_day (date (date_literal leap_day_of))
   -- a number of 2 to the 126, and one more
-  pub most_literal : Has (number most) (integer (integer_literal (pos most)) most)
+  pub most_literal : Has (number most) (integer (number_literal (pos most)) most)
   pub too_large : Fails (number 85_070_591_730_234_615_865_843_651_857_942_052_865) TooLarge
   -- names
   pub integer_name : Has pop_name (integer (integer_column 2) COLUMN_SIZE)
   pub text_name : Has name (text (text_column 1))
   pub boolean_name : Has open_now (truth (truth_column 3))
   pub date_name : Has since (date (date_column 4))
-  pub decimal_name : Has price (decimal (decimal_column 5) COLUMN_SIZE)
+  pub decimal_name : Has price (decimal price_column COLUMN_SIZE)
   pub unknown_name : Fails nobody UnknownName
   -- `not Open`, `not null`, `not Pop`; `-Pop`, `-Price`, `-null`, `-Name`
   pub not_open : Has (tree.unary Not open_now) (truth (negation (truth_column 3)))
   pub not_null : Has (tree.unary Not null) (truth (negation null_truth))
   pub not_number : Fails (tree.unary Not pop_name) Mismatch
   pub minus_integer : Has (tree.unary Negate pop_name) (integer (negated (integer_column 2)) COLUMN_SIZE)
-  pub minus_decimal : Has (tree.unary Negate price) (decimal (decimal_negated (decimal_column 5)) COLUMN_SIZE)
-  pub minus_null : Has (tree.unary Negate null) (integer (negated null_integer) 0)
+  pub minus_decimal : Has (tree.unary Negate price) (decimal (negated price_column) COLUMN_SIZE)
+  pub minus_null : Has (tree.unary Negate null) (integer (negated null_number) 0)
   pub minus_text : Fails (tree.unary Negate name) Mismatch
 
 pub record WorkedOperators : Type 0 where
@@ -133,21 +144,21 @@ pub record WorkedOperators : Type 0 where
   pub either : Has (tree.binary (operator.Logic Or) null open_now) (truth (disjunction null_truth (truth_column 3)))
   pub neither : Fails (tree.binary (operator.Logic And) open_now pop_name) Mismatch
   -- `Id add 1`, `Id sub Pop`, `Id mul Pop`, `Id div 2`, `Id mod 2`, `null add 1`
-  pub sum : Has (arithmetic_expr Add id (number 1)) (integer (arithmetic Add (integer_column 0) (integer_literal (pos 1))) 9_223_372_036_854_775_809)
+  pub sum : Has (arithmetic_expr Add id (number 1)) (integer (arithmetic Add (integer_column 0) (number_literal (pos 1))) 9_223_372_036_854_775_809)
   pub difference : Has (arithmetic_expr Sub id pop_name) (integer (arithmetic Sub (integer_column 0) (integer_column 2)) 18_446_744_073_709_551_616)
   pub product : Has (arithmetic_expr Mul id pop_name) (integer (arithmetic Mul (integer_column 0) (integer_column 2)) most)
-  pub quotient : Has (arithmetic_expr Div id (number 2)) (integer (arithmetic Div (integer_column 0) (integer_literal (pos 2))) COLUMN_SIZE)
-  pub remainder : Has (arithmetic_expr Mod id (number 2)) (integer (arithmetic Mod (integer_column 0) (integer_literal (pos 2))) COLUMN_SIZE)
-  pub sum_with_null : Has (arithmetic_expr Add null (number 1)) (integer (arithmetic Add null_integer (integer_literal (pos 1))) 1)
+  pub quotient : Has (arithmetic_expr Div id (number 2)) (integer (arithmetic Div (integer_column 0) (number_literal (pos 2))) COLUMN_SIZE)
+  pub remainder : Has (arithmetic_expr Mod id (number 2)) (integer (arithmetic Mod (integer_column 0) (number_literal (pos 2))) COLUMN_SIZE)
+  pub sum_with_null : Has (arithmetic_expr Add null (number 1)) (integer (arithmetic Add null_number (number_literal (pos 1))) 1)
   -- `Id mul Pop add 1`, `Name add 1`, `1 add Name`
   pub grown : Fails (arithmetic_expr Add (arithmetic_expr Mul id pop_name) (number 1)) TooLarge
   pub text_sum : Fails (arithmetic_expr Add name (number 1)) Mismatch
   pub sum_text : Fails (arithmetic_expr Add (number 1) name) Mismatch
   -- `Price add 1`, `1 sub Price`, `Price mul 2`, `2 div Price`, `Price mod 2`
   pub decimal_add : Has (arithmetic_expr Add price (number 1))
-      (decimal (decimal_sum (decimal_column 5) (scaled (integer_literal (pos 1)))) 9_223_372_036_855_775_808)
+      (decimal (arithmetic Add price_column (scaled (number_literal (pos 1)))) 9_223_372_036_855_775_808)
   pub decimal_sub : Has (arithmetic_expr Sub (number 1) price)
-      (decimal (decimal_difference (scaled (integer_literal (pos 1))) (decimal_column 5)) 9_223_372_036_855_775_808)
+      (decimal (arithmetic Sub (scaled (number_literal (pos 1))) price_column) 9_223_372_036_855_775_808)
   pub decimal_mul : Fails (arithmetic_expr Mul price (number 2)) Mismatch
   pub decimal_div : Fails (arithmetic_expr Div (number 2) price) Mismatch
   pub decimal_mod : Fails (arithmetic_expr Mod price (number 2)) Mismatch
@@ -155,34 +166,34 @@ pub record WorkedOperators : Type 0 where
   pub left_name : Fails (arithmetic_expr Add nobody (arithmetic_expr Add name (number 1))) UnknownName
   pub left_sum : Fails (arithmetic_expr Add (arithmetic_expr Add name (number 1)) nobody) Mismatch
   -- `Pop gt 5`, `Price le 1`, `1 lt Price`, `Name eq 'a'`, `Since ge 2024-02-29`, `Open ne true`
-  pub integers : Has (comparison_tree GreaterThan pop_name (number 5)) (truth (compare_integers GreaterThan (integer_column 2) (integer_literal (pos 5))))
-  pub decimals : Has (comparison_tree LessOrEqual price (number 1)) (truth (compare_decimals LessOrEqual (decimal_column 5) (scaled (integer_literal (pos 1)))))
-  pub integer_first : Has (comparison_tree LessThan (number 1) price) (truth (compare_decimals LessThan (scaled (integer_literal (pos 1))) (decimal_column 5)))
+  pub integers : Has (comparison_tree GreaterThan pop_name (number 5)) (truth (compare_numbers GreaterThan (integer_column 2) (number_literal (pos 5))))
+  pub decimals : Has (comparison_tree LessOrEqual price (number 1)) (truth (compare_numbers LessOrEqual price_column (scaled (number_literal (pos 1)))))
+  pub integer_first : Has (comparison_tree LessThan (number 1) price) (truth (compare_numbers LessThan (scaled (number_literal (pos 1))) price_column))
   pub texts : Has (comparison_tree Equal name letter) (truth (compare_texts Equal (text_column 1) (text_literal (codes "a"))))
-  pub dates : Has (comparison_tree GreaterOrEqual since leap_day) (truth (compare_dates GreaterOrEqual (date_column 4) (date_literal leap_day_of)))
+  pub dates : Has (comparison_tree GreaterOrEqual since leap_day) (truth (compare_numbers GreaterOrEqual since_number (number_literal (number_of_day (record { year = pos 2024; month = 2; day = 29 })))))
   pub truths : Has (comparison_tree NotEqual open_now yes_literal) (truth (compare_truths NotEqual (truth_column 3) (truth_literal true)))
   -- `Name eq null`, `null eq Since`, `null eq null`, `Pop eq 'a'`, `Since lt Open`
   pub text_beside_null : Has (comparison_tree Equal name null) (truth (compare_texts Equal (text_column 1) null_text))
-  pub null_beside_date : Has (comparison_tree Equal null since) (truth (compare_dates Equal null_date (date_column 4)))
+  pub null_beside_date : Has (comparison_tree Equal null since) (truth (compare_numbers Equal null_number since_number))
   pub nulls : Has (comparison_tree Equal null null) (truth (compare_truths Equal null_truth null_truth))
   pub number_beside_text : Fails (comparison_tree Equal pop_name letter) Mismatch
   pub date_beside_truth : Fails (comparison_tree LessThan since open_now) Mismatch
   -- a number of 1 and 32 zeros beside an integer, and beside a decimal
-  pub huge_integer : Has (comparison_tree LessThan id (number huge)) (truth (compare_integers LessThan (integer_column 0) (integer_literal (pos huge))))
+  pub huge_integer : Has (comparison_tree LessThan id (number huge)) (truth (compare_numbers LessThan (integer_column 0) (number_literal (pos huge))))
   pub huge_decimal : Fails (comparison_tree LessThan price (number huge)) TooLarge
 
 pub record WorkedLists : Type 0 where
   -- `Pop in (1,null)`, `Pop in (1,2.5)`, `Price in (10,2.5)`, `Name in ('a',null)`, `Since in (2024-02-29)`, `Open in (true,null)`
-  pub integers : Has (tree.in_list pop_name (tree.number (pos 1) ∷ tree.null ∷ [])) (truth (integer_in (integer_column 2) (Some (pos 1) ∷ None ∷ [])))
+  pub integers : Has (tree.in_list pop_name (tree.number (pos 1) ∷ tree.null ∷ [])) (truth (number_in (integer_column 2) (Some (pos 1) ∷ None ∷ [])))
   pub mixed : Has (tree.in_list pop_name (tree.number (pos 1) ∷ tree.decimal (pos 2_500_000) ∷ []))
-      (truth (decimal_in (scaled (integer_column 2)) (Some (pos 1_000_000) ∷ Some (pos 2_500_000) ∷ [])))
+      (truth (number_in (scaled (integer_column 2)) (Some (pos 1_000_000) ∷ Some (pos 2_500_000) ∷ [])))
   pub decimals : Has (tree.in_list price (tree.number (pos 10) ∷ tree.decimal (pos 2_500_000) ∷ []))
-      (truth (decimal_in (decimal_column 5) (Some (pos 10_000_000) ∷ Some (pos 2_500_000) ∷ [])))
+      (truth (number_in price_column (Some (pos 10_000_000) ∷ Some (pos 2_500_000) ∷ [])))
   pub texts : Has (tree.in_list name (tree.text (codes "a") ∷ tree.null ∷ [])) (truth (text_in (text_column 1) (Some (codes "a") ∷ None ∷ [])))
-  pub dates : Has (tree.in_list since (tree.date (pos 2024) 2 29 ∷ [])) (truth (date_in (date_column 4) (Some leap_day_of ∷ [])))
+  pub dates : Has (tree.in_list since (tree.date (pos 2024) 2 29 ∷ [])) (truth (number_in since_number (Some (number_of_day (record { year = pos 2024; month = 2; day = 29 })) ∷ [])))
   pub truths : Has (tree.in_list open_now (tree.boolean true ∷ tree.null ∷ [])) (truth (truth_in (truth_column 3) (Some true ∷ None ∷ [])))
   -- `null in (1)`, `null in (null)`
-  pub null_among_integers : Has (tree.in_list null (tree.number (pos 1) ∷ [])) (truth (integer_in null_integer (Some (pos 1) ∷ [])))
+  pub null_among_integers : Has (tree.in_list null (tree.number (pos 1) ∷ [])) (truth (number_in null_number (Some (pos 1) ∷ [])))
   pub null_among_nulls : Has (tree.in_list null (tree.null ∷ [])) (truth (truth_in null_truth (None ∷ [])))
   -- `Pop in (1,'a')`, `Name in (1)`, `Nobody in (1)`, and 1 and 32 zeros among decimals
   pub text_among_integers : Fails (tree.in_list pop_name (tree.number (pos 1) ∷ tree.text (codes "a") ∷ [])) Mismatch

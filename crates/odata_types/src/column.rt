@@ -9,7 +9,7 @@ ghost use Rattle.odata_types.specs.Typing.{column_expr as column_expr_of, name_t
 use crate::fault::TypeFault;
 use crate::types::{ColumnType, InputColumn};
 use std::alloc::Global;
-use typed_trees::{DateExpr, DecimalExpr, IntegerExpr, TextExpr, TruthExpr, TypedExpr};
+use typed_trees::{DateExpr, NumberExpr, NumberKind, TextExpr, TruthExpr, TypedExpr};
 
 /// The number of the first column with that name, or how many there are where none has it.
 pub fn place_of(columns: &[InputColumn<'_>], name: &str) -> usize
@@ -29,14 +29,14 @@ fn column_expr(alloc: Global, place: usize, column_type: ColumnType) -> Result<T
 {
     match column_type {
         ColumnType::Integer(bound) => Ok(TypedExpr::Integer(
-            Box::new(alloc, IntegerExpr::Column(place))?,
+            Box::new(alloc, NumberExpr::Column(NumberKind::Integer, place))?,
             bound,
         )),
         ColumnType::Text => Ok(TypedExpr::Text(Box::new(alloc, TextExpr::Column(place))?)),
         ColumnType::Boolean => Ok(TypedExpr::Boolean(Box::new(alloc, TruthExpr::Column(place))?)),
         ColumnType::Date => Ok(TypedExpr::Date(DateExpr::Column(place))),
         ColumnType::Decimal(bound) => Ok(TypedExpr::Decimal(
-            Box::new(alloc, DecimalExpr::Column(place))?,
+            Box::new(alloc, NumberExpr::Column(NumberKind::Decimal, place))?,
             bound,
         )),
     }

@@ -10,14 +10,14 @@ use crate::operand::{date_operand, text_operand};
 use crate::types::FUNCTION_SIZE;
 use odata_parse::tree::{BinaryFunction, UnaryFunction};
 use std::alloc::Global;
-use typed_trees::{DatePart, IntegerExpr, TextExpr, TextTest, TruthExpr, TypedExpr};
+use typed_trees::{DatePart, NumberExpr, TextExpr, TextTest, TruthExpr, TypedExpr};
 
 /// A part of a date.
 fn part_expr(alloc: Global, part: DatePart, argument: TypedExpr) -> Result<TypedExpr, TypeFault>
     ensures { Gives typed_view (part_typing part (typed_view argument)) result }
 {
     let date = date_operand(argument)?;
-    let expr = IntegerExpr::PartOf(part, date);
+    let expr = NumberExpr::PartOf(part, date);
     Ok(TypedExpr::Integer(Box::new(alloc, expr)?, FUNCTION_SIZE))
 }
 
@@ -32,7 +32,7 @@ pub(crate) fn unary_call(
     match function {
         UnaryFunction::Length => {
             let text = text_operand(alloc, argument)?;
-            let expr = IntegerExpr::Length(text);
+            let expr = NumberExpr::Length(text);
             Ok(TypedExpr::Integer(Box::new(alloc, expr)?, FUNCTION_SIZE))
         }
         UnaryFunction::Year => part_expr(alloc, DatePart::Year, argument),
@@ -72,7 +72,7 @@ pub(crate) fn binary_call(
         BinaryFunction::StartsWith => test_expr(alloc, TextTest::StartsWith, left, right),
         BinaryFunction::EndsWith => test_expr(alloc, TextTest::EndsWith, left, right),
         BinaryFunction::IndexOf => {
-            let expr = IntegerExpr::IndexOf(left, right);
+            let expr = NumberExpr::IndexOf(left, right);
             Ok(TypedExpr::Integer(Box::new(alloc, expr)?, FUNCTION_SIZE))
         }
         BinaryFunction::Concat => {

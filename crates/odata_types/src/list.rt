@@ -4,20 +4,17 @@ ghost use Rattle.std.specs.Prelude.{◌≡◌, map, IfOk};
 ghost use Rattle.std.specs.List.{list_all};
 ghost use Rattle.odata_parse.specs.Tree.{literal_view};
 ghost use Rattle.odata_types.specs.Result.{Gives};
-ghost use Rattle.typed_trees.specs.TypedTree.{boxed_truth, optional_day, optional_text, typed_view};
-ghost use Rattle.odata_types.specs.Typing.{date_item as date_item_of, decimal_item as decimal_item_of, decimal_items as decimal_items_of, type_fits as fits_in, in_typing, integer_item as integer_item_of, is_small as is_small_of, list_as as list_as_of, list_in_type, list_type as list_type_of, literal_type as literal_type_of, text_item as text_item_of, truth_item as truth_item_of};
+ghost use Rattle.typed_trees.specs.TypedTree.{boxed_truth, optional_text, typed_view};
+ghost use Rattle.odata_types.specs.Typing.{type_fits as fits_in, in_typing, is_small as is_small_of, list_as as list_as_of, list_in_type, list_type as list_type_of, literal_type as literal_type_of, number_item as number_item_of, number_items as number_items_of, text_item as text_item_of, truth_item as truth_item_of};
 
 use crate::fault::TypeFault;
 use crate::literal::{is_small, literal_type};
-use crate::operand::{
-    date_operand, decimal_operand, expr_type, integer_operand, scaled, text_operand, truth_operand,
-};
+use crate::operand::{expr_type, number_operand, scaled, text_operand, truth_operand};
 use crate::operator::common_type;
 use crate::types::ExprType;
-use jiff_core::civil::Date;
 use odata_parse::tree::Literal;
 use std::alloc::{AllocError, Global};
-use typed_trees::{MILLIONTHS, TruthExpr, TypedExpr};
+use typed_trees::{MILLIONTHS, TruthExpr, TypedExpr, day_number};
 
 /// The type of an operand and a list together.
 fn list_type(first: ExprType, items: &[Literal]) -> ExprType
@@ -70,26 +67,18 @@ fn all_fit(wanted: ExprType, items: &[Literal]) -> bool
     true
 }
 
-/// A value as an integer.
-fn integer_item(item: &Literal) -> Option<i128>
-    ensures { result ≡ integer_item_of (literal_view item.now) }
+/// A value as a number of a type: an integer among decimals is scaled, and a date is numbered.
+fn number_item(wanted: ExprType, item: &Literal) -> Result<Option<i128>, TypeFault>
+    ensures { result ≡ number_item_of wanted (literal_view item.now) }
 {
-    match item {
-        Literal::Number(number) => Some(*number),
-        _ => None,
-    }
-}
-
-/// A value as a decimal: an integer is scaled.
-fn decimal_item(item: &Literal) -> Result<Option<i128>, TypeFault>
-    ensures { result ≡ decimal_item_of (literal_view item.now) }
-{
-    match item {
-        Literal::Number(number) => {
+    match (wanted, item) {
+        (ExprType::Integer, Literal::Number(number)) => Ok(Some(*number)),
+        (ExprType::Decimal, Literal::Number(number)) => {
             scaled(number.unsigned_abs())?;
             Ok(Some(*number * MILLIONTHS as i128))
         }
-        Literal::Decimal(number) => Ok(Some(*number)),
+        (ExprType::Decimal, Literal::Decimal(number)) => Ok(Some(*number)),
+        (ExprType::Date, Literal::Date(date)) => Ok(Some(i128::from(day_number(*date)))),
         _ => Ok(None),
     }
 }
@@ -104,16 +93,6 @@ fn text_item(alloc: Global, item: &Literal) -> Result<Option<String>, AllocError
     }
 }
 
-/// A value as a date.
-fn date_item(item: &Literal) -> Option<Date>
-    ensures { optional_day result ≡ date_item_of (literal_view item.now) }
-{
-    match item {
-        Literal::Date(date) => Some(*date),
-        _ => None,
-    }
-}
-
 /// A value as a truth.
 fn truth_item(item: &Literal) -> Option<bool>
     ensures { result ≡ truth_item_of (literal_view item.now) }
@@ -124,24 +103,17 @@ fn truth_item(item: &Literal) -> Option<bool>
     }
 }
 
-fn integer_items(alloc: Global, items: &[Literal]) -> Result<Vec<Option<i128>>, AllocError>
-    ensures { IfOk result
-        (λ values. values.items ≡ map integer_item_of (map literal_view items.now)) }
-{
-    let mut values = Vec::with_capacity(alloc, items.len())?;
-    for item in items {
-        values.push(integer_item(item))?;
-    }
-    Ok(values)
-}
-
-fn decimal_items(alloc: Global, items: &[Literal]) -> Result<Vec<Option<i128>>, TypeFault>
-    ensures { Gives (λ values. values.items) (decimal_items_of (map literal_view items.now))
+fn number_items(
+    alloc: Global,
+    wanted: ExprType,
+    items: &[Literal],
+) -> Result<Vec<Option<i128>>, TypeFault>
+    ensures { Gives (λ values. values.items) (number_items_of wanted (map literal_view items.now))
         result }
 {
     let mut values = Vec::with_capacity(alloc, items.len())?;
     for item in items {
-        values.push(decimal_item(item)?)?;
+        values.push(number_item(wanted, item)?)?;
     }
     Ok(values)
 }
@@ -153,17 +125,6 @@ fn text_items(alloc: Global, items: &[Literal]) -> Result<Vec<Option<String>>, A
     let mut values = Vec::with_capacity(alloc, items.len())?;
     for item in items {
         values.push(text_item(alloc, item)?)?;
-    }
-    Ok(values)
-}
-
-fn date_items(alloc: Global, items: &[Literal]) -> Result<Vec<Option<Date>>, AllocError>
-    ensures { IfOk result
-        (λ values. map optional_day values.items ≡ map date_item_of (map literal_view items.now)) }
-{
-    let mut values = Vec::with_capacity(alloc, items.len())?;
-    for item in items {
-        values.push(date_item(item))?;
     }
     Ok(values)
 }
@@ -190,25 +151,17 @@ fn list_as(
         (list_as_of common (typed_view operand) (map literal_view items.now)) result }
 {
     let expr = match common {
-        ExprType::Integer => {
-            let (operand, _) = integer_operand(alloc, operand)?;
-            TruthExpr::IntegerIn(operand, integer_items(alloc, items)?)
-        }
-        ExprType::Decimal => {
-            let (operand, _) = decimal_operand(alloc, operand)?;
-            TruthExpr::DecimalIn(operand, decimal_items(alloc, items)?)
-        }
         ExprType::Text => {
             let operand = text_operand(alloc, operand)?;
             TruthExpr::TextIn(operand, text_items(alloc, items)?)
         }
-        ExprType::Date => {
-            let operand = date_operand(operand)?;
-            TruthExpr::DateIn(operand, date_items(alloc, items)?)
-        }
         ExprType::Boolean | ExprType::Null => {
             let operand = truth_operand(alloc, operand)?;
             TruthExpr::TruthIn(operand, truth_items(alloc, items)?)
+        }
+        ExprType::Integer | ExprType::Decimal | ExprType::Date => {
+            let operand = number_operand(alloc, common, operand)?;
+            TruthExpr::NumberIn(operand, number_items(alloc, common, items)?)
         }
     };
     Ok(Box::new(alloc, expr)?)

@@ -11,7 +11,7 @@ use crate::operand::within;
 use crate::types::{ExprType, MOST_SIZE};
 use odata_parse::tree::Literal;
 use std::alloc::Global;
-use typed_trees::{DateExpr, DecimalExpr, IntegerExpr, TextExpr, TruthExpr, TypedExpr};
+use typed_trees::{DateExpr, NumberExpr, TextExpr, TruthExpr, TypedExpr};
 
 /// A value as an expression.
 pub(crate) fn literal_expr(alloc: Global, literal: &Literal) -> Result<TypedExpr, TypeFault>
@@ -25,7 +25,7 @@ pub(crate) fn literal_expr(alloc: Global, literal: &Literal) -> Result<TypedExpr
         )?)),
         Literal::Number(number) => {
             let bound = within(number.unsigned_abs())?;
-            Ok(TypedExpr::Integer(Box::new(alloc, IntegerExpr::Literal(*number))?, bound))
+            Ok(TypedExpr::Integer(Box::new(alloc, NumberExpr::Literal(*number))?, bound))
         }
         Literal::Text(text) => {
             let text = String::from_str(alloc, text.as_str())?;
@@ -34,7 +34,7 @@ pub(crate) fn literal_expr(alloc: Global, literal: &Literal) -> Result<TypedExpr
         Literal::Date(date) => Ok(TypedExpr::Date(DateExpr::Literal(*date))),
         Literal::Decimal(number) => {
             let bound = within(number.unsigned_abs())?;
-            Ok(TypedExpr::Decimal(Box::new(alloc, DecimalExpr::Literal(*number))?, bound))
+            Ok(TypedExpr::Decimal(Box::new(alloc, NumberExpr::Literal(*number))?, bound))
         }
     }
 }

@@ -1,14 +1,16 @@
 //! Operands where a type is asked for.
 
 ghost use Rattle.std.specs.Prelude.{◌≡◌, ◌*◌};
-ghost use Rattle.typed_trees.specs.TypedTree.{boxed_text, boxed_truth, date_view, sized_decimal, sized_integer, typed_view};
-ghost use Rattle.odata_types.specs.Typing.{as_integer, as_decimal, as_text, as_date, as_truth, type_of, within};
+ghost use Rattle.typed_trees.specs.TypedTree.{boxed_number, boxed_text, boxed_truth, date_view, number_of_date as number_of_date_in, number_view, sized_number, typed_view};
+ghost use Rattle.odata_types.specs.Typing.{as_integer, as_decimal, as_number, as_text, as_date, as_truth, type_of, within};
 ghost use Rattle.odata_types.specs.Result.{Gives};
 
 use crate::fault::TypeFault;
 use crate::types::{ExprType, MOST_SIZE};
 use std::alloc::Global;
-use typed_trees::{DateExpr, DecimalExpr, IntegerExpr, MILLIONTHS, TextExpr, TruthExpr, TypedExpr};
+use typed_trees::{
+    DateExpr, MILLIONTHS, NumberExpr, NumberKind, TextExpr, TruthExpr, TypedExpr, day_number,
+};
 
 /// The size, if a number may grow to it.
 pub fn within(size: u128) -> Result<u128, TypeFault>
@@ -49,11 +51,11 @@ pub(crate) fn expr_type(expr: &TypedExpr) -> ExprType
 pub(crate) fn integer_operand(
     alloc: Global,
     expr: TypedExpr,
-) -> Result<(Box<IntegerExpr>, u128), TypeFault>
-    ensures { Gives sized_integer (as_integer (typed_view expr)) result }
+) -> Result<(Box<NumberExpr>, u128), TypeFault>
+    ensures { Gives sized_number (as_integer (typed_view expr)) result }
 {
     match expr {
-        TypedExpr::Null => Ok((Box::new(alloc, IntegerExpr::Null)?, 0)),
+        TypedExpr::Null => Ok((Box::new(alloc, NumberExpr::Null)?, 0)),
         TypedExpr::Integer(expr, bound) => Ok((expr, bound)),
         other => {
             drop(other);
@@ -66,14 +68,14 @@ pub(crate) fn integer_operand(
 pub(crate) fn decimal_operand(
     alloc: Global,
     expr: TypedExpr,
-) -> Result<(Box<DecimalExpr>, u128), TypeFault>
-    ensures { Gives sized_decimal (as_decimal (typed_view expr)) result }
+) -> Result<(Box<NumberExpr>, u128), TypeFault>
+    ensures { Gives sized_number (as_decimal (typed_view expr)) result }
 {
     match expr {
-        TypedExpr::Null => Ok((Box::new(alloc, DecimalExpr::Null)?, 0)),
+        TypedExpr::Null => Ok((Box::new(alloc, NumberExpr::Null)?, 0)),
         TypedExpr::Integer(expr, bound) => {
             let bound = scaled(bound)?;
-            Ok((Box::new(alloc, DecimalExpr::Scaled(expr))?, bound))
+            Ok((Box::new(alloc, NumberExpr::Scaled(expr))?, bound))
         }
         TypedExpr::Decimal(expr, bound) => Ok((expr, bound)),
         other => {
@@ -107,6 +109,41 @@ pub(crate) fn date_operand(expr: TypedExpr) -> Result<DateExpr, TypeFault>
         other => {
             drop(other);
             Err(TypeFault::Mismatch)
+        }
+    }
+}
+
+/// A date as a number.
+fn number_of_date(date: DateExpr) -> NumberExpr
+    ensures { number_view result ≡ number_of_date_in (date_view date) }
+{
+    match date {
+        DateExpr::Null => NumberExpr::Null,
+        DateExpr::Column(place) => NumberExpr::Column(NumberKind::Date, place),
+        DateExpr::Literal(date) => NumberExpr::Literal(i128::from(day_number(date))),
+    }
+}
+
+/// The expression where a number of a type stands beside others: a date is numbered.
+pub(crate) fn number_operand(
+    alloc: Global,
+    wanted: ExprType,
+    expr: TypedExpr,
+) -> Result<Box<NumberExpr>, TypeFault>
+    ensures { Gives boxed_number (as_number wanted (typed_view expr)) result }
+{
+    match wanted {
+        ExprType::Decimal => {
+            let (number, _) = decimal_operand(alloc, expr)?;
+            Ok(number)
+        }
+        ExprType::Date => {
+            let date = date_operand(expr)?;
+            Ok(Box::new(alloc, number_of_date(date))?)
+        }
+        _ => {
+            let (number, _) = integer_operand(alloc, expr)?;
+            Ok(number)
         }
     }
 }

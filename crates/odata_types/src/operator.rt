@@ -2,19 +2,18 @@
 
 ghost use Rattle.std.specs.Prelude.{◌≡◌};
 ghost use Rattle.odata_types.specs.Result.{Gives};
-ghost use Rattle.typed_trees.specs.TypedTree.{boxed_truth, decimal_difference, decimal_sum, typed_view};
+ghost use Rattle.typed_trees.specs.TypedTree.{boxed_truth, typed_view};
 ghost use Rattle.odata_types.specs.Typing.{arithmetic_typing, binary_typing, common_type as common_type_of, comparison_as as comparison_as_of, comparison_typing, computed_size as computed_size_of, decimals_typing, integers_typing, logic_typing, unary_typing, within};
 
 use crate::fault::TypeFault;
 use crate::operand::{
-    date_operand, decimal_operand, expr_type, integer_operand, text_operand, truth_operand, within,
+    decimal_operand, expr_type, integer_operand, number_operand, text_operand, truth_operand,
+    within,
 };
 use crate::types::ExprType;
 use odata_parse::tree::{BinaryOperator, LogicOperator, UnaryOperator};
 use std::alloc::Global;
-use typed_trees::{
-    ArithmeticOperator, ComparisonOperator, DecimalExpr, IntegerExpr, TruthExpr, TypedExpr,
-};
+use typed_trees::{ArithmeticOperator, ComparisonOperator, NumberExpr, TruthExpr, TypedExpr};
 
 /// `-` and `not` before an operand.
 pub(crate) fn unary_expr(
@@ -26,12 +25,12 @@ pub(crate) fn unary_expr(
 {
     match (operator, operand) {
         (UnaryOperator::Negate, TypedExpr::Decimal(expr, bound)) => Ok(TypedExpr::Decimal(
-            Box::new(alloc, DecimalExpr::Negate(expr))?,
+            Box::new(alloc, NumberExpr::Negate(expr))?,
             bound,
         )),
         (UnaryOperator::Negate, operand) => {
             let (expr, bound) = integer_operand(alloc, operand)?;
-            Ok(TypedExpr::Integer(Box::new(alloc, IntegerExpr::Negate(expr))?, bound))
+            Ok(TypedExpr::Integer(Box::new(alloc, NumberExpr::Negate(expr))?, bound))
         }
         (UnaryOperator::Not, operand) => {
             let expr = truth_operand(alloc, operand)?;
@@ -87,34 +86,25 @@ fn integers_expr(
     let (left, left_bound) = integer_operand(alloc, left)?;
     let (right, right_bound) = integer_operand(alloc, right)?;
     let bound = computed_size(operator, left_bound, right_bound)?;
-    let expr = IntegerExpr::Arithmetic(operator, left, right);
+    let expr = NumberExpr::Arithmetic(operator, left, right);
     Ok(TypedExpr::Integer(Box::new(alloc, expr)?, bound))
 }
 
-/// The sum of decimals.
-fn decimal_sum(alloc: Global, left: TypedExpr, right: TypedExpr) -> Result<TypedExpr, TypeFault>
-    ensures { Gives typed_view (decimals_typing decimal_sum (typed_view left) (typed_view right))
+/// The sum or the difference of decimals.
+fn decimals_expr(
+    alloc: Global,
+    operator: ArithmeticOperator,
+    left: TypedExpr,
+    right: TypedExpr,
+) -> Result<TypedExpr, TypeFault>
+    ensures { Gives typed_view (decimals_typing operator (typed_view left) (typed_view right))
         result }
 {
     let (left, left_bound) = decimal_operand(alloc, left)?;
     let (right, right_bound) = decimal_operand(alloc, right)?;
-    let bound = computed_size(ArithmeticOperator::Add, left_bound, right_bound)?;
-    Ok(TypedExpr::Decimal(Box::new(alloc, DecimalExpr::Add(left, right))?, bound))
-}
-
-/// The difference of decimals.
-fn decimal_difference(
-    alloc: Global,
-    left: TypedExpr,
-    right: TypedExpr,
-) -> Result<TypedExpr, TypeFault>
-    ensures { Gives typed_view
-        (decimals_typing decimal_difference (typed_view left) (typed_view right)) result }
-{
-    let (left, left_bound) = decimal_operand(alloc, left)?;
-    let (right, right_bound) = decimal_operand(alloc, right)?;
-    let bound = computed_size(ArithmeticOperator::Sub, left_bound, right_bound)?;
-    Ok(TypedExpr::Decimal(Box::new(alloc, DecimalExpr::Sub(left, right))?, bound))
+    let bound = computed_size(operator, left_bound, right_bound)?;
+    let expr = NumberExpr::Arithmetic(operator, left, right);
+    Ok(TypedExpr::Decimal(Box::new(alloc, expr)?, bound))
 }
 
 /// The type of two operands together.
@@ -140,8 +130,9 @@ fn arithmetic_expr(
 {
     let common = common_type(expr_type(&left), expr_type(&right));
     match (common, operator) {
-        (ExprType::Decimal, ArithmeticOperator::Add) => decimal_sum(alloc, left, right),
-        (ExprType::Decimal, ArithmeticOperator::Sub) => decimal_difference(alloc, left, right),
+        (ExprType::Decimal, ArithmeticOperator::Add | ArithmeticOperator::Sub) => {
+            decimals_expr(alloc, operator, left, right)
+        }
         _ => integers_expr(alloc, operator, left, right),
     }
 }
@@ -158,30 +149,20 @@ fn comparison_as(
         (comparison_as_of common operator (typed_view left) (typed_view right)) result }
 {
     let expr = match common {
-        ExprType::Integer => {
-            let (left, _) = integer_operand(alloc, left)?;
-            let (right, _) = integer_operand(alloc, right)?;
-            TruthExpr::CompareIntegers(operator, left, right)
-        }
-        ExprType::Decimal => {
-            let (left, _) = decimal_operand(alloc, left)?;
-            let (right, _) = decimal_operand(alloc, right)?;
-            TruthExpr::CompareDecimals(operator, left, right)
-        }
         ExprType::Text => {
             let left = text_operand(alloc, left)?;
             let right = text_operand(alloc, right)?;
             TruthExpr::CompareTexts(operator, left, right)
         }
-        ExprType::Date => {
-            let left = date_operand(left)?;
-            let right = date_operand(right)?;
-            TruthExpr::CompareDates(operator, left, right)
-        }
         ExprType::Boolean | ExprType::Null => {
             let left = truth_operand(alloc, left)?;
             let right = truth_operand(alloc, right)?;
             TruthExpr::CompareTruths(operator, left, right)
+        }
+        ExprType::Integer | ExprType::Decimal | ExprType::Date => {
+            let left = number_operand(alloc, common, left)?;
+            let right = number_operand(alloc, common, right)?;
+            TruthExpr::CompareNumbers(operator, left, right)
         }
     };
     Ok(Box::new(alloc, expr)?)

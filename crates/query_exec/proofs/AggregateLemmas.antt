@@ -99,9 +99,9 @@ may_join places aggregates g before more names width gathers long few fit = reco
 
 -- the rows of a block join them, and none is kept
 pub aggregate_pushed : (old new : AggregateSink) (rows more : List (List CellValue)) (found : Passed) → new.places ≡ old.places → new.aggregates ≡ old.aggregates
-    → HasSameColumns old.kept new.kept → new.kept.columns.rows ≡ [] → more ≡ selected_rows (kept_places old.kept) (numbered found.numbers.items rows)
-    → Adjoins old.gathering new.gathering more → PushesOn (sink.Aggregate old) (sink.Aggregate new) rows found
-aggregate_pushed old new rows more found places aggregates columns none more_is joins =
+    → HasSameColumns old.kept new.kept → new.kept.columns.rows ≡ [] → AreAllNumbers new.all.items (length new.all.items)
+    → more ≡ selected_rows (kept_places old.kept) (numbered found.numbers.items rows) → Adjoins old.gathering new.gathering more → PushesOn (sink.Aggregate old) (sink.Aggregate new) rows found
+aggregate_pushed old new rows more found places aggregates columns none all_are more_is joins =
     let node_is : aggregate_node (optional_numbers new.places) (aggregates_view new.aggregates) ≡ aggregate_node (optional_numbers old.places) (aggregates_view old.aggregates) =
     ap (λ (ps : _). aggregate_node (optional_numbers ps) (aggregates_view new.aggregates)) places ∙ ap (λ (as_many : _). aggregate_node (optional_numbers old.places) (aggregates_view as_many)) aggregates in
     record {
@@ -116,6 +116,7 @@ aggregate_pushed old new rows more found places aggregates columns none more_is 
                 (subst (Gathers new.gathering (optional_numbers old.places) (aggregates_view old.aggregates)) all
                 (joins (optional_numbers old.places) (aggregates_view old.aggregates) before has.gathers)));
             none = none;
+            all = all_are;
           };
     }
 

@@ -12,3 +12,4 @@ pub mod AdmittedLemmas
 pub mod ReadLemmas
 pub mod RunLemmas
 pub mod FrontLemmas
+pub mod EveryLemmas

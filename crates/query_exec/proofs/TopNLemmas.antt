@@ -12,6 +12,7 @@ use Rattle.block_summary.specs.Cells.{number_or_null}
 use Rattle.block_summary.specs.Types.{cell_of}
 use Rattle.block_summary.specs.declared.number.PackedType.{PackedType}
 use Rattle.cell_types.specs.Value.{CellValue, null}
+use Rattle.typed_trees.specs.declared.tree.NumberKind.TheVariants as numbers
 use Rattle.typed_trees.specs.TypedTree as typed
 use Rattle.typed_trees.specs.TypedTree.{TypedExprOf}
 use Rattle.row_eval.specs.Bounds.{NumbersFit}
@@ -43,11 +44,11 @@ use Rattle.query_exec.proofs.StepLemmas.{all_numbered}
 -- ---- items that are columns alone
 
 pub plain_fits : (e : TypedExprOf) (row : List CellValue) → is_some (plain_column e) ≡ true → NumbersFit e row
-plain_fits (typed.integer (typed.integer_column place) bound) row h = tt
+plain_fits (typed.integer (typed.number_column numbers.Integer place) bound) row h = tt
 plain_fits (typed.text (typed.text_column place)) row h = tt
 plain_fits (typed.truth (typed.truth_column place)) row h = tt
 plain_fits (typed.date (typed.date_column place)) row h = tt
-plain_fits (typed.decimal (typed.decimal_column place) bound) row h = tt
+plain_fits (typed.decimal (typed.number_column numbers.Decimal place) bound) row h = tt
 plain_fits e row h = absurd (cc)
 
 items_fit : (items : List Item) (row : List CellValue) → are_plain items ≡ true → AllByRecursion (λ item. NumbersFit item.0 row) items
@@ -99,11 +100,11 @@ plain_is_safe (item ∷ items) plain =
     ap (λ b. not b && none_can_fault items) (column_is_safe item.0 parts.0) ∙ plain_is_safe items parts.1
   where
     column_is_safe : (e : TypedExprOf) → is_some (plain_column e) ≡ true → can_fault e ≡ false
-    column_is_safe (typed.integer (typed.integer_column place) bound) h = refl
+    column_is_safe (typed.integer (typed.number_column numbers.Integer place) bound) h = refl
     column_is_safe (typed.text (typed.text_column place)) h = refl
     column_is_safe (typed.truth (typed.truth_column place)) h = refl
     column_is_safe (typed.date (typed.date_column place)) h = refl
-    column_is_safe (typed.decimal (typed.decimal_column place) bound) h = refl
+    column_is_safe (typed.decimal (typed.number_column numbers.Decimal place) bound) h = refl
     column_is_safe e h = absurd (cc)
 
 -- of rows that the items fit, those with some numbers

@@ -24,7 +24,7 @@ use Rattle.query_exec.specs.declared.sink.Sink.{Sink}
 use Rattle.query_exec.specs.declared.sink.Sink.TheVariants.{Aggregate, Collect, Slice, TopN}
 use Rattle.query_exec.specs.declared.slice.SliceSink.{SliceSink}
 use Rattle.query_exec.specs.declared.top_n.TopNSink.{TopNSink}
-use Rattle.query_exec.specs.Intermediate.{aggregate_node, without_count, Makes}
+use Rattle.query_exec.specs.Intermediate.{aggregate_node, without_count, AreAllNumbers, Makes}
 use Rattle.query_exec.specs.Items.{none_can_fault, ItemsFit}
 use Rattle.query_exec.specs.Kept.{kept_names, kept_places, AreKeptOf, AreKeptRows, HasSameColumns}
 use Rattle.query_exec.specs.Picked.{selected_rows}
@@ -62,6 +62,7 @@ pub record HasBest (sink : TopNSink) (rows : List (List CellValue)) : Type 0 whe
 pub record HasGathered (sink : AggregateSink) (rows : List (List CellValue)) : Type 0 where
   pub gathers : Gathers sink.gathering (optional_numbers sink.places) (aggregates_view sink.aggregates) rows
   pub none : sink.kept.columns.rows ≡ []
+  pub all : AreAllNumbers sink.all.items (length sink.all.items)
 
 abbrev pub HasPushed : Sink → List (List CellValue) → Type 0
 HasPushed (Collect kept) rows = kept.columns.rows ≡ rows

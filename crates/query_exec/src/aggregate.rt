@@ -1,8 +1,9 @@
 //! A sink of aggregates of all rows, or of groups of them: none of the rows is kept.
-ghost use Rattle.std.specs.Prelude.{◌≡◌, [], IfOk, OnOk, map};
+ghost use Rattle.std.specs.Prelude.{◌≡◌, ◌≤◌, [], IfOk, OnOk, length, map};
 ghost use Rattle.odata_query.specs.Aggregate.{aggregates_view};
 ghost use Rattle.odata_query.specs.Query.{optional_numbers};
 ghost use Rattle.query_exec.specs.declared.sink.Sink.TheVariants as sink;
+ghost use Rattle.query_exec.specs.Intermediate.{AreAllNumbers};
 ghost use Rattle.query_exec.specs.Sink.{HasPushed, SinkMakes, MayFinish, MayPush, PushesOn};
 
 use crate::intermediate::{Intermediate, all_numbers};
@@ -22,6 +23,20 @@ pub(crate) struct AggregateSink {
     pub(crate) places: Option<Vec<usize>>,
     pub(crate) aggregates: Vec<NamedAggregate>,
     pub(crate) gathering: Gathering,
+    /// The numbers of so many rows, for those of the blocks that come.
+    pub(crate) all: Vec<usize>,
+}
+
+/// Makes the numbers of so many rows, where fewer are there.
+fn reach(alloc: Global, all: &mut Vec<usize>, len: usize) -> Result<(), AllocError>
+    requires { AreAllNumbers all.old.items (length all.old.items) }
+    ensures all { OnOk result (AreAllNumbers all.new.items (length all.new.items)) }
+    ensures long { OnOk result (len ≤ length all.new.items) }
+{
+    if all.len() < len {
+        *all = all_numbers(alloc, len)?;
+    }
+    Ok(())
 }
 
 impl AggregateSink {
@@ -44,6 +59,7 @@ impl AggregateSink {
             places,
             aggregates,
             gathering,
+            all: Vec::new(alloc),
         })
     }
 
@@ -59,8 +75,10 @@ impl AggregateSink {
             (PushesOn (sink.Aggregate self.old) (sink.Aggregate self.new) block.now.rows found) }
     {
         self.kept.take(alloc, block, found.numbers.as_slice())?;
-        let numbers = all_numbers(alloc, self.kept.columns.len())?;
-        self.gathering.join(alloc, &self.kept.columns, &numbers)?;
+        let len = self.kept.columns.len();
+        reach(alloc, &mut self.all, len)?;
+        self.gathering
+            .join(alloc, &self.kept.columns, &self.all[..len])?;
         self.kept.reduce(alloc, &[])?;
         Ok(())
     }
@@ -75,6 +93,7 @@ impl AggregateSink {
             places,
             aggregates,
             gathering,
+            ..
         } = self;
         let names = aggregate_names(
             alloc,

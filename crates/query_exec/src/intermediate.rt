@@ -16,14 +16,21 @@ pub(crate) struct Intermediate {
     pub(crate) count: Option<u64>,
 }
 
+/// Writes its number at each place.
+fn write_places(out: &mut [usize])
+    ensures { AreAllNumbers out.new (length out.old) }
+{
+    for place in 0..out.len() {
+        out[place] = place;
+    }
+}
+
 /// The numbers of so many rows.
 pub(crate) fn all_numbers(alloc: Global, len: usize) -> Result<Vec<usize>, AllocError>
     ensures { IfOk result (λ numbers. AreAllNumbers numbers.items len) }
 {
-    let mut numbers = Vec::with_capacity(alloc, len)?;
-    for number in 0..len {
-        numbers.push(number)?;
-    }
+    let mut numbers = Vec::from_elem(alloc, 0, len)?;
+    write_places(numbers.as_mut_slice());
     Ok(numbers)
 }
 

@@ -84,6 +84,13 @@ impl Kept {
         }
     }
 
+    /// From now on the rows take a bit each, where enough of their table are kept.
+    pub(crate) fn compact(&mut self, alloc: Global) -> Result<(), AllocError>
+        ensures { OnOk result (self.new ≡ self.old) }
+    {
+        self.columns.compact(alloc)
+    }
+
     /// Keeps of the rows those with these numbers, in their order.
     pub(crate) fn reduce(&mut self, alloc: Global, numbers: &[usize]) -> Result<(), AllocError>
         requires { All (λ n. n < length self.old.columns.rows) numbers.now }

@@ -4,6 +4,7 @@
 
 mod admitted;
 mod aggregate;
+mod every;
 mod fault;
 mod front;
 mod intermediate;

@@ -12,6 +12,7 @@ ghost use Rattle.query_exec.specs.declared.run.Step.TheVariants.{Done};
 ghost use Rattle.query_exec.specs.Run.{handed_block, next_block, AdvancesTo, AreFirstRows, HasTakenIn, RunGives, RunGoesOn, RunIsRefused, IsAwaited, RunIsDone, IsReady, MayBeHanded, MayTakeIn, StandsFor, StepsTo, wanted_block};
 
 use crate::admitted::admitted;
+use crate::every::found_rows;
 use crate::fault::ExecFault;
 use crate::front::FirstRows;
 use crate::kept::Kept;
@@ -19,7 +20,7 @@ use crate::parts::{Parts, split};
 use crate::sink::Sink;
 use crate::slice::room_behind;
 use crate::steps::apply_all;
-use block_filter::{Lanes, conditions_in_turn, filter_block};
+use block_filter::{Lanes, conditions_in_turn};
 use block_summary::{Summary, one_range};
 use csvw_meta::Schema;
 use query_plan::{Node, Plan, nodes_in_turn, scans_read_table_rows};
@@ -109,7 +110,7 @@ impl Run {
             return Ok(());
         }
         let most = self.sink.spare();
-        let found = filter_block(alloc, &self.conditions, block, most, &mut self.lanes)?;
+        let found = found_rows(alloc, &self.conditions, block, most, &mut self.lanes)?;
         self.room = room_behind(self.room, found.count as u64);
         if self.faulted || found.faulted {
             self.faulted = true;

@@ -58,6 +58,7 @@ impl SliceSink {
         self.count += found.count as u64;
         let numbers = piece(found.numbers, skip, None);
         self.kept.take(alloc, block, numbers.as_slice())?;
+        self.kept.compact(alloc)?;
         Ok(())
     }
 

@@ -7,11 +7,11 @@ use Rattle.odata_parse.specs.Tree.{ExprOf}
 use Rattle.odata_types.specs.declared.fault.TypeFault.{TypeFault}
 use Rattle.odata_types.specs.Columns.{InputOf}
 use Rattle.typed_trees.specs.TypedTree as typed
-use Rattle.typed_trees.specs.TypedTree.{IntegerExprOf, DecimalExprOf, TruthExprOf, TypedExprOf}
+use Rattle.typed_trees.specs.TypedTree.{NumberExprOf, TruthExprOf, TypedExprOf}
 use Rattle.odata_types.specs.Typing.{as_truth, filter_typing, typing}
 use Rattle.row_eval.specs.Bounds.{IsWithin, NumbersFit, TruthFits}
 use Rattle.odata_types.specs.Input.{HasShortTexts, IsInput, IsQueried, IsRowOf, nodes}
-use Rattle.row_eval.specs.Outcome.{decimal_outcome, integer_outcome}
+use Rattle.row_eval.specs.Outcome.{number_outcome}
 use Rattle.query_meaning.proofs.SoundLemmas.{Sound, bind, as_truth_sound, literal_sound, name_sound}
 use Rattle.query_meaning.proofs.OperatorLemmas.{unary_sound, binary_sound, in_sound, unary_call_sound, binary_call_sound}
 
@@ -55,8 +55,8 @@ pub filters_fit : (inputs : List InputOf) (row : List CellValue) (e : ExprOf) (t
 filters_fit inputs row e t limit h q is =
     at_ok (filter_typing inputs e) t (λ x. TruthFits x row) (bind (typing inputs e) as_truth (Sound row (nodes e)) (λ x. TruthFits x row) (sound inputs row e limit h q.few q.short) (λ x px. as_truth_sound row (nodes e) x px)) is
 
-pub integers_bounded : (inputs : List InputOf) (row : List CellValue) (e : ExprOf) (n : IntegerExprOf) (b : ℕ) → IsInput inputs → IsRowOf inputs row → IsQueried e → typing inputs e ≡ Ok (typed.integer n b) → IsWithin b (integer_outcome n row)
+pub integers_bounded : (inputs : List InputOf) (row : List CellValue) (e : ExprOf) (n : NumberExprOf) (b : ℕ) → IsInput inputs → IsRowOf inputs row → IsQueried e → typing inputs e ≡ Ok (typed.integer n b) → IsWithin b (number_outcome n row)
 integers_bounded inputs row e n b limit h q is = (at_ok (typing inputs e) (typed.integer n b) (Sound row (nodes e)) (sound inputs row e limit h q.few q.short) is).2
 
-pub decimals_bounded : (inputs : List InputOf) (row : List CellValue) (e : ExprOf) (n : DecimalExprOf) (b : ℕ) → IsInput inputs → IsRowOf inputs row → IsQueried e → typing inputs e ≡ Ok (typed.decimal n b) → IsWithin b (decimal_outcome n row)
+pub decimals_bounded : (inputs : List InputOf) (row : List CellValue) (e : ExprOf) (n : NumberExprOf) (b : ℕ) → IsInput inputs → IsRowOf inputs row → IsQueried e → typing inputs e ≡ Ok (typed.decimal n b) → IsWithin b (number_outcome n row)
 decimals_bounded inputs row e n b limit h q is = (at_ok (typing inputs e) (typed.decimal n b) (Sound row (nodes e)) (sound inputs row e limit h q.few q.short) is).2

@@ -1,6 +1,6 @@
 -- Operators, lists and functions of sound expressions are sound.
 use Rattle.std.proofs.Common.{ℕ, ◌+◌, ◌≤◌, Bool, true, false, List, arith, if◌then◌else◌}
-use Rattle.std.specs.Prelude.{◌+ℤ◌, ◌-ℤ◌, IfOk, Ok, Err}
+use Rattle.std.specs.Prelude.{IfOk, Ok, Err}
 use Rattle.std.specs.List.{list_all}
 use Rattle.cell_types.specs.Value.{CellValue}
 use Rattle.odata_parse.specs.declared.tree.UnaryOperator.{UnaryOperator}
@@ -24,25 +24,25 @@ use Rattle.typed_trees.specs.declared.tree.DatePart.{DatePart}
 use Rattle.typed_trees.specs.declared.tree.DatePart.TheVariants as part
 use Rattle.odata_types.specs.Result.{◌>>=◌}
 use Rattle.typed_trees.specs.TypedTree as typed
-use Rattle.typed_trees.specs.TypedTree.{TextExprOf, IntegerExprOf, TruthExprOf, TypedExprOf}
-use Rattle.odata_types.specs.Typing.{arithmetic_as, as_date, as_decimal, as_integer, as_text, as_truth, binary_call_typing, binary_typing, common_type, comparison_as, computed_size, decimal_items, decimals_typing, type_fits, in_typing, integers_typing, is_small, list_as, list_in_type, list_type, literal_type, logic_expr, part_typing, text_call, type_of, unary_call_typing, unary_typing}
-use Rattle.row_eval.specs.Bounds.{TruthFits}
-use Rattle.row_eval.specs.Outcome.{date_outcome, decimal_outcome, integer_outcome, text_outcome}
-use Rattle.query_meaning.proofs.SizeLemmas.{fits_of, negated_sized, abs-add, abs-sub, arithmetic_sized, joined_sized, length_sized, index_sized, concat_sized, part_sized}
-use Rattle.query_meaning.proofs.SoundLemmas.{IntegerSound, DecimalSound, TextSound, DateSound, Sound, bind, if_within, always, as_integer_sound, as_decimal_sound, as_text_sound, as_date_sound, as_truth_sound}
+use Rattle.typed_trees.specs.TypedTree.{NumberExprOf, TextExprOf, TruthExprOf, TypedExprOf}
+use Rattle.odata_types.specs.Typing.{arithmetic_as, as_date, as_decimal, as_integer, as_number, as_text, as_truth, binary_call_typing, binary_typing, common_type, comparison_as, computed_size, decimals_typing, type_fits, in_typing, integers_typing, is_small, list_as, list_in_type, list_type, literal_type, logic_expr, number_items, part_typing, text_call, type_of, unary_call_typing, unary_typing}
+use Rattle.row_eval.specs.Bounds.{NumberFits, TruthFits}
+use Rattle.row_eval.specs.Outcome.{date_outcome, number_outcome, text_outcome}
+use Rattle.query_meaning.proofs.SizeLemmas.{fits_of, negated_sized, arithmetic_sized, length_sized, index_sized, concat_sized, part_sized}
+use Rattle.query_meaning.proofs.SoundLemmas.{NumberSound, TextSound, DateSound, Sound, bind, if_within, always, as_integer_sound, as_decimal_sound, as_number_sound, as_text_sound, as_date_sound, as_truth_sound}
 
 -- ---- operators
 
-negated_sound : (row : List CellValue) (e : IntegerExprOf) (b : ℕ) → IntegerSound row (e, b) → IntegerSound row (typed.negated e, b)
-negated_sound row e b h = let s = negated_sized (integer_outcome e row) b h.2 in (h.0, (h.1, fits_of (integer_outcome (typed.negated e) row) b h.0 s), s)
+negated_sound : (row : List CellValue) (e : NumberExprOf) (b : ℕ) → NumberSound row (e, b) → NumberSound row (typed.negated e, b)
+negated_sound row e b h = let s = negated_sized (number_outcome e row) b h.2 in (h.0, (h.1, fits_of (number_outcome (typed.negated e) row) b h.0 s), s)
 
 pub unary_sound : (row : List CellValue) (k : ℕ) (o : UnaryOperator) (t : TypedExprOf) → Sound row k t → IfOk (unary_typing o t) (Sound row (k + 1))
-unary_sound row k Negate typed.nothing h = negated_sound row typed.null_integer 0 (omega arith, tt, tt)
+unary_sound row k Negate typed.nothing h = negated_sound row typed.null_number 0 (omega arith, tt, tt)
 unary_sound row k Negate (typed.integer e b) h = negated_sound row e b h
 unary_sound row k Negate (typed.text e) h = tt
 unary_sound row k Negate (typed.truth e) h = tt
 unary_sound row k Negate (typed.date e) h = tt
-unary_sound row k Negate (typed.decimal e b) h = let s = negated_sized (decimal_outcome e row) b h.2 in (h.0, (h.1, fits_of (decimal_outcome (typed.decimal_negated e) row) b h.0 s), s)
+unary_sound row k Negate (typed.decimal e b) h = negated_sound row e b h
 unary_sound row k Not t h = bind (as_truth t) _ (λ e. TruthFits e row) (Sound row (k + 1)) (as_truth_sound row k t h) (λ e f. f)
 
 logic_sound : (row : List CellValue) (o : LogicOperator) (x y : TruthExprOf) → TruthFits x row → TruthFits y row → TruthFits (logic_expr o x y) row
@@ -50,30 +50,24 @@ logic_sound row And x y p q = (p, q)
 logic_sound row Or x y p q = (p, q)
 
 integers_sound : (row : List CellValue) (j k n : ℕ) (o : ArithmeticOperator) (a b : TypedExprOf) → Sound row j a → Sound row k b → IfOk (integers_typing o a b) (Sound row n)
-integers_sound row j k n o a b p q = bind (as_integer a) _ (IntegerSound row) (Sound row n) (as_integer_sound row j a p) (λ x px.
-    bind (as_integer b) _ (IntegerSound row) (Sound row n) (as_integer_sound row k b q) (λ y py.
+integers_sound row j k n o a b p q = bind (as_integer a) _ (NumberSound row) (Sound row n) (as_integer_sound row j a p) (λ x px.
+    bind (as_integer b) _ (NumberSound row) (Sound row n) (as_integer_sound row k b q) (λ y py.
     let size = computed_size o x.1 y.1 in
     if_within size (typed.integer (typed.arithmetic o x.0 y.0) size) (Sound row n) (λ limit.
-    let s = arithmetic_sized o (integer_outcome x.0 row) (integer_outcome y.0 row) x.1 y.1 px.2 py.2 in
-    (limit, (px.1, py.1, fits_of (integer_outcome (typed.arithmetic o x.0 y.0) row) size limit s), s))))
+    let s = arithmetic_sized o (number_outcome x.0 row) (number_outcome y.0 row) x.1 y.1 px.2 py.2 in
+    (limit, (px.1, py.1, fits_of (number_outcome (typed.arithmetic o x.0 y.0) row) size limit s), s))))
 
-sums_sound : (row : List CellValue) (j k n : ℕ) (a b : TypedExprOf) → Sound row j a → Sound row k b → IfOk (decimals_typing typed.decimal_sum a b) (Sound row n)
-sums_sound row j k n a b p q = bind (as_decimal a) _ (DecimalSound row) (Sound row n) (as_decimal_sound row j a p) (λ x px.
-    bind (as_decimal b) _ (DecimalSound row) (Sound row n) (as_decimal_sound row k b q) (λ y py.
-    if_within (x.1 + y.1) (typed.decimal (typed.decimal_sum x.0 y.0) (x.1 + y.1)) (Sound row n) (λ limit.
-    let s = joined_sized (λ u v. u +ℤ v) (decimal_outcome x.0 row) (decimal_outcome y.0 row) x.1 y.1 (x.1 + y.1) (λ u v f g. omega (arith, abs-add u v)) px.2 py.2 in
-    (limit, (px.1, py.1, fits_of (decimal_outcome (typed.decimal_sum x.0 y.0) row) (x.1 + y.1) limit s), s))))
-
-differences_sound : (row : List CellValue) (j k n : ℕ) (a b : TypedExprOf) → Sound row j a → Sound row k b → IfOk (decimals_typing typed.decimal_difference a b) (Sound row n)
-differences_sound row j k n a b p q = bind (as_decimal a) _ (DecimalSound row) (Sound row n) (as_decimal_sound row j a p) (λ x px.
-    bind (as_decimal b) _ (DecimalSound row) (Sound row n) (as_decimal_sound row k b q) (λ y py.
-    if_within (x.1 + y.1) (typed.decimal (typed.decimal_difference x.0 y.0) (x.1 + y.1)) (Sound row n) (λ limit.
-    let s = joined_sized (λ u v. u -ℤ v) (decimal_outcome x.0 row) (decimal_outcome y.0 row) x.1 y.1 (x.1 + y.1) (λ u v f g. omega (arith, abs-sub u v)) px.2 py.2 in
-    (limit, (px.1, py.1, fits_of (decimal_outcome (typed.decimal_difference x.0 y.0) row) (x.1 + y.1) limit s), s))))
+decimals_sound : (row : List CellValue) (j k n : ℕ) (o : ArithmeticOperator) (a b : TypedExprOf) → Sound row j a → Sound row k b → IfOk (decimals_typing o a b) (Sound row n)
+decimals_sound row j k n o a b p q = bind (as_decimal a) _ (NumberSound row) (Sound row n) (as_decimal_sound row j a p) (λ x px.
+    bind (as_decimal b) _ (NumberSound row) (Sound row n) (as_decimal_sound row k b q) (λ y py.
+    let size = computed_size o x.1 y.1 in
+    if_within size (typed.decimal (typed.arithmetic o x.0 y.0) size) (Sound row n) (λ limit.
+    let s = arithmetic_sized o (number_outcome x.0 row) (number_outcome y.0 row) x.1 y.1 px.2 py.2 in
+    (limit, (px.1, py.1, fits_of (number_outcome (typed.arithmetic o x.0 y.0) row) size limit s), s))))
 
 arithmetic_sound : (row : List CellValue) (j k n : ℕ) (type : ExprType) (o : ArithmeticOperator) (a b : TypedExprOf) → Sound row j a → Sound row k b → IfOk (arithmetic_as type o a b) (Sound row n)
-arithmetic_sound row j k n kind.Decimal Add a b p q = sums_sound row j k n a b p q
-arithmetic_sound row j k n kind.Decimal Sub a b p q = differences_sound row j k n a b p q
+arithmetic_sound row j k n kind.Decimal Add a b p q = decimals_sound row j k n Add a b p q
+arithmetic_sound row j k n kind.Decimal Sub a b p q = decimals_sound row j k n Sub a b p q
 arithmetic_sound row j k n kind.Decimal Mul a b p q = integers_sound row j k n Mul a b p q
 arithmetic_sound row j k n kind.Decimal Div a b p q = integers_sound row j k n Div a b p q
 arithmetic_sound row j k n kind.Decimal Mod a b p q = integers_sound row j k n Mod a b p q
@@ -87,15 +81,17 @@ truths_sound : (row : List CellValue) (j k : ℕ) (o : ComparisonOperator) (a b 
 truths_sound row j k o a b p q = bind (as_truth a) _ (λ e. TruthFits e row) (λ e. TruthFits e row) (as_truth_sound row j a p) (λ x px.
     bind (as_truth b) _ (λ e. TruthFits e row) (λ e. TruthFits e row) (as_truth_sound row k b q) (λ y py. (px, py)))
 
+numbers_sound : (row : List CellValue) (j k : ℕ) (type : ExprType) (o : ComparisonOperator) (a b : TypedExprOf) → Sound row j a → Sound row k b
+    → IfOk (as_number type a >>= λ x. as_number type b >>= λ y. Ok (typed.compare_numbers o x y)) (λ e. TruthFits e row)
+numbers_sound row j k type o a b p q = bind (as_number type a) _ (λ e. NumberFits e row) (λ e. TruthFits e row) (as_number_sound row j type a p) (λ x px.
+    bind (as_number type b) _ (λ e. NumberFits e row) (λ e. TruthFits e row) (as_number_sound row k type b q) (λ y py. (px, py)))
+
 comparison_sound : (row : List CellValue) (j k : ℕ) (type : ExprType) (o : ComparisonOperator) (a b : TypedExprOf) → Sound row j a → Sound row k b → IfOk (comparison_as type o a b) (λ e. TruthFits e row)
-comparison_sound row j k kind.Integer o a b p q = bind (as_integer a) _ (IntegerSound row) (λ e. TruthFits e row) (as_integer_sound row j a p) (λ x px.
-    bind (as_integer b) _ (IntegerSound row) (λ e. TruthFits e row) (as_integer_sound row k b q) (λ y py. (px.1, py.1)))
-comparison_sound row j k kind.Decimal o a b p q = bind (as_decimal a) _ (DecimalSound row) (λ e. TruthFits e row) (as_decimal_sound row j a p) (λ x px.
-    bind (as_decimal b) _ (DecimalSound row) (λ e. TruthFits e row) (as_decimal_sound row k b q) (λ y py. (px.1, py.1)))
+comparison_sound row j k kind.Integer o a b p q = numbers_sound row j k kind.Integer o a b p q
+comparison_sound row j k kind.Decimal o a b p q = numbers_sound row j k kind.Decimal o a b p q
 comparison_sound row j k kind.Text o a b p q = bind (as_text a) _ (λ _. Unit {0}) (λ e. TruthFits e row) (always (as_text a)) (λ x px.
     bind (as_text b) _ (λ _. Unit {0}) (λ e. TruthFits e row) (always (as_text b)) (λ y py. tt))
-comparison_sound row j k kind.Date o a b p q = bind (as_date a) _ (λ _. Unit {0}) (λ e. TruthFits e row) (always (as_date a)) (λ x px.
-    bind (as_date b) _ (λ _. Unit {0}) (λ e. TruthFits e row) (always (as_date b)) (λ y py. tt))
+comparison_sound row j k kind.Date o a b p q = numbers_sound row j k kind.Date o a b p q
 comparison_sound row j k kind.Boolean o a b p q = truths_sound row j k o a b p q
 comparison_sound row j k kind.Null o a b p q = truths_sound row j k o a b p q
 
@@ -108,12 +104,16 @@ binary_sound row j k n (operator.Arithmetic o) a b p q = arithmetic_sound row j 
 
 -- ---- lists and functions
 
+numbers_in_sound : (row : List CellValue) (k : ℕ) (type : ExprType) (a : TypedExprOf) (vs : List LiteralOf) → Sound row k a
+    → IfOk (as_number type a >>= λ x. number_items type vs >>= λ items. Ok (typed.number_in x items)) (λ e. TruthFits e row)
+numbers_in_sound row k type a vs p = bind (as_number type a) _ (λ e. NumberFits e row) (λ e. TruthFits e row) (as_number_sound row k type a p) (λ x px.
+    bind (number_items type vs) _ (λ _. Unit {0}) (λ e. TruthFits e row) (always (number_items type vs)) (λ items _. px))
+
 list_sound : (row : List CellValue) (k : ℕ) (type : ExprType) (a : TypedExprOf) (vs : List LiteralOf) → Sound row k a → IfOk (list_as type a vs) (λ e. TruthFits e row)
-list_sound row k kind.Integer a vs p = bind (as_integer a) _ (IntegerSound row) (λ e. TruthFits e row) (as_integer_sound row k a p) (λ x px. px.1)
-list_sound row k kind.Decimal a vs p = bind (as_decimal a) _ (DecimalSound row) (λ e. TruthFits e row) (as_decimal_sound row k a p) (λ x px.
-    bind (decimal_items vs) _ (λ _. Unit {0}) (λ e. TruthFits e row) (always (decimal_items vs)) (λ items _. px.1))
+list_sound row k kind.Integer a vs p = numbers_in_sound row k kind.Integer a vs p
+list_sound row k kind.Decimal a vs p = numbers_in_sound row k kind.Decimal a vs p
 list_sound row k kind.Text a vs p = bind (as_text a) _ (λ _. Unit {0}) (λ e. TruthFits e row) (always (as_text a)) (λ x px. tt)
-list_sound row k kind.Date a vs p = bind (as_date a) _ (λ _. Unit {0}) (λ e. TruthFits e row) (always (as_date a)) (λ x px. tt)
+list_sound row k kind.Date a vs p = numbers_in_sound row k kind.Date a vs p
 list_sound row k kind.Boolean a vs p = bind (as_truth a) _ (λ e. TruthFits e row) (λ e. TruthFits e row) (as_truth_sound row k a p) (λ x px. px)
 list_sound row k kind.Null a vs p = bind (as_truth a) _ (λ e. TruthFits e row) (λ e. TruthFits e row) (as_truth_sound row k a p) (λ x px. px)
 

@@ -18,7 +18,7 @@ use Rattle.typed_trees.specs.TypedTree.{DayOf}
 use Rattle.odata_types.specs.Typing.{computed_size}
 use Rattle.row_eval.specs.Bounds.{Fits}
 use Rattle.odata_types.specs.Input.{IsDay}
-use Rattle.row_eval.specs.Outcome.{both, computed, joined, operation, part_in}
+use Rattle.row_eval.specs.Outcome.{computed, joined, operation, part_in}
 use Rattle.row_eval.specs.Text.{index_in, index_of_place, length_in, place_of_part}
 
 -- ---- sizes of numbers
@@ -47,10 +47,10 @@ negated_sized None b h = tt
 negated_sized (Some None) b h = tt
 negated_sized (Some (Some n)) b h = rw (abs-neg n) h
 
-pub abs-add : (a b : ℤ) → unsigned_abs (a +ℤ b) ≤ unsigned_abs a + unsigned_abs b
+abs-add : (a b : ℤ) → unsigned_abs (a +ℤ b) ≤ unsigned_abs a + unsigned_abs b
 abs-add a b = omega (arith, ints)
 
-pub abs-sub : (a b : ℤ) → unsigned_abs (a -ℤ b) ≤ unsigned_abs a + unsigned_abs b
+abs-sub : (a b : ℤ) → unsigned_abs (a -ℤ b) ≤ unsigned_abs a + unsigned_abs b
 abs-sub a b = omega (arith, ints)
 
 abs-div : (a b : ℤ) → unsigned_abs (int_div a b) ≤ unsigned_abs a
@@ -91,13 +91,6 @@ pub arithmetic_sized : (o : ArithmeticOperator) (v w : Option (Option ℤ)) (a b
 arithmetic_sized o None w a b p q = tt
 arithmetic_sized o (Some x) None a b p q = tt
 arithmetic_sized o (Some x) (Some y) a b p q = computed_sized o x y a b p q
-
-pub joined_sized : (f : ℤ → ℤ → ℤ) (v w : Option (Option ℤ)) (a b s : ℕ) → ((x y : ℤ) → unsigned_abs x ≤ a → unsigned_abs y ≤ b → unsigned_abs (f x y) ≤ s) → Sized v a → Sized w b → Sized (both (joined f) v w) s
-joined_sized f None w a b s g p q = tt
-joined_sized f (Some x) None a b s g p q = tt
-joined_sized f (Some None) (Some y) a b s g p q = tt
-joined_sized f (Some (Some x)) (Some None) a b s g p q = tt
-joined_sized f (Some (Some x)) (Some (Some y)) a b s g p q = g x y p q
 
 pub scaled_sized : (o : Option (Option ℤ)) (b : ℕ) → Sized o b → Sized (option_map (option_map (λ x. x *ℤ pos MILLIONTHS)) o) (b * MILLIONTHS)
 scaled_sized None b h = tt

@@ -6,30 +6,30 @@ use Rattle.cell_types.specs.Value as cells
 use Rattle.cell_types.specs.Value.{CellValue}
 use Rattle.odata_parse.specs.Tree as tree
 use Rattle.odata_parse.specs.Tree.{LiteralOf}
+use Rattle.typed_trees.specs.declared.tree.NumberKind.TheVariants as numbers
 use Rattle.typed_trees.specs.declared.tree.TheConstants.{MILLIONTHS}
 use Rattle.odata_types.specs.declared.types.TheConstants.{MOST_SIZE}
 use Rattle.odata_types.specs.declared.types.ColumnType.{ColumnType}
 use Rattle.odata_types.specs.declared.types.ColumnType.TheVariants as column
+use Rattle.odata_types.specs.declared.types.ExprType.{ExprType}
+use Rattle.odata_types.specs.declared.types.ExprType.TheVariants as kind
 use Rattle.odata_types.specs.declared.fault.TypeFault.{TypeFault}
 use Rattle.odata_types.specs.declared.fault.TypeFault.TheVariants.{TooLarge}
 use Rattle.odata_types.specs.Columns.{InputOf}
 use Rattle.odata_types.specs.Result.{◌>>=◌}
 use Rattle.typed_trees.specs.TypedTree as typed
-use Rattle.typed_trees.specs.TypedTree.{DateExprOf, TextExprOf, IntegerExprOf, DecimalExprOf, TypedExprOf}
-use Rattle.odata_types.specs.Typing.{as_date, as_decimal, as_integer, as_text, as_truth, column_at, column_expr, literal_typing, name_typing, place_of, within}
-use Rattle.row_eval.specs.Bounds.{DecimalsFit, IntegersFit, TruthFits}
+use Rattle.typed_trees.specs.TypedTree.{DateExprOf, TextExprOf, NumberExprOf, TypedExprOf, number_of_date}
+use Rattle.odata_types.specs.Typing.{as_date, as_decimal, as_integer, as_number, as_text, as_truth, column_at, column_expr, literal_typing, name_typing, place_of, within}
+use Rattle.row_eval.specs.Bounds.{NumberFits, TruthFits}
 use Rattle.odata_types.specs.Input.{IsBounded, IsDay, IsInput, IsOfType, IsRowOf, IsShortLiteral}
-use Rattle.row_eval.specs.Outcome.{date_outcome, decimal_outcome, integer_outcome, text_outcome}
-use Rattle.row_eval.specs.Row.{day_in, decimal_in, integer_in, text_in}
+use Rattle.row_eval.specs.Outcome.{date_outcome, number_outcome, text_outcome}
+use Rattle.row_eval.specs.Row.{day_in, number_in, text_in}
 use Rattle.query_meaning.proofs.SizeLemmas.{AtMost, Sized, fits_of, scaled_sized}
 
 -- ---- sound expressions: of that many nodes, on that row
 
-abbrev pub IntegerSound : List CellValue → IntegerExprOf × ℕ → Type 0
-IntegerSound row p = (p.1 ≤ MOST_SIZE) × IntegersFit p.0 row × Sized (integer_outcome p.0 row) p.1
-
-abbrev pub DecimalSound : List CellValue → DecimalExprOf × ℕ → Type 0
-DecimalSound row p = (p.1 ≤ MOST_SIZE) × DecimalsFit p.0 row × Sized (decimal_outcome p.0 row) p.1
+abbrev pub NumberSound : List CellValue → NumberExprOf × ℕ → Type 0
+NumberSound row p = (p.1 ≤ MOST_SIZE) × NumberFits p.0 row × Sized (number_outcome p.0 row) p.1
 
 abbrev pub TextSound : List CellValue → ℕ → TextExprOf → Type 0
 TextSound row k e = IfSome (text_outcome e row) (λ t. length t ≤ k * 2 ^ 30)
@@ -39,11 +39,11 @@ DateSound row e = IfSome (date_outcome e row) (λ d. IsDay (unsigned_abs d.year)
 
 abbrev pub Sound : List CellValue → ℕ → TypedExprOf → Type 0
 Sound row k typed.nothing = Unit {0}
-Sound row k (typed.integer e b) = IntegerSound row (e, b)
+Sound row k (typed.integer e b) = NumberSound row (e, b)
 Sound row k (typed.text e) = TextSound row k e
 Sound row k (typed.truth e) = TruthFits e row
 Sound row k (typed.date e) = DateSound row e
-Sound row k (typed.decimal e b) = DecimalSound row (e, b)
+Sound row k (typed.decimal e b) = NumberSound row (e, b)
 
 pub bind : {A B : Type 0} (r : Result A TypeFault) (f : A → Result B TypeFault) (P : A → Type 0) (Q : B → Type 0) → IfOk r P → ((x : A) → P x → IfOk (f x) Q) → IfOk (r >>= f) Q
 bind (Ok x) f P Q p g = g x p
@@ -60,7 +60,7 @@ pub always : {X : Type 0} (r : Result X TypeFault) → IfOk r (λ _. Unit {0})
 always (Ok x) = tt
 always (Err e) = tt
 
-pub as_integer_sound : (row : List CellValue) (k : ℕ) (t : TypedExprOf) → Sound row k t → IfOk (as_integer t) (IntegerSound row)
+pub as_integer_sound : (row : List CellValue) (k : ℕ) (t : TypedExprOf) → Sound row k t → IfOk (as_integer t) (NumberSound row)
 as_integer_sound row k typed.nothing h = (omega arith, tt, tt)
 as_integer_sound row k (typed.integer e b) h = h
 as_integer_sound row k (typed.text e) h = tt
@@ -68,10 +68,10 @@ as_integer_sound row k (typed.truth e) h = tt
 as_integer_sound row k (typed.date e) h = tt
 as_integer_sound row k (typed.decimal e b) h = tt
 
-pub as_decimal_sound : (row : List CellValue) (k : ℕ) (t : TypedExprOf) → Sound row k t → IfOk (as_decimal t) (DecimalSound row)
+pub as_decimal_sound : (row : List CellValue) (k : ℕ) (t : TypedExprOf) → Sound row k t → IfOk (as_decimal t) (NumberSound row)
 as_decimal_sound row k typed.nothing h = (omega arith, tt, tt)
-as_decimal_sound row k (typed.integer e b) h = if_within (b * MILLIONTHS) (typed.scaled e, b * MILLIONTHS) (DecimalSound row) (λ limit.
-    let s = scaled_sized (integer_outcome e row) b h.2 in (limit, (h.1, fits_of (decimal_outcome (typed.scaled e) row) (b * MILLIONTHS) limit s), s))
+as_decimal_sound row k (typed.integer e b) h = if_within (b * MILLIONTHS) (typed.scaled e, b * MILLIONTHS) (NumberSound row) (λ limit.
+    let s = scaled_sized (number_outcome e row) b h.2 in (limit, (h.1, fits_of (number_outcome (typed.scaled e) row) (b * MILLIONTHS) limit s), s))
 as_decimal_sound row k (typed.text e) h = tt
 as_decimal_sound row k (typed.truth e) h = tt
 as_decimal_sound row k (typed.date e) h = tt
@@ -93,6 +93,22 @@ as_date_sound row k (typed.truth e) h = tt
 as_date_sound row k (typed.date e) h = h
 as_date_sound row k (typed.decimal e b) h = tt
 
+date_fits : (row : List CellValue) (d : DateExprOf) → NumberFits (number_of_date d) row
+date_fits row typed.null_date = tt
+date_fits row (typed.date_column p) = tt
+date_fits row (typed.date_literal d) = tt
+
+integer_fits : (row : List CellValue) (k : ℕ) (t : TypedExprOf) → Sound row k t → IfOk (as_integer t >>= λ x. Ok x.0) (λ e. NumberFits e row)
+integer_fits row k t h = bind (as_integer t) _ (NumberSound row) (λ e. NumberFits e row) (as_integer_sound row k t h) (λ x px. px.1)
+
+pub as_number_sound : (row : List CellValue) (k : ℕ) (type : ExprType) (t : TypedExprOf) → Sound row k t → IfOk (as_number type t) (λ e. NumberFits e row)
+as_number_sound row k kind.Decimal t h = bind (as_decimal t) _ (NumberSound row) (λ e. NumberFits e row) (as_decimal_sound row k t h) (λ x px. px.1)
+as_number_sound row k kind.Date t h = bind (as_date t) _ (λ _. Unit {0}) (λ e. NumberFits e row) (always (as_date t)) (λ d _. date_fits row d)
+as_number_sound row k kind.Null t h = integer_fits row k t h
+as_number_sound row k kind.Integer t h = integer_fits row k t h
+as_number_sound row k kind.Text t h = integer_fits row k t h
+as_number_sound row k kind.Boolean t h = integer_fits row k t h
+
 pub as_truth_sound : (row : List CellValue) (k : ℕ) (t : TypedExprOf) → Sound row k t → IfOk (as_truth t) (λ e. TruthFits e row)
 as_truth_sound row k typed.nothing h = tt
 as_truth_sound row k (typed.integer e b) h = tt
@@ -106,12 +122,12 @@ as_truth_sound row k (typed.decimal e b) h = tt
 pub literal_sound : (row : List CellValue) (v : LiteralOf) → IsShortLiteral v → IfOk (literal_typing v) (Sound row 1)
 literal_sound row tree.null h = tt
 literal_sound row (tree.boolean b) h = tt
-literal_sound row (tree.number n) h = if_within (unsigned_abs n) (typed.integer (typed.integer_literal n) (unsigned_abs n)) (Sound row 1) (λ limit. (limit, tt, omega arith))
+literal_sound row (tree.number n) h = if_within (unsigned_abs n) (typed.integer (typed.number_literal n) (unsigned_abs n)) (Sound row 1) (λ limit. (limit, tt, omega arith))
 literal_sound row (tree.text t) h = omega (arith, h)
 literal_sound row (tree.date y m d) h = h
-literal_sound row (tree.decimal n) h = if_within (unsigned_abs n) (typed.decimal (typed.decimal_literal n) (unsigned_abs n)) (Sound row 1) (λ limit. (limit, tt, omega arith))
+literal_sound row (tree.decimal n) h = if_within (unsigned_abs n) (typed.decimal (typed.number_literal n) (unsigned_abs n)) (Sound row 1) (λ limit. (limit, tt, omega arith))
 
-integer_cell : (o : Option CellValue) (b : ℕ) → IfSome o (IsOfType (column.Integer b)) → AtMost b (option_and_then integer_in o)
+integer_cell : (o : Option CellValue) (b : ℕ) → IfSome o (IsOfType (column.Integer b)) → AtMost b (option_and_then (number_in numbers.Integer) o)
 integer_cell None b h = tt
 integer_cell (Some cells.null) b h = tt
 integer_cell (Some (cells.integer n)) b h = h
@@ -120,7 +136,7 @@ integer_cell (Some (cells.boolean c)) b h = tt
 integer_cell (Some (cells.date y m d)) b h = tt
 integer_cell (Some (cells.decimal n)) b h = tt
 
-decimal_cell : (o : Option CellValue) (b : ℕ) → IfSome o (IsOfType (column.Decimal b)) → AtMost b (option_and_then decimal_in o)
+decimal_cell : (o : Option CellValue) (b : ℕ) → IfSome o (IsOfType (column.Decimal b)) → AtMost b (option_and_then (number_in numbers.Decimal) o)
 decimal_cell None b h = tt
 decimal_cell (Some cells.null) b h = tt
 decimal_cell (Some (cells.integer n)) b h = tt

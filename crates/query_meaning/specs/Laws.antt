@@ -6,7 +6,7 @@ use Rattle.std.specs.Ordering.{is_lt}
 use Rattle.cell_types.specs.Value.{CellValue, null, integer, decimal, value_cmp, value_eq}
 use Rattle.odata_parse.specs.Tree.{ExprOf}
 use Rattle.typed_trees.specs.TypedTree as typed
-use Rattle.typed_trees.specs.TypedTree.{IntegerExprOf, DecimalExprOf, TruthExprOf, TypedExprOf}
+use Rattle.typed_trees.specs.TypedTree.{NumberExprOf, TruthExprOf, TypedExprOf}
 use Rattle.odata_types.specs.Columns.{InputOf}
 use Rattle.odata_types.specs.Input.{IsInput, IsQueried, IsRowOf}
 use Rattle.odata_types.specs.Typing.{filter_typing, typing}
@@ -14,7 +14,7 @@ use Rattle.row_eval.specs.Bounds.{IsWithin, NumbersFit, TruthFits}
 use Rattle.row_eval.specs.declared.truth.Truth.TheVariants.{True}
 use Rattle.odata_query.specs.declared.aggregate.Aggregate.{Aggregate}
 use Rattle.odata_query.specs.declared.aggregate.Aggregate.TheVariants.{SumOfIntegers, SumOfDecimals, Min, Max, CountDistinct}
-use Rattle.row_eval.specs.Outcome.{both, decimal_outcome, integer_outcome, outcome, truth_outcome}
+use Rattle.row_eval.specs.Outcome.{both, number_outcome, outcome, truth_outcome}
 use Rattle.query_meaning.specs.Apply.{computed_value, group_values, rows_of_group, same_values, value_at, values_at}
 use Rattle.query_meaning.specs.Filter.{passing}
 use Rattle.query_meaning.specs.Order.{Item, ordered, rows_cmp, sorted}
@@ -26,10 +26,10 @@ pub record BoundsHold : Type 0 where
       → IsInput inputs → IsRowOf inputs row → IsQueried e → typing inputs e ≡ Ok t → NumbersFit t row
   pub filters : (inputs : List InputOf) (row : List CellValue) (e : ExprOf) (t : TruthExprOf)
       → IsInput inputs → IsRowOf inputs row → IsQueried e → filter_typing inputs e ≡ Ok t → TruthFits t row
-  pub integers : (inputs : List InputOf) (row : List CellValue) (e : ExprOf) (n : IntegerExprOf) (bound : ℕ)
-      → IsInput inputs → IsRowOf inputs row → IsQueried e → typing inputs e ≡ Ok (typed.integer n bound) → IsWithin bound (integer_outcome n row)
-  pub decimals : (inputs : List InputOf) (row : List CellValue) (e : ExprOf) (n : DecimalExprOf) (bound : ℕ)
-      → IsInput inputs → IsRowOf inputs row → IsQueried e → typing inputs e ≡ Ok (typed.decimal n bound) → IsWithin bound (decimal_outcome n row)
+  pub integers : (inputs : List InputOf) (row : List CellValue) (e : ExprOf) (n : NumberExprOf) (bound : ℕ)
+      → IsInput inputs → IsRowOf inputs row → IsQueried e → typing inputs e ≡ Ok (typed.integer n bound) → IsWithin bound (number_outcome n row)
+  pub decimals : (inputs : List InputOf) (row : List CellValue) (e : ExprOf) (n : NumberExprOf) (bound : ℕ)
+      → IsInput inputs → IsRowOf inputs row → IsQueried e → typing inputs e ≡ Ok (typed.decimal n bound) → IsWithin bound (number_outcome n row)
 
 -- A filter has no rows to give just where it divides by zero on some row. Else a row is kept just where it is one of the rows and its outcome is
 -- true. What is kept of rows and of rows behind them is what is kept of the first, and then what is kept of the others: so the rows that are

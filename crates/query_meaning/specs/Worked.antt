@@ -10,8 +10,9 @@ use Rattle.csvw_meta.specs.Schema.{SchemaOf}
 use Rattle.typed_trees.specs.declared.operator.ArithmeticOperator.TheVariants.{Div, Sub}
 use Rattle.typed_trees.specs.declared.operator.ComparisonOperator.TheVariants.{Equal, GreaterThan}
 use Rattle.odata_types.specs.declared.types.TheConstants.{COLUMN_SIZE}
+use Rattle.typed_trees.specs.declared.tree.NumberKind.TheVariants as numbers
 use Rattle.typed_trees.specs.TypedTree as typed
-use Rattle.typed_trees.specs.TypedTree.{TypedExprOf, TruthExprOf}
+use Rattle.typed_trees.specs.TypedTree.{NumberExprOf, TypedExprOf, TruthExprOf}
 use Rattle.odata_query.specs.declared.aggregate.Aggregate.{Aggregate}
 use Rattle.odata_query.specs.declared.aggregate.Aggregate.TheVariants.{Count, SumOfIntegers, SumOfDecimals, Min, Max, CountDistinct}
 use Rattle.odata_query.specs.Aggregate.{NamedAggregateOf, filter_rows, aggregate_rows, group_rows}
@@ -69,8 +70,15 @@ prices =
 abbrev pub every : TypedOf
 every = record { key = None; counting = false; apply = []; filter = None; count = false; order = []; skip = 0; top = None; select = None }
 
+-- the numbers of Id and of Pop
+abbrev pub ids : NumberExprOf
+ids = typed.number_column numbers.Integer 0
+
+abbrev pub people : NumberExprOf
+people = typed.number_column numbers.Integer 2
+
 abbrev pub pop : TypedExprOf
-pop = typed.integer (typed.integer_column 2) COLUMN_SIZE
+pop = typed.integer people COLUMN_SIZE
 
 -- an aggregate and its name in the result
 abbrev pub named : List ℕ → Aggregate → NamedAggregateOf
@@ -85,21 +93,21 @@ greatest_of place = named (codes "M") (Max place)
 
 -- `Id gt 9`
 abbrev pub beyond : TruthExprOf
-beyond = typed.compare_integers GreaterThan (typed.integer_column 0) (typed.integer_literal (pos 9))
+beyond = typed.compare_numbers GreaterThan ids (typed.number_literal (pos 9))
 
 -- `Pop gt 5`, and `Pop eq null`
 abbrev pub populous : TruthExprOf
-populous = typed.compare_integers GreaterThan (typed.integer_column 2) (typed.integer_literal (pos 5))
+populous = typed.compare_numbers GreaterThan people (typed.number_literal (pos 5))
 
 abbrev pub never_counted : TruthExprOf
-never_counted = typed.compare_integers Equal (typed.integer_column 2) typed.null_integer
+never_counted = typed.compare_numbers Equal people typed.null_number
 
 -- `10 div (Id sub 1) gt 0`
 abbrev pub divided : TruthExprOf
 divided =
-    typed.compare_integers GreaterThan
-    (typed.arithmetic Div (typed.integer_literal (pos 10)) (typed.arithmetic Sub (typed.integer_column 0) (typed.integer_literal (pos 1))))
-    (typed.integer_literal (pos 0))
+    typed.compare_numbers GreaterThan
+    (typed.arithmetic Div (typed.number_literal (pos 10)) (typed.arithmetic Sub ids (typed.number_literal (pos 1))))
+    (typed.number_literal (pos 0))
 
 -- what a query without a key gives: these rows under these names, with this count
 abbrev pub MeansRows : TypedOf → List (List ℕ) → List (List CellValue) → Option ℕ → Type 0

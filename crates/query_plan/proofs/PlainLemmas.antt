@@ -28,8 +28,8 @@ use Rattle.typed_trees.specs.declared.tree.DatePart.{DatePart}
 use Rattle.typed_trees.specs.declared.tree.DatePart.TheVariants as part
 use Rattle.odata_types.specs.Columns.{InputOf}
 use Rattle.odata_types.specs.Result.{◌>>=◌}
-use Rattle.typed_trees.specs.TypedTree.{TypedExprOf, DecimalExprOf, IntegerExprOf, TextExprOf, TruthExprOf, compare_dates, compare_decimals, compare_integers, compare_texts, compare_truths, date, date_in, decimal, decimal_in, decimal_literal, decimal_sum, decimal_difference, arithmetic, integer, integer_in, integer_literal, length_of, negation, nothing, part_of, text, text_in, truth, truth_in}
-use Rattle.odata_types.specs.Typing.{Typing, arithmetic_as, as_date, as_decimal, as_integer, as_text, as_truth, binary_call_typing, binary_typing, column_at, column_expr, common_type, comparison_as, date_item, decimal_items, decimals_typing, computed_size, type_fits, in_typing, integer_item, integers_typing, is_small, list_as, list_in_type, list_type, literal_type, literal_typing, logic_expr, part_typing, place_of, text_call, text_item, truth_item, type_of, typing, unary_call_typing, unary_typing, within}
+use Rattle.typed_trees.specs.TypedTree.{TypedExprOf, NumberExprOf, TextExprOf, TruthExprOf, compare_numbers, compare_texts, compare_truths, date, decimal, arithmetic, integer, length_of, negation, nothing, number_in, number_literal, part_of, text, text_in, truth, truth_in}
+use Rattle.odata_types.specs.Typing.{Typing, arithmetic_as, as_date, as_decimal, as_integer, as_number, as_text, as_truth, binary_call_typing, binary_typing, column_at, column_expr, common_type, comparison_as, decimals_typing, computed_size, type_fits, in_typing, integers_typing, is_small, list_as, list_in_type, list_type, literal_type, literal_typing, logic_expr, number_items, part_typing, place_of, text_call, text_item, truth_item, type_of, typing, unary_call_typing, unary_typing, within}
 use Rattle.query_meaning.specs.Order.{plain_column}
 use Rattle.query_plan.proofs.AggregateLemmas.{place_below}
 use Rattle.query_plan.proofs.TypingLemmas.{Told, told_any, told_then, told_within}
@@ -46,9 +46,9 @@ module _ (inputs : List InputOf) where
   literal_there : (v : LiteralOf) → Told IsThere (literal_typing v)
   literal_there tree.null = tt
   literal_there (tree.boolean b) = tt
-  literal_there (tree.number n) = told_within IsThere (unsigned_abs n) (integer (integer_literal n) (unsigned_abs n)) (λ h. tt)
+  literal_there (tree.number n) = told_within IsThere (unsigned_abs n) (integer (number_literal n) (unsigned_abs n)) (λ h. tt)
   literal_there (tree.text t) = tt
-  literal_there (tree.decimal n) = told_within IsThere (unsigned_abs n) (decimal (decimal_literal n) (unsigned_abs n)) (λ h. tt)
+  literal_there (tree.decimal n) = told_within IsThere (unsigned_abs n) (decimal (number_literal n) (unsigned_abs n)) (λ h. tt)
   literal_there (tree.date y m d) = tt
 
   expr_there : (place : ℕ) (type : ColumnType) → place < length inputs → IsThere (column_expr place type)
@@ -75,7 +75,7 @@ module _ (inputs : List InputOf) where
   logic_there And x y = tt
   logic_there Or x y = tt
 
-  abbrev integers_within : ArithmeticOperator → IntegerExprOf × ℕ → IntegerExprOf × ℕ → Typing
+  abbrev integers_within : ArithmeticOperator → NumberExprOf × ℕ → NumberExprOf × ℕ → Typing
   integers_within o x y = within (computed_size o x.1 y.1) (integer (arithmetic o x.0 y.0) (computed_size o x.1 y.1))
 
   integers_there : (o : ArithmeticOperator) (a b : TypedExprOf) → Told IsThere (integers_typing o a b)
@@ -83,18 +83,17 @@ module _ (inputs : List InputOf) where
       any_then (as_integer a) (λ x. as_integer b >>= λ y. integers_within o x y) (λ x. any_then (as_integer b) (λ y. integers_within o x y) (λ y.
       told_within IsThere (computed_size o x.1 y.1) (integer (arithmetic o x.0 y.0) (computed_size o x.1 y.1)) (λ h. tt)))
 
-  abbrev decimals_within : (DecimalExprOf → DecimalExprOf → DecimalExprOf) → DecimalExprOf × ℕ → DecimalExprOf × ℕ → Typing
-  decimals_within join x y = within (x.1 + y.1) (decimal (join x.0 y.0) (x.1 + y.1))
+  abbrev decimals_within : ArithmeticOperator → NumberExprOf × ℕ → NumberExprOf × ℕ → Typing
+  decimals_within o x y = within (computed_size o x.1 y.1) (decimal (arithmetic o x.0 y.0) (computed_size o x.1 y.1))
 
-  decimals_there : (join : DecimalExprOf → DecimalExprOf → DecimalExprOf) → ((bound : ℕ) (x y : DecimalExprOf) → IsThere (decimal (join x y) bound)) → (a b : TypedExprOf)
-      → Told IsThere (decimals_typing join a b)
-  decimals_there join each a b =
-      any_then (as_decimal a) (λ x. as_decimal b >>= λ y. decimals_within join x y) (λ x. any_then (as_decimal b) (λ y. decimals_within join x y) (λ y.
-      told_within IsThere (x.1 + y.1) (decimal (join x.0 y.0) (x.1 + y.1)) (λ h. each (x.1 + y.1) x.0 y.0)))
+  decimals_there : (o : ArithmeticOperator) (a b : TypedExprOf) → Told IsThere (decimals_typing o a b)
+  decimals_there o a b =
+      any_then (as_decimal a) (λ x. as_decimal b >>= λ y. decimals_within o x y) (λ x. any_then (as_decimal b) (λ y. decimals_within o x y) (λ y.
+      told_within IsThere (computed_size o x.1 y.1) (decimal (arithmetic o x.0 y.0) (computed_size o x.1 y.1)) (λ h. tt)))
 
   arithmetic_there : (type : ExprType) (o : ArithmeticOperator) (a b : TypedExprOf) → Told IsThere (arithmetic_as type o a b)
-  arithmetic_there kind.Decimal Add a b = decimals_there decimal_sum (λ bound x y. tt) a b
-  arithmetic_there kind.Decimal Sub a b = decimals_there decimal_difference (λ bound x y. tt) a b
+  arithmetic_there kind.Decimal Add a b = decimals_there Add a b
+  arithmetic_there kind.Decimal Sub a b = decimals_there Sub a b
   arithmetic_there type o a b = integers_there o a b
 
   -- a truth that is made of operands
@@ -107,15 +106,16 @@ module _ (inputs : List InputOf) where
   truths_there : (o : ComparisonOperator) (a b : TypedExprOf) → Told (λ e. IsThere (truth e)) (as_truth a >>= λ x. as_truth b >>= λ y. Ok (compare_truths o x y))
   truths_there o a b = any_truth (as_truth a) (λ x. as_truth b >>= λ y. Ok (compare_truths o x y)) (λ x. any_truth (as_truth b) (λ y. Ok (compare_truths o x y)) (λ y. tt))
 
+  numbers_there : (type : ExprType) (o : ComparisonOperator) (a b : TypedExprOf) → Told (λ e. IsThere (truth e)) (as_number type a >>= λ x. as_number type b >>= λ y. Ok (compare_numbers o x y))
+  numbers_there type o a b =
+      any_truth (as_number type a) (λ x. as_number type b >>= λ y. Ok (compare_numbers o x y)) (λ x. any_truth (as_number type b) (λ y. Ok (compare_numbers o x y)) (λ y. tt))
+
   comparison_there : (type : ExprType) (o : ComparisonOperator) (a b : TypedExprOf) → Told (λ e. IsThere (truth e)) (comparison_as type o a b)
-  comparison_there kind.Integer o a b =
-      any_truth (as_integer a) (λ x. as_integer b >>= λ y. Ok (compare_integers o x.0 y.0)) (λ x. any_truth (as_integer b) (λ y. Ok (compare_integers o x.0 y.0)) (λ y. tt))
-  comparison_there kind.Decimal o a b =
-      any_truth (as_decimal a) (λ x. as_decimal b >>= λ y. Ok (compare_decimals o x.0 y.0)) (λ x. any_truth (as_decimal b) (λ y. Ok (compare_decimals o x.0 y.0)) (λ y. tt))
+  comparison_there kind.Integer o a b = numbers_there kind.Integer o a b
+  comparison_there kind.Decimal o a b = numbers_there kind.Decimal o a b
+  comparison_there kind.Date o a b = numbers_there kind.Date o a b
   comparison_there kind.Text o a b =
       any_truth (as_text a) (λ x. as_text b >>= λ y. Ok (compare_texts o x y)) (λ x. any_truth (as_text b) (λ y. Ok (compare_texts o x y)) (λ y. tt))
-  comparison_there kind.Date o a b =
-      any_truth (as_date a) (λ x. as_date b >>= λ y. Ok (compare_dates o x y)) (λ x. any_truth (as_date b) (λ y. Ok (compare_dates o x y)) (λ y. tt))
   comparison_there kind.Boolean o a b = truths_there o a b
   comparison_there kind.Null o a b = truths_there o a b
 
@@ -131,12 +131,16 @@ module _ (inputs : List InputOf) where
   in_truths_there : (a : TypedExprOf) (vs : List LiteralOf) → Told (λ e. IsThere (truth e)) (as_truth a >>= λ x. Ok (truth_in x (map truth_item vs)))
   in_truths_there a vs = any_truth (as_truth a) (λ x. Ok (truth_in x (map truth_item vs))) (λ x. tt)
 
+  in_numbers_there : (type : ExprType) (a : TypedExprOf) (vs : List LiteralOf)
+      → Told (λ e. IsThere (truth e)) (as_number type a >>= λ x. number_items type vs >>= λ items. Ok (number_in x items))
+  in_numbers_there type a vs =
+      any_truth (as_number type a) (λ x. number_items type vs >>= λ items. Ok (number_in x items)) (λ x. any_truth (number_items type vs) (λ items. Ok (number_in x items)) (λ items. tt))
+
   list_there : (type : ExprType) (a : TypedExprOf) (vs : List LiteralOf) → Told (λ e. IsThere (truth e)) (list_as type a vs)
-  list_there kind.Integer a vs = any_truth (as_integer a) (λ x. Ok (integer_in x.0 (map integer_item vs))) (λ x. tt)
-  list_there kind.Decimal a vs =
-      any_truth (as_decimal a) (λ x. decimal_items vs >>= λ items. Ok (decimal_in x.0 items)) (λ x. any_truth (decimal_items vs) (λ items. Ok (decimal_in x.0 items)) (λ items. tt))
+  list_there kind.Integer a vs = in_numbers_there kind.Integer a vs
+  list_there kind.Decimal a vs = in_numbers_there kind.Decimal a vs
+  list_there kind.Date a vs = in_numbers_there kind.Date a vs
   list_there kind.Text a vs = any_truth (as_text a) (λ x. Ok (text_in x (map text_item vs))) (λ x. tt)
-  list_there kind.Date a vs = any_truth (as_date a) (λ x. Ok (date_in x (map date_item vs))) (λ x. tt)
   list_there kind.Boolean a vs = in_truths_there a vs
   list_there kind.Null a vs = in_truths_there a vs
 

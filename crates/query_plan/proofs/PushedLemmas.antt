@@ -9,10 +9,9 @@ use Rattle.csvw_meta.specs.Schema.{SchemaOf}
 use Rattle.typed_trees.specs.CanFault.{truth_can_fault}
 use Rattle.typed_trees.specs.TypedTree.{TruthExprOf}
 use Rattle.odata_types.specs.Schema.{inputs_of}
-use Rattle.odata_types.specs.Laws.{TablesAreInputs}
 use Rattle.row_eval.specs.Laws.{FaultsAreForeseen}
 use Rattle.cell_types.proofs.CaseLaws.{is_none-None}
-use Rattle.query_plan.specs.Laws.{UnadmittedBlocksPassNone}
+use Rattle.query_plan.specs.Laws.{TestsArePassed, UnadmittedBlocksPassNone}
 use Rattle.query_plan.specs.Tests.{test_of}
 use Rattle.query_plan.specs.Types.{IsTruthOver, IsTypedPlan}
 use Rattle.query_plan.proofs.TestedLemmas.{over_split, same_admitted}
@@ -48,7 +47,7 @@ bare_is scan h =
 -- ---- the steps, split
 
 module _ (laws : FaultsAreForeseen) (schema : SchemaOf) (p : PlanOf) (safe : list_any truth_can_fault (leading p.nodes) ≡ false)
-    (unadmitted : UnadmittedBlocksPassNone) (tables : TablesAreInputs) (typed : IsTypedPlan schema p) where
+    (unadmitted : UnadmittedBlocksPassNone) (passed : TestsArePassed) (typed : IsTypedPlan schema p) where
   abbrev es : List TruthExprOf
   es = leading p.nodes
 
@@ -83,7 +82,7 @@ module _ (laws : FaultsAreForeseen) (schema : SchemaOf) (p : PlanOf) (safe : lis
       let admitted = admitted_blocks (filter_map test_of split) rows in
       split_whole (rows_of_blocks rows (up_to (early_stop p.nodes) split rows admitted))
       ∙ same_up_to p.nodes (table_names schema) split rows (early_stop p.nodes) admitted refl
-      ∙ ap made_of (same_admitted unadmitted tables schema split split_over rows are (block_numbers rows)
+      ∙ ap made_of (same_admitted unadmitted passed schema split split_over rows are (block_numbers rows)
       ∙ ap (filter (passes_each split)) (all_rows rows) ∙ filter_agree (passes_each split) (passes_each es) split_same rows)
       ∙ sym (whole rows)
 
@@ -93,14 +92,14 @@ module _ (laws : FaultsAreForeseen) (schema : SchemaOf) (p : PlanOf) (safe : lis
 pub record PushLaws : Type 0 where
   pub faults : FaultsAreForeseen
   pub unadmitted : UnadmittedBlocksPassNone
-  pub tables : TablesAreInputs
+  pub passed : TestsArePassed
 
 pushed_when : PushLaws → (schema : SchemaOf) (p : PlanOf) → IsTypedPlan schema p → (b : Bool) → may_be_pushed p ≡ b → MeansTheSame schema p (cond b (pushed_down p) p)
 pushed_when laws schema p typed false e rows are = refl
 pushed_when laws schema p typed true e rows are =
     let is = bare_is p.scan (and_parts (is_bare p.scan) (not (list_any truth_can_fault (leading p.nodes))) e).0 in
     let safe = not-true (list_any truth_can_fault (leading p.nodes)) (and_parts (is_bare p.scan) (not (list_any truth_can_fault (leading p.nodes))) e).1 in
-    stopped laws.faults schema p safe laws.unadmitted laws.tables typed rows are
+    stopped laws.faults schema p safe laws.unadmitted laws.passed typed rows are
     ∙ ap (λ (xs : List Row). nodes_result p.nodes (table_result schema xs)) (sym (bare_rows (leading p.nodes) rows))
     ∙ ap (λ (scan : ScanOf). nodes_result p.nodes (table_result schema (rows_of_blocks rows (read_blocks scan (leading p.nodes) rows)))) (sym is)
 

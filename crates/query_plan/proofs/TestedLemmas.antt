@@ -2,7 +2,7 @@
 use Rattle.std.proofs.Common.{◌≡◌, inl, inr, ℕ, Bool, true, false, cond, Option, Some, None, List, [], ◌∷◌, ◌++◌, refl, sym, ap, ◌∙◌}
 use Rattle.std.specs.Prelude.{◌*◌, drop, filter}
 use Rattle.std.specs.List.{All, AllByRecursion, cons_option, filter_map, flat_map}
-use Rattle.std.proofs.lemmas.Bool.{and_parts, cases_Bool}
+use Rattle.std.proofs.lemmas.Bool.{and_parts, cases_Bool, false≢true}
 use Rattle.std.proofs.lemmas.List.Elements.{All-drop, All-take, All-weaker, filter-append, recursion_from_All}
 use Rattle.block_summary.specs.declared.block.TheConstants.{BLOCK_ROWS}
 use Rattle.block_summary.specs.Blocks.{block_at}
@@ -10,18 +10,19 @@ use Rattle.csvw_meta.specs.Schema.{SchemaOf}
 use Rattle.odata_types.specs.Columns.{InputOf}
 use Rattle.odata_types.specs.Schema.{inputs_of}
 use Rattle.typed_trees.specs.TypedTree.{TruthExprOf, conjunction}
-use Rattle.odata_types.specs.Input.{IsRowOf, IsTableRow}
-use Rattle.odata_types.specs.Laws.{TablesAreInputs}
-use Rattle.query_meaning.specs.Filter.{passes, passes_each}
+use Rattle.odata_types.specs.Input.{IsTableRow}
+use Rattle.row_eval.specs.declared.truth.Truth.{Truth}
+use Rattle.row_eval.specs.declared.truth.Truth.TheVariants.{False, Null, True}
+use Rattle.row_eval.specs.Outcome.{truth_outcome}
+use Rattle.query_meaning.specs.Filter.{is_true, passes, passes_each}
 use Rattle.query_meaning.specs.Fitting.{AreTableRows}
-use Rattle.query_plan.specs.Laws.{UnadmittedBlocksPassNone}
+use Rattle.query_plan.specs.Laws.{TestsArePassed, UnadmittedBlocksPassNone}
 use Rattle.query_plan.specs.Push.{conjuncts}
 use Rattle.query_plan.specs.Scan.{TestOf, admits_all, passes_tests, rows_of_blocks}
 use Rattle.query_plan.specs.Tests.{test_of}
 use Rattle.query_plan.specs.Types.{IsTruthOver}
 use Rattle.query_plan.proofs.PushLemmas.{Row}
 use Rattle.query_plan.proofs.ScanLemmas.{none_here, none_there, false_unless}
-use Rattle.query_plan.proofs.TestLemmas.{test_passed}
 
 -- ---- conjuncts compare columns as what they are, where the whole does
 
@@ -39,11 +40,20 @@ over_split inputs (e ∷ es) h = over_both inputs (conjuncts e) (flat_map conjun
 
 -- ---- a row on which all conditions are true passes all tests
 
-module _ (inputs : List InputOf) (row : Row) (is : IsRowOf inputs row) where
+is-true : (o : Option Truth) → is_true o ≡ true → o ≡ Some True
+is-true None h = absurd (false≢true h)
+is-true (Some False) h = absurd (false≢true h)
+is-true (Some Null) h = absurd (false≢true h)
+is-true (Some True) h = refl
+
+module _ (law : TestsArePassed) (schema : SchemaOf) (row : Row) (is : IsTableRow schema.columns row) where
+  abbrev inputs : List InputOf
+  inputs = inputs_of schema
+
   tests_from : (e : TruthExprOf) (o : Option TestOf) (more : List TestOf) → test_of e ≡ o → IsTruthOver inputs e → passes e row ≡ true → passes_tests more row ≡ true
       → passes_tests (cons_option o more) row ≡ true
   tests_from e None more k over h rest = rest
-  tests_from e (Some t) more k over h rest = rw (test_passed inputs row is e t over k h) rest
+  tests_from e (Some t) more k over h rest = rw (law schema row e t is over k (is-true (truth_outcome e row) h)) rest
 
   tests_pass : (es : List TruthExprOf) → AllByRecursion (IsTruthOver inputs) es → passes_each es row ≡ true → passes_tests (filter_map test_of es) row ≡ true
   tests_pass [] over h = refl
@@ -78,12 +88,11 @@ filter_admitted p ok rows none (n ∷ ns) =
     ]
 
 -- of conditions that compare columns as what they are, on the rows of a table
-pub same_admitted : UnadmittedBlocksPassNone → TablesAreInputs → (schema : SchemaOf) (es : List TruthExprOf) → AllByRecursion (IsTruthOver (inputs_of schema)) es
+pub same_admitted : UnadmittedBlocksPassNone → TestsArePassed → (schema : SchemaOf) (es : List TruthExprOf) → AllByRecursion (IsTruthOver (inputs_of schema)) es
     → (rows : List Row) → AreTableRows schema rows → (numbers : List ℕ)
     → filter (passes_each es) (rows_of_blocks rows (filter (λ number. admits_all (filter_map test_of es) (block_at rows number)) numbers))
     ≡ filter (passes_each es) (rows_of_blocks rows numbers)
-same_admitted unadmitted tables schema es over rows are numbers =
-    let inputs = inputs_of schema in
+same_admitted unadmitted passed schema es over rows are numbers =
     let tests = filter_map test_of es in
     let p = passes_each es in
     let none : (n : ℕ) → admits_all tests (block_at rows n) ≡ false → filter p (block_at rows n) ≡ [] = λ n e.
@@ -92,6 +101,6 @@ same_admitted unadmitted tables schema es over rows are numbers =
     none_of_these p (passes_tests tests) (block_at rows n)
     (recursion_from_All (λ row. p row ≡ true → passes_tests tests row ≡ true) (block_at rows n)
     (All-weaker (IsTableRow schema.columns) (λ row. p row ≡ true → passes_tests tests row ≡ true)
-    (λ row is. tests_pass inputs row (tables.rows schema row is) es over) (block_at rows n) each))
+    (λ row is. tests_pass passed schema row is es over) (block_at rows n) each))
     (unadmitted tests (block_at rows n) e) in
     filter_admitted p (λ number. admits_all tests (block_at rows number)) rows none numbers

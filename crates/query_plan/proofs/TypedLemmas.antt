@@ -28,24 +28,24 @@ use Rattle.typed_trees.specs.declared.tree.DatePart.TheVariants as part
 use Rattle.odata_types.specs.Columns.{InputOf}
 use Rattle.odata_types.specs.Result.{◌>>=◌}
 use Rattle.typed_trees.specs.TypedTree as typed
-use Rattle.typed_trees.specs.TypedTree.{DecimalExprOf, TextExprOf, TruthExprOf, TypedExprOf}
+use Rattle.typed_trees.specs.TypedTree.{DateExprOf, TextExprOf, TruthExprOf, TypedExprOf, number_of_date}
 use Rattle.typed_trees.specs.declared.tree.TheConstants.{MILLIONTHS}
 use Rattle.odata_types.specs.declared.types.TheConstants.{FUNCTION_SIZE}
-use Rattle.odata_types.specs.Typing.{arithmetic_as, as_date, as_decimal, as_integer, as_text, as_truth, binary_call_typing, binary_typing, column_at, column_expr, common_type, comparison_as, comparison_typing, computed_size, decimal_items, decimals_typing, filter_typing, type_fits, in_typing, integers_typing, is_small, list_as, list_in_type, list_type, literal_type, literal_typing, logic_expr, logic_typing, part_typing, place_of, text_call, type_of, typing, unary_call_typing, unary_typing}
-use Rattle.query_plan.specs.Types.{IsDateOver, IsDecimalOver, IsIntegerOver, IsTextOver, IsTruthOver, column_kind}
+use Rattle.odata_types.specs.Typing.{arithmetic_as, as_date, as_decimal, as_integer, as_number, as_text, as_truth, binary_call_typing, binary_typing, column_at, column_expr, common_type, comparison_as, comparison_typing, computed_size, decimals_typing, filter_typing, type_fits, in_typing, integers_typing, is_small, list_as, list_in_type, list_type, literal_type, literal_typing, logic_expr, logic_typing, number_items, part_typing, place_of, text_call, type_of, typing, unary_call_typing, unary_typing}
+use Rattle.query_plan.specs.Types.{IsDateOver, IsNumberOver, IsTextOver, IsTruthOver, column_kind}
 use Rattle.query_plan.proofs.TypingLemmas.{Told, told_any, told_then, told_within}
 
 -- an expression of any type
 abbrev pub IsOver : List InputOf → TypedExprOf → Type 0
 IsOver inputs typed.nothing = Unit {0}
-IsOver inputs (typed.integer e bound) = IsIntegerOver inputs e
+IsOver inputs (typed.integer e bound) = IsNumberOver inputs e
 IsOver inputs (typed.text e) = IsTextOver inputs e
 IsOver inputs (typed.truth e) = IsTruthOver inputs e
 IsOver inputs (typed.date e) = IsDateOver inputs e
-IsOver inputs (typed.decimal e bound) = IsDecimalOver inputs e
+IsOver inputs (typed.decimal e bound) = IsNumberOver inputs e
 
 module _ (inputs : List InputOf) where
-  integer_over : (x : TypedExprOf) → IsOver inputs x → Told (λ n. IsIntegerOver inputs n.0) (as_integer x)
+  integer_over : (x : TypedExprOf) → IsOver inputs x → Told (λ n. IsNumberOver inputs n.0) (as_integer x)
   integer_over typed.nothing h = tt
   integer_over (typed.integer e bound) h = h
   integer_over x h = tt
@@ -65,11 +65,27 @@ module _ (inputs : List InputOf) where
   truth_over (typed.truth e) h = h
   truth_over x h = tt
 
-  decimal_over : (x : TypedExprOf) → IsOver inputs x → Told (λ n. IsDecimalOver inputs n.0) (as_decimal x)
+  decimal_over : (x : TypedExprOf) → IsOver inputs x → Told (λ n. IsNumberOver inputs n.0) (as_decimal x)
   decimal_over typed.nothing h = tt
-  decimal_over (typed.integer e bound) h = told_within (λ n. IsDecimalOver inputs n.0) (bound * MILLIONTHS) (typed.scaled e, bound * MILLIONTHS) (λ few. tt)
+  decimal_over (typed.integer e bound) h = told_within (λ n. IsNumberOver inputs n.0) (bound * MILLIONTHS) (typed.scaled e, bound * MILLIONTHS) (λ few. tt)
   decimal_over (typed.decimal e bound) h = h
   decimal_over x h = tt
+
+  date_number : (d : DateExprOf) → IsDateOver inputs d → IsNumberOver inputs (number_of_date d)
+  date_number typed.null_date h = tt
+  date_number (typed.date_column place) h = h
+  date_number (typed.date_literal d) h = tt
+
+  integer_number : (x : TypedExprOf) → IsOver inputs x → Told (IsNumberOver inputs) (as_integer x >>= λ n. Ok n.0)
+  integer_number x h = told_then (λ n. IsNumberOver inputs n.0) (IsNumberOver inputs) (as_integer x) (λ n. Ok n.0) (integer_over x h) (λ n over. over)
+
+  number_over : (type : ExprType) (x : TypedExprOf) → IsOver inputs x → Told (IsNumberOver inputs) (as_number type x)
+  number_over kind.Decimal x h = told_then (λ n. IsNumberOver inputs n.0) (IsNumberOver inputs) (as_decimal x) (λ n. Ok n.0) (decimal_over x h) (λ n over. over)
+  number_over kind.Date x h = told_then (IsDateOver inputs) (IsNumberOver inputs) (as_date x) (λ d. Ok (number_of_date d)) (date_over x h) date_number
+  number_over kind.Integer x h = integer_number x h
+  number_over kind.Text x h = integer_number x h
+  number_over kind.Boolean x h = integer_number x h
+  number_over kind.Null x h = integer_number x h
 
   -- ---- columns and literals
 
@@ -87,9 +103,9 @@ module _ (inputs : List InputOf) where
   literal_over : (v : LiteralOf) → Told (IsOver inputs) (literal_typing v)
   literal_over tree.null = tt
   literal_over (tree.boolean b) = tt
-  literal_over (tree.number n) = told_within (IsOver inputs) (unsigned_abs n) (typed.integer (typed.integer_literal n) (unsigned_abs n)) (λ few. tt)
+  literal_over (tree.number n) = told_within (IsOver inputs) (unsigned_abs n) (typed.integer (typed.number_literal n) (unsigned_abs n)) (λ few. tt)
   literal_over (tree.text t) = tt
-  literal_over (tree.decimal n) = told_within (IsOver inputs) (unsigned_abs n) (typed.decimal (typed.decimal_literal n) (unsigned_abs n)) (λ few. tt)
+  literal_over (tree.decimal n) = told_within (IsOver inputs) (unsigned_abs n) (typed.decimal (typed.number_literal n) (unsigned_abs n)) (λ few. tt)
   literal_over (tree.date y m d) = tt
 
   -- ---- operators
@@ -121,13 +137,16 @@ module _ (inputs : List InputOf) where
       → Told (IsTruthOver inputs) (as_truth a >>= λ x. as_truth b >>= λ y. Ok (typed.compare_truths o x y))
   truths_over o a b h k = pair_over (IsTruthOver inputs) (typed.compare_truths o) (as_truth a) (as_truth b) (truth_over a h) (truth_over b k) (λ x y left right. (left, right))
 
+  numbers_over : (type : ExprType) (o : ComparisonOperator) (a b : TypedExprOf) → IsOver inputs a → IsOver inputs b
+      → Told (IsTruthOver inputs) (as_number type a >>= λ x. as_number type b >>= λ y. Ok (typed.compare_numbers o x y))
+  numbers_over type o a b h k =
+      pair_over (IsNumberOver inputs) (typed.compare_numbers o) (as_number type a) (as_number type b) (number_over type a h) (number_over type b k) (λ x y left right. (left, right))
+
   comparison_is : (type : ExprType) (o : ComparisonOperator) (a b : TypedExprOf) → IsOver inputs a → IsOver inputs b → Told (IsTruthOver inputs) (comparison_as type o a b)
-  comparison_is kind.Integer o a b h k =
-      pair_over (λ n. IsIntegerOver inputs n.0) (λ x y. typed.compare_integers o x.0 y.0) (as_integer a) (as_integer b) (integer_over a h) (integer_over b k) (λ x y left right. (left, right))
-  comparison_is kind.Decimal o a b h k =
-      pair_over (λ n. IsDecimalOver inputs n.0) (λ x y. typed.compare_decimals o x.0 y.0) (as_decimal a) (as_decimal b) (decimal_over a h) (decimal_over b k) (λ x y left right. (left, right))
   comparison_is kind.Text o a b h k = pair_over (IsTextOver inputs) (typed.compare_texts o) (as_text a) (as_text b) (text_over a h) (text_over b k) (λ x y left right. (left, right))
-  comparison_is kind.Date o a b h k = pair_over (IsDateOver inputs) (typed.compare_dates o) (as_date a) (as_date b) (date_over a h) (date_over b k) (λ x y left right. (left, right))
+  comparison_is kind.Integer o a b h k = numbers_over kind.Integer o a b h k
+  comparison_is kind.Decimal o a b h k = numbers_over kind.Decimal o a b h k
+  comparison_is kind.Date o a b h k = numbers_over kind.Date o a b h k
   comparison_is kind.Null o a b h k = truths_over o a b h k
   comparison_is kind.Boolean o a b h k = truths_over o a b h k
 
@@ -142,16 +161,15 @@ module _ (inputs : List InputOf) where
       (λ x h. told_then (λ y. Unit {0}) (IsOver inputs) (as_integer b) _ (told_any (as_integer b))
       (λ y k. told_within (IsOver inputs) (computed_size o x.1 y.1) (typed.integer (typed.arithmetic o x.0 y.0) (computed_size o x.1 y.1)) (λ few. tt)))
 
-  decimals_over : (join : DecimalExprOf → DecimalExprOf → DecimalExprOf) → ((x y : DecimalExprOf) → IsDecimalOver inputs (join x y)) → (a b : TypedExprOf)
-      → Told (IsOver inputs) (decimals_typing join a b)
-  decimals_over join each a b =
+  decimals_over : (o : ArithmeticOperator) (a b : TypedExprOf) → Told (IsOver inputs) (decimals_typing o a b)
+  decimals_over o a b =
       told_then (λ x. Unit {0}) (IsOver inputs) (as_decimal a) _ (told_any (as_decimal a))
       (λ x h. told_then (λ y. Unit {0}) (IsOver inputs) (as_decimal b) _ (told_any (as_decimal b))
-      (λ y k. told_within (IsOver inputs) (x.1 + y.1) (typed.decimal (join x.0 y.0) (x.1 + y.1)) (λ few. each x.0 y.0)))
+      (λ y k. told_within (IsOver inputs) (computed_size o x.1 y.1) (typed.decimal (typed.arithmetic o x.0 y.0) (computed_size o x.1 y.1)) (λ few. tt)))
 
   arithmetic_over : (type : ExprType) (o : ArithmeticOperator) (a b : TypedExprOf) → Told (IsOver inputs) (arithmetic_as type o a b)
-  arithmetic_over kind.Decimal arithmetic.Add a b = decimals_over typed.decimal_sum (λ x y. tt) a b
-  arithmetic_over kind.Decimal arithmetic.Sub a b = decimals_over typed.decimal_difference (λ x y. tt) a b
+  arithmetic_over kind.Decimal arithmetic.Add a b = decimals_over arithmetic.Add a b
+  arithmetic_over kind.Decimal arithmetic.Sub a b = decimals_over arithmetic.Sub a b
   arithmetic_over type o a b = integers_over o a b
 
   binary_over : (o : BinaryOperator) (a b : TypedExprOf) → IsOver inputs a → IsOver inputs b → Told (IsOver inputs) (binary_typing o a b)
@@ -162,13 +180,16 @@ module _ (inputs : List InputOf) where
   -- ---- lists and functions
 
   -- no list has sides to compare
+  number_list_over : (type : ExprType) (a : TypedExprOf) (vs : List LiteralOf) → Told (IsTruthOver inputs) (as_number type a >>= λ x. number_items type vs >>= λ items. Ok (typed.number_in x items))
+  number_list_over type a vs =
+      told_then (λ x. Unit {0}) (IsTruthOver inputs) (as_number type a) _ (told_any (as_number type a))
+      (λ x h. told_then (λ items. Unit {0}) (IsTruthOver inputs) (number_items type vs) (λ items. Ok (typed.number_in x items)) (told_any (number_items type vs)) (λ items k. tt))
+
   list_over : (type : ExprType) (a : TypedExprOf) (vs : List LiteralOf) → Told (IsTruthOver inputs) (list_as type a vs)
-  list_over kind.Integer a vs = told_then (λ x. Unit {0}) (IsTruthOver inputs) (as_integer a) _ (told_any (as_integer a)) (λ x h. tt)
-  list_over kind.Decimal a vs =
-      told_then (λ x. Unit {0}) (IsTruthOver inputs) (as_decimal a) _ (told_any (as_decimal a))
-      (λ x h. told_then (λ items. Unit {0}) (IsTruthOver inputs) (decimal_items vs) (λ items. Ok (typed.decimal_in x.0 items)) (told_any (decimal_items vs)) (λ items k. tt))
+  list_over kind.Integer a vs = number_list_over kind.Integer a vs
+  list_over kind.Decimal a vs = number_list_over kind.Decimal a vs
+  list_over kind.Date a vs = number_list_over kind.Date a vs
   list_over kind.Text a vs = told_then (λ x. Unit {0}) (IsTruthOver inputs) (as_text a) _ (told_any (as_text a)) (λ x h. tt)
-  list_over kind.Date a vs = told_then (λ x. Unit {0}) (IsTruthOver inputs) (as_date a) _ (told_any (as_date a)) (λ x h. tt)
   list_over kind.Null a vs = told_then (λ x. Unit {0}) (IsTruthOver inputs) (as_truth a) _ (told_any (as_truth a)) (λ x h. tt)
   list_over kind.Boolean a vs = told_then (λ x. Unit {0}) (IsTruthOver inputs) (as_truth a) _ (told_any (as_truth a)) (λ x h. tt)
 

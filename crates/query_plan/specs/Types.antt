@@ -4,7 +4,9 @@ use Rattle.std.specs.List.{All}
 use Rattle.csvw_meta.specs.Schema.{SchemaOf}
 use Rattle.odata_types.specs.Columns.{InputOf}
 use Rattle.odata_types.specs.Schema.{inputs_of}
-use Rattle.typed_trees.specs.TypedTree.{DateExprOf, DecimalExprOf, IntegerExprOf, TextExprOf, TruthExprOf, compare_dates, compare_decimals, compare_integers, compare_texts, compare_truths, conjunction, date_column, decimal_column, integer_column, text_column, truth_column}
+use Rattle.typed_trees.specs.declared.tree.NumberKind.{NumberKind}
+use Rattle.typed_trees.specs.declared.tree.NumberKind.TheVariants as numbers
+use Rattle.typed_trees.specs.TypedTree.{DateExprOf, NumberExprOf, TextExprOf, TruthExprOf, compare_numbers, compare_texts, compare_truths, conjunction, date_column, number_column, text_column, truth_column}
 use Rattle.odata_types.specs.Typing.{column_expr, type_of}
 use Rattle.odata_types.specs.declared.types.ExprType.{ExprType}
 use Rattle.odata_types.specs.declared.types.ExprType.TheVariants as kind
@@ -14,14 +16,16 @@ use Rattle.query_plan.specs.Plan.{PlanOf, leading}
 abbrev pub column_kind : List InputOf → ℕ → Option ExprType
 column_kind inputs place = option_map (λ c. type_of (column_expr place c.column_type)) (slice_get inputs place)
 
--- where an expression is a column alone, this is there, and has values of the type
-abbrev pub IsIntegerOver : List InputOf → IntegerExprOf → Type 0
-IsIntegerOver inputs (integer_column place) = column_kind inputs place ≡ Some kind.Integer
-IsIntegerOver inputs e = Unit {0}
+-- the type of the values that numbers of a kind stand for
+abbrev pub number_type : NumberKind → ExprType
+number_type numbers.Integer = kind.Integer
+number_type numbers.Decimal = kind.Decimal
+number_type numbers.Date = kind.Date
 
-abbrev pub IsDecimalOver : List InputOf → DecimalExprOf → Type 0
-IsDecimalOver inputs (decimal_column place) = column_kind inputs place ≡ Some kind.Decimal
-IsDecimalOver inputs e = Unit {0}
+-- where an expression is a column alone, this is there, and has values of the type
+abbrev pub IsNumberOver : List InputOf → NumberExprOf → Type 0
+IsNumberOver inputs (number_column what place) = column_kind inputs place ≡ Some (number_type what)
+IsNumberOver inputs e = Unit {0}
 
 abbrev pub IsTextOver : List InputOf → TextExprOf → Type 0
 IsTextOver inputs (text_column place) = column_kind inputs place ≡ Some kind.Text
@@ -35,10 +39,8 @@ IsDateOver inputs e = Unit {0}
 abbrev pub IsTruthOver : List InputOf → TruthExprOf → Type 0
 IsTruthOver inputs (truth_column place) = column_kind inputs place ≡ Some kind.Boolean
 IsTruthOver inputs (conjunction a b) = IsTruthOver inputs a × IsTruthOver inputs b
-IsTruthOver inputs (compare_integers o a b) = IsIntegerOver inputs a × IsIntegerOver inputs b
-IsTruthOver inputs (compare_decimals o a b) = IsDecimalOver inputs a × IsDecimalOver inputs b
+IsTruthOver inputs (compare_numbers o a b) = IsNumberOver inputs a × IsNumberOver inputs b
 IsTruthOver inputs (compare_texts o a b) = IsTextOver inputs a × IsTextOver inputs b
-IsTruthOver inputs (compare_dates o a b) = IsDateOver inputs a × IsDateOver inputs b
 IsTruthOver inputs (compare_truths o a b) = IsTruthOver inputs a × IsTruthOver inputs b
 IsTruthOver inputs e = Unit {0}
 

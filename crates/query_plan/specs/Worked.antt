@@ -7,8 +7,9 @@ use Rattle.block_summary.specs.Ranges.{column_of, range_of}
 use Rattle.cell_types.specs.Value.{CellValue, null, integer, text, boolean, date, decimal}
 use Rattle.typed_trees.specs.declared.operator.ComparisonOperator.{ComparisonOperator}
 use Rattle.typed_trees.specs.declared.operator.ComparisonOperator.TheVariants.{Equal, NotEqual, GreaterThan, GreaterOrEqual, LessThan, LessOrEqual}
+use Rattle.typed_trees.specs.declared.tree.NumberKind.TheVariants as numbers
 use Rattle.typed_trees.specs.TypedTree as typed
-use Rattle.typed_trees.specs.TypedTree.{DecimalExprOf, IntegerExprOf, TruthExprOf}
+use Rattle.typed_trees.specs.TypedTree.{NumberExprOf, TruthExprOf, number_of_date}
 use Rattle.odata_query.specs.Aggregate.{filter_rows, group_rows}
 use Rattle.odata_query.specs.Query.{TypedOf}
 use Rattle.query_plan.specs.Needed.{needed_blocks, pushed_tests}
@@ -16,18 +17,18 @@ use Rattle.query_plan.specs.Scan.{TestOf}
 use Rattle.query_meaning.specs.Worked.{cities, every, pop, beyond, populous, never_counted, divided}
 
 -- a comparison of `Pop` and one of `Price` with a literal
-abbrev pub pop_is : ComparisonOperator → IntegerExprOf → TruthExprOf
-pop_is operator literal = typed.compare_integers operator (typed.integer_column 2) literal
+abbrev pub pop_is : ComparisonOperator → NumberExprOf → TruthExprOf
+pop_is operator literal = typed.compare_numbers operator (typed.number_column numbers.Integer 2) literal
 
-abbrev pub price_is : DecimalExprOf → TruthExprOf
-price_is literal = typed.compare_decimals GreaterThan (typed.decimal_column 1) literal
+abbrev pub price_is : NumberExprOf → TruthExprOf
+price_is literal = typed.compare_numbers GreaterThan (typed.number_column numbers.Decimal 1) literal
 
 -- `Name eq 'Oslo'`
 abbrev pub in_oslo : TruthExprOf
 in_oslo = typed.compare_texts Equal (typed.text_column 1) (typed.text_literal (codes "Oslo"))
 
-abbrev pub five : IntegerExprOf
-five = typed.integer_literal (pos 5)
+abbrev pub five : NumberExprOf
+five = typed.number_literal (pos 5)
 
 -- a test of the column with a number
 abbrev pub test : ℕ → Comparison → CellValue → TestOf
@@ -51,15 +52,15 @@ pub record WorkedTests : Type 0 where
   -- `Name eq 'Oslo'`, `Open eq true`, `Since lt 2024-02-29`
   pub of_text : Pushes in_oslo (test 1 comparisons.Equal (text (codes "Oslo")) ∷ [])
   pub of_truth : Pushes (typed.compare_truths Equal (typed.truth_column 3) (typed.truth_literal true)) (test 3 comparisons.Equal (boolean true) ∷ [])
-  pub of_date : Pushes (typed.compare_dates LessThan (typed.date_column 4) (typed.date_literal (record { year = pos 2024; month = 2; day = 29 })))
+  pub of_date : Pushes (typed.compare_numbers LessThan (number_of_date (typed.date_column 4)) (number_of_date (typed.date_literal (record { year = pos 2024; month = 2; day = 29 }))))
       (test 4 comparisons.LessThan (date (pos 2024) 2 29) ∷ [])
   -- of the prices `Price gt 2.5`, `Price gt -2.5` and `Price gt 10`
-  pub of_decimal : Pushes (price_is (typed.decimal_literal (pos 2_500_000))) (test 1 comparisons.GreaterThan (decimal (pos 2_500_000)) ∷ [])
-  pub below_zero_too : Pushes (price_is (typed.decimal_negated (typed.decimal_literal (pos 2_500_000)))) (test 1 comparisons.GreaterThan (decimal (neg_ℤ (pos 2_500_000))) ∷ [])
-  pub whole : Pushes (price_is (typed.scaled (typed.integer_literal (pos 10)))) (test 1 comparisons.GreaterThan (decimal (pos 10_000_000)) ∷ [])
+  pub of_decimal : Pushes (price_is (typed.number_literal (pos 2_500_000))) (test 1 comparisons.GreaterThan (decimal (pos 2_500_000)) ∷ [])
+  pub below_zero_too : Pushes (price_is (typed.negated (typed.number_literal (pos 2_500_000)))) (test 1 comparisons.GreaterThan (decimal (neg_ℤ (pos 2_500_000))) ∷ [])
+  pub whole : Pushes (price_is (typed.scaled (typed.number_literal (pos 10)))) (test 1 comparisons.GreaterThan (decimal (pos 10_000_000)) ∷ [])
   -- `Pop gt Id`, `5 lt Pop` and `not (Pop gt 5)`
-  pub of_columns : Pushes (pop_is GreaterThan (typed.integer_column 0)) []
-  pub turned : Pushes (typed.compare_integers LessThan five (typed.integer_column 2)) []
+  pub of_columns : Pushes (pop_is GreaterThan (typed.number_column numbers.Integer 0)) []
+  pub turned : Pushes (typed.compare_numbers LessThan five (typed.number_column numbers.Integer 2)) []
   pub opposite : Pushes (typed.negation populous) []
   -- `Pop gt 5 and Name eq 'Oslo'`, `Pop gt 5 or Name eq 'Oslo'`, and `Pop gt 5 and 10 div (Id sub 1) gt 0`, which may divide by zero
   pub joined : Pushes (typed.conjunction populous in_oslo) (test 2 comparisons.GreaterThan (integer (pos 5)) ∷ test 1 comparisons.Equal (text (codes "Oslo")) ∷ [])

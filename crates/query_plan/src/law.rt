@@ -5,6 +5,7 @@ ghost use Rattle.query_plan.specs.Worked.{WorkedBlocks, WorkedTests};
 
 use odata_types::tables_are_inputs;
 use query_meaning::bounds_hold;
+use summary_eval::numbers_are_tested;
 
 /// A bare scan reads every block, and gives all rows.
 pub fn bare_scans_read_all()
@@ -29,6 +30,7 @@ pub fn tests_are_passed()
     ensures { TestsArePassed }
 {
     tables_are_inputs();
+    numbers_are_tested();
 }
 
 /// The conditions of a query that was typed for a table compare its columns as what they are.

@@ -5,7 +5,7 @@ ghost use Rattle.odata_query.specs.Query.{order_view};
 ghost use Rattle.query_meaning.specs.Order.{are_plain, plain_column};
 
 use odata_query::OrderBy;
-use typed_trees::{DateExpr, DecimalExpr, IntegerExpr, TextExpr, TruthExpr, TypedExpr};
+use typed_trees::{DateExpr, NumberExpr, NumberKind, TextExpr, TruthExpr, TypedExpr};
 
 /// The column that an expression is, where it is one.
 fn plain_column(expression: &TypedExpr) -> Option<usize>
@@ -14,7 +14,7 @@ fn plain_column(expression: &TypedExpr) -> Option<usize>
     match expression {
         TypedExpr::Null => None,
         TypedExpr::Integer(integer, _) => match &**integer {
-            IntegerExpr::Column(place) => Some(*place),
+            NumberExpr::Column(NumberKind::Integer, place) => Some(*place),
             _ => None,
         },
         TypedExpr::Text(text) => match &**text {
@@ -30,7 +30,7 @@ fn plain_column(expression: &TypedExpr) -> Option<usize>
             _ => None,
         },
         TypedExpr::Decimal(decimal, _) => match &**decimal {
-            DecimalExpr::Column(place) => Some(*place),
+            NumberExpr::Column(NumberKind::Decimal, place) => Some(*place),
             _ => None,
         },
     }

@@ -7,10 +7,9 @@ ghost use Rattle.query_plan.specs.Push.{rewritten};
 ghost use Rattle.query_plan.specs.Types.{IsTypedPlan};
 ghost use Rattle.query_plan.specs.Rewrite.{best_nodes, chosen, rows_needed, MeansTheSame};
 
-use crate::law::unadmitted_blocks_pass_none;
+use crate::law::{tests_are_passed, unadmitted_blocks_pass_none};
 use crate::plan::{Node, Plan};
 use crate::push::pushed;
-use odata_types::tables_are_inputs;
 use row_eval::faults_are_foreseen;
 use std::alloc::{AllocError, Global};
 
@@ -64,7 +63,7 @@ pub fn rewrite(alloc: Global, plan: Plan) -> Result<Plan, AllocError>
 {
     unadmitted_blocks_pass_none();
     faults_are_foreseen();
-    tables_are_inputs();
+    tests_are_passed();
     let plan = pushed(alloc, plan)?;
     let Plan { scan, nodes } = plan;
     let nodes = with_best_rows(alloc, nodes)?;

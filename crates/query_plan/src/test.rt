@@ -1,129 +1,76 @@
 //! Conditions that compare a column with a literal.
 ghost use Rattle.std.specs.Prelude.{◌≡◌, IfOk, neg_ℤ, option_map, unsigned_abs};
 ghost use Rattle.cell_types.specs.Value.{value_view};
-ghost use Rattle.typed_trees.specs.TypedTree.{compare_dates, compare_decimals, compare_integers, compare_texts, compare_truths, date_view, decimal_negated, decimal_view, integer_view, negated, scaled as scaled_expr, text_view, truth_view};
+ghost use Rattle.typed_trees.specs.TypedTree.{compare_numbers, compare_texts, compare_truths, negated, number_view, text_view, truth_view};
 ghost use Rattle.query_plan.specs.Scan.{test_view};
-ghost use Rattle.query_plan.specs.Tests.{test_comparison as comparison_of_operator, compared_with, date_literal_value as date_value_of, decimal_value as decimal_value_of, integer_value as integer_value_of, literal_millionths as millionths_of_expr, literal_number as number_of_expr, scaled_number as scaled_number_of, sized, test_of as test_of_condition, text_value as text_value_of, truth_value as truth_value_of};
+ghost use Rattle.query_plan.specs.Tests.{compared_with, literal_number, number_value as number_value_of, scaled_number as scaled_number_of, sized, test_of as test_of_condition, text_value as text_value_of, truth_value as truth_value_of};
 
 use crate::scan::ColumnTest;
-use block_summary::{Comparison, Test};
+use block_summary::Test;
 use cell_types::Value;
 use odata_types::{MOST_SIZE, scaled};
 use std::alloc::{AllocError, Global};
 use std::borrow::CowStr;
-use typed_trees::{
-    ComparisonOperator, DateExpr, DecimalExpr, IntegerExpr, MILLIONTHS, TextExpr, TruthExpr,
-};
+use summary_eval::{comparison_of, number_value};
+use typed_trees::{ComparisonOperator, MILLIONTHS, NumberExpr, NumberKind, TextExpr, TruthExpr};
 
-fn comparison_of(operator: ComparisonOperator) -> Comparison
-    ensures { result ≡ comparison_of_operator operator }
-{
-    match operator {
-        ComparisonOperator::Equal => Comparison::Equal,
-        ComparisonOperator::NotEqual => Comparison::NotEqual,
-        ComparisonOperator::GreaterThan => Comparison::GreaterThan,
-        ComparisonOperator::GreaterOrEqual => Comparison::GreaterOrEqual,
-        ComparisonOperator::LessThan => Comparison::LessThan,
-        ComparisonOperator::LessOrEqual => Comparison::LessOrEqual,
-    }
-}
-
-/// A number behind a `-`, where it is at most 2 to the 126 in size.
-fn opposite(number: i128) -> Option<i128>
+/// A number after a `-`, where it is at most 2 to the 126 in size.
+fn opposite(number: i128) -> Option<Option<i128>>
     ensures { result ≡ sized (unsigned_abs number) (neg_ℤ number) }
 {
     if number.unsigned_abs() <= MOST_SIZE {
-        Some(-number)
+        Some(Some(-number))
     } else {
         None
     }
 }
 
-/// The millionths of a whole number, where they are at most 2 to the 126.
-fn scaled_number(number: i128) -> Option<i128>
+/// The millionths of a whole number, where they are at most 2 to the 126, or null.
+fn scaled_number(number: Option<i128>) -> Option<Option<i128>>
     ensures { result ≡ scaled_number_of number }
 {
+    let Some(number) = number else {
+        return Some(None);
+    };
     match scaled(number.unsigned_abs()) {
-        Ok(_) => Some(number * MILLIONTHS as i128),
+        Ok(_) => Some(Some(number * MILLIONTHS as i128)),
         Err(_) => None,
     }
 }
 
-/// The number of an integer literal behind a `-`.
-fn opposite_of(operand: &IntegerExpr) -> Option<i128>
-    ensures { result ≡ number_of_expr (negated (integer_view operand.now)) }
+/// The number of a literal after a `-`.
+fn opposite_of(operand: &NumberExpr) -> Option<Option<i128>>
+    ensures { result ≡ literal_number (negated (number_view operand.now)) }
 {
     match operand {
-        IntegerExpr::Literal(number) => opposite(*number),
+        NumberExpr::Literal(number) => opposite(*number),
         _ => None,
     }
 }
 
-/// The number of an integer literal, perhaps behind one `-`.
-fn number_of(expr: &IntegerExpr) -> Option<i128>
-    ensures { result ≡ number_of_expr (integer_view expr.now) }
+/// The number of a literal, perhaps after one `-`, or null; of an integer as a decimal its millionths.
+fn number_of(expr: &NumberExpr) -> Option<Option<i128>>
+    ensures { result ≡ literal_number (number_view expr.now) }
 {
     match expr {
-        IntegerExpr::Literal(number) => Some(*number),
-        IntegerExpr::Negate(operand) => opposite_of(operand),
-        _ => None,
-    }
-}
-
-/// The millionths of a decimal literal behind a `-`.
-fn opposite_millionths(operand: &DecimalExpr) -> Option<i128>
-    ensures { result ≡ millionths_of_expr (decimal_negated (decimal_view operand.now)) }
-{
-    match operand {
-        DecimalExpr::Literal(number) => opposite(*number),
-        _ => None,
-    }
-}
-
-/// The millionths of an integer literal.
-fn scaled_of(expr: &IntegerExpr) -> Option<i128>
-    ensures { result ≡ millionths_of_expr (scaled_expr (integer_view expr.now)) }
-{
-    match number_of(expr) {
-        Some(number) => scaled_number(number),
-        None => None,
-    }
-}
-
-/// The millionths of a literal, perhaps behind one `-`.
-fn millionths_of(expr: &DecimalExpr) -> Option<i128>
-    ensures { result ≡ millionths_of_expr (decimal_view expr.now) }
-{
-    match expr {
-        DecimalExpr::Literal(number) => Some(*number),
-        DecimalExpr::Negate(operand) => opposite_millionths(operand),
-        DecimalExpr::Scaled(expr) => scaled_of(expr),
+        NumberExpr::Null => Some(None),
+        NumberExpr::Literal(number) => Some(Some(*number)),
+        NumberExpr::Negate(operand) => opposite_of(operand),
+        NumberExpr::Scaled(operand) => match number_of(operand) {
+            Some(number) => scaled_number(number),
+            None => None,
+        },
         _ => None,
     }
 }
 
 /// The value of a literal of a type: of null, too.
-fn integer_value(expr: &IntegerExpr) -> Option<Value<'static>>
-    ensures { option_map value_view result ≡ integer_value_of (integer_view expr.now) }
+fn literal_value(kind: NumberKind, expr: &NumberExpr) -> Option<Value<'static>>
+    ensures { option_map value_view result ≡ number_value_of kind (number_view expr.now) }
 {
-    match expr {
-        IntegerExpr::Null => Some(Value::Null),
-        expr => match number_of(expr) {
-            Some(number) => Some(Value::Int(number)),
-            None => None,
-        },
-    }
-}
-
-fn decimal_value(expr: &DecimalExpr) -> Option<Value<'static>>
-    ensures { option_map value_view result ≡ decimal_value_of (decimal_view expr.now) }
-{
-    match expr {
-        DecimalExpr::Null => Some(Value::Null),
-        expr => match millionths_of(expr) {
-            Some(number) => Some(Value::Decimal(number)),
-            None => None,
-        },
+    match number_of(expr) {
+        Some(number) => number_value(kind, number),
+        None => None,
     }
 }
 
@@ -137,16 +84,6 @@ fn text_value(alloc: Global, expr: &TextExpr) -> Result<Option<Value<'static>>, 
             Ok(Some(Value::Text(CowStr::Owned(text))))
         }
         _ => Ok(None),
-    }
-}
-
-fn date_value(expr: &DateExpr) -> Option<Value<'static>>
-    ensures { option_map value_view result ≡ date_value_of (date_view expr.now) }
-{
-    match expr {
-        DateExpr::Null => Some(Value::Null),
-        DateExpr::Literal(date) => Some(Value::Date(*date)),
-        DateExpr::Column(_) => None,
     }
 }
 
@@ -181,30 +118,18 @@ fn column_test(
     }
 }
 
-fn integer_test(
+fn number_test(
     operator: ComparisonOperator,
-    left: &IntegerExpr,
-    right: &IntegerExpr,
+    left: &NumberExpr,
+    right: &NumberExpr,
 ) -> Option<ColumnTest>
     ensures { option_map test_view result ≡ test_of_condition
-        (compare_integers operator (integer_view left.now) (integer_view right.now)) }
+        (compare_numbers operator (number_view left.now) (number_view right.now)) }
 {
     match left {
-        IntegerExpr::Column(column) => column_test(*column, operator, integer_value(right)),
-        _ => None,
-    }
-}
-
-fn decimal_test(
-    operator: ComparisonOperator,
-    left: &DecimalExpr,
-    right: &DecimalExpr,
-) -> Option<ColumnTest>
-    ensures { option_map test_view result ≡ test_of_condition
-        (compare_decimals operator (decimal_view left.now) (decimal_view right.now)) }
-{
-    match left {
-        DecimalExpr::Column(column) => column_test(*column, operator, decimal_value(right)),
+        NumberExpr::Column(kind, column) => {
+            column_test(*column, operator, literal_value(*kind, right))
+        }
         _ => None,
     }
 }
@@ -224,16 +149,6 @@ fn text_test(
             Ok(column_test(*column, operator, literal))
         }
         _ => Ok(None),
-    }
-}
-
-fn date_test(operator: ComparisonOperator, left: &DateExpr, right: &DateExpr) -> Option<ColumnTest>
-    ensures { option_map test_view result ≡ test_of_condition
-        (compare_dates operator (date_view left.now) (date_view right.now)) }
-{
-    match left {
-        DateExpr::Column(column) => column_test(*column, operator, date_value(right)),
-        _ => None,
     }
 }
 
@@ -257,14 +172,8 @@ pub fn test_of(alloc: Global, condition: &TruthExpr) -> Result<Option<ColumnTest
         option_map test_view test ≡ test_of_condition (truth_view condition.now)) }
 {
     match condition {
-        TruthExpr::CompareIntegers(operator, left, right) => {
-            Ok(integer_test(*operator, left, right))
-        }
-        TruthExpr::CompareDecimals(operator, left, right) => {
-            Ok(decimal_test(*operator, left, right))
-        }
+        TruthExpr::CompareNumbers(operator, left, right) => Ok(number_test(*operator, left, right)),
         TruthExpr::CompareTexts(operator, left, right) => text_test(alloc, *operator, left, right),
-        TruthExpr::CompareDates(operator, left, right) => Ok(date_test(*operator, left, right)),
         TruthExpr::CompareTruths(operator, left, right) => Ok(truth_test(*operator, left, right)),
         _ => Ok(None),
     }

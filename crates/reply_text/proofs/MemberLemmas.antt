@@ -20,6 +20,10 @@ value_in_row rows row col value d h is =
     get_or_from_slice_get (get_or rows row []) col value d
     (sym (ap (option_and_then (λ (values : List CellValue). slice_get values col)) (slice_get-get_or rows row [] h)) ∙ is)
 
+pub value_in_lent : (rows : List (List CellValue)) (row col : ℕ) (lent : List CellValue) (value d : CellValue) → row < length rows
+    → slice_get rows row ≡ Some lent → slice_get lent col ≡ Some value → get_or (get_or rows row []) col d ≡ value
+value_in_lent rows row col lent value d h there is = value_in_row rows row col value d h (ap (option_and_then (λ (values : List CellValue). slice_get values col)) there ∙ is)
+
 -- the members of a row have their names and values
 zip_at : (names : List (List ℕ)) (values : List CellValue) (col : ℕ) (n : List ℕ) (v : CellValue) → col < length names → length values ≡ length names
     → (col < length (zip names values)) × (get_or (zip names values) col (n, v) ≡ (get_or names col n, get_or values col v))

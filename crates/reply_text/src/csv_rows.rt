@@ -71,8 +71,9 @@ fn push_values(out: &mut Vec<u8>, rows: &Rows, row: usize) -> Result<(), AllocEr
     ensures full { OnErr result (vec_capacity out.old < vec_len out.old
         + length (join_with_byte 44 (map csv_value (get_or rows.now.rows row [])))) }
 {
+    let values = rows.lent_row(row);
     for col in 0..rows.width() {
-        push_field(out, col, &rows.value(row, col))?;
+        push_field(out, col, &values.value(col))?;
     }
     Ok(())
 }

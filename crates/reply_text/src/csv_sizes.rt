@@ -7,6 +7,7 @@ ghost use Rattle.reply_text.specs.RowSizes.{CountFirst, HaveCsvSizes};
 ghost use Rattle.reply_values.specs.Csv.{csv_value};
 ghost use Rattle.reply_values.specs.Size.{told};
 
+use crate::ahead::{none_seen, read_ahead};
 use crate::row_sizes::RowSizes;
 use crate::sizes::Sizes;
 use query_rows::Rows;
@@ -39,9 +40,10 @@ fn values_size(columns: &Columns, row: usize) -> usize
     ensures { result ≡ told (length (flat_map csv_value (get_or columns.now.rows row []))) }
 {
     columns.rows_are_wide();
+    let values = columns.lent_row(row);
     let mut size = 0usize;
     for col in 0..columns.width() {
-        size = size.saturating_add(csv_value_size(&columns.value(row, col)));
+        size = size.saturating_add(csv_value_size(&values.value(col)));
     }
     size
 }
@@ -64,10 +66,12 @@ pub fn with_lines(before: Sizes, columns: &Columns, first: usize) -> Sizes
         CountFirst first lines before → CountFirst (length columns.now.rows) lines result }
 {
     let mut sizes = before;
+    let mut seen = none_seen(columns.len() - first);
     for row in first..columns.len() {
+        seen = read_ahead(columns, row, seen);
         sizes = sizes.with(line_size(columns, row));
     }
-    sizes
+    Sizes { seen, ..sizes }
 }
 
 /// How many bytes the lines of rows take as CSV, of which some first rows were counted.

@@ -28,6 +28,8 @@ pub struct BodyCursor {
     /// How many bytes are left.
     size: usize,
     longest: usize,
+    /// What was read of cells before they were needed.
+    seen: Option<u8>,
 }
 
 impl Model for BodyCursor {
@@ -57,6 +59,7 @@ fn of_pieces(pieces: Pieces, sizes: Sizes) -> Result<BodyCursor, AllocError>
         next: 0,
         size: sizes.all,
         longest: sizes.longest,
+        seen: sizes.seen,
     })
 }
 
@@ -126,6 +129,7 @@ impl BodyCursor {
             next: 0,
             size,
             longest: size,
+            seen: None,
         }
     }
 
@@ -159,6 +163,7 @@ impl BodyCursor {
         if self.size == 0 {
             return;
         }
+        self.seen = self.pieces.read_ahead(self.next, self.seen);
         let before = out.len();
         let Ok(()) = self.pieces.push(out, self.next) else {
             return;

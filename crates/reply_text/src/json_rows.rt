@@ -74,8 +74,9 @@ fn push_members(
     ensures full { OnErr result (vec_capacity out.old
         < vec_len out.old + length (json_members rows.now.names (get_or rows.now.rows row []))) }
 {
+    let values = rows.lent_row(row);
     for col in 0..rows.width() {
-        push_member(out, heads[col].as_slice(), &rows.value(row, col))?;
+        push_member(out, heads[col].as_slice(), &values.value(col))?;
     }
     Ok(())
 }

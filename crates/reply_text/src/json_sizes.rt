@@ -9,6 +9,7 @@ ghost use Rattle.reply_text.specs.Size.{member_name, row_frame};
 ghost use Rattle.reply_values.specs.Json.{json_value};
 ghost use Rattle.reply_values.specs.Size.{told};
 
+use crate::ahead::{none_seen, read_ahead};
 use crate::row_sizes::RowSizes;
 use crate::sizes::Sizes;
 use query_rows::Rows;
@@ -44,9 +45,10 @@ fn object_size(columns: &Columns, row: usize, frame: usize) -> usize
         + length (flat_map json_value (get_or columns.now.rows row []))) }
 {
     columns.rows_are_wide();
+    let values = columns.lent_row(row);
     let mut size = frame;
     for col in 0..columns.width() {
-        size = size.saturating_add(json_value_size(&columns.value(row, col)));
+        size = size.saturating_add(json_value_size(&values.value(col)));
     }
     size
 }
@@ -76,10 +78,12 @@ pub fn with_objects(before: Sizes, names: &[String], columns: &Columns, first: u
     columns.rows_are_wide();
     let frame = frame_size(names);
     let mut sizes = before;
+    let mut seen = none_seen(columns.len() - first);
     for row in first..columns.len() {
+        seen = read_ahead(columns, row, seen);
         sizes = sizes.with(item_size(columns, row, frame));
     }
-    sizes
+    Sizes { seen, ..sizes }
 }
 
 /// How many bytes the number of rows takes, where it was asked for.

@@ -3,6 +3,7 @@
 //! What a connection is given are replies that wait to be taken, one after another, each laid down as it is taken.
 #![tactic(auto)]
 
+mod ahead;
 mod body;
 mod csv_rows;
 mod csv_sizes;

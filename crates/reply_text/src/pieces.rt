@@ -4,6 +4,7 @@ ghost use Rattle.reply_text.specs.Inside.{body_pieces, MayLay};
 ghost use Rattle.reply_text.specs.Json.{AreHeads};
 ghost use Rattle.reply_text.specs.Pieces.{csv_pieces, json_pieces};
 
+use crate::ahead::read_ahead;
 use crate::csv_rows::{push_line, push_name_line};
 use crate::json_rows::{push_item, push_opening};
 use query_rows::Rows;
@@ -61,6 +62,15 @@ fn push_csv_piece(out: &mut Vec<u8>, rows: &Rows, number: usize) -> Result<(), A
 }
 
 impl Pieces {
+    /// Reads cells of rows from the piece with a number on, as [`read_ahead`] does.
+    pub fn read_ahead(&self, number: usize, seen: Option<u8>) -> Option<u8> {
+        match self {
+            Pieces::Json(rows, _) => read_ahead(rows.columns(), number, seen),
+            Pieces::Csv(rows) => read_ahead(rows.columns(), number, seen),
+            Pieces::Bytes(_) => None,
+        }
+    }
+
     /// Appends the piece with a number.
     pub fn push(&self, out: &mut Vec<u8>, number: usize) -> Result<(), AllocError>
         requires number { number < length (body_pieces self.now) }

@@ -1,4 +1,5 @@
 pub mod NumberLemmas
+pub mod MarkLemmas
 pub mod PieceLemmas
 pub mod StoreLemmas
 pub mod CodeLemmas

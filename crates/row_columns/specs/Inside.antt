@@ -1,7 +1,9 @@
 -- What columns hold inside.
-use Rattle.std.specs.Prelude.{◌<◌, ℕ, map}
+use Rattle.std.specs.Prelude.{◌<◌, ℕ, List, map}
 use Rattle.std.specs.List.{AllByRecursion}
+use Rattle.cell_types.specs.Value.{CellValue}
 use Rattle.row_columns.specs.declared.columns.Columns.TheInside.{Inside}
+use Rattle.row_columns.specs.declared.lent_row.LentRow.TheInside as lent
 use Rattle.row_columns.specs.Columns.{ColumnsOf}
 use Rattle.row_columns.specs.Store.{end_of, stored_kinds, stored_row, IsStoredWide}
 
@@ -12,3 +14,11 @@ columns_view columns = record { kinds = stored_kinds columns.store; rows = map (
 pub record HoldRows (columns : Inside) : Type 0 where
   pub wide : IsStoredWide columns.store
   pub within : AllByRecursion (λ (number : ℕ). number < end_of columns.store) columns.numbers
+
+-- what a row that is lent holds inside
+abbrev pub lent_row_view : lent.Inside → List CellValue
+lent_row_view row = stored_row row.store.now row.number
+
+pub record IsLent (row : lent.Inside) : Type 0 where
+  pub wide : IsStoredWide row.store.now
+  pub within : row.number < end_of row.store.now

@@ -5,6 +5,7 @@ pub mod Picked
 pub mod Columns
 pub mod Codes
 pub mod Numbers
+pub mod Marks
 pub mod Text
 pub mod Piece
 pub mod Store

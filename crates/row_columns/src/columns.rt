@@ -11,6 +11,7 @@ ghost use Rattle.row_columns.specs.Picked.{kinds_at, numbered, values_at};
 ghost use Rattle.row_columns.specs.Store.{value_rows};
 ghost use Rattle.row_columns.specs.Text.{text_of_cell};
 
+use crate::lent_row::LentRow;
 use crate::numbers::all_numbers;
 use crate::row_numbers::RowNumbers;
 use crate::store::{Store, types_at, types_of};
@@ -188,6 +189,16 @@ impl Columns {
         self.store.value(self.numbers.at(row) as usize, col)
     }
 
+    /// A row, counted from 0. It takes no memory, and where several values of a row are asked for, it is the faster way.
+    #[inline(always)]
+    pub fn lent_row(&self, row: usize) -> LentRow<'_>
+        requires { row < length self.now.rows }
+        ensures row { slice_get self.now.rows row ≡ Some result }
+        ensures width { length result ≡ length self.now.kinds }
+    {
+        LentRow::of(&self.store, self.numbers.at(row) as usize)
+    }
+
     /// The text of a row and a column, both counted from 0; nothing where the value is null, or no text. It takes no memory.
     pub fn text(&self, row: usize, col: usize) -> Option<&str>
         requires row { row < length self.now.rows }
@@ -248,6 +259,20 @@ impl Columns {
         let store = self.store.picked(alloc, places)?;
         let numbers = self.numbers.picked(alloc, numbers)?;
         Ok(Columns { store, numbers })
+    }
+
+    /// From now on the rows take a bit for each row of their table, where enough of it are kept. Where memory ran out, no column is left.
+    pub fn compact(&mut self, alloc: Global) -> Result<(), AllocError>
+        ensures same { OnOk result (self.new ≡ self.old) }
+        ensures refused { OnErr result (self.new ≡ no_columns) }
+    {
+        let mut numbers = mem::replace(&mut self.numbers, RowNumbers::none(alloc));
+        if let Err(refused) = numbers.compact(alloc) {
+            self.drop_all(alloc);
+            return Err(refused);
+        }
+        self.numbers = numbers;
+        Ok(())
     }
 
     /// The rows with these numbers, counted from 0, take the place of all. An error leaves the rows as they were.

@@ -4,6 +4,8 @@
 
 mod columns;
 mod keys;
+mod lent_row;
+mod marks;
 mod numbers;
 mod piece;
 mod row_numbers;
@@ -13,4 +15,5 @@ mod values;
 
 pub use columns::Columns;
 pub use keys::{KeyColumn, Keys};
+pub use lent_row::LentRow;
 pub use values::{lent, owned};

@@ -1,21 +1,25 @@
-//! The numbers of rows that are kept, of which the first that rise one by one take no memory.
-ghost use Rattle.std.specs.Prelude.{◌≡◌, ◌+◌, ◌-◌, ◌++◌, ◌<◌, ◌≤◌, ◌^◌, [], IfOk, IfSome, IsTrue, OnOk, length, map, slice_index_or};
+//! The numbers of rows that are kept. The first that rise one by one take no memory; others a bit for each row from then on, where enough are kept, and else
+//! four bytes each.
+ghost use Rattle.std.specs.Prelude.{◌≡◌, ◌+◌, ◌-◌, ◌++◌, ◌∷◌, ◌<◌, ◌≤◌, ◌^◌, [], IfOk, IfSome, IsTrue, OnOk, length, map, slice_index_or};
 ghost use Rattle.std.specs.List.{All};
 ghost use Rattle.row_columns.specs.Numbers.{numbers_from};
 
+use crate::marks::Marks;
 use crate::numbers::numbers_after;
 use block_summary::BLOCK_ROWS;
 use std::alloc::{AllocError, Global};
 use std::marker::Model;
+use std::mem;
 
 /// How many numbers 32 bits tell.
 const NUMBERS: usize = 1 << 32;
 
-/// Numbers: so many from one on, and others after them. They are seen as one list.
+/// Numbers: so many from one on, others that are marked, and others after them. They are seen as one list.
 #[derive(Drop)]
 pub(crate) struct RowNumbers {
     first: usize,
     count: usize,
+    marks: Marks,
     listed: Vec<u32>,
 }
 
@@ -25,7 +29,7 @@ impl Model for RowNumbers {
 
     ghost Value = { List ℕ };
 
-    ghost view = { λ numbers. numbers_from numbers.first numbers.count ++ numbers.listed.items };
+    ghost view = { λ numbers. numbers_from numbers.first numbers.count ++ numbers.marks ++ numbers.listed.items };
 
     ghost invariant = { λ numbers. numbers.first + numbers.count ≤ 2 ^ 32 };
 }
@@ -53,6 +57,16 @@ fn push_run(listed: &mut Vec<u32>, first: usize, count: usize) -> Result<(), All
     Ok(())
 }
 
+/// Those that are marked come after the others.
+fn push_marks(listed: &mut Vec<u32>, marks: &Marks) -> Result<(), AllocError>
+    ensures { OnOk result (listed.new.items ≡ listed.old.items ++ marks.now) }
+{
+    for place in 0..marks.len() {
+        listed.push(marks.at(place))?;
+    }
+    Ok(())
+}
+
 impl RowNumbers {
     /// No numbers.
     pub(crate) fn none(alloc: Global) -> RowNumbers
@@ -61,6 +75,7 @@ impl RowNumbers {
         RowNumbers {
             first: 0,
             count: 0,
+            marks: Marks::none(alloc),
             listed: Vec::new(alloc),
         }
     }
@@ -77,6 +92,7 @@ impl RowNumbers {
         Ok(RowNumbers {
             first: start,
             count: end - start,
+            marks: Marks::none(alloc),
             listed: Vec::new(alloc),
         })
     }
@@ -94,26 +110,38 @@ impl RowNumbers {
             Some(first) if numbers.len() <= BLOCK_ROWS && rise_from(numbers, *first) => {
                 RowNumbers::between(alloc, start + *first, start + *first + numbers.len())
             }
-            _ => RowNumbers::listed(numbers_after(alloc, start, numbers)?),
+            _ => RowNumbers::listed(alloc, numbers_after(alloc, start, numbers)?),
         }
     }
 
     /// These numbers.
-    fn listed(numbers: Vec<u32>) -> Result<RowNumbers, AllocError>
+    fn listed(alloc: Global, numbers: Vec<u32>) -> Result<RowNumbers, AllocError>
         ensures { IfOk result (λ made. made ≡ numbers.items) }
     {
         Ok(RowNumbers {
             first: 0,
             count: 0,
+            marks: Marks::none(alloc),
             listed: numbers,
         })
+    }
+
+    /// So many numbers from one on take the place of all.
+    fn set_run(&mut self, first: usize, count: usize)
+        requires { first + count ≤ 2 ^ 32 }
+        ensures { self.new ≡ numbers_from first count }
+    {
+        self.first = first;
+        self.count = count;
+        self.marks.clear();
+        self.listed.clear();
     }
 
     /// How many there are.
     pub(crate) fn len(&self) -> usize
         ensures { result ≡ length self.now }
     {
-        self.count + self.listed.len()
+        self.count + self.marks.len() + self.listed.len()
     }
 
     /// The number at a place.
@@ -123,17 +151,22 @@ impl RowNumbers {
         ensures { result ≡ slice_index_or self.now place 0 }
     {
         if place < self.count {
-            (self.first + place) as u32
+            return (self.first + place) as u32;
+        }
+        let after = place - self.count;
+        if after < self.marks.len() {
+            self.marks.at(after)
         } else {
-            self.listed[place - self.count]
+            self.listed[after - self.marks.len()]
         }
     }
 
     /// The first of them and how many they are, where they rise one by one.
     pub(crate) fn run(&self) -> Option<(usize, usize)>
-        ensures { IfSome result (λ run. self.now ≡ numbers_from run.0 run.1) }
+        ensures run { IfSome result (λ run. self.now ≡ numbers_from run.0 run.1) }
+        ensures few { IfSome result (λ run. run.0 + run.1 ≤ 2 ^ 32) }
     {
-        if self.listed.is_empty() {
+        if self.marks.len() == 0 && self.listed.is_empty() {
             Some((self.first, self.count))
         } else {
             None
@@ -146,6 +179,7 @@ impl RowNumbers {
     {
         let mut made = Vec::with_capacity(alloc, self.len())?;
         push_run(&mut made, self.first, self.count)?;
+        push_marks(&mut made, &self.marks)?;
         made.extend_from_slice(self.listed.as_slice())?;
         Ok(made)
     }
@@ -154,19 +188,44 @@ impl RowNumbers {
     pub(crate) fn append(&mut self, more: &RowNumbers) -> Result<(), AllocError>
         ensures { OnOk result (self.new ≡ self.old ++ more.now) }
     {
-        if self.listed.is_empty() && more.listed.is_empty() {
-            if self.count == 0 {
-                self.first = more.first;
-                self.count = more.count;
+        if let (Some((first, count)), Some((next, others))) = (self.run(), more.run()) {
+            if count == 0 {
+                self.set_run(next, others);
                 return Ok(());
             }
-            if self.first + self.count == more.first {
-                self.count += more.count;
+            if first + count == next {
+                self.set_run(first, count + others);
                 return Ok(());
             }
         }
         push_run(&mut self.listed, more.first, more.count)?;
+        push_marks(&mut self.listed, &more.marks)?;
         self.listed.extend_from_slice(more.listed.as_slice())
+    }
+
+    /// One more comes after them, marked where that may be.
+    fn push(&mut self, number: u32) -> Result<(), AllocError>
+        ensures { OnOk result (self.new ≡ self.old ++ number ∷ []) }
+    {
+        if !self.listed.is_empty() || !self.marks.push(number)? {
+            self.listed.push(number)?;
+        }
+        Ok(())
+    }
+
+    /// Those that are listed take a bit each from now on, where they rise and enough of their table's are kept. Where memory ran out, not all are left.
+    pub(crate) fn compact(&mut self, alloc: Global) -> Result<(), AllocError>
+        ensures { OnOk result (self.new ≡ self.old) }
+    {
+        match self.listed.first() {
+            Some(first) if self.marks.has_room(*first) => (),
+            _ => return Ok(()),
+        }
+        let listed = mem::replace(&mut self.listed, Vec::new(alloc));
+        for number in listed.as_slice() {
+            self.push(*number)?;
+        }
+        Ok(())
     }
 
     /// Those that have these places.
@@ -179,15 +238,13 @@ impl RowNumbers {
         for place in places {
             made.push(self.at(*place))?;
         }
-        RowNumbers::listed(made)
+        RowNumbers::listed(alloc, made)
     }
 
     /// Drops all of them.
     pub(crate) fn clear(&mut self)
         ensures { self.new ≡ [] }
     {
-        self.first = 0;
-        self.count = 0;
-        self.listed.clear();
+        self.set_run(0, 0);
     }
 }

@@ -8,13 +8,13 @@ use Rattle.std.proofs.lemmas.Bool.{false≢true, not-false, not-true, or_parts}
 use Rattle.cell_types.specs.Value.{CellValue}
 use Rattle.typed_trees.specs.declared.operator.ArithmeticOperator.{ArithmeticOperator}
 use Rattle.typed_trees.specs.declared.operator.ArithmeticOperator.TheVariants.{Add, Sub, Mul, Div, Mod}
-use Rattle.typed_trees.specs.CanFault.{can_fault, decimal_can_fault, divides, integer_can_fault, is_nonzero, is_safe_divisor, truth_can_fault}
+use Rattle.typed_trees.specs.CanFault.{can_fault, divides, is_nonzero, is_safe_divisor, number_can_fault, truth_can_fault}
 use Rattle.typed_trees.specs.TypedTree as typed
-use Rattle.typed_trees.specs.TypedTree.{IntegerExprOf, DecimalExprOf, TruthExprOf, TypedExprOf}
+use Rattle.typed_trees.specs.TypedTree.{NumberExprOf, TruthExprOf, TypedExprOf}
 use Rattle.row_eval.specs.declared.truth.Truth.{Truth}
 use Rattle.row_eval.specs.declared.truth.Truth.TheVariants as truths
 use Rattle.row_eval.specs.Logic.{and_then, or_then}
-use Rattle.row_eval.specs.Outcome.{both, computed, decimal_outcome, integer_outcome, operation, outcome, truth_outcome}
+use Rattle.row_eval.specs.Outcome.{both, computed, number_outcome, operation, outcome, truth_outcome}
 
 some_map : {X Y : Type 0} (f : X → Y) (o : Option X) → IsSome o → IsSome (option_map f o)
 some_map f None h = absurd (false≢true h)
@@ -54,15 +54,16 @@ same_number : (n b : ℤ) → Some (Some n) ≡ Some (Some b) → n ≡ b
 same_number n b e = cc
 
 -- the value of a literal that is not zero is not zero
-nonzero_value : (e : IntegerExprOf) (row : List CellValue) (b : ℤ) → is_nonzero e ≡ true → integer_outcome e row ≡ Some (Some b) → int_eq b (pos 0) ≡ false
-nonzero_value (typed.integer_literal n) row b safe is = rw (← same_number n b is) (not-true (int_eq n (pos 0)) safe)
-nonzero_value typed.null_integer row b safe is = absurd (false≢true safe)
-nonzero_value (typed.integer_column p) row b safe is = absurd (false≢true safe)
+nonzero_value : (e : NumberExprOf) (row : List CellValue) (b : ℤ) → is_nonzero e ≡ true → number_outcome e row ≡ Some (Some b) → int_eq b (pos 0) ≡ false
+nonzero_value (typed.number_literal n) row b safe is = rw (← same_number n b is) (not-true (int_eq n (pos 0)) safe)
+nonzero_value typed.null_number row b safe is = absurd (false≢true safe)
+nonzero_value (typed.number_column k p) row b safe is = absurd (false≢true safe)
 nonzero_value (typed.negated a) row b safe is = absurd (false≢true safe)
 nonzero_value (typed.arithmetic o x y) row b safe is = absurd (false≢true safe)
 nonzero_value (typed.length_of t) row b safe is = absurd (false≢true safe)
 nonzero_value (typed.index_of t p) row b safe is = absurd (false≢true safe)
 nonzero_value (typed.part_of p d) row b safe is = absurd (false≢true safe)
+nonzero_value (typed.scaled a) row b safe is = absurd (false≢true safe)
 
 opposite_nonzero : (n : ℤ) → int_eq n (pos 0) ≡ false → int_eq (neg_ℤ n) (pos 0) ≡ false
 opposite_nonzero n e = grind (arith, ints)
@@ -72,52 +73,42 @@ negated_value None b e = absurd (cc)
 negated_value (Some None) b e = absurd (cc)
 negated_value (Some (Some n)) b e = (n, refl, same_number (neg_ℤ n) b e)
 
-safe_value : (e : IntegerExprOf) (row : List CellValue) (b : ℤ) → is_safe_divisor e ≡ true → integer_outcome e row ≡ Some (Some b) → int_eq b (pos 0) ≡ false
+safe_value : (e : NumberExprOf) (row : List CellValue) (b : ℤ) → is_safe_divisor e ≡ true → number_outcome e row ≡ Some (Some b) → int_eq b (pos 0) ≡ false
 safe_value (typed.negated a) row b safe is =
-    let v = negated_value (integer_outcome a row) b is in
+    let v = negated_value (number_outcome a row) b is in
     rw (← v.2) (opposite_nonzero v.0 (nonzero_value a row v.0 safe v.1))
-safe_value (typed.integer_literal n) row b safe is = nonzero_value (typed.integer_literal n) row b safe is
-safe_value typed.null_integer row b safe is = absurd (false≢true safe)
-safe_value (typed.integer_column p) row b safe is = absurd (false≢true safe)
+safe_value (typed.number_literal n) row b safe is = nonzero_value (typed.number_literal n) row b safe is
+safe_value typed.null_number row b safe is = absurd (false≢true safe)
+safe_value (typed.number_column k p) row b safe is = absurd (false≢true safe)
 safe_value (typed.arithmetic o x y) row b safe is = absurd (false≢true safe)
 safe_value (typed.length_of t) row b safe is = absurd (false≢true safe)
 safe_value (typed.index_of t p) row b safe is = absurd (false≢true safe)
 safe_value (typed.part_of p d) row b safe is = absurd (false≢true safe)
+safe_value (typed.scaled a) row b safe is = absurd (false≢true safe)
 
 -- an operator on a safe divisor, or one that does not divide
-no_fault : (o : ArithmeticOperator) (e : IntegerExprOf) (row : List CellValue) (d : Bool) → divides o ≡ d → (d && not (is_safe_divisor e)) ≡ false → (a b : ℤ) → integer_outcome e row ≡ Some (Some b) → IsSome (operation o a b)
+no_fault : (o : ArithmeticOperator) (e : NumberExprOf) (row : List CellValue) (d : Bool) → divides o ≡ d → (d && not (is_safe_divisor e)) ≡ false → (a b : ℤ) → number_outcome e row ≡ Some (Some b) → IsSome (operation o a b)
 no_fault o e row false div h a b is = undivided o a b div
 no_fault o e row true div h a b is = divided o a b (safe_value e row b (not-false (is_safe_divisor e) h) is)
 
-pub integer_has_value : (e : IntegerExprOf) (row : List CellValue) → integer_can_fault e ≡ false → IsSome (integer_outcome e row)
-integer_has_value typed.null_integer row h = refl
-integer_has_value (typed.integer_column p) row h = refl
-integer_has_value (typed.integer_literal n) row h = refl
-integer_has_value (typed.negated a) row h = some_map (option_map neg_ℤ) (integer_outcome a row) (integer_has_value a row h)
-integer_has_value (typed.arithmetic o a b) row h =
+pub number_has_value : (e : NumberExprOf) (row : List CellValue) → number_can_fault e ≡ false → IsSome (number_outcome e row)
+number_has_value typed.null_number row h = refl
+number_has_value (typed.number_column k p) row h = refl
+number_has_value (typed.number_literal n) row h = refl
+number_has_value (typed.negated a) row h = some_map (option_map neg_ℤ) (number_outcome a row) (number_has_value a row h)
+number_has_value (typed.arithmetic o a b) row h =
     let d = divides o && not (is_safe_divisor b) in
-    let left : (d || integer_can_fault a) ≡ false = (or_parts (d || integer_can_fault a) (integer_can_fault b) h).0 in
-    joined_if o (integer_outcome a row) (integer_outcome b row)
-    (integer_has_value a row (or_parts d (integer_can_fault a) left).1) (integer_has_value b row (or_parts (d || integer_can_fault a) (integer_can_fault b) h).1)
-    (no_fault o b row (divides o) refl (or_parts d (integer_can_fault a) left).0)
-integer_has_value (typed.length_of t) row h = refl
-integer_has_value (typed.index_of t p) row h = refl
-integer_has_value (typed.part_of p d) row h = refl
+    let left : (d || number_can_fault a) ≡ false = (or_parts (d || number_can_fault a) (number_can_fault b) h).0 in
+    joined_if o (number_outcome a row) (number_outcome b row)
+    (number_has_value a row (or_parts d (number_can_fault a) left).1) (number_has_value b row (or_parts (d || number_can_fault a) (number_can_fault b) h).1)
+    (no_fault o b row (divides o) refl (or_parts d (number_can_fault a) left).0)
+number_has_value (typed.length_of t) row h = refl
+number_has_value (typed.index_of t p) row h = refl
+number_has_value (typed.part_of p d) row h = refl
+number_has_value (typed.scaled a) row h = some_map _ (number_outcome a row) (number_has_value a row h)
 
-two_integers : {Y : Type 0} (f : Option ℤ → Option ℤ → Y) (a b : IntegerExprOf) (row : List CellValue) → (integer_can_fault a || integer_can_fault b) ≡ false → IsSome (both f (integer_outcome a row) (integer_outcome b row))
-two_integers f a b row h = some_both f (integer_outcome a row) (integer_outcome b row) (integer_has_value a row (or_parts (integer_can_fault a) (integer_can_fault b) h).0) (integer_has_value b row (or_parts (integer_can_fault a) (integer_can_fault b) h).1)
-
-pub decimal_has_value : (e : DecimalExprOf) (row : List CellValue) → decimal_can_fault e ≡ false → IsSome (decimal_outcome e row)
-decimal_has_value typed.null_decimal row h = refl
-decimal_has_value (typed.decimal_column p) row h = refl
-decimal_has_value (typed.decimal_literal n) row h = refl
-decimal_has_value (typed.decimal_negated a) row h = some_map (option_map neg_ℤ) (decimal_outcome a row) (decimal_has_value a row h)
-decimal_has_value (typed.decimal_sum a b) row h = some_both _ (decimal_outcome a row) (decimal_outcome b row) (decimal_has_value a row (or_parts (decimal_can_fault a) (decimal_can_fault b) h).0) (decimal_has_value b row (or_parts (decimal_can_fault a) (decimal_can_fault b) h).1)
-decimal_has_value (typed.decimal_difference a b) row h = some_both _ (decimal_outcome a row) (decimal_outcome b row) (decimal_has_value a row (or_parts (decimal_can_fault a) (decimal_can_fault b) h).0) (decimal_has_value b row (or_parts (decimal_can_fault a) (decimal_can_fault b) h).1)
-decimal_has_value (typed.scaled n) row h = some_map _ (integer_outcome n row) (integer_has_value n row h)
-
-two_decimals : {Y : Type 0} (f : Option ℤ → Option ℤ → Y) (a b : DecimalExprOf) (row : List CellValue) → (decimal_can_fault a || decimal_can_fault b) ≡ false → IsSome (both f (decimal_outcome a row) (decimal_outcome b row))
-two_decimals f a b row h = some_both f (decimal_outcome a row) (decimal_outcome b row) (decimal_has_value a row (or_parts (decimal_can_fault a) (decimal_can_fault b) h).0) (decimal_has_value b row (or_parts (decimal_can_fault a) (decimal_can_fault b) h).1)
+two_numbers : {Y : Type 0} (f : Option ℤ → Option ℤ → Y) (a b : NumberExprOf) (row : List CellValue) → (number_can_fault a || number_can_fault b) ≡ false → IsSome (both f (number_outcome a row) (number_outcome b row))
+two_numbers f a b row h = some_both f (number_outcome a row) (number_outcome b row) (number_has_value a row (or_parts (number_can_fault a) (number_can_fault b) h).0) (number_has_value b row (or_parts (number_can_fault a) (number_can_fault b) h).1)
 
 some_and : (x : Truth) (right : Option Truth) → IsSome right → IsSome (and_then x right)
 some_and truths.False right h = refl
@@ -144,22 +135,18 @@ truth_has_value (typed.conjunction a b) row h =
 truth_has_value (typed.disjunction a b) row h =
     let right = truth_has_value b row (or_parts (truth_can_fault a) (truth_can_fault b) h).1 in
     some_bind _ (truth_outcome a row) (truth_has_value a row (or_parts (truth_can_fault a) (truth_can_fault b) h).0) (λ x. some_or x (truth_outcome b row) right)
-truth_has_value (typed.compare_integers o a b) row h = two_integers _ a b row h
-truth_has_value (typed.compare_decimals o a b) row h = two_decimals _ a b row h
+truth_has_value (typed.compare_numbers o a b) row h = two_numbers _ a b row h
 truth_has_value (typed.compare_texts o a b) row h = refl
-truth_has_value (typed.compare_dates o a b) row h = refl
 truth_has_value (typed.compare_truths o a b) row h = some_both _ (truth_outcome a row) (truth_outcome b row) (truth_has_value a row (or_parts (truth_can_fault a) (truth_can_fault b) h).0) (truth_has_value b row (or_parts (truth_can_fault a) (truth_can_fault b) h).1)
-truth_has_value (typed.integer_in a items) row h = some_map _ (integer_outcome a row) (integer_has_value a row h)
-truth_has_value (typed.decimal_in a items) row h = some_map _ (decimal_outcome a row) (decimal_has_value a row h)
+truth_has_value (typed.number_in a items) row h = some_map _ (number_outcome a row) (number_has_value a row h)
 truth_has_value (typed.text_in a items) row h = refl
-truth_has_value (typed.date_in a items) row h = refl
 truth_has_value (typed.truth_in a items) row h = some_map _ (truth_outcome a row) (truth_has_value a row h)
 truth_has_value (typed.test_text test t p) row h = refl
 
 pub has_value : (e : TypedExprOf) (row : List CellValue) → can_fault e ≡ false → IsSome (outcome e row)
 has_value typed.nothing row h = refl
-has_value (typed.integer e bound) row h = some_map _ (integer_outcome e row) (integer_has_value e row h)
+has_value (typed.integer e bound) row h = some_map _ (number_outcome e row) (number_has_value e row h)
 has_value (typed.text e) row h = refl
 has_value (typed.truth e) row h = some_map _ (truth_outcome e row) (truth_has_value e row h)
 has_value (typed.date e) row h = refl
-has_value (typed.decimal e bound) row h = some_map _ (decimal_outcome e row) (decimal_has_value e row h)
+has_value (typed.decimal e bound) row h = some_map _ (number_outcome e row) (number_has_value e row h)

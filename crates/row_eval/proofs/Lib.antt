@@ -1,3 +1,4 @@
 mod CharPlaces
 mod PartLemmas
+mod DateLemmas
 mod FaultLemmas

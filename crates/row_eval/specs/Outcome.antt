@@ -11,12 +11,12 @@ use Rattle.typed_trees.specs.declared.tree.DatePart.{DatePart}
 use Rattle.typed_trees.specs.declared.tree.DatePart.TheVariants.{Year, Month, Day}
 use Rattle.typed_trees.specs.declared.tree.TheConstants.{MILLIONTHS}
 use Rattle.typed_trees.specs.TypedTree as typed
-use Rattle.typed_trees.specs.TypedTree.{DayOf, DateExprOf, TextExprOf, IntegerExprOf, DecimalExprOf, TruthExprOf, TypedExprOf}
+use Rattle.typed_trees.specs.TypedTree.{DayOf, DateExprOf, TextExprOf, NumberExprOf, TruthExprOf, TypedExprOf}
 use Rattle.row_eval.specs.declared.truth.Truth.{Truth}
 use Rattle.row_eval.specs.declared.truth.Truth.TheVariants as truths
-use Rattle.row_eval.specs.Row.{cell, boolean_in, day_in, decimal_in, integer_in, text_in}
+use Rattle.row_eval.specs.Row.{cell, boolean_in, day_in, number_in, text_in}
 use Rattle.row_eval.specs.Text.{index_in, length_in, text_passes}
-use Rattle.row_eval.specs.Comparison.{compared, day_cmp, holds, is_among}
+use Rattle.row_eval.specs.Comparison.{compared, holds, is_among}
 use Rattle.row_eval.specs.Logic.{and_then, opposite, option_of_truth, or_then, truth_of, truth_of_option}
 
 -- two values joined; null beside a null
@@ -37,7 +37,7 @@ text_outcome (typed.text_column place) row = cell text_in row place
 text_outcome (typed.text_literal t) row = Some t
 text_outcome (typed.concat a b) row = joined (λ x y. x ++ y) (text_outcome a row) (text_outcome b row)
 
--- ---- integers
+-- ---- numbers
 
 -- two numbers joined by an operator; division truncates towards zero, and `mod` has the sign of the left number
 abbrev pub operation : ArithmeticOperator → ℤ → ℤ → Option ℤ
@@ -57,31 +57,21 @@ part_in Year d = d.year
 part_in Month d = pos d.month
 part_in Day d = pos d.day
 
-abbrev pub integer_outcome : IntegerExprOf → List CellValue → Option (Option ℤ)
-integer_outcome typed.null_integer row = Some None
-integer_outcome (typed.integer_column place) row = Some (cell integer_in row place)
-integer_outcome (typed.integer_literal n) row = Some (Some n)
-integer_outcome (typed.negated a) row = option_map (option_map neg_ℤ) (integer_outcome a row)
-integer_outcome (typed.arithmetic o a b) row = option_and_then (λ x. option_and_then (λ y. computed o x y) (integer_outcome b row)) (integer_outcome a row)
-integer_outcome (typed.length_of t) row = Some (option_map length_in (text_outcome t row))
-integer_outcome (typed.index_of t p) row = Some (joined index_in (text_outcome t row) (text_outcome p row))
-integer_outcome (typed.part_of p d) row = Some (option_map (part_in p) (date_outcome d row))
+abbrev pub number_outcome : NumberExprOf → List CellValue → Option (Option ℤ)
+number_outcome typed.null_number row = Some None
+number_outcome (typed.number_column kind place) row = Some (cell (number_in kind) row place)
+number_outcome (typed.number_literal n) row = Some (Some n)
+number_outcome (typed.negated a) row = option_map (option_map neg_ℤ) (number_outcome a row)
+number_outcome (typed.arithmetic o a b) row = option_and_then (λ x. option_and_then (λ y. computed o x y) (number_outcome b row)) (number_outcome a row)
+number_outcome (typed.length_of t) row = Some (option_map length_in (text_outcome t row))
+number_outcome (typed.index_of t p) row = Some (joined index_in (text_outcome t row) (text_outcome p row))
+number_outcome (typed.part_of p d) row = Some (option_map (part_in p) (date_outcome d row))
+number_outcome (typed.scaled a) row = option_map (option_map (λ x. x *ℤ pos MILLIONTHS)) (number_outcome a row)
 
--- ---- decimals, in millionths
+-- ---- truths
 
 abbrev pub both : {X Y : Type 0} → (X → X → Y) → Option X → Option X → Option Y
 both f a b = option_and_then (λ x. option_map (f x) b) a
-
-abbrev pub decimal_outcome : DecimalExprOf → List CellValue → Option (Option ℤ)
-decimal_outcome typed.null_decimal row = Some None
-decimal_outcome (typed.decimal_column place) row = Some (cell decimal_in row place)
-decimal_outcome (typed.decimal_literal n) row = Some (Some n)
-decimal_outcome (typed.decimal_negated a) row = option_map (option_map neg_ℤ) (decimal_outcome a row)
-decimal_outcome (typed.decimal_sum a b) row = both (joined (λ x y. x +ℤ y)) (decimal_outcome a row) (decimal_outcome b row)
-decimal_outcome (typed.decimal_difference a b) row = both (joined (λ x y. x -ℤ y)) (decimal_outcome a row) (decimal_outcome b row)
-decimal_outcome (typed.scaled n) row = option_map (option_map (λ x. x *ℤ pos MILLIONTHS)) (integer_outcome n row)
-
--- ---- truths
 
 abbrev pub truth_outcome : TruthExprOf → List CellValue → Option Truth
 truth_outcome typed.null_truth row = Some truths.Null
@@ -90,15 +80,11 @@ truth_outcome (typed.truth_literal b) row = Some (truth_of b)
 truth_outcome (typed.negation a) row = option_map opposite (truth_outcome a row)
 truth_outcome (typed.conjunction a b) row = option_and_then (λ x. and_then x (truth_outcome b row)) (truth_outcome a row)
 truth_outcome (typed.disjunction a b) row = option_and_then (λ x. or_then x (truth_outcome b row)) (truth_outcome a row)
-truth_outcome (typed.compare_integers o a b) row = both (λ x y. truth_of (holds o (compared int_cmp x y))) (integer_outcome a row) (integer_outcome b row)
-truth_outcome (typed.compare_decimals o a b) row = both (λ x y. truth_of (holds o (compared int_cmp x y))) (decimal_outcome a row) (decimal_outcome b row)
+truth_outcome (typed.compare_numbers o a b) row = both (λ x y. truth_of (holds o (compared int_cmp x y))) (number_outcome a row) (number_outcome b row)
 truth_outcome (typed.compare_texts o a b) row = Some (truth_of (holds o (compared (slice_cmp nat_cmp) (text_outcome a row) (text_outcome b row))))
-truth_outcome (typed.compare_dates o a b) row = Some (truth_of (holds o (compared day_cmp (date_outcome a row) (date_outcome b row))))
 truth_outcome (typed.compare_truths o a b) row = both (λ x y. truth_of (holds o (compared bool_cmp (option_of_truth x) (option_of_truth y)))) (truth_outcome a row) (truth_outcome b row)
-truth_outcome (typed.integer_in a items) row = option_map (λ x. truth_of (is_among int_cmp x items)) (integer_outcome a row)
-truth_outcome (typed.decimal_in a items) row = option_map (λ x. truth_of (is_among int_cmp x items)) (decimal_outcome a row)
+truth_outcome (typed.number_in a items) row = option_map (λ x. truth_of (is_among int_cmp x items)) (number_outcome a row)
 truth_outcome (typed.text_in a items) row = Some (truth_of (is_among (slice_cmp nat_cmp) (text_outcome a row) items))
-truth_outcome (typed.date_in a items) row = Some (truth_of (is_among day_cmp (date_outcome a row) items))
 truth_outcome (typed.truth_in a items) row = option_map (λ x. truth_of (is_among bool_cmp (option_of_truth x) items)) (truth_outcome a row)
 truth_outcome (typed.test_text test t p) row = Some (truth_of_option (joined (text_passes test) (text_outcome t row) (text_outcome p row)))
 
@@ -113,8 +99,8 @@ day_value d = value.date d.year d.month d.day
 
 abbrev pub outcome : TypedExprOf → List CellValue → Option CellValue
 outcome typed.nothing row = Some value.null
-outcome (typed.integer e bound) row = option_map (or_null value.integer) (integer_outcome e row)
+outcome (typed.integer e bound) row = option_map (or_null value.integer) (number_outcome e row)
 outcome (typed.text e) row = Some (or_null value.text (text_outcome e row))
 outcome (typed.truth e) row = option_map (λ t. or_null value.boolean (option_of_truth t)) (truth_outcome e row)
 outcome (typed.date e) row = Some (or_null day_value (date_outcome e row))
-outcome (typed.decimal e bound) row = option_map (or_null value.decimal) (decimal_outcome e row)
+outcome (typed.decimal e bound) row = option_map (or_null value.decimal) (number_outcome e row)

@@ -5,12 +5,13 @@ use Rattle.cell_types.specs.Value.{CellValue}
 use Rattle.typed_trees.specs.declared.operator.ArithmeticOperator.TheVariants.{Div}
 use Rattle.typed_trees.specs.declared.operator.ComparisonOperator.{ComparisonOperator}
 use Rattle.typed_trees.specs.declared.operator.ComparisonOperator.TheVariants.{Equal, NotEqual, GreaterThan, GreaterOrEqual, LessThan, LessOrEqual}
+use Rattle.typed_trees.specs.declared.tree.NumberKind.TheVariants as kind
 use Rattle.typed_trees.specs.declared.tree.DatePart.TheVariants.{Year, Month, Day}
 use Rattle.typed_trees.specs.declared.tree.TextTest.TheVariants.{Contains, StartsWith, EndsWith}
-use Rattle.typed_trees.specs.TypedTree.{DateExprOf, TextExprOf, IntegerExprOf, TruthExprOf, TypedExprOf, null_date, date_column, date_literal, null_text, text_column, text_literal, concat, null_integer, integer_column, integer_literal, arithmetic, length_of, index_of, part_of, null_decimal, decimal_column, decimal_literal, scaled, null_truth, truth_column, truth_literal, compare_integers, compare_decimals, compare_texts, compare_dates, compare_truths, test_text, nothing, integer, text, truth, date, decimal}
+use Rattle.typed_trees.specs.TypedTree.{DateExprOf, TextExprOf, NumberExprOf, TruthExprOf, TypedExprOf, null_date, date_column, date_literal, null_text, text_column, text_literal, concat, null_number, number_column, number_literal, number_of_date, arithmetic, length_of, index_of, part_of, scaled, null_truth, truth_column, truth_literal, compare_numbers, compare_texts, compare_truths, test_text, nothing, integer, text, truth, date, decimal}
 use Rattle.row_eval.specs.declared.truth.Truth.{Truth}
 use Rattle.row_eval.specs.declared.truth.Truth.TheVariants.{False, Null, True}
-use Rattle.row_eval.specs.Outcome.{integer_outcome, outcome, text_outcome, truth_outcome}
+use Rattle.row_eval.specs.Outcome.{number_outcome, outcome, text_outcome, truth_outcome}
 
 -- the columns Id, Name, Open, Since and Price: a row with a value in each, and one of nulls
 abbrev pub full : List CellValue
@@ -22,29 +23,42 @@ blank = value.null ∷ value.null ∷ value.null ∷ value.null ∷ value.null �
 abbrev pub day : ℤ → ℕ → ℕ → DateExprOf
 day y m d = date_literal (record { year = y; month = m; day = d })
 
+-- the columns of numbers, and the dates of a comparison
+abbrev pub id_number : NumberExprOf
+id_number = number_column kind.Integer 0
+
+abbrev pub price_number : NumberExprOf
+price_number = number_column kind.Decimal 4
+
+abbrev pub compared_days : DateExprOf → DateExprOf → ComparisonOperator → TruthExprOf
+compared_days a b o = compare_numbers o (number_of_date a) (number_of_date b)
+
 -- ---- columns: a row's value, or null where it has none of the type
 
 abbrev pub HasOutcome : TypedExprOf → List CellValue → CellValue → Type 0
 HasOutcome e row v = outcome e row ≡ Some v
 
 pub record WorkedColumns : Type 0 where
-  pub integers : HasOutcome (integer (integer_column 0) 9) full (value.integer (pos 7))
+  pub integers : HasOutcome (integer id_number 9) full (value.integer (pos 7))
   pub texts : HasOutcome (text (text_column 1)) full (value.text (codes "Oslo"))
   pub truths : HasOutcome (truth (truth_column 2)) full (value.boolean true)
   pub dates : HasOutcome (date (date_column 3)) full (value.date (pos 2024) 2 29)
-  pub decimals : HasOutcome (decimal (decimal_column 4) 9) full (value.decimal (pos 2_500_000))
-  pub null_integer : HasOutcome (integer (integer_column 0) 9) blank value.null
+  pub decimals : HasOutcome (decimal price_number 9) full (value.decimal (pos 2_500_000))
+  pub null_integer : HasOutcome (integer id_number 9) blank value.null
   pub null_text : HasOutcome (text (text_column 1)) blank value.null
   pub null_truth : HasOutcome (truth (truth_column 2)) blank value.null
   pub null_date : HasOutcome (date (date_column 3)) blank value.null
-  pub null_decimal : HasOutcome (decimal (decimal_column 4) 9) blank value.null
+  pub null_decimal : HasOutcome (decimal price_number 9) blank value.null
   pub null_literal : HasOutcome nothing full value.null
   pub false_literal : HasOutcome (truth (truth_literal false)) blank (value.boolean false)
   pub day_literal : HasOutcome (date (day (pos 1999) 12 31)) blank (value.date (pos 1999) 12 31)
   pub text_literal : HasOutcome (text (text_literal (codes "a"))) blank (value.text (codes "a"))
+  -- a column of another kind has none
+  pub date_as_integer : HasOutcome (integer (number_column kind.Integer 3) 9) full value.null
+  pub integer_as_decimal : HasOutcome (decimal (number_column kind.Decimal 0) 9) full value.null
   -- `1 div 0`, and `1 div 0 eq 1`
-  pub no_integer : outcome (integer (arithmetic Div (integer_literal (pos 1)) (integer_literal (pos 0))) 1) full ≡ None
-  pub no_truth : outcome (truth (compare_integers Equal (arithmetic Div (integer_literal (pos 1)) (integer_literal (pos 0))) (integer_literal (pos 1)))) full ≡ None
+  pub no_integer : outcome (integer (arithmetic Div (number_literal (pos 1)) (number_literal (pos 0))) 1) full ≡ None
+  pub no_truth : outcome (truth (compare_numbers Equal (arithmetic Div (number_literal (pos 1)) (number_literal (pos 0))) (number_literal (pos 1)))) full ≡ None
 
 -- ---- comparisons (sections 5.1.1.1.1 to 5.1.1.1.6)
 
@@ -78,13 +92,13 @@ compared_letters a b o = compare_texts o (text_literal a) (text_literal b)
 
 pub record WorkedComparisons : Type 0 where
   -- integers: 7 and 7, 7 and 8, 7 and -8
-  pub same_integers : AreEqual (λ o. compare_integers o (integer_column 0) (integer_literal (pos 7))) full
-  pub less_integer : IsLess (λ o. compare_integers o (integer_column 0) (integer_literal (pos 8))) full
-  pub greater_integer : IsGreater (λ o. compare_integers o (integer_column 0) (integer_literal (negsuc 7))) full
+  pub same_integers : AreEqual (λ o. compare_numbers o id_number (number_literal (pos 7))) full
+  pub less_integer : IsLess (λ o. compare_numbers o id_number (number_literal (pos 8))) full
+  pub greater_integer : IsGreater (λ o. compare_numbers o id_number (number_literal (negsuc 7))) full
   -- decimals: 2.5 and 2.5, 2.5 and 3, 3 and 2.5
-  pub same_decimals : AreEqual (λ o. compare_decimals o (decimal_column 4) (decimal_literal (pos 2_500_000))) full
-  pub less_decimal : IsLess (λ o. compare_decimals o (decimal_column 4) (scaled (integer_literal (pos 3)))) full
-  pub greater_decimal : IsGreater (λ o. compare_decimals o (scaled (integer_literal (pos 3))) (decimal_column 4)) full
+  pub same_decimals : AreEqual (λ o. compare_numbers o price_number (number_literal (pos 2_500_000))) full
+  pub less_decimal : IsLess (λ o. compare_numbers o price_number (scaled (number_literal (pos 3)))) full
+  pub greater_decimal : IsGreater (λ o. compare_numbers o (scaled (number_literal (pos 3))) price_number) full
   -- texts are in the order of their bytes, which is that of their code points: `Oslo`, then `Os`, `Oslo!`, `oslo`; `Z` and `a`; U+00E9 and U+20AC
   pub same_texts : AreEqual (λ o. compare_texts o (text_column 1) (text_literal (codes "Oslo"))) full
   pub prefix : IsGreater (λ o. compare_texts o (text_column 1) (text_literal (codes "Os"))) full
@@ -93,26 +107,26 @@ pub record WorkedComparisons : Type 0 where
   pub capital_first : IsLess (compared_letters (codes "Z") (codes "a")) full
   pub code_points : IsLess (compared_letters (195 ∷ 169 ∷ []) (226 ∷ 130 ∷ 172 ∷ [])) full
   -- dates by year, month, day: 2024-02-29 beside 2023-12-31, 2024-03-01, 2024-02-28 and itself
-  pub same_dates : AreEqual (λ o. compare_dates o (date_column 3) (day (pos 2024) 2 29)) full
-  pub year_first : IsGreater (λ o. compare_dates o (date_column 3) (day (pos 2023) 12 31)) full
-  pub month_then : IsLess (λ o. compare_dates o (date_column 3) (day (pos 2024) 3 1)) full
-  pub day_last : IsGreater (λ o. compare_dates o (date_column 3) (day (pos 2024) 2 28)) full
+  pub same_dates : AreEqual (compared_days (date_column 3) (day (pos 2024) 2 29)) full
+  pub year_first : IsGreater (compared_days (date_column 3) (day (pos 2023) 12 31)) full
+  pub month_then : IsLess (compared_days (date_column 3) (day (pos 2024) 3 1)) full
+  pub day_last : IsGreater (compared_days (date_column 3) (day (pos 2024) 2 28)) full
   -- true is greater than false
   pub same_truths : AreEqual (λ o. compare_truths o (truth_column 2) (truth_literal true)) full
   pub true_beside_false : IsGreater (λ o. compare_truths o (truth_column 2) (truth_literal false)) full
   pub false_beside_true : IsLess (λ o. compare_truths o (truth_literal false) (truth_column 2)) full
   -- null beside null: `ge` and `le` are `eq` or an order
-  pub null_integers : AreEqual (λ o. compare_integers o (integer_column 0) null_integer) blank
-  pub null_decimals : AreEqual (λ o. compare_decimals o (decimal_column 4) null_decimal) blank
+  pub null_integers : AreEqual (λ o. compare_numbers o id_number null_number) blank
+  pub null_decimals : AreEqual (λ o. compare_numbers o price_number null_number) blank
   pub null_texts : AreEqual (λ o. compare_texts o (text_column 1) null_text) blank
-  pub null_dates : AreEqual (λ o. compare_dates o (date_column 3) null_date) blank
+  pub null_dates : AreEqual (compared_days (date_column 3) null_date) blank
   pub null_truths : AreEqual (λ o. compare_truths o (truth_column 2) null_truth) blank
   -- null beside a value, on either side
-  pub null_integer_first : AreApart (λ o. compare_integers o null_integer (integer_column 0)) full
-  pub null_integer_last : AreApart (λ o. compare_integers o (integer_column 0) null_integer) full
-  pub null_decimal_first : AreApart (λ o. compare_decimals o null_decimal (decimal_column 4)) full
+  pub null_integer_first : AreApart (λ o. compare_numbers o null_number id_number) full
+  pub null_integer_last : AreApart (λ o. compare_numbers o id_number null_number) full
+  pub null_decimal_first : AreApart (λ o. compare_numbers o null_number price_number) full
   pub null_text_last : AreApart (λ o. compare_texts o (text_column 1) null_text) full
-  pub null_date_first : AreApart (λ o. compare_dates o null_date (date_column 3)) full
+  pub null_date_first : AreApart (compared_days null_date (date_column 3)) full
   pub null_truth_beside_false : AreApart (λ o. compare_truths o null_truth (truth_literal false)) full
   pub null_truth_beside_true : AreApart (λ o. compare_truths o (truth_column 2) null_truth) full
 
@@ -121,11 +135,11 @@ pub record WorkedComparisons : Type 0 where
 abbrev pub Texts : TextExprOf → List CellValue → Option (List ℕ) → Type 0
 Texts e row t = text_outcome e row ≡ t
 
-abbrev pub Numbers : IntegerExprOf → List CellValue → ℤ → Type 0
-Numbers e row n = integer_outcome e row ≡ Some (Some n)
+abbrev pub Numbers : NumberExprOf → List CellValue → ℤ → Type 0
+Numbers e row n = number_outcome e row ≡ Some (Some n)
 
-abbrev pub HasNoNumber : IntegerExprOf → List CellValue → Type 0
-HasNoNumber e row = integer_outcome e row ≡ Some None
+abbrev pub HasNoNumber : NumberExprOf → List CellValue → Type 0
+HasNoNumber e row = number_outcome e row ≡ Some None
 
 abbrev pub a_text : List ℕ → TextExprOf
 a_text t = text_literal t

@@ -3,10 +3,9 @@
 ghost use Rattle.std.specs.Prelude.{◌≡◌, map, option_map};
 ghost use Rattle.std.specs.Cmp.Lexicographic.{slice_cmp};
 ghost use Rattle.std.specs.Ordering.{bool_cmp, int_cmp, nat_cmp};
-ghost use Rattle.typed_trees.specs.TypedTree.{day_view, optional_day, optional_text};
-ghost use Rattle.row_eval.specs.Comparison.{compared, day_cmp, holds as holds_of, is_among, is_equal as is_equal_of};
+ghost use Rattle.typed_trees.specs.TypedTree.{optional_text};
+ghost use Rattle.row_eval.specs.Comparison.{compared, holds as holds_of, is_among, is_equal as is_equal_of};
 
-use jiff_core::civil::Date;
 use std::cmp::Ordering;
 use typed_trees::ComparisonOperator;
 
@@ -26,7 +25,7 @@ pub fn holds(operator: ComparisonOperator, order: Option<Ordering>) -> bool
     }
 }
 
-/// The order of integers, or of decimals.
+/// The order of numbers.
 pub(crate) fn number_order(left: Option<i128>, right: Option<i128>) -> Option<Ordering>
     ensures { result ≡ compared int_cmp left right }
 {
@@ -60,26 +59,6 @@ pub(crate) fn text_order(left: Option<&str>, right: Option<&str>) -> Option<Orde
     }
 }
 
-/// The order of days: by year, month and day.
-fn day_order(left: Date, right: Date) -> Ordering
-    ensures { result ≡ day_cmp (day_view left) (day_view right) }
-{
-    let month = left.month.cmp(&right.month);
-    let day = left.day.cmp(&right.day);
-    left.year.cmp(&right.year).then(month).then(day)
-}
-
-/// The order of dates.
-pub(crate) fn date_order(left: &Option<Date>, right: &Option<Date>) -> Option<Ordering>
-    ensures { result ≡ compared day_cmp (optional_day left.now) (optional_day right.now) }
-{
-    match (left, right) {
-        (None, None) => Some(Ordering::Equal),
-        (Some(left), Some(right)) => Some(day_order(*left, *right)),
-        _ => None,
-    }
-}
-
 /// Whether the order is that of equal values.
 fn is_equal(order: Option<Ordering>) -> bool
     ensures { result ≡ is_equal_of order }
@@ -105,18 +84,6 @@ pub(crate) fn boolean_among(value: Option<bool>, items: &[Option<bool>]) -> bool
 {
     for item in items {
         if is_equal(boolean_order(value, *item)) {
-            return true;
-        }
-    }
-    false
-}
-
-/// Whether a date is one of a list.
-pub(crate) fn date_among(value: &Option<Date>, items: &[Option<Date>]) -> bool
-    ensures { result ≡ is_among day_cmp (optional_day value.now) (map optional_day items.now) }
-{
-    for item in items {
-        if is_equal(date_order(value, item)) {
             return true;
         }
     }

@@ -14,10 +14,7 @@ ghost use Rattle.row_eval.specs.Row.{boolean_in, cell, row_view};
 
 use crate::comparison::{boolean_among, boolean_order, holds};
 use crate::fault::EvalFault;
-use crate::relation::{
-    date_is_in, dates_hold, decimal_is_in, decimals_hold, integer_is_in, integers_hold, text_is_in,
-    text_test_holds, texts_hold,
-};
+use crate::relation::{number_is_in, numbers_hold, text_is_in, text_test_holds, texts_hold};
 use crate::truth::{Truth, greatest, least, opposite, optional_truth, truth_of, truth_value};
 use cell_types::Value;
 use std::alloc::Global;
@@ -61,19 +58,15 @@ pub fn eval_truth(alloc: Global, expr: &TruthExpr, row: &[Value<'_>]) -> Result<
             Truth::True => Ok(Truth::True),
             left => Ok(greatest(left, eval_truth(alloc, right, row)?)),
         },
-        TruthExpr::CompareIntegers(operator, a, b) => integers_hold(alloc, *operator, a, b, row),
-        TruthExpr::CompareDecimals(operator, a, b) => decimals_hold(alloc, *operator, a, b, row),
+        TruthExpr::CompareNumbers(operator, a, b) => numbers_hold(alloc, *operator, a, b, row),
         TruthExpr::CompareTexts(operator, a, b) => texts_hold(alloc, *operator, a, b, row),
-        TruthExpr::CompareDates(operator, a, b) => Ok(dates_hold(*operator, a, b, row)),
         TruthExpr::CompareTruths(operator, left, right) => {
             let left = eval_truth(alloc, left, row)?;
             let right = eval_truth(alloc, right, row)?;
             Ok(truths_hold(*operator, left, right))
         }
-        TruthExpr::IntegerIn(operand, items) => integer_is_in(alloc, operand, items, row),
-        TruthExpr::DecimalIn(operand, items) => decimal_is_in(alloc, operand, items, row),
+        TruthExpr::NumberIn(operand, items) => number_is_in(alloc, operand, items, row),
         TruthExpr::TextIn(operand, items) => text_is_in(alloc, operand, items, row),
-        TruthExpr::DateIn(operand, items) => Ok(date_is_in(operand, items, row)),
         TruthExpr::TruthIn(operand, items) => {
             let value = truth_value(eval_truth(alloc, operand, row)?);
             Ok(truth_of(boolean_among(value, items)))

@@ -1,12 +1,17 @@
 //! The laws of outcomes: each function is a theorem, and does nothing.
 
-ghost use Rattle.row_eval.specs.Laws.{FaultsAreForeseen};
+ghost use Rattle.row_eval.specs.Laws.{DatesAreCompared, FaultsAreForeseen};
 ghost use Rattle.row_eval.specs.Worked.{WorkedColumns, WorkedComparisons, WorkedFunctions};
 ghost use Rattle.row_eval.specs.WorkedLogic.{WorkedLogic, WorkedNumbers};
 
 /// An expression that cannot divide by zero has a value on each row.
 pub fn faults_are_foreseen()
     ensures { FaultsAreForeseen }
+{}
+
+/// Dates that are compared as numbers are compared by year, then by month, then by day.
+pub fn dates_are_compared()
+    ensures { DatesAreCompared }
 {}
 
 /// Columns and literals of each type, with their values or null.

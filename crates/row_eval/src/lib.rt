@@ -5,10 +5,9 @@
 mod comparison;
 mod condition;
 mod date;
-mod decimal;
 mod fault;
-mod integer;
 mod law;
+mod number;
 mod relation;
 mod text;
 mod truth;
@@ -17,13 +16,12 @@ mod typed;
 pub use comparison::holds;
 pub use condition::eval_truth;
 pub use date::eval_date;
-pub use decimal::eval_decimal;
 pub use fault::EvalFault;
-pub use integer::eval_integer;
 pub use law::{
-    faults_are_foreseen, worked_columns, worked_comparisons, worked_functions, worked_logic,
-    worked_numbers,
+    dates_are_compared, faults_are_foreseen, worked_columns, worked_comparisons, worked_functions,
+    worked_logic, worked_numbers,
 };
+pub use number::eval_number;
 pub use text::{eval_text, has_part, index_in, text_passes};
 pub use truth::{Truth, greatest, least, opposite, truth_of};
 pub use typed::eval;

@@ -3,27 +3,22 @@
 
 ghost use Rattle.std.specs.Prelude.{◌≡◌, map, option_map};
 ghost use Rattle.std.specs.Cow.{cow_str_bytes};
-ghost use Rattle.typed_trees.specs.TypedTree.{compare_dates, compare_decimals, compare_integers, compare_texts, date_in, date_view, decimal_in, decimal_view, integer_in, integer_view, optional_day, optional_text, test_text, text_in, text_view};
-ghost use Rattle.row_eval.specs.Bounds.{DecimalsFit, IntegersFit};
-ghost use Rattle.row_eval.specs.Outcome.{joined, truth_outcome};
+ghost use Rattle.typed_trees.specs.TypedTree.{compare_numbers, compare_texts, number_in, number_view, optional_text, test_text, text_in, text_view};
+ghost use Rattle.row_eval.specs.Bounds.{NumberFits};
+ghost use Rattle.row_eval.specs.Outcome.{joined};
 ghost use Rattle.row_eval.specs.Result.{Decides};
 ghost use Rattle.row_eval.specs.Row.{row_view};
 ghost use Rattle.row_eval.specs.Text.{text_passes as text_passes_of};
 
-use crate::comparison::{
-    date_among, date_order, holds, number_among, number_order, text_among, text_order,
-};
-use crate::date::eval_date;
-use crate::decimal::eval_decimal;
+use crate::comparison::{holds, number_among, number_order, text_among, text_order};
 use crate::fault::EvalFault;
-use crate::integer::eval_integer;
+use crate::number::eval_number;
 use crate::text::{eval_text, text_passes};
 use crate::truth::{Truth, optional_truth, truth_of};
 use cell_types::Value;
-use jiff_core::civil::Date;
 use std::alloc::Global;
 use std::borrow::CowStr;
-use typed_trees::{ComparisonOperator, DateExpr, DecimalExpr, IntegerExpr, TextExpr, TextTest};
+use typed_trees::{ComparisonOperator, NumberExpr, TextExpr, TextTest};
 
 /// The text, if there is one.
 fn borrowed<'t>(text: &'t Option<CowStr<'_>>) -> Option<&'t str>
@@ -46,39 +41,21 @@ fn test_texts(test: TextTest, text: Option<&str>, part: Option<&str>) -> Option<
     }
 }
 
-/// A comparison of integers.
-pub(crate) fn integers_hold(
+/// A comparison of numbers.
+pub(crate) fn numbers_hold(
     alloc: Global,
     operator: ComparisonOperator,
-    left: &IntegerExpr,
-    right: &IntegerExpr,
+    left: &NumberExpr,
+    right: &NumberExpr,
     row: &[Value<'_>],
 ) -> Result<Truth, EvalFault>
-    requires { IntegersFit (integer_view left.now) (row_view row.now)
-        × IntegersFit (integer_view right.now) (row_view row.now) }
-    ensures { Decides (compare_integers operator (integer_view left.now) (integer_view right.now))
+    requires { NumberFits (number_view left.now) (row_view row.now)
+        × NumberFits (number_view right.now) (row_view row.now) }
+    ensures { Decides (compare_numbers operator (number_view left.now) (number_view right.now))
         (row_view row.now) result }
 {
-    let left = eval_integer(alloc, left, row)?;
-    let right = eval_integer(alloc, right, row)?;
-    Ok(truth_of(holds(operator, number_order(left, right))))
-}
-
-/// A comparison of decimals.
-pub(crate) fn decimals_hold(
-    alloc: Global,
-    operator: ComparisonOperator,
-    left: &DecimalExpr,
-    right: &DecimalExpr,
-    row: &[Value<'_>],
-) -> Result<Truth, EvalFault>
-    requires { DecimalsFit (decimal_view left.now) (row_view row.now)
-        × DecimalsFit (decimal_view right.now) (row_view row.now) }
-    ensures { Decides (compare_decimals operator (decimal_view left.now) (decimal_view right.now))
-        (row_view row.now) result }
-{
-    let left = eval_decimal(alloc, left, row)?;
-    let right = eval_decimal(alloc, right, row)?;
+    let left = eval_number(alloc, left, row)?;
+    let right = eval_number(alloc, right, row)?;
     Ok(truth_of(holds(operator, number_order(left, right))))
 }
 
@@ -99,48 +76,18 @@ pub(crate) fn texts_hold(
     Ok(truth_of(holds(operator, order)))
 }
 
-/// A comparison of dates.
-pub(crate) fn dates_hold(
-    operator: ComparisonOperator,
-    left: &DateExpr,
-    right: &DateExpr,
-    row: &[Value<'_>],
-) -> Truth
-    ensures { truth_outcome (compare_dates operator (date_view left.now) (date_view right.now))
-        (row_view row.now) ≡ Some result }
-{
-    let left = eval_date(left, row);
-    let right = eval_date(right, row);
-    truth_of(holds(operator, date_order(&left, &right)))
-}
-
-/// Whether an integer is one of a list.
-pub(crate) fn integer_is_in(
+/// Whether a number is one of a list.
+pub(crate) fn number_is_in(
     alloc: Global,
-    operand: &IntegerExpr,
+    operand: &NumberExpr,
     items: &[Option<i128>],
     row: &[Value<'_>],
 ) -> Result<Truth, EvalFault>
-    requires { IntegersFit (integer_view operand.now) (row_view row.now) }
-    ensures { Decides (integer_in (integer_view operand.now) items.now)
+    requires { NumberFits (number_view operand.now) (row_view row.now) }
+    ensures { Decides (number_in (number_view operand.now) items.now)
         (row_view row.now) result }
 {
-    let value = eval_integer(alloc, operand, row)?;
-    Ok(truth_of(number_among(value, items)))
-}
-
-/// Whether a decimal is one of a list.
-pub(crate) fn decimal_is_in(
-    alloc: Global,
-    operand: &DecimalExpr,
-    items: &[Option<i128>],
-    row: &[Value<'_>],
-) -> Result<Truth, EvalFault>
-    requires { DecimalsFit (decimal_view operand.now) (row_view row.now) }
-    ensures { Decides (decimal_in (decimal_view operand.now) items.now)
-        (row_view row.now) result }
-{
-    let value = eval_decimal(alloc, operand, row)?;
+    let value = eval_number(alloc, operand, row)?;
     Ok(truth_of(number_among(value, items)))
 }
 
@@ -156,15 +103,6 @@ pub(crate) fn text_is_in(
 {
     let value = eval_text(alloc, operand, &*row)?;
     Ok(truth_of(text_among(borrowed(&value), items)))
-}
-
-/// Whether a date is one of a list.
-pub(crate) fn date_is_in(operand: &DateExpr, items: &[Option<Date>], row: &[Value<'_>]) -> Truth
-    ensures { truth_outcome (date_in (date_view operand.now) (map optional_day items.now))
-        (row_view row.now) ≡ Some result }
-{
-    let value = eval_date(operand, row);
-    truth_of(date_among(&value, items))
 }
 
 /// `contains`, `startswith` or `endswith` on a row.

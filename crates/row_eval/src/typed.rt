@@ -12,9 +12,8 @@ ghost use Rattle.row_eval.specs.Row.{row_view};
 
 use crate::condition::eval_truth;
 use crate::date::eval_date;
-use crate::decimal::eval_decimal;
 use crate::fault::EvalFault;
-use crate::integer::eval_integer;
+use crate::number::eval_number;
 use crate::text::eval_text;
 use crate::truth::truth_value;
 use cell_types::Value;
@@ -81,10 +80,10 @@ pub fn eval<'r>(
 {
     match expr {
         TypedExpr::Null => Ok(Value::Null),
-        TypedExpr::Integer(expr, _) => Ok(integer_value(eval_integer(alloc, expr, row)?)),
+        TypedExpr::Integer(expr, _) => Ok(integer_value(eval_number(alloc, expr, row)?)),
         TypedExpr::Text(expr) => Ok(text_value(eval_text(alloc, expr, row)?)),
         TypedExpr::Boolean(expr) => Ok(boolean_value(truth_value(eval_truth(alloc, expr, row)?))),
         TypedExpr::Date(expr) => Ok(date_value(eval_date(expr, row))),
-        TypedExpr::Decimal(expr, _) => Ok(decimal_value(eval_decimal(alloc, expr, row)?)),
+        TypedExpr::Decimal(expr, _) => Ok(decimal_value(eval_number(alloc, expr, row)?)),
     }
 }

@@ -1,2 +1,3 @@
 pub mod TestLemmas
 pub mod KnownLemmas
+pub mod NumberLemmas

@@ -2,6 +2,8 @@
 use Rattle.std.specs.Prelude.{◌≡◌, ◌<◌, ℕ, ℤ, Bool, true, false, List, [], Option, Some, length, not, slice_index_or}
 use Rattle.std.specs.Cmp.Lexicographic.{slice_cmp}
 use Rattle.std.specs.Ordering.{int_cmp, nat_cmp}
+use Rattle.cell_types.specs.Column.{ColumnOf}
+use Rattle.cell_types.specs.Rows.{IsTableRow}
 use Rattle.cell_types.specs.Value.{CellValue, null, integer, text, date, decimal, value_view}
 use Rattle.block_summary.specs.Ranges.{RangeOf, AreRangesOf}
 use Rattle.block_summary.specs.Tests.{test_passes}
@@ -10,22 +12,24 @@ use Rattle.block_summary.specs.declared.test.Comparison.TheVariants as tests
 use Rattle.block_summary.specs.declared.test.Test.{Test}
 use Rattle.typed_trees.specs.declared.operator.ComparisonOperator.{ComparisonOperator}
 use Rattle.typed_trees.specs.declared.operator.ComparisonOperator.TheVariants as operators
-use Rattle.typed_trees.specs.TypedTree.{DateExprOf, DecimalExprOf, IntegerExprOf, TextExprOf, TruthExprOf}
+use Rattle.typed_trees.specs.TypedTree.{NumberExprOf, TextExprOf, TruthExprOf}
 use Rattle.row_eval.specs.declared.truth.Truth.{Truth}
 use Rattle.row_eval.specs.Comparison.{compared, day_cmp, holds}
 use Rattle.row_eval.specs.Logic.{truth_of}
-use Rattle.row_eval.specs.Outcome.{date_outcome, decimal_outcome, integer_outcome, text_outcome, truth_outcome}
+use Rattle.row_eval.specs.Outcome.{number_outcome, text_outcome, truth_outcome}
 use Rattle.row_eval.specs.Row.{day_in, decimal_in, integer_in, text_in}
 use Rattle.summary_eval.specs.declared.kinds.Kind.{Kind}
 use Rattle.summary_eval.specs.declared.kinds.Kind.TheVariants.{Date, Decimal, Integer, Text}
 
--- cells of a row, among rows whose columns have these ranges
+-- cells of a row of a table, among rows whose columns have these ranges
 pub record IsRowWithin (ranges : List RangeOf) (cells : List CellValue) : Type 0 where
   pub rows : List (List CellValue)
   pub row : ℕ
   pub are_ranges : AreRangesOf ranges rows
   pub within : row < length rows
   pub cells_are : cells ≡ slice_index_or rows row []
+  pub columns : List ColumnOf
+  pub fits : IsTableRow columns cells
 
 -- a condition has this truth on each such row
 abbrev pub IsKnown : TruthExprOf → List RangeOf → Truth → Type 0
@@ -103,16 +107,9 @@ HasTruth kind o ranges place literal truth =
 
 -- ---- expressions that have one value on all rows
 
-abbrev pub IsConstantInteger : IntegerExprOf → Option ℤ → Type 0
-IsConstantInteger e number = (cells : List CellValue) → integer_outcome e cells ≡ Some number
-
-abbrev pub IsConstantDecimal : DecimalExprOf → Option ℤ → Type 0
-IsConstantDecimal e number = (cells : List CellValue) → decimal_outcome e cells ≡ Some number
+abbrev pub IsConstantNumber : NumberExprOf → Option ℤ → Type 0
+IsConstantNumber e number = (cells : List CellValue) → number_outcome e cells ≡ Some number
 
 pub record IsConstantText (e : TextExprOf) (value : CellValue) : Type 0 where
   pub kind : is_of_kind Text value ≡ true
   pub each : (cells : List CellValue) → text_outcome e cells ≡ text_in value
-
-pub record IsConstantDate (e : DateExprOf) (value : CellValue) : Type 0 where
-  pub kind : is_of_kind Date value ≡ true
-  pub each : (cells : List CellValue) → date_outcome e cells ≡ day_in value

@@ -1,15 +1,14 @@
-//! Expressions that have one value on all rows: literals, numbers perhaps with signs before them, since a literal has none, and such
-//! integers as decimals.
+//! Expressions that have one value on all rows: literals, numbers perhaps with signs before them, since a literal has none, and integers
+//! as decimals.
 
 ghost use Rattle.std.specs.Prelude.{◌≡◌, ◌*ℤ◌, neg_ℤ, pos, IfSome, option_map};
-ghost use Rattle.cell_types.specs.Value.{decimal, integer, value_view};
-ghost use Rattle.typed_trees.specs.TypedTree.{date_view, decimal_view, integer_view, text_view};
-ghost use Rattle.row_eval.specs.Outcome.{or_null};
-ghost use Rattle.summary_eval.specs.Known.{IsConstantDate, IsConstantDecimal, IsConstantInteger, IsConstantText};
+ghost use Rattle.cell_types.specs.Value.{value_view};
+ghost use Rattle.typed_trees.specs.TypedTree.{number_view, text_view};
+ghost use Rattle.summary_eval.specs.Known.{IsConstantNumber, IsConstantText};
 
 use cell_types::Value;
 use std::borrow::CowStr;
-use typed_trees::{DateExpr, DecimalExpr, IntegerExpr, MILLIONTHS, TextExpr};
+use typed_trees::{MILLIONTHS, NumberExpr, TextExpr};
 
 /// A number with the other sign, where it fits.
 fn opposite_number(number: Option<i128>) -> Option<Option<i128>>
@@ -31,48 +30,16 @@ fn scaled_number(number: Option<i128>) -> Option<Option<i128>>
     }
 }
 
-/// The integer of an expression on each row.
-pub fn constant_integer(expr: &IntegerExpr) -> Option<Option<i128>>
-    ensures { IfSome result (IsConstantInteger (integer_view expr.now)) }
+/// The number of an expression on each row.
+pub fn constant_number(expr: &NumberExpr) -> Option<Option<i128>>
+    ensures { IfSome result (IsConstantNumber (number_view expr.now)) }
 {
     match expr {
-        IntegerExpr::Null => Some(None),
-        IntegerExpr::Literal(number) => Some(Some(*number)),
-        IntegerExpr::Negate(operand) => opposite_number(constant_integer(operand)?),
+        NumberExpr::Null => Some(None),
+        NumberExpr::Literal(number) => Some(Some(*number)),
+        NumberExpr::Negate(operand) => opposite_number(constant_number(operand)?),
+        NumberExpr::Scaled(operand) => scaled_number(constant_number(operand)?),
         _ => None,
-    }
-}
-
-/// The millionths of an expression on each row.
-pub fn constant_decimal(expr: &DecimalExpr) -> Option<Option<i128>>
-    ensures { IfSome result (IsConstantDecimal (decimal_view expr.now)) }
-{
-    match expr {
-        DecimalExpr::Null => Some(None),
-        DecimalExpr::Literal(number) => Some(Some(*number)),
-        DecimalExpr::Negate(operand) => opposite_number(constant_decimal(operand)?),
-        DecimalExpr::Scaled(operand) => scaled_number(constant_integer(operand)?),
-        _ => None,
-    }
-}
-
-/// The value of an integer.
-pub fn integer_value(number: Option<i128>) -> Value<'static>
-    ensures { value_view result ≡ or_null integer number }
-{
-    match number {
-        Some(number) => Value::Int(number),
-        None => Value::Null,
-    }
-}
-
-/// The value of a decimal.
-pub fn decimal_value(millionths: Option<i128>) -> Value<'static>
-    ensures { value_view result ≡ or_null decimal millionths }
-{
-    match millionths {
-        Some(millionths) => Value::Decimal(millionths),
-        None => Value::Null,
     }
 }
 
@@ -84,16 +51,5 @@ pub fn constant_text(expr: &TextExpr) -> Option<Value<'_>>
         TextExpr::Null => Some(Value::Null),
         TextExpr::Literal(text) => Some(Value::Text(CowStr::Borrowed(text.as_str()))),
         _ => None,
-    }
-}
-
-/// A day, or null.
-pub fn constant_day(expr: &DateExpr) -> Option<Value<'static>>
-    ensures { IfSome result (λ value. IsConstantDate (date_view expr.now) (value_view value)) }
-{
-    match expr {
-        DateExpr::Null => Some(Value::Null),
-        DateExpr::Literal(day) => Some(Value::Date(*day)),
-        DateExpr::Column(_) => None,
     }
 }

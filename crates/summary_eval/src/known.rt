@@ -1,65 +1,36 @@
 //! Conditions whose truth the ranges of a block tell, without a look at its rows.
 
 ghost use Rattle.std.specs.Prelude.{IfSome};
-ghost use Rattle.typed_trees.specs.TypedTree.{compare_dates, compare_decimals, compare_integers, compare_texts, date_view, decimal_view, integer_view, text_view, truth_column, truth_view};
+ghost use Rattle.typed_trees.specs.TypedTree.{compare_numbers, compare_texts, number_view, text_view, truth_column, truth_view};
 ghost use Rattle.summary_eval.specs.Known.{IsKnown};
 
-use crate::constants::{
-    constant_day, constant_decimal, constant_integer, constant_text, decimal_value, integer_value,
-};
+use crate::constants::{constant_number, constant_text};
 use crate::kinds::Kind;
+use crate::numbers::{kind_of, number_value};
 use crate::tests::{is_each, known_comparison};
 use block_summary::Summary;
-use cell_types::Value;
-use row_eval::{Truth, greatest, least, opposite, truth_of};
-use typed_trees::{ComparisonOperator, DateExpr, DecimalExpr, IntegerExpr, TextExpr, TruthExpr};
+use cell_types::{Value, dates_read_back};
+use row_eval::{Truth, dates_are_compared, greatest, least, opposite, truth_of};
+use typed_trees::{ComparisonOperator, NumberExpr, TextExpr, TruthExpr};
 
-/// A column of integers, compared with a number.
-fn known_integers(
+/// A column of numbers, compared with a number.
+fn known_numbers(
     summary: &Summary,
     operator: ComparisonOperator,
-    left: &IntegerExpr,
-    right: &IntegerExpr,
+    left: &NumberExpr,
+    right: &NumberExpr,
 ) -> Option<Truth>
     ensures { IfSome result (IsKnown
-        (compare_integers operator (integer_view left.now) (integer_view right.now))
-        summary.now) }
+        (compare_numbers operator (number_view left.now) (number_view right.now)) summary.now) }
 {
-    let IntegerExpr::Column(place) = left else {
+    dates_read_back();
+    dates_are_compared();
+    let NumberExpr::Column(kind, place) = left else {
         return None;
     };
-    let number = constant_integer(right)?;
-    known_comparison(
-        summary,
-        Kind::Integer,
-        operator,
-        *place,
-        integer_value(number),
-    )
-}
-
-/// A column of decimals, compared with a number.
-fn known_decimals(
-    summary: &Summary,
-    operator: ComparisonOperator,
-    left: &DecimalExpr,
-    right: &DecimalExpr,
-) -> Option<Truth>
-    ensures { IfSome result (IsKnown
-        (compare_decimals operator (decimal_view left.now) (decimal_view right.now))
-        summary.now) }
-{
-    let DecimalExpr::Column(place) = left else {
-        return None;
-    };
-    let number = constant_decimal(right)?;
-    known_comparison(
-        summary,
-        Kind::Decimal,
-        operator,
-        *place,
-        decimal_value(number),
-    )
+    let number = constant_number(right)?;
+    let literal = number_value(*kind, number)?;
+    known_comparison(summary, kind_of(*kind), operator, *place, literal)
 }
 
 /// A column of texts, compared with a literal.
@@ -77,23 +48,6 @@ fn known_texts(
     };
     let literal = constant_text(right)?;
     known_comparison(summary, Kind::Text, operator, *place, literal)
-}
-
-/// A column of dates, compared with a literal.
-fn known_dates(
-    summary: &Summary,
-    operator: ComparisonOperator,
-    left: &DateExpr,
-    right: &DateExpr,
-) -> Option<Truth>
-    ensures { IfSome result (IsKnown
-        (compare_dates operator (date_view left.now) (date_view right.now)) summary.now) }
-{
-    let DateExpr::Column(place) = left else {
-        return None;
-    };
-    let literal = constant_day(right)?;
-    known_comparison(summary, Kind::Date, operator, *place, literal)
 }
 
 /// A column of truths.
@@ -119,17 +73,11 @@ fn known_leaf(expr: &TruthExpr, summary: &Summary) -> Option<Truth>
         TruthExpr::Null => Some(Truth::Null),
         TruthExpr::Literal(value) => Some(truth_of(*value)),
         TruthExpr::Column(place) => known_column(summary, *place),
-        TruthExpr::CompareIntegers(operator, left, right) => {
-            known_integers(summary, *operator, left, right)
-        }
-        TruthExpr::CompareDecimals(operator, left, right) => {
-            known_decimals(summary, *operator, left, right)
+        TruthExpr::CompareNumbers(operator, left, right) => {
+            known_numbers(summary, *operator, left, right)
         }
         TruthExpr::CompareTexts(operator, left, right) => {
             known_texts(summary, *operator, left, right)
-        }
-        TruthExpr::CompareDates(operator, left, right) => {
-            known_dates(summary, *operator, left, right)
         }
         _ => None,
     }

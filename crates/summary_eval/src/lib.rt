@@ -5,7 +5,9 @@
 mod constants;
 mod kinds;
 mod known;
+mod numbers;
 mod tests;
 
 pub use known::known_truth;
+pub use numbers::{number_value, numbers_are_tested};
 pub use tests::comparison_of;

@@ -2,11 +2,11 @@
 //! one `-`.
 
 ghost use Rattle.std.specs.Prelude.{◌≡◌};
-ghost use Rattle.typed_trees.specs.CanFault.{can_fault as can_fault_of, decimal_can_fault as decimal_can_fault_of, divides as divides_of, integer_can_fault as integer_can_fault_of, is_nonzero as is_nonzero_of, is_safe_divisor as is_safe_divisor_of, truth_can_fault as truth_can_fault_of};
-ghost use Rattle.typed_trees.specs.TypedTree.{decimal_view, integer_view, truth_view, typed_view};
+ghost use Rattle.typed_trees.specs.CanFault.{can_fault as can_fault_of, divides as divides_of, is_nonzero as is_nonzero_of, is_safe_divisor as is_safe_divisor_of, number_can_fault as number_can_fault_of, truth_can_fault as truth_can_fault_of};
+ghost use Rattle.typed_trees.specs.TypedTree.{number_view, truth_view, typed_view};
 
 use crate::operator::ArithmeticOperator;
-use crate::tree::{DecimalExpr, IntegerExpr, TruthExpr, TypedExpr};
+use crate::tree::{NumberExpr, TruthExpr, TypedExpr};
 
 /// Whether an operator divides.
 fn divides(operator: ArithmeticOperator) -> bool
@@ -16,50 +16,36 @@ fn divides(operator: ArithmeticOperator) -> bool
 }
 
 /// Whether an expression is a number literal that is not zero.
-fn is_nonzero(expr: &IntegerExpr) -> bool
-    ensures { result ≡ is_nonzero_of (integer_view expr.now) }
+fn is_nonzero(expr: &NumberExpr) -> bool
+    ensures { result ≡ is_nonzero_of (number_view expr.now) }
 {
     match expr {
-        IntegerExpr::Literal(number) => *number != 0,
+        NumberExpr::Literal(number) => *number != 0,
         _ => false,
     }
 }
 
 /// Whether an expression is such a literal, perhaps behind one `-`.
-fn is_safe_divisor(expr: &IntegerExpr) -> bool
-    ensures { result ≡ is_safe_divisor_of (integer_view expr.now) }
+fn is_safe_divisor(expr: &NumberExpr) -> bool
+    ensures { result ≡ is_safe_divisor_of (number_view expr.now) }
 {
     match expr {
-        IntegerExpr::Negate(operand) => is_nonzero(operand),
+        NumberExpr::Negate(operand) => is_nonzero(operand),
         expr => is_nonzero(expr),
     }
 }
 
-/// Whether an integer may have a division by zero on some row.
-fn integer_can_fault(expr: &IntegerExpr) -> bool
-    ensures { result ≡ integer_can_fault_of (integer_view expr.now) }
+/// Whether a number may have a division by zero on some row.
+fn number_can_fault(expr: &NumberExpr) -> bool
+    ensures { result ≡ number_can_fault_of (number_view expr.now) }
 {
     match expr {
-        IntegerExpr::Negate(operand) => integer_can_fault(operand),
-        IntegerExpr::Arithmetic(operator, left, right) => {
+        NumberExpr::Negate(operand) | NumberExpr::Scaled(operand) => number_can_fault(operand),
+        NumberExpr::Arithmetic(operator, left, right) => {
             divides(*operator) && !is_safe_divisor(right)
-                || integer_can_fault(left)
-                || integer_can_fault(right)
+                || number_can_fault(left)
+                || number_can_fault(right)
         }
-        _ => false,
-    }
-}
-
-/// Whether a decimal may have a division by zero on some row.
-fn decimal_can_fault(expr: &DecimalExpr) -> bool
-    ensures { result ≡ decimal_can_fault_of (decimal_view expr.now) }
-{
-    match expr {
-        DecimalExpr::Negate(operand) => decimal_can_fault(operand),
-        DecimalExpr::Add(left, right) | DecimalExpr::Sub(left, right) => {
-            decimal_can_fault(left) || decimal_can_fault(right)
-        }
-        DecimalExpr::Scaled(number) => integer_can_fault(number),
         _ => false,
     }
 }
@@ -75,14 +61,10 @@ pub fn truth_can_fault(expr: &TruthExpr) -> bool
         | TruthExpr::CompareTruths(_, left, right) => {
             truth_can_fault(left) || truth_can_fault(right)
         }
-        TruthExpr::CompareIntegers(_, left, right) => {
-            integer_can_fault(left) || integer_can_fault(right)
+        TruthExpr::CompareNumbers(_, left, right) => {
+            number_can_fault(left) || number_can_fault(right)
         }
-        TruthExpr::CompareDecimals(_, left, right) => {
-            decimal_can_fault(left) || decimal_can_fault(right)
-        }
-        TruthExpr::IntegerIn(operand, _) => integer_can_fault(operand),
-        TruthExpr::DecimalIn(operand, _) => decimal_can_fault(operand),
+        TruthExpr::NumberIn(operand, _) => number_can_fault(operand),
         _ => false,
     }
 }
@@ -92,9 +74,8 @@ pub fn can_fault(expr: &TypedExpr) -> bool
     ensures { result ≡ can_fault_of (typed_view expr.now) }
 {
     match expr {
-        TypedExpr::Integer(expr, _) => integer_can_fault(expr),
+        TypedExpr::Integer(expr, _) | TypedExpr::Decimal(expr, _) => number_can_fault(expr),
         TypedExpr::Boolean(expr) => truth_can_fault(expr),
-        TypedExpr::Decimal(expr, _) => decimal_can_fault(expr),
         _ => false,
     }
 }

@@ -2,13 +2,15 @@
 //! its type. The operators of numbers and of comparison, the trees, and which of them may divide by zero.
 #![tactic(auto)]
 
+mod day;
 mod division;
 mod operator;
 mod tree;
 
+pub use day::day_number;
 pub use division::{can_fault, truth_can_fault};
 pub use operator::{ArithmeticOperator, ComparisonOperator};
 pub use tree::{
-    DateExpr, DatePart, DecimalExpr, IntegerExpr, MILLIONTHS, TextExpr, TextTest, TruthExpr,
+    DateExpr, DatePart, MILLIONTHS, NumberExpr, NumberKind, TextExpr, TextTest, TruthExpr,
     TypedExpr,
 };

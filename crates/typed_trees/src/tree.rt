@@ -1,5 +1,5 @@
-//! Typed expressions. The types are in layers: dates and texts know no other, integers know them, decimals know integers, and truths
-//! know all. A column is its number, counted from 0; where a row has no value of the type there, it is null.
+//! Typed expressions. The types are in layers: dates and texts know no other, numbers know them, and truths know all. A column is its
+//! number, counted from 0; where a row has no value of the type there, it is null.
 
 use crate::operator::{ArithmeticOperator, ComparisonOperator};
 use jiff_core::civil::Date;
@@ -32,32 +32,29 @@ pub enum DatePart {
     Day,
 }
 
-/// An integer or null.
+/// What the numbers of a column stand for: integers, decimals in millionths, or days, numbered so that the later has the greater number.
+#[derive(Clone, Copy, PartialEq, Eq)]
+pub enum NumberKind {
+    Integer,
+    Decimal,
+    Date,
+}
+
+/// A number or null. Both sides of an operator or a comparison stand for the same: integers, decimals in millionths, or days.
 #[derive(Drop)]
-pub enum IntegerExpr {
+pub enum NumberExpr {
     Null,
-    Column(usize),
+    Column(NumberKind, usize),
     Literal(i128),
-    Negate(Box<IntegerExpr>),
-    Arithmetic(ArithmeticOperator, Box<IntegerExpr>, Box<IntegerExpr>),
+    Negate(Box<NumberExpr>),
+    Arithmetic(ArithmeticOperator, Box<NumberExpr>, Box<NumberExpr>),
     /// How many characters a text has.
     Length(Box<TextExpr>),
     /// Where the second text begins in the first, in characters from 0; -1 where it is no part of it.
     IndexOf(Box<TextExpr>, Box<TextExpr>),
     PartOf(DatePart, DateExpr),
-}
-
-/// A decimal or null. Literals are in millionths.
-#[derive(Drop)]
-pub enum DecimalExpr {
-    Null,
-    Column(usize),
-    Literal(i128),
-    Negate(Box<DecimalExpr>),
-    Add(Box<DecimalExpr>, Box<DecimalExpr>),
-    Sub(Box<DecimalExpr>, Box<DecimalExpr>),
     /// An integer as a decimal.
-    Scaled(Box<IntegerExpr>),
+    Scaled(Box<NumberExpr>),
 }
 
 /// `contains`, `startswith` and `endswith` (OData 4.01 URL Conventions, section 5.1.1.5).
@@ -77,15 +74,11 @@ pub enum TruthExpr {
     Not(Box<TruthExpr>),
     And(Box<TruthExpr>, Box<TruthExpr>),
     Or(Box<TruthExpr>, Box<TruthExpr>),
-    CompareIntegers(ComparisonOperator, Box<IntegerExpr>, Box<IntegerExpr>),
-    CompareDecimals(ComparisonOperator, Box<DecimalExpr>, Box<DecimalExpr>),
+    CompareNumbers(ComparisonOperator, Box<NumberExpr>, Box<NumberExpr>),
     CompareTexts(ComparisonOperator, Box<TextExpr>, Box<TextExpr>),
-    CompareDates(ComparisonOperator, DateExpr, DateExpr),
     CompareTruths(ComparisonOperator, Box<TruthExpr>, Box<TruthExpr>),
-    IntegerIn(Box<IntegerExpr>, Vec<Option<i128>>),
-    DecimalIn(Box<DecimalExpr>, Vec<Option<i128>>),
+    NumberIn(Box<NumberExpr>, Vec<Option<i128>>),
     TextIn(Box<TextExpr>, Vec<Option<String>>),
-    DateIn(DateExpr, Vec<Option<Date>>),
     TruthIn(Box<TruthExpr>, Vec<Option<bool>>),
     TestText(TextTest, Box<TextExpr>, Box<TextExpr>),
 }
@@ -94,9 +87,9 @@ pub enum TruthExpr {
 #[derive(Drop)]
 pub enum TypedExpr {
     Null,
-    Integer(Box<IntegerExpr>, u128),
+    Integer(Box<NumberExpr>, u128),
     Text(Box<TextExpr>),
     Boolean(Box<TruthExpr>),
     Date(DateExpr),
-    Decimal(Box<DecimalExpr>, u128),
+    Decimal(Box<NumberExpr>, u128),
 }

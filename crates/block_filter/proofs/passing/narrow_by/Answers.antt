@@ -11,5 +11,5 @@ returns c =
     let ranges = c.summary.result.now in
     let outcomes : AreOutcomesWithin e ranges columns c.args.wanted.now c.as_slice.result.now =
     subst (AreOutcomesWithin e ranges columns c.args.wanted.now) (sym c.as_slice.ensures.value) c.in_ok-truths.ensures in
-    filter_narrows c.true_rows_pass.ensures e c.args.block.now.rows ranges columns c.args.wanted.now c.keep_true.new.wanted c.as_slice.result.now c.requires.columns
-    c.summary.ensures.each outcomes c.requires.long c.keep_true.auto.wanted c.keep_true.ensures
+    filter_narrows c.true_rows_pass.ensures e c.args.block.now.schema.columns c.args.block.now.rows ranges columns c.args.wanted.now c.keep_true.new.wanted c.as_slice.result.now c.requires.columns
+    c.values_fit.ensures.each c.summary.ensures.each outcomes c.requires.long c.keep_true.auto.wanted c.keep_true.ensures

@@ -1,6 +1,6 @@
 use Rattle.std.proofs.Common.{[]}
-use Rattle.csvw_writer.specs.Laws.{AreWritable}
-use Rattle.csvw_writer.specs.Text.{schemas_text}
+use Rattle.csvw_guess.specs.TextLaws.{AreWritable}
+use Rattle.csvw_guess.specs.Text.{schemas_text}
 use Rattle.csvw_guess.proofs.WritableLemmas.{drafts-said, drafts-short}
 use Rattle.csvw_guess.proofs.laws.drafts_are_served.Goals as goal
 

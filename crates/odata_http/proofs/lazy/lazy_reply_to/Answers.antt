@@ -17,21 +17,21 @@ advance-requires c = let on = c.loop-call.invariant in answers c.args.head.now o
 pub loop-call-preserved : goal.loop-call-preserved
 loop-call-preserved c =
     let on = c.loop-call.invariant in
-    calls_on c.args.catalog.now c.args.head.now _ _ c.loop-call.lazy.exchange c.advance.new.self.exchange c.in_ok-advance.field-0 on c.in-More.is (omega arith)
-    (c.in_ok-advance.ensures.goes_on c.args.head.now on.left on.answers)
+    calls_on c.args.catalog.now c.args.head.now _ _ c.loop-call.lazy.exchange c.advance.new.self.exchange _ on c.in-Ok-More.field-0-is (omega arith)
+    (c.in-Ok-More.ensures.goes_on c.args.head.now on.left on.answers)
 
 pub reply-requires : goal.reply-requires
 reply-requires c =
     let on = c.loop-call.invariant in
-    let over = calls_end c.args.catalog.now c.args.head.now on.left c.advance.new.self.exchange c.in_ok-advance.field-0 c.in-Done.is
-    (c.in_ok-advance.ensures.goes_on c.args.head.now on.left on.answers) in
+    let over = calls_end c.args.catalog.now c.args.head.now on.left c.advance.new.self.exchange _ c.in-Ok-Done.field-0-is
+    (c.in-Ok-Done.ensures.goes_on c.args.head.now on.left on.answers) in
     (over.0, over.2)
 
-pub returns-in-Done : goal.returns-in-Done
-returns-in-Done c =
+pub returns-in-Ok-Done : goal.returns-in-Ok-Done
+returns-in-Ok-Done c =
     let on = c.loop-call.invariant in
-    let over = calls_end c.args.catalog.now c.args.head.now on.left c.advance.new.self.exchange c.in_ok-advance.field-0 c.in-Done.is
-    (c.in_ok-advance.ensures.goes_on c.args.head.now on.left on.answers) in
+    let over = calls_end c.args.catalog.now c.args.head.now on.left c.advance.new.self.exchange _ c.in-Ok-Done.field-0-is
+    (c.in-Ok-Done.ensures.goes_on c.args.head.now on.left on.answers) in
     subst (λ (bytes : List ℕ). IsReply c.args.catalog.now c.args.head.now bytes) (sym (c.reply.ensures over.0 over.2)) over.1
 
 pub unreachable-requires : goal.unreachable-requires

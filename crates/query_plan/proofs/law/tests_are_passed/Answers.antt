@@ -5,4 +5,4 @@ use Rattle.query_plan.proofs.TestLemmas.{test_passed}
 use Rattle.query_plan.proofs.law.tests_are_passed.Goals as goal
 
 pub returns : goal.returns
-returns c = λ schema row e t is over k h. test_passed (inputs_of schema) row (c.tables_are_inputs.ensures.rows schema row is) e t over k (ap is_true h)
+returns c = λ schema row e t is over k h. test_passed c.numbers_are_tested.ensures schema.columns (inputs_of schema) row is (c.tables_are_inputs.ensures.rows schema row is) e t over k (ap is_true h)

@@ -13,7 +13,7 @@ pub returns-clause-means : goal.returns-clause-means
 returns-clause-means c = λ schema typed.
     let p = plan_view c.args.plan in
     subst (MeansTheSame schema p) (sym (is_best (plan_view c.in_ok-plan.plan) (map node_view c.in_ok-nodes.nodes.items) c.in_ok-nodes.ensures ∙ ap best_plan c.in_ok-plan.ensures))
-    (rewritten_means (record { faults = c.faults_are_foreseen.ensures; unadmitted = c.unadmitted_blocks_pass_none.ensures; tables = c.tables_are_inputs.ensures }) schema p typed)
+    (rewritten_means (record { faults = c.faults_are_foreseen.ensures; unadmitted = c.unadmitted_blocks_pass_none.ensures; passed = c.tests_are_passed.ensures }) schema p typed)
 
 pub returns-clause-fits : goal.returns-clause-fits
 returns-clause-fits c = λ schema fit.

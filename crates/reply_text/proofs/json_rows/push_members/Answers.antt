@@ -7,7 +7,7 @@ use Rattle.reply_text.specs.Json.{comma_before, json_member, json_members}
 use Rattle.reply_values.specs.Json.{json_value}
 use Rattle.reply_text.proofs.CsvLemmas.{piece_within}
 use Rattle.reply_text.proofs.HeadLemmas.{head_there, member_behind}
-use Rattle.reply_text.proofs.MemberLemmas.{length_zip, member_more, row_width, value_in_row}
+use Rattle.reply_text.proofs.MemberLemmas.{length_zip, member_more, row_width, value_in_lent}
 use Rattle.reply_text.proofs.json_rows.push_members.Goals as goal
 
 pub loop-col-preserved : goal.loop-col-preserved
@@ -24,7 +24,7 @@ loop-col-preserved c =
     let head_is = head_there rows.names c.args.heads.now col c.index-heads-col.result c.requires.heads inside c.index-heads-col.is in
     let laid = rw c.as_slice.ensures.value at c.in_ok-push_member.ensures.bytes in (
       member_more rows.names values col name value _ before (before ++ comma_before col) _ inside (wide ∙ c.width-col-end.ensures.names)
-          (get_or_default rows.names col [] name inside) (value_in_row rows.rows c.args.row col value value c.requires.row c.value.ensures) c.loop-col.invariant.0 refl
+          (get_or_default rows.names col [] name inside) (value_in_lent rows.rows c.args.row col c.lent_row-values.result value value c.requires.row c.lent_row-values.ensures.row c.value.ensures) c.loop-col.invariant.0 refl
           (member_behind col name value before (before ++ head) _ (ap (λ h. before ++ h) head_is) (laid ∙ sym (append_assoc before head (json_value value)))),
       omega (arith, c.loop-col.invariant.1, c.in_ok-push_member.ensures.room),
     )
@@ -48,7 +48,7 @@ returns-in_err-push_member-clause-full c =
     let count = length_zip rows.names values (wide ∙ c.width-col-end.ensures.names) in
     let within = piece_within json_member (zip rows.names values) col c.args.out.now.items before (head ++ json_value value) (omega (arith, inside, count))
     (member_more rows.names values col name value _ before (before ++ comma_before col) _ inside (wide ∙ c.width-col-end.ensures.names)
-    (get_or_default rows.names col [] name inside) (value_in_row rows.rows c.args.row col value value c.requires.row c.value.ensures) c.loop-col.invariant.0 refl
+    (get_or_default rows.names col [] name inside) (value_in_lent rows.rows c.args.row col c.lent_row-values.result value value c.requires.row c.lent_row-values.ensures.row c.value.ensures) c.loop-col.invariant.0 refl
     (member_behind col name value before (before ++ head) _ (ap (λ h. before ++ h) head_is) (sym (append_assoc before head (json_value value))))) in
     let less : vec_capacity c.args.out.now < vec_len c.args.out.now + length (json_members rows.names values) =
     omega (arith, c.loop-col.invariant.1, full, within, c.loop-col.out.ok.0, c.args.out.now.ok.0) in

@@ -17,6 +17,8 @@ returns c = record {
   false_literal = refl;
   day_literal = refl;
   text_literal = refl;
+  date_as_integer = refl;
+  integer_as_decimal = refl;
   no_integer = refl;
   no_truth = refl;
 }

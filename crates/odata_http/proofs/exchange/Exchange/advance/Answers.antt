@@ -1,4 +1,3 @@
-use Rattle.std.proofs.Common.{ℕ, List}
 use Rattle.odata_http.proofs.LazyLemmas.{lays_last, lays_none, may_work}
 use Rattle.odata_http.proofs.exchange.Exchange.advance.Goals as goal
 

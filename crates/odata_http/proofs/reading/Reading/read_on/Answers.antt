@@ -1,8 +1,12 @@
 use Rattle.std.proofs.Common.{◌+◌, Some, None, refl, ap, sym, subst, ◌∙◌}
 use Rattle.query_rows.specs.Rows.{RowsOf}
 use Rattle.odata_http.specs.Reply.{HaveSizesIn}
-use Rattle.odata_http.proofs.ReadingLemmas.{advanced_done, advanced_fault, advanced_more, block_is, may_be_handed, reads_last, reads_more}
+use Rattle.odata_http.proofs.ReadingLemmas.{advanced_done, advanced_fault, advanced_more, block_is, may_be_handed, needs_blocks, reads_last, reads_more}
 use Rattle.odata_http.proofs.reading.Reading.read_on.Goals as goal
+
+pub next_block-block-requires : goal.next_block-block-requires
+next_block-block-requires c =
+    needs_blocks c.args.catalog.now c.tables.result.now c.args.self c.index-tables-self.result c.requires c.tables.ensures c.index-tables-self.is
 
 pub advance-requires : goal.advance-requires
 advance-requires c =
@@ -45,8 +49,8 @@ answer_response-requires c =
     (c.in-Ok-Done.ensures.advances is.plan is.table is.handed is.stands block) in
     subst (λ (rows : RowsOf). HaveSizesIn c.args.self.format c.args.self.sizes rows) (sym (c.finish-rows.ensures on.0 on.3)) (is.counted on.0 on.2)
 
-pub returns-in-Ok-Done-clause-reads : goal.returns-in-Ok-Done-clause-reads
-returns-in-Ok-Done-clause-reads c = λ asked left is.
+pub returns-in_ok-answer-in-Ok-Done-clause-reads : goal.returns-in_ok-answer-in-Ok-Done-clause-reads
+returns-in_ok-answer-in-Ok-Done-clause-reads c = λ asked left is.
     let block = block_is c.args.catalog.now c.tables.result.now c.args.self c.index-tables-self.result c.next_block-block.result asked left is c.tables.ensures
     c.index-tables-self.is c.next_block-block.ensures in
     let on = advanced_done is.plan is.table is.handed _ _ c.in-Ok-Done.field-0-is
@@ -54,8 +58,8 @@ returns-in-Ok-Done-clause-reads c = λ asked left is.
     let rows = c.finish-rows.ensures on.0 on.3 in
     reads_last c.args.catalog.now asked left c.args.self _ (Some c.finish-rows.result) is on.1 (on.2 ∙ ap Some (sym rows)) c.in_ok-answer-in-Ok-Done.ensures.response
 
-pub returns-in-Err-DivisionByZero-clause-reads : goal.returns-in-Err-DivisionByZero-clause-reads
-returns-in-Err-DivisionByZero-clause-reads c = λ asked left is.
+pub returns-in_ok-error_response-in-Err-DivisionByZero-clause-reads : goal.returns-in_ok-error_response-in-Err-DivisionByZero-clause-reads
+returns-in_ok-error_response-in-Err-DivisionByZero-clause-reads c = λ asked left is.
     let block = block_is c.args.catalog.now c.tables.result.now c.args.self c.index-tables-self.result c.next_block-block.result asked left is c.tables.ensures
     c.index-tables-self.is c.next_block-block.ensures in
     let on = advanced_fault is.plan is.table is.handed c.advance.new.self _ c.in-Err-DivisionByZero.field-0-is

@@ -1,5 +1,0 @@
-pub mod Members
-pub mod Column
-pub mod Table
-pub mod Text
-pub mod Laws

@@ -1,0 +1,44 @@
+//! Cells that are read before they are needed. Where an answer has rows in another order than their table, each stands far from the one before it: so the cells
+//! of some rows are read one right after another, and memory brings them together.
+use cell_types::Value;
+use row_columns::Columns;
+
+/// The cells of so many rows are read together.
+const TOGETHER: usize = 8;
+
+/// So many rows came one after another while their block was read, and are near.
+const NEAR: usize = 4096;
+
+/// What is read of cells before so many rows are needed: of rows that are near, nothing.
+pub(crate) fn none_seen(rows: usize) -> Option<u8> {
+    if rows > NEAR { Some(0) } else { None }
+}
+
+/// A byte that a value has, or tells. None is asked for; to tell it the cell is read.
+#[inline(always)]
+fn byte_of(value: &Value<'_>) -> u8 {
+    match value {
+        Value::Null => 0,
+        Value::Int(number) => u8::from(*number > 0),
+        Value::Text(text) => text.as_str().as_bytes().first().copied().unwrap_or(0),
+        Value::Bool(truth) => u8::from(*truth),
+        Value::Date(date) => u8::from(date.year > 0),
+        Value::Decimal(millionths) => u8::from(*millionths > 0),
+    }
+}
+
+/// Reads the cells of rows from a number on, if such are read before they are needed, and the turn of these has come. What it has seen says nothing: it is kept,
+/// so that no cell is passed over.
+pub(crate) fn read_ahead(columns: &Columns, row: usize, seen: Option<u8>) -> Option<u8> {
+    let mut seen = seen?;
+    if row % TOGETHER != 0 {
+        return Some(seen);
+    }
+    let end = columns.len().min(row.saturating_add(TOGETHER));
+    for col in 0..columns.width() {
+        for at in row..end {
+            seen = seen ^ byte_of(&columns.value(at, col));
+        }
+    }
+    Some(seen)
+}

@@ -1,0 +1,48 @@
+//! One row of columns.
+ghost use Rattle.std.specs.Prelude.{◌≡◌, ◌<◌, Some, length, slice_get};
+ghost use Rattle.cell_types.specs.Value.{value_view};
+ghost use Rattle.row_columns.specs.Store.{end_of, stored_row, IsStoredWide};
+
+use crate::store::Store;
+use cell_types::Value;
+use std::marker::Model;
+
+/// A row of [`Columns`](crate::Columns), seen as the list of its values.
+#[derive(Drop)]
+pub struct LentRow<'a> {
+    store: &'a Store,
+    number: usize,
+}
+
+impl<'a> Model for LentRow<'a> {
+    ghost use Rattle.std.specs.Prelude.{List};
+    ghost use Rattle.cell_types.specs.Value.{CellValue};
+    ghost use Rattle.row_columns.specs.Inside.{lent_row_view, IsLent};
+
+    ghost Value = { List CellValue };
+
+    ghost view = { lent_row_view };
+
+    ghost invariant = { IsLent };
+}
+
+impl<'a> LentRow<'a> {
+    /// The row with a number.
+    #[inline(always)]
+    pub(crate) fn of(store: &'a Store, number: usize) -> LentRow<'a>
+        requires wide { IsStoredWide store.now }
+        requires number { number < end_of store.now }
+        ensures { result ≡ stored_row store.now number }
+    {
+        LentRow { store, number }
+    }
+
+    /// The value in a column, counted from 0. It takes no memory.
+    #[inline(always)]
+    pub fn value(&self, col: usize) -> Value<'a>
+        requires { col < length self.now }
+        ensures { slice_get self.now col ≡ Some (value_view result) }
+    {
+        self.store.value(self.number, col)
+    }
+}
