@@ -28,8 +28,9 @@ class Growths:
         return int.from_bytes(self.seen[:8], "little")
 
     def was_refused(self):
-        """Whether the run before met its refusal. It is asked once."""
+        """Whether the run before met its refusal, and whether that was to make a block smaller, which changes nothing. It is asked once."""
         met = os.path.exists(self.note)
+        smaller = met and os.path.getsize(self.note) > 0
         if met:
             os.unlink(self.note)
-        return met
+        return met, smaller

@@ -81,6 +81,8 @@ stands blocks n number bit block is last within set below = record {
   block = block;
   is = is;
   within = within;
+  set = set;
+  before = λ at. refl;
   front = λ at. block_places at (take number blocks) ++ set_places (at + 64 * number) block.ends 0 bit;
   count = λ at.
       length-append (block_places at (take number blocks)) (set_places (at + 64 * number) block.ends 0 bit)

@@ -20,7 +20,7 @@ rise_at start size (end ∷ ends) zero x rise e = let same : end ≡ x = cc in (
 rise_at start size (end ∷ ends) (suc n) x rise e = let more = rise_at (end + 1) size ends n x rise.2 e in (omega (arith, more.0, rise.0), more.1)
 
 -- around the place that was found
-ends_around : (start n number bit : ℕ) (blocks : List Block) (last : Option ℕ) → (s : Stands blocks n number bit)
+pub ends_around : (start n number bit : ℕ) (blocks : List Block) (last : Option ℕ) → (s : Stands blocks n number bit)
     → ends_of start blocks last ≡ s.front start ++ (start + 64 * number + bit) ∷ (set_places (start + 64 * number) s.block.ends (bit + 1) (63 - bit)
     ++ ends_of (start + 64 * number + 64) (drop (number + 1) blocks) last)
 ends_around start n number bit blocks last s =

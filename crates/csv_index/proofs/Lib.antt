@@ -17,3 +17,4 @@ pub mod Tables
 pub mod FindLemmas
 pub mod PartLemmas
 pub mod PartPlaces
+pub mod FirstRows

@@ -1,7 +1,7 @@
--- The rows of a part stand between its places, and the places that a file's first part begins with.
+-- The rows of a part stand between its places, and the places that the first of the parts begins with.
 use Rattle.std.proofs.Common.{◌≡◌, ℕ, zero, suc, ◌+◌, ◌-◌, ◌*◌, ◌<◌, ◌≤◌, List, [], ◌∷◌, ◌++◌, length, length-drop, map, take, drop, min, set, subst, true, Some, add-one, refl, ap, sym, ◌∙◌, arith}
 use Rattle.std.proofs.Math.Nat.{mul-le-mul}
-use Rattle.std.proofs.lemmas.List.{drop-take, length-take, take-map}
+use Rattle.std.proofs.lemmas.List.{drop-drop, drop-take, length-take, take-map}
 use Rattle.std.proofs.lemmas.Option.{slice_get-map, slice_get_within}
 use Rattle.std.specs.Prelude.{IsUtf8}
 use Rattle.std.specs.List.{slice_get, slice_index, slice_range}
@@ -17,7 +17,7 @@ use Rattle.csv_index.specs.Parts.{part_ends, part_fields, part_start, parts_of, 
 use Rattle.csv_index.specs.declared.parts.Parts.TheInside.{Inside}
 use Rattle.csv_index.proofs.Boundaries.{boundary_next, end_boundary, start_boundary}
 use Rattle.csv_index.proofs.CellLemmas.{AllByRecursion-at, cell_fits, cut_at, fields_behind, start_before}
-use Rattle.csv_index.proofs.PartLemmas.{fields_of, place_at, start_past}
+use Rattle.csv_index.proofs.PartLemmas.{drop-rows_cut, fields_of, place_at, start_past}
 
 -- ---- the rows of the part
 
@@ -55,7 +55,7 @@ cut_front : (start : ℕ) (ends more bytes : List ℕ) → take (length ends) (c
 cut_front start [] more bytes = refl
 cut_front start (end ∷ ends) more bytes = ap (λ rest. slice_range bytes start end ∷ rest) (cut_front (end + 1) ends more bytes)
 
-take_front : {X : Type 0} (n m : ℕ) (xs : List X) → take n (take (n + m) xs) ≡ take n xs
+pub take_front : {X : Type 0} (n m : ℕ) (xs : List X) → take n (take (n + m) xs) ≡ take n xs
 take_front zero m xs = refl
 take_front (suc n) m [] =
     let more : suc n + m ≡ suc (n + m) = omega arith in
@@ -65,7 +65,7 @@ take_front (suc n) m (x ∷ xs) =
     ap (λ k. take (suc n) (take k (x ∷ xs))) more ∙ ap (λ rest. x ∷ rest) (take_front n m xs)
 
 -- rows are cut from so many fields
-rows_cut_front : (n width : ℕ) (fields : List RawField) → rows_cut n width (take (n * width) fields) ≡ rows_cut n width fields
+pub rows_cut_front : (n width : ℕ) (fields : List RawField) → rows_cut n width (take (n * width) fields) ≡ rows_cut n width fields
 rows_cut_front zero width fields = refl
 rows_cut_front (suc n) width fields =
     let more : suc n * width ≡ width + n * width = omega arith in
@@ -95,14 +95,14 @@ part_is p parts is are =
 -- ---- the first rows
 
 -- there are fewer fields than bytes
-pub part_room : (places : Places) (bytes : List ℕ) (most more rows width : ℕ) → FitsFile places bytes → rows ≡ places.rows → width ≡ places.width
-    → more ≡ min rows most → more * width ≤ length bytes
-part_room places bytes most more rows width fits r w is =
+pub part_room : (places : Places) (bytes : List ℕ) (most more left width : ℕ) → FitsFile places bytes → left ≤ places.rows → width ≡ places.width
+    → more ≡ min left most → more * width ≤ length bytes
+part_room places bytes most more left width fits r w is =
     let f = cell_fits places bytes places.rows fits (omega arith) in
-    let cells : rows * width + width ≤ length bytes + 1 = rw (r, w) (omega (arith, f.1, f.2)) in
-    let fewer : more ≤ rows = omega arith in
+    let cells : places.rows * width + width ≤ length bytes + 1 = rw w (omega (arith, f.1, f.2)) in
+    let fewer : more ≤ places.rows = omega arith in
     let same : width ≤ width = omega arith in
-    let less : more * width ≤ rows * width = mul-le-mul fewer same in
+    let less : more * width ≤ places.rows * width = mul-le-mul fewer same in
     omega (arith, cells, less, fits.width, w)
 
 pub first_left : (items ends bytes : List ℕ) (width end : ℕ) → 0 < length items → AreLeft (end + 1) ends bytes
@@ -115,39 +115,54 @@ first_fields : (items ends bytes : List ℕ) (width end : ℕ) → 0 < length it
 first_fields [] ends bytes width end some = absurd (omega arith)
 first_fields (item ∷ items) ends bytes width end some = let none : 0 * width ≡ 0 = omega arith in rw none refl
 
--- the places after the header's fields
-pub record AreRowEnds (places : Places) (bytes : List ℕ) (rows width end : ℕ) (ends : List ℕ) : Type 0 where
-  pub left : AreLeft (end + 1) ends bytes
-  pub fields : map raw_between (cut (end + 1) ends bytes) ≡ drop places.width (raws places bytes)
-  pub count : length ends ≡ rows * width
+-- the places after the fields of the rows before one
+pub record AreRowEnds (places : Places) (bytes : List ℕ) (row left width end : ℕ) (ends : List ℕ) : Type 0 where
+  pub left_are : AreLeft (end + 1) ends bytes
+  pub fields : map raw_between (cut (end + 1) ends bytes) ≡ drop ((row + 1) * places.width) (raws places bytes)
+  pub count : length ends ≡ left * width
 
-pub row_ends : (places : Places) (bytes : List ℕ) (rows width end : ℕ) (ends : List ℕ) → IsUtf8 bytes → FitsFile places bytes → rows ≡ places.rows → width ≡ places.width
-    → slice_get places.ends (width - 1) ≡ Some end → ends ≡ drop (width - 1 + 1) places.ends → AreRowEnds places bytes rows width end ends
-row_ends places bytes rows width end ends utf8 fits r w e is =
-    let number : (0 + 1) * places.width ≡ width - 1 + 1 = omega (arith, fits.width, w) in
-    let one : (0 + 1) * places.width ≡ places.width = omega arith in
-    let b = fields_behind places bytes 0 (width - 1) end ends fits number e is in
-    let size : length ends ≡ length places.ends - (width - 1 + 1) = ap length is ∙ length-drop (width - 1 + 1) places.ends in
-    let cells : places.rows * places.width ≡ rows * width = ap (λ k. k * places.width) (sym r) ∙ ap (λ k. rows * k) (sym w) in record {
-      left = record {
+pub row_ends : (places : Places) (bytes : List ℕ) (row before left width end : ℕ) (ends : List ℕ) → IsUtf8 bytes → FitsFile places bytes → row ≤ places.rows
+    → left ≡ places.rows - row → width ≡ places.width → before ≡ (row + 1) * width - 1
+    → slice_get places.ends before ≡ Some end → ends ≡ drop (before + 1) places.ends → AreRowEnds places bytes row left width end ends
+row_ends places bytes row before left width end ends utf8 fits within r w b_is e is =
+    let f = cell_fits places bytes row fits within in
+    let wide : (row + 1) * places.width ≡ (row + 1) * width = ap (λ k. (row + 1) * k) (sym w) in
+    let number : (row + 1) * places.width ≡ before + 1 = omega (arith, f.0, wide, b_is) in
+    let b = fields_behind places bytes row before end ends fits number e is in
+    let size : length ends ≡ length places.ends - (before + 1) = ap length is ∙ length-drop (before + 1) places.ends in
+    let whole : places.rows + 1 ≡ row + 1 + left = omega arith in
+    let cells : (places.rows + 1) * places.width ≡ (row + 1) * places.width + left * places.width = ap (λ k. k * places.width) whole ∙ omega arith in
+    let same : left * places.width ≡ left * width = ap (λ k. left * k) (sym w) in record {
+      left_are = record {
         rise = b.rise;
         text = b.text;
         utf8 = utf8;
-        boundary = λ some. boundary_next places.start places.ends bytes (width - 1) end utf8 fits.rise fits.ascii e
-            (subst (λ l. 0 < length l) (is ∙ ap (λ k. drop k places.ends) (add-one (width - 1))) some);
+        boundary = λ some. boundary_next places.start places.ends bytes before end utf8 fits.rise fits.ascii e
+            (subst (λ l. 0 < length l) (is ∙ ap (λ k. drop k places.ends) (add-one before)) some);
         ascii = b.ascii;
       };
-      fields = b.are ∙ ap (λ k. drop k (raws places bytes)) one;
-      count = omega (arith, size, fits.count, number, one, cells);
+      fields = b.are;
+      count = omega (arith, size, fits.count, number, cells, same);
     }
 
 abbrev pub made_parts : List ℕ → ℕ → ℕ → List RawField → PartsOf
 made_parts bytes rows width fields = record { bytes = bytes; width = width; part = []; left = rows_cut rows width fields }
 
-pub parts_are : (places : Places) (bytes items ends : List ℕ) (rows width end : ℕ) → 0 < length items → rows ≡ places.rows → width ≡ places.width
-    → AreRowEnds places bytes rows width end ends
-    → made_parts bytes rows width (drop (0 * width) (fields_of bytes (set items 0 end) (0 * width) ends)) ≡ parts_of bytes places.width (table_in places bytes).rows
-parts_are places bytes items ends rows width end some r w are =
-    ap (made_parts bytes rows width) (first_fields items ends bytes width end some ∙ are.fields)
-    ∙ ap (λ n. made_parts bytes n width (drop places.width (raws places bytes))) r
-    ∙ ap (λ k. made_parts bytes places.rows k (drop places.width (raws places bytes))) w
+-- the rows from one on are cut from the fields after those before it
+rows_past : (row rows width : ℕ) (fields : List RawField) → row ≤ rows
+    → drop row (rows_cut rows width (drop width fields)) ≡ rows_cut (rows - row) width (drop ((row + 1) * width) fields)
+rows_past row rows width fields within =
+    let least : min rows row ≡ row = omega arith in
+    let past : width + row * width ≡ (row + 1) * width = omega arith in
+    drop-rows_cut row rows width (drop width fields)
+    ∙ ap (λ n. rows_cut (rows - n) width (drop (n * width) (drop width fields))) least
+    ∙ ap (rows_cut (rows - row) width) (drop-drop (row * width) width fields ∙ ap (λ n. drop n fields) past)
+
+pub parts_are : (places : Places) (bytes items ends : List ℕ) (row left width end : ℕ) → 0 < length items → row ≤ places.rows → left ≡ places.rows - row
+    → width ≡ places.width → AreRowEnds places bytes row left width end ends
+    → made_parts bytes left width (drop (0 * width) (fields_of bytes (set items 0 end) (0 * width) ends)) ≡ parts_of bytes places.width (drop row (table_in places bytes).rows)
+parts_are places bytes items ends row left width end some within r w are =
+    ap (made_parts bytes left width) (first_fields items ends bytes width end some ∙ are.fields)
+    ∙ ap (λ n. made_parts bytes n width (drop ((row + 1) * places.width) (raws places bytes))) r
+    ∙ ap (λ k. made_parts bytes (places.rows - row) k (drop ((row + 1) * places.width) (raws places bytes))) w
+    ∙ ap (λ rows. parts_of bytes places.width rows) (sym (rows_past row places.rows places.width (raws places bytes) within))

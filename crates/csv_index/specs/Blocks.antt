@@ -28,7 +28,9 @@ pub record Stands (blocks : List Block) (n number bit : ℕ) : Type 0 where
   pub block : Block
   pub is : slice_get blocks number ≡ Some block
   pub within : bit < 64
+  pub set : bit_at block.ends bit ≡ 1
   pub front : ℕ → List ℕ
+  pub before : (at : ℕ) → front at ≡ block_places at (take number blocks) ++ set_places (at + 64 * number) block.ends 0 bit
   pub count : (at : ℕ) → length (front at) ≡ n
   pub split : (at : ℕ) → block_places at blocks
       ≡ front at ++ (at + 64 * number + bit) ∷ (set_places (at + 64 * number) block.ends (bit + 1) (63 - bit)

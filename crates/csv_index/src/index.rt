@@ -1,7 +1,8 @@
 //! The places of a file's fields.
-ghost use Rattle.std.specs.Prelude.{◌≡◌, ◌≤◌, ◌<◌, ◌+◌, Some, IfOk, IfErr, IsUtf8, slice_get, length, drop};
+ghost use Rattle.std.specs.Prelude.{◌≡◌, ◌≤◌, ◌<◌, ◌+◌, ◌*◌, Some, IfOk, IfErr, IsUtf8, slice_get, length, drop};
+ghost use Rattle.std.specs.Str.{IsCharBoundary};
 ghost use Rattle.raw_fields.specs.Raw.{raw_view};
-ghost use Rattle.csv_index.specs.Index.{FitsFile, IsIndexOf, table_in, row_fields, raws, start_at};
+ghost use Rattle.csv_index.specs.Index.{FitsFile, IsIndexOf, first_bytes, first_places, table_in, row_fields, raws, start_at};
 ghost use Rattle.raw_fields.specs.Rows.{cell_at};
 ghost use Rattle.csv_index.specs.Fault.{IsTextFault};
 
@@ -147,27 +148,61 @@ impl Index {
         }
     }
 
-    /// The fields of the records behind the header, in parts. The bytes are those of `build`.
+    /// The fields of the records behind the header from a row on, in parts. The bytes are those of `build`.
     pub(crate) fn parts<'i>(
         &'i self,
         alloc: Global,
         bytes: &'i str,
+        row: usize,
     ) -> Result<Parts<'i>, AllocError>
-        requires { FitsFile self.now bytes.now }
+        requires bytes { FitsFile self.now bytes.now }
+        requires row { row ≤ self.now.rows }
         ensures { IfOk result (λ parts. parts
-            ≡ parts_of bytes.now self.now.width (table_in self.now bytes.now).rows) }
+            ≡ parts_of bytes.now self.now.width (drop row (table_in self.now bytes.now).rows)) }
     {
-        let header = self.width - 1;
-        let mut places = Vec::from_elem(alloc, 0, self.rows.min(PART_ROWS) * self.width + 1)?;
-        places[0] = self.end_of(header);
+        let before = (row + 1) * self.width - 1;
+        let left = self.rows - row;
+        let mut places = Vec::from_elem(alloc, 0, left.min(PART_ROWS) * self.width + 1)?;
+        places[0] = self.end_of(before);
         Ok(Parts {
             text: bytes,
             width: self.width,
             rows: 0,
-            left: self.rows,
+            left,
             places,
-            ends: self.ends_behind(header),
+            ends: self.ends_behind(before),
         })
+    }
+
+    /// The header and so many records behind it, as they stand in the bytes, which are those of `build`.
+    pub(crate) fn front<'a>(&self, bytes: &'a str, rows: usize) -> &'a str
+        requires bytes { FitsFile self.now bytes.now }
+        requires rows { rows < self.now.rows }
+        ensures front { result.now ≡ first_bytes rows self.now bytes.now }
+        ensures boundary { IsCharBoundary bytes.now (length result.now) }
+    {
+        let width = self.width;
+        &bytes[..self.start_of((rows + 1) * width)]
+    }
+
+    /// Keeps the places of the header and of so many records behind it. Those of the others are let go, and their memory with them.
+    pub(crate) fn truncate(&mut self, rows: usize)
+        requires width { 0 < self.old.width }
+        requires rows { (rows + 1) * self.old.width < length self.old.ends }
+        ensures { self.new ≡ first_places rows self.old }
+    {
+        let Some((number, bit)) = find(&self.blocks, (rows + 1) * self.width - 1) else {
+            unreachable!();
+        };
+        let block = self.blocks[number];
+        self.blocks.truncate(number);
+        self.blocks.push_reserved(Block {
+            ends: block.ends & (u64::MAX >> (63 - bit)),
+            before: block.before,
+        });
+        self.blocks.shrink_to_fit();
+        self.last = None;
+        self.rows = rows;
     }
 
     /// The field of that number, the header's first and then record after record.

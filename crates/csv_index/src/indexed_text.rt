@@ -1,5 +1,5 @@
 //! The text of a file with its index.
-ghost use Rattle.std.specs.Prelude.{◌≡◌, ◌≤◌, ◌<◌, [], Some, IfOk, IfErr, slice_get, length, drop};
+ghost use Rattle.std.specs.Prelude.{◌≡◌, ◌≤◌, ◌<◌, [], Some, IfOk, IfErr, slice_get, length, take, drop};
 ghost use Rattle.std.specs.List.{AllByRecursion};
 ghost use Rattle.raw_fields.specs.Raw.{raw_view};
 ghost use Rattle.csv_index.specs.Index.{IsRawTable, row_fields};
@@ -85,12 +85,26 @@ impl IndexedText {
         self.index.fields(self.text.as_str(), row)
     }
 
-    /// The rows by parts, all of which are left.
-    pub fn parts(&self, alloc: Global) -> Result<Parts<'_>, AllocError>
+    /// The rows from one on by parts, all of which are left.
+    pub fn parts(&self, alloc: Global, row: usize) -> Result<Parts<'_>, AllocError>
+        requires { row ≤ length self.now.rows }
         ensures width { IfOk result (λ parts. parts.width ≡ length self.now.header) }
         ensures part { IfOk result (λ parts. parts.part ≡ []) }
-        ensures left { IfOk result (λ parts. parts.left ≡ self.now.rows) }
+        ensures left { IfOk result (λ parts. parts.left ≡ drop row self.now.rows) }
     {
-        self.index.parts(alloc, self.text.as_str())
+        self.index.parts(alloc, self.text.as_str(), row)
+    }
+
+    /// Keeps so many rows. The text of the others and the places of their fields are let go, and their memory with them.
+    pub fn truncate(&mut self, rows: usize)
+        ensures { self.new ≡ record self.old { rows = take rows self.old.rows } }
+    {
+        if rows >= self.index.rows() {
+            return;
+        }
+        let end = self.index.front(self.text.as_str(), rows).len();
+        self.text.truncate(end);
+        self.text.shrink_to_fit();
+        self.index.truncate(rows);
     }
 }

@@ -99,6 +99,17 @@ impl Run {
         Ok(Some(made.into_rows(alloc)?))
     }
 
+    /// Where no step is left, the rows that the sink keeps are those of the answer, in the order of the table: from now on they take a bit
+    /// each, where enough of it are kept.
+    fn compact(&mut self, alloc: Global) -> Result<(), AllocError>
+        ensures { OnOk result (self.new ≡ self.old) }
+    {
+        if !self.steps.is_empty() {
+            return Ok(());
+        }
+        self.sink.compact(alloc)
+    }
+
     /// Takes in the rows of the next block: those that pass the conditions go to the sink, until a condition divides by zero.
     #[tactic(auto, using(crate::proofs::RunLemmas::may_push, crate::proofs::RunLemmas::passed_over))]
     fn take_in(&mut self, alloc: Global, block: &Block<'_>) -> Result<(), AllocError>
@@ -117,6 +128,7 @@ impl Run {
             return Ok(());
         }
         self.sink.push(alloc, block, found, &mut self.lanes)?;
+        self.compact(alloc)?;
         Ok(())
     }
 

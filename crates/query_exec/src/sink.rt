@@ -98,6 +98,17 @@ impl Sink {
         }
     }
 
+    /// From now on the rows that it keeps take a bit each, where enough of their table are kept and its step leaves them as they came.
+    pub(crate) fn compact(&mut self, alloc: Global) -> Result<(), AllocError>
+        ensures { OnOk result (self.new ≡ self.old) }
+    {
+        match self {
+            Sink::Collect(kept) => kept.compact(alloc),
+            Sink::Slice(sink) => sink.kept.compact(alloc),
+            Sink::TopN(_) | Sink::Aggregate(_) => Ok(()),
+        }
+    }
+
     /// The rows that it keeps, where these are what its step makes of the rows that it took in.
     pub(crate) fn front(&self) -> Option<FirstRows<'_>>
         ensures { LendsKept self.now result }

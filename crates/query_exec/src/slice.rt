@@ -58,7 +58,6 @@ impl SliceSink {
         self.count += found.count as u64;
         let numbers = piece(found.numbers, skip, None);
         self.kept.take(alloc, block, numbers.as_slice())?;
-        self.kept.compact(alloc)?;
         Ok(())
     }
 

@@ -14,7 +14,7 @@ mod value;
 pub use part::Part;
 pub use pieces::{between, piece};
 pub use raw::Raw;
-pub use value::{cell_value, field_value};
+pub use value::cell_value;
 
 /// What stands as a field does is that field.
 #[inline(always)]

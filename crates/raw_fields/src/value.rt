@@ -5,11 +5,11 @@ ghost use Rattle.cell_types.specs.Cell.{NeedsMemory};
 ghost use Rattle.cell_types.specs.Column.{column_view};
 ghost use Rattle.csv_grammar.specs.Raw.{raw_content};
 ghost use Rattle.raw_fields.specs.Raw.{raw_view};
-ghost use Rattle.raw_fields.specs.Values.{value_in, value_or_null, HasValue};
+ghost use Rattle.raw_fields.specs.Values.{value_in};
 
 use crate::raw::Raw;
 use cell_types::{CellFault, Column, Value, read_text};
-use std::alloc::{AllocError, Global};
+use std::alloc::Global;
 
 /// The value of a field in a column.
 pub fn cell_value<'a>(alloc: Global, column: &Column, raw: Raw<'a>) -> Result<Value<'a>, CellFault>
@@ -26,24 +26,5 @@ pub fn cell_value<'a>(alloc: Global, column: &Column, raw: Raw<'a>) -> Result<Va
     match raw.text(alloc) {
         Ok(text) => read_text(alloc, column, text),
         Err(_) => Err(CellFault::NoMemory),
-    }
-}
-
-/// The value of a field in a column, which has one there.
-pub fn field_value<'a>(
-    alloc: Global,
-    column: &Column,
-    raw: Raw<'a>,
-) -> Result<Value<'a>, AllocError>
-    requires { HasValue (column_view column.now) (raw_view raw) }
-    ensures { IfOk result (λ value.
-        value_view value ≡ value_or_null (value_in (column_view column.now, raw_view raw.entry))) }
-{
-    match cell_value(alloc, column, raw) {
-        Ok(value) => Ok(value),
-        Err(fault) => match fault {
-            CellFault::NoMemory => Err(AllocError),
-            _ => unreachable!(),
-        },
     }
 }

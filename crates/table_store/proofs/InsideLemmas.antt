@@ -1,8 +1,7 @@
 -- The values of the rows of a file.
-use Rattle.std.proofs.Common.{◌≡◌, ℕ, ◌<◌, ◌≤◌, List, [], ◌∷◌, length, get_or, ◌∙◌, arith}
+use Rattle.std.proofs.Common.{◌≡◌, ◌≤◌, List, [], ◌∷◌, length, ◌∙◌, arith}
 use Rattle.std.specs.List.{zip, AllByRecursion}
 use Rattle.std.proofs.lemmas.List.{length-map}
-use Rattle.std.proofs.lemmas.List.Elements.{All-from_recursion}
 use Rattle.std.proofs.lemmas.Slice.Zip.{length-zip}
 use Rattle.csv_grammar.specs.Raw.{RawField}
 use Rattle.cell_types.specs.Column.{ColumnOf}
@@ -22,8 +21,3 @@ pub rows-wide : (columns : List ColumnOf) (rows : List (List RawField)) → AllB
     → AllByRecursion (λ values. length values ≡ length columns) (rows_in columns rows)
 rows-wide columns [] wide = tt
 rows-wide columns (fields ∷ rows) wide = (length-values_in columns fields (omega (arith, wide.0)), rows-wide columns rows wide.1)
-
--- the row of a number, among such rows
-pub row-wide : (columns : List ColumnOf) (rows : List (List RawField)) (row : ℕ) → AllByRecursion (λ fields. length fields ≡ length columns) rows → row < length rows
-    → length (get_or rows row []) ≡ length columns
-row-wide columns rows row wide h = All-from_recursion (λ fields. length fields ≡ length columns) rows wide row [] h

@@ -17,3 +17,4 @@ pub mod KeysOfTables
 pub mod FirstMismatch
 pub mod FirstBadCell
 pub mod SummaryLemmas
+pub mod StretchLemmas

@@ -1,5 +1,5 @@
 -- What the steps of reading a file show of it, by its fields as they stand.
-use Rattle.std.proofs.Common.{◌≡◌, ℕ, List, [], ◌∷◌, length, map, Option, Some, None, IfOk, IfSome, option_map, Result, Ok, Err, refl, ap, sym, subst, ◌∙◌, ◌⊎◌, inl, inr}
+use Rattle.std.proofs.Common.{◌≡◌, ℕ, List, [], ◌∷◌, length, map, Option, Some, None, IfSome, option_map, Result, Ok, Err, refl, ap, sym, subst, ◌∙◌, ◌⊎◌, inl, inr}
 use Rattle.std.specs.List.{AllByRecursion}
 use Rattle.std.specs.Result.{result_err}
 use Rattle.std.proofs.lemmas.List.{length-map}
@@ -10,19 +10,14 @@ use Rattle.csv_index.specs.Index.{IsRawTable}
 use Rattle.cell_types.specs.declared.fault.CellFault.{CellFault}
 use Rattle.cell_types.specs.declared.fault.CellFault.TheVariants.{NoMemory}
 use Rattle.cell_types.specs.Column.{ColumnOf}
-use Rattle.cell_types.specs.Value.{CellValue}
 use Rattle.csvw_meta.specs.Schema.{SchemaOf}
 use Rattle.row_keys.specs.declared.keys.KeyFault.{KeyFault}
 use Rattle.row_keys.specs.declared.keys.KeyFault.TheVariants.{Null, Twice}
-use Rattle.row_keys.specs.declared.keys.KeyReader.{KeyReader}
-use Rattle.table_store.specs.declared.loading.TableFault.{TableFault}
-use Rattle.table_store.specs.declared.loading.TableFault.TheVariants as refused
 use Rattle.table_store.specs.Table.{rows_from, HasCells, HasOtherHeader, HasBadCell}
 use Rattle.table_store.specs.Fault.{TableCause, file_missing, file_too_large, bad_text, bad_header, bad_cell, key_null, key_twice, cell_cause}
 use Rattle.raw_fields.specs.Values.{rows_in, FitsColumns}
-use Rattle.row_keys.specs.Keys.{AreKeysOf, HasKeyFault, HasRead}
-use Rattle.typed_columns.specs.TypedColumn.{AreTyped, ColumnCells}
-use Rattle.table_store.specs.Loading.{mismatch_of, key_cause, keys_at, bad_cell_of, table_at, table_cause, ArePartsOf, IsTableAt, IsTableOf, HasRowsCause, HasFileCause, LacksKeys}
+use Rattle.row_keys.specs.Keys.{HasKeyFault}
+use Rattle.table_store.specs.Loading.{mismatch_of, key_cause, keys_at, bad_cell_of, table_at, ArePartsOf, IsTableAt, IsTableOf, HasRowsCause, HasFileCause}
 use Rattle.table_store.specs.declared.loading.TableParts.{TableParts}
 use Rattle.table_store.specs.Catalog.{HasTable}
 use Rattle.table_store.specs.Inside.{table_of}
@@ -93,26 +88,6 @@ pub key_fault-cause : (schema : SchemaOf) (rows : List (List RawField)) (fault :
 key_fault-cause schema rows (Null row) none has = (none, has)
 key_fault-cause schema rows (Twice row) none has = (none, has.0, has.1)
 
--- why the keys that were read are none, or want of memory
-pub lacks_keys-cause : (schema : SchemaOf) (rows : List (List RawField)) (reader : KeyReader) (fault : TableFault) → bad_cell_of schema rows ≡ None
-    → HasRead reader (keys_at schema rows) → LacksKeys reader fault → IfSome (table_cause fault) (HasRowsCause schema rows)
-lacks_keys-cause schema rows reader (refused.Key fault) none read lacks = key_fault-cause schema rows fault none (lacks (keys_at schema rows) read)
-lacks_keys-cause schema rows reader refused.NoMemory none read lacks = tt
-lacks_keys-cause schema rows reader refused.FileMissing none read lacks = absurd lacks
-lacks_keys-cause schema rows reader refused.FileTooLarge none read lacks = absurd lacks
-lacks_keys-cause schema rows reader (refused.Text fault) none read lacks = absurd lacks
-lacks_keys-cause schema rows reader (refused.Header col) none read lacks = absurd lacks
-lacks_keys-cause schema rows reader (refused.Cell bad) none read lacks = absurd lacks
-
-pub lacks_keys-memory : (reader : KeyReader) (fault : TableFault) → LacksKeys reader fault → table_cause fault ≡ None → fault ≡ refused.NoMemory
-lacks_keys-memory reader (refused.Key fault) lacks e = cc
-lacks_keys-memory reader refused.NoMemory lacks e = refl
-lacks_keys-memory reader refused.FileMissing lacks e = absurd lacks
-lacks_keys-memory reader refused.FileTooLarge lacks e = absurd lacks
-lacks_keys-memory reader (refused.Text fault) lacks e = absurd lacks
-lacks_keys-memory reader (refused.Header col) lacks e = absurd lacks
-lacks_keys-memory reader (refused.Cell bad) lacks e = absurd lacks
-
 -- where each cell has a value, these are the cells
 pub table_cells : (schema : SchemaOf) (bytes : List ℕ) (file : RawTable) → IsTableAt schema.columns bytes file
     → HasCells schema bytes (table_at schema file)
@@ -146,17 +121,6 @@ rows_cause schema bytes file (key_twice row) is e has = record {
 }
 
 -- ---- the parts that were read, and their table
-pub are_parts : (schema : SchemaOf) (rows : List (List RawField)) (typed : List ColumnCells) (reader : KeyReader) (count : ℕ) (found : Result TableParts TableFault)
-    → AreTyped schema.columns (rows_in schema.columns rows) typed → HasRead reader (keys_at schema rows) → count ≡ length rows
-    → IfOk found (λ parts. parts.rows ≡ count) → IfOk found (λ parts. parts.columns.items ≡ typed)
-    → IfOk found (λ parts. (of : List (List CellValue)) → HasRead reader of → AreKeysOf parts.keys of) → IfOk found (ArePartsOf schema rows)
-are_parts schema rows typed reader count (Ok parts) columns read size n items keys = record {
-  count = n ∙ size;
-  columns = subst (AreTyped schema.columns (rows_in schema.columns rows)) (sym items) columns;
-  keys = keys (keys_at schema rows) read;
-}
-are_parts schema rows typed reader count (Err e) columns read size n items keys = tt
-
 pub parts_table : (schema : SchemaOf) (bytes : List ℕ) (file : RawTable) (parts : TableParts) → IsTableAt schema.columns bytes file → ArePartsOf schema file.rows parts
     → table_of schema parts.rows parts.columns.items ≡ table_at schema file
 parts_table schema bytes file parts at of =

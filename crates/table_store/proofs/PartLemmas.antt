@@ -1,7 +1,7 @@
 -- The rows of a part, by its columns and row by row.
-use Rattle.std.proofs.Common.{◌≡◌, ◌<◌, ◌≤◌, inl, inr, ℕ, zero, suc, ◌+◌, ◌-◌, List, [], ◌∷◌, ◌++◌, append_assoc, length, length-drop, map, drop, take, take-append-drop, min, get_or, Some, None, IfSome, Result, Ok, Err, slice_get, set, refl, ap, sym, subst, ◌∙◌, arith}
+use Rattle.std.proofs.Common.{◌≡◌, ◌<◌, ◌≤◌, inl, inr, ℕ, zero, suc, ◌+◌, ◌-◌, List, [], ◌∷◌, ◌++◌, length, length-drop, map, drop, take, take-append-drop, min, get_or, Some, None, IfSome, Result, Ok, Err, slice_get, set, refl, ap, sym, subst, ◌∙◌, arith}
 use Rattle.std.proofs.lemmas.Bool.{cases_order}
-use Rattle.std.proofs.lemmas.List.{drop_at, drop-drop, get_or-set_other, get_or-set_same, length-map, length-take, map-append, map_push, take_at, take_more}
+use Rattle.std.proofs.lemmas.List.{drop_at, drop-drop, get_or-set_other, get_or-set_same, length-map, length-take, map-append, take_at}
 use Rattle.std.proofs.lemmas.Option.{same_Some, slice_get-get_or}
 use Rattle.std.specs.Result.{result_err}
 use Rattle.block_summary.specs.Ranges.{column_of}
@@ -159,10 +159,6 @@ cell_field [] row col field e = absurd (cc)
 cell_field (fields ∷ rows) zero col field e = e
 cell_field (fields ∷ rows) (suc row) col field e = cell_field rows row col field e
 
-pub has_value_at : (columns : List ColumnOf) (rows : List (List RawField)) (row col : ℕ) (column : ColumnOf) (field : RawField) → AllColumnsHaveValues columns rows
-    → slice_get columns col ≡ Some column → cell_at rows row col ≡ Some field → HasValue column field
-has_value_at columns rows row col column field has at e = value_at_row column col row rows field (has col column at) e
-
 -- past a row in which nothing is wrong
 pub wrong_of-past : (first row : ℕ) (columns : List ColumnOf) (rows : List (List RawField)) → row < length rows
     → wrong_in_row columns (get_or rows row []) ≡ None → wrong_of (first + row) columns (drop row rows) ≡ wrong_of (first + (row + 1)) columns (drop (row + 1) rows)
@@ -242,17 +238,9 @@ rows_more columns (fields ∷ rows) part left (suc first) e within =
 -- ---- the keys of the rows of a part
 
 -- the last row counts by its key alone
-row_keys-last : (places : List ℕ) (rows : List (List CellValue)) (values row : List CellValue) → row_key places values ≡ row_key places row
+pub row_keys-last : (places : List ℕ) (rows : List (List CellValue)) (values row : List CellValue) → row_key places values ≡ row_key places row
     → row_keys places (rows ++ values ∷ []) ≡ row_keys places (rows ++ row ∷ [])
 row_keys-last [] rows values row same = refl
 row_keys-last (place ∷ places) rows values row same =
     map-append (row_key (place ∷ places)) rows (values ∷ []) ∙ ap (λ key. map (row_key (place ∷ places)) rows ++ key ∷ []) same
     ∙ sym (map-append (row_key (place ∷ places)) rows (row ∷ []))
-
-pub keys_more : (places : List ℕ) (columns : List ColumnOf) (rows : List (List CellValue)) (part : List (List RawField)) (row : ℕ) (values : List CellValue) → row < length part
-    → row_key places values ≡ row_key places (values_in columns (get_or part row []))
-    → row_keys places ((rows ++ rows_in columns (take row part)) ++ values ∷ []) ≡ row_keys places (rows ++ rows_in columns (take (row + 1) part))
-keys_more places columns rows part row values within same =
-    row_keys-last places (rows ++ rows_in columns (take row part)) values (values_in columns (get_or part row [])) same
-    ∙ ap (row_keys places) (append_assoc rows (rows_in columns (take row part)) (values_in columns (get_or part row []) ∷ [])
-    ∙ ap (λ rs. rows ++ rs) (sym (ap (rows_in columns) (take_more part row [] within) ∙ map_push (values_in columns) (take row part) (get_or part row []))))

@@ -2,8 +2,6 @@
 use Rattle.std.proofs.Common.{◌≡◌, map, ℕ, ◌+◌, ◌<◌, List, [], ◌∷◌, ◌++◌, length, take, drop, get_or, Some, slice_get, ap, sym, ◌∙◌}
 use Rattle.std.proofs.lemmas.List.{drop_more, map_push, take_more}
 use Rattle.std.proofs.lemmas.Option.{slice_get-get_or, get_or_from_slice_get, slice_get_within}
-use Rattle.csv_grammar.specs.Raw.{RawField}
-use Rattle.csv_index.specs.Index.{row_fields}
 
 -- what stands at a place stands first in the rest from there
 pub drop-from_slice_get : {X : Type 0} (xs : List X) (i : ℕ) (x : X) → slice_get xs i ≡ Some x → drop i xs ≡ x ∷ drop (i + 1) xs
@@ -14,11 +12,6 @@ drop-from_slice_get xs i x e =
 -- and a read gives it
 pub slice_get-from_read : {X : Type 0} (xs : List X) (i : ℕ) (x : X) → i < length xs → x ≡ get_or xs i x → slice_get xs i ≡ Some x
 slice_get-from_read xs i x within e = slice_get-get_or xs i x within ∙ ap (λ y. Some y) (sym e)
-
--- the fields of rows from a row on are those of that row, and those behind it
-pub row_fields-at : (rows : List (List RawField)) (row : ℕ) → row < length rows
-    → row_fields (drop row rows) ≡ get_or rows row [] ++ row_fields (drop (row + 1) rows)
-row_fields-at rows row h = ap row_fields (drop-from_slice_get rows row (get_or rows row []) (slice_get-get_or rows row [] h))
 
 -- one more of a list that is read in order
 pub read_more : {X Y : Type 0} (f : X → Y) (ys : List Y) (i : ℕ) (xs : List X) (x : X) → slice_get ys i ≡ Some (f x)

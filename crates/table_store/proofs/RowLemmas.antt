@@ -1,5 +1,5 @@
 -- The values of rows of fields, one cell after another.
-use Rattle.std.proofs.Common.{◌≡◌, ℕ, zero, suc, ◌+◌, ◌≤◌, List, [], ◌∷◌, length, drop, map, Option, Some, None, Result, Ok, Err, slice_get, refl, ap, ◌∙◌}
+use Rattle.std.proofs.Common.{◌≡◌, ℕ, ◌+◌, ◌≤◌, List, [], ◌∷◌, length, drop, map, Option, Some, None, Result, Ok, Err, slice_get, refl, ap, ◌∙◌}
 use Rattle.std.proofs.lemmas.List.{drop_all}
 use Rattle.std.specs.Result.{result_err}
 use Rattle.csv_grammar.specs.Raw.{RawField, raw_content, field_of}
@@ -11,18 +11,6 @@ use Rattle.cell_types.specs.declared.column.Column.{Column}
 use Rattle.table_store.specs.Table.{values_from, value_then, rows_from, row_then}
 use Rattle.raw_fields.specs.Values.{value_or_null, values_in, HaveValues, AllHaveValues}
 use Rattle.table_store.proofs.PlaceLemmas.{drop-from_slice_get}
-
--- the value of a column's field
-pub slice_get-values_in : (columns : List ColumnOf) (fields : List RawField) (col : ℕ) (column : ColumnOf) (raw : RawField)
-    → slice_get columns col ≡ Some column → slice_get fields col ≡ Some raw
-    → slice_get (values_in columns fields) col ≡ Some (value_or_null (value_of column (raw_content raw)))
-slice_get-values_in [] fields col column raw e f = cc
-slice_get-values_in (c ∷ columns) [] col column raw e f = cc
-slice_get-values_in (c ∷ columns) (r ∷ fields) zero column raw e f =
-    let same_column : c ≡ column = cc in
-    let same_raw : r ≡ raw = cc in
-    ap (λ x. Some (value_or_null (value_of x (raw_content r)))) same_column ∙ ap (λ x. Some (value_or_null (value_of column (raw_content x)))) same_raw
-slice_get-values_in (c ∷ columns) (r ∷ fields) (suc col) column raw e f = slice_get-values_in columns fields col column raw e f
 
 -- ---- one row
 pub value_then-none : (place : ℕ) (value : Result CellValue CellFault) (rest : Result (List CellValue) (ℕ × CellFault)) → result_err (value_then place value rest) ≡ None

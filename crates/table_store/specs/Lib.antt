@@ -8,6 +8,7 @@ pub mod Inside
 pub mod Fault
 pub mod Loading
 pub mod Parts
+pub mod Stretches
 pub mod Catalog
 pub mod Laws
 pub use Rattle.csv_grammar.specs.Files

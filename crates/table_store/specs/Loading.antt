@@ -1,5 +1,5 @@
 -- What the steps of loading a table find.
-use Rattle.std.specs.Prelude.{◌≡◌, ℕ, List, length, map, Option, None, Some, Result, Ok, option_map}
+use Rattle.std.specs.Prelude.{◌≡◌, ℕ, List, length, map, Option, None, Some, Ok, option_map}
 use Rattle.std.specs.Result.{result_err}
 use Rattle.std.specs.List.{IsDistinct}
 use Rattle.std.specs.Str.{bytes_eq}
@@ -16,14 +16,13 @@ use Rattle.csvw_meta.specs.Schema.{SchemaOf, schema_view}
 use Rattle.table_store.specs.declared.loading.TableFault.{TableFault}
 use Rattle.table_store.specs.declared.loading.TableParts.{TableParts}
 use Rattle.table_store.specs.declared.loading.TableFault.TheVariants.{FileMissing, FileTooLarge, Text, Header, Cell, Key, NoMemory}
-use Rattle.table_store.specs.Table.{TableOf, mismatch_from, values_from, rows_from, HasOtherHeader, HasBadCell, HasNullKey, HasKeyTwice}
+use Rattle.table_store.specs.Table.{TableOf, mismatch_from, rows_from, HasOtherHeader, HasBadCell, HasNullKey, HasKeyTwice}
 use Rattle.table_store.specs.Fault.{TableCause, file_missing, file_too_large, bad_text, bad_header, bad_cell, key_null, key_twice, cell_cause, LoadCause, no_metadata, bad_meta, bad_table}
 use Rattle.table_store.specs.File.{FileOf}
 use Rattle.row_keys.specs.Key.{row_keys, null_row, repeated_row}
-use Rattle.row_keys.specs.Keys.{AreColumns, AreKeysOf, HasKeyFault, HasRead}
+use Rattle.row_keys.specs.Keys.{AreColumns, AreKeysOf}
 use Rattle.row_keys.specs.declared.keys.KeyFault.{KeyFault}
 use Rattle.row_keys.specs.declared.keys.KeyFault.TheVariants.{Null, Twice}
-use Rattle.row_keys.specs.declared.keys.KeyReader.{KeyReader}
 use Rattle.typed_columns.specs.TypedColumn.{AreTyped}
 use Rattle.table_store.specs.Catalog.{HasFile, HasTableCause, IsFirstBadTable}
 use Rattle.raw_fields.specs.Values.{rows_in, AllHaveValues, FitsColumns}
@@ -31,10 +30,6 @@ use Rattle.raw_fields.specs.Values.{rows_in, AllHaveValues, FitsColumns}
 -- the first header cell that does not match, or lacks its column, or is lacked by one
 abbrev pub mismatch_of : List ColumnOf → List RawField → Option ℕ
 mismatch_of columns header = mismatch_from 0 columns (map field_of header)
-
--- the values of a row of fields, or the first of them that has none
-abbrev pub values_of : List ColumnOf → List RawField → Result (List CellValue) (ℕ × CellFault)
-values_of columns fields = values_from 0 columns (map field_of fields)
 
 -- the table of a schema and the fields of its file
 abbrev pub table_at : SchemaOf → RawTable → TableOf
@@ -56,12 +51,6 @@ IsTableOf limit file schema table = (bytes : List ℕ) × HasFile limit file byt
 abbrev pub key_cause : KeyFault → TableCause
 key_cause (Null row) = key_null row
 key_cause (Twice row) = key_twice row
-
--- this is why the keys that were read are none, or memory ran out
-abbrev pub LacksKeys : KeyReader → TableFault → Type 0
-LacksKeys reader (Key fault) = (of : List (List CellValue)) → HasRead reader of → HasKeyFault of fault
-LacksKeys reader NoMemory = Unit {0}
-LacksKeys reader fault = ⊥
 
 -- the cause that an error is; none, where memory ran out
 abbrev pub table_cause : TableFault → Option TableCause

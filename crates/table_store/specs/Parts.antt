@@ -1,21 +1,15 @@
 -- What is read of the rows of a part of a file.
-use Rattle.std.specs.Prelude.{◌≡◌, ◌⊎◌, ◌+◌, ◌≤◌, ℕ, List, [], ◌++◌, length, map, Option, Some, slice_get, slice_index_or}
+use Rattle.std.specs.Prelude.{◌≡◌, ◌⊎◌, ◌+◌, ◌≤◌, ℕ, List, [], length, map, Option, Some, slice_get, slice_index_or}
 use Rattle.std.specs.Result.{result_err}
 use Rattle.cell_types.specs.declared.fault.CellFault.{CellFault}
 use Rattle.cell_types.specs.declared.fault.CellFault.TheVariants.{NoMemory}
 use Rattle.cell_types.specs.declared.column.Column.{Column}
 use Rattle.cell_types.specs.Column.{column_view, ColumnOf}
-use Rattle.cell_types.specs.Value.{CellValue}
-use Rattle.row_keys.specs.declared.keys.KeyReader.{KeyReader}
-use Rattle.raw_fields.specs.Values.{values_in}
-use Rattle.row_keys.specs.Key.{row_key, row_keys}
-use Rattle.row_keys.specs.Keys.{HasRead}
 use Rattle.block_summary.specs.Reading.{packed_type_of}
 use Rattle.csv_grammar.specs.Raw.{RawField, field_of}
 use Rattle.typed_columns.specs.ColumnReader.{ReaderOf, with_cells}
 use Rattle.typed_columns.specs.Parts.{part_cells, PartHasValues}
 use Rattle.table_store.specs.declared.loading.BadCell.{BadCell}
-use Rattle.table_store.specs.declared.parts.KeyColumns.{KeyColumns}
 use Rattle.table_store.specs.Table.{rows_from, values_from}
 
 -- each field of the rows has a value in its column
@@ -49,15 +43,6 @@ wrong_in_row columns fields = result_err (values_from 0 columns (map field_of fi
 -- and with the row of a number
 abbrev pub wrong_at : List Column → List (List RawField) → ℕ → Option (ℕ × CellFault)
 wrong_at columns rows row = wrong_in_row (map column_view columns) (slice_index_or rows row [])
-
--- the key of a row of fields
-abbrev pub field_key : KeyColumns → List RawField → List CellValue
-field_key key fields = row_key key.places.now (values_in (map column_view key.columns.now) fields)
-
--- a reader of keys has read those of some rows, the first of which has that number, wherever it had read those of the rows before them
-abbrev pub ReadsKeysOn : KeyReader → List ℕ → ℕ → List (List CellValue) → KeyReader → Type 0
-ReadsKeysOn old places first more new =
-    (rows : List (List CellValue)) → first ≡ length rows → HasRead old (row_keys places rows) → HasRead new (row_keys places (rows ++ more))
 
 -- this is the first cell of the rows, row by row, that has no value, or memory ran out
 abbrev pub IsFirstBadIn : ℕ → List ColumnOf → List (List RawField) → BadCell → Type 0

@@ -14,8 +14,10 @@ mod laws;
 mod loading;
 mod parts;
 mod reading;
+mod stretches;
 mod summaries;
 mod table;
+mod table_keys;
 
 pub use block::Block;
 pub use catalog::Catalog;

@@ -33,7 +33,7 @@ fn read_file(alloc: Global, schema: &Schema, bytes: Vec<u8>) -> Result<TablePart
         Ok(Some(col)) => return Err(TableFault::Header(col)),
         Err(_) => return Err(TableFault::NoMemory),
     }
-    read_rows(alloc, schema, &file)
+    read_rows(alloc, schema, file)
 }
 
 /// The columns and the keys of the file, at most as long as the limit, that is the table of a schema; or why there is none.

@@ -1,4 +1,5 @@
 pub mod TypedColumnLemmas
 mod RangeLemmas
+mod AppendLemmas
 mod BlockLemmas
 pub mod PartLemmas

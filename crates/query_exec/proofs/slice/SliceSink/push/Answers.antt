@@ -1,6 +1,5 @@
-use Rattle.std.proofs.Common.{◌≡◌, ◌-◌, ◌∙◌, ap, drop, refl, rules, subst, sym}
+use Rattle.std.proofs.Common.{◌≡◌, ◌-◌, ◌∙◌, ap, drop, refl, rules, subst}
 use Rattle.row_columns.specs.Picked.{numbered}
-use Rattle.query_exec.specs.declared.kept.Kept.{Kept}
 use Rattle.query_exec.specs.Kept.{kept_places, HasKept}
 use Rattle.query_exec.specs.Picked.{selected_rows}
 use Rattle.query_exec.proofs.SliceLemmas.{slice_count, slice_pushed}
@@ -15,5 +14,4 @@ returns c =
     slice_pushed old _ rows found c.piece-numbers.result.items refl refl
     (slice_count old rows c.requires.before c.requires.passing found c.requires.are_found c.requires.pushed c.requires.few)
     (c.piece-numbers.ensures.rows rows ∙ ap (λ k. drop k (numbered found.numbers.items rows)) skip_is)
-    (subst (λ (k : Kept). HasKept old.kept k (selected_rows (kept_places old.kept) (numbered c.piece-numbers.result.items rows))) (sym c.in_ok-compact.ensures)
-    (subst (λ ns. HasKept old.kept c.take.new.self (selected_rows (kept_places old.kept) (numbered ns rows))) c.as_slice.ensures.value c.in_ok-take.ensures))
+    (subst (λ ns. HasKept old.kept c.take.new.self (selected_rows (kept_places old.kept) (numbered ns rows))) c.as_slice.ensures.value c.in_ok-take.ensures)

@@ -1,5 +1,5 @@
 use Rattle.std.proofs.Common.{◌≡◌, length}
-use Rattle.table_store.proofs.loading.nulls.Given as goal
+use Rattle.table_store.proofs.table_keys.nulls.Given as goal
 
 -- so many are made
 abbrev pub invariant-loop-made : goal.invariant-loop-made

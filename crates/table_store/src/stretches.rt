@@ -1,0 +1,129 @@
+//! Reading the rows of a file by stretches of whole blocks, the last stretch first. What was read of the file is let go, so that it and the columns
+//! are never both there in full.
+ghost use Rattle.std.specs.Prelude.{◌≡◌, ◌<◌, ◌≤◌, ◌-◌, IfOk, IfErr, drop, length, map};
+ghost use Rattle.cell_types.specs.Column.{column_view};
+ghost use Rattle.raw_fields.specs.Values.{FitsColumns};
+ghost use Rattle.table_store.specs.Stretches.{AreAppended, AreOfColumns, HasColumns, IsReadBefore, IsReadFrom, Join};
+ghost use Rattle.table_store.specs.Parts.{IsFirstBadIn};
+ghost use Rattle.typed_columns.specs.TypedColumn.{AreWholeBlocks};
+
+use crate::loading::BadCell;
+use crate::parts::read_part;
+use block_summary::BLOCK_ROWS;
+use cell_types::{CellFault, Column};
+use csv_index::IndexedText;
+use std::alloc::Global;
+use typed_columns::{TypedColumn, column_readers, columns_read};
+
+/// How many stretches a file is read in at most.
+const STRETCHES: usize = 8;
+
+/// Columns, or the first cell of their rows, row by row, that has no value.
+pub type ReadColumns = Result<Vec<TypedColumn>, BadCell>;
+
+/// Want of memory, told as a cell.
+fn no_memory(row: usize) -> BadCell
+    ensures { result.fault ≡ CellFault.NoMemory }
+{
+    BadCell {
+        row,
+        col: 0,
+        fault: CellFault::NoMemory,
+    }
+}
+
+/// The columns of the rows of a file from one on; or the first cell of them, row by row, that has no value.
+fn read_from(alloc: Global, columns: &[Column], file: &IndexedText, first: usize) -> ReadColumns
+    requires fits { FitsColumns (map column_view columns.now) file.now }
+    requires first { first ≤ length file.now.rows }
+    ensures { IsReadFrom first (map column_view columns.now) (drop first file.now.rows) result }
+{
+    let rows = file.rows() - first;
+    let Ok(mut readers) = column_readers(alloc, columns, rows) else {
+        return Err(no_memory(first));
+    };
+    let Ok(mut parts) = file.parts(alloc, first) else {
+        return Err(no_memory(first));
+    };
+    let mut row = first;
+    while row < file.rows() {
+        parts.next();
+        let part = parts.part();
+        match read_part(alloc, columns, &part, row, &mut readers) {
+            Ok(()) => {}
+            Err(bad) => return Err(bad),
+        }
+        row += part.rows();
+    }
+    match columns_read(alloc, readers) {
+        Ok(read) => Ok(read),
+        Err(_) => Err(no_memory(first)),
+    }
+}
+
+/// Puts the cells of columns after those of as many others, which fill their blocks.
+fn append_columns(front: Vec<TypedColumn>, after: Vec<TypedColumn>) -> ReadColumns
+    requires { Join front.items after.items }
+    ensures joined { IfOk result (λ read. AreAppended front.items after.items read.items) }
+    ensures fault { IfErr result (λ bad. bad.fault ≡ CellFault.NoMemory) }
+{
+    let mut front = front;
+    let mut after = after;
+    while let Some(column) = after.pop() {
+        let Ok(()) = front[after.len()].append(column) else {
+            return Err(no_memory(0));
+        };
+    }
+    Ok(front)
+}
+
+/// The columns of the rows of a file from one on and of rows after the file, of which those columns, or that cell, were read. The first cell that has
+/// no value is one of the file, if it has one.
+fn read_before(
+    alloc: Global,
+    columns: &[Column],
+    file: &IndexedText,
+    first: usize,
+    after: ReadColumns,
+) -> ReadColumns
+    requires fits { FitsColumns (map column_view columns.now) file.now }
+    requires first { first ≤ length file.now.rows }
+    requires whole { AreWholeBlocks (length file.now.rows - first) }
+    requires after { IfOk after
+        (λ read. AreOfColumns (map column_view columns.now) read.items) }
+    ensures { IsReadBefore first (map column_view columns.now) (drop first file.now.rows)
+        after result }
+{
+    match (read_from(alloc, columns, file, first), after) {
+        (Ok(front), Ok(after)) => append_columns(front, after),
+        (Err(bad), _) => Err(bad),
+        (_, Err(bad)) => Err(bad),
+    }
+}
+
+/// How many rows a stretch has, of a file of so many.
+fn stretch_of(rows: usize) -> usize
+    ensures some { 0 < result }
+    ensures whole { AreWholeBlocks result }
+{
+    rows.div_ceil(BLOCK_ROWS).div_ceil(STRETCHES).max(1) * BLOCK_ROWS
+}
+
+/// The columns of the rows of a file, each of whose cells has a value; or the first cell, row by row, that has none.
+pub fn read_columns_of(alloc: Global, columns: &[Column], file: IndexedText) -> ReadColumns
+    requires { FitsColumns (map column_view columns.now) file }
+    ensures columns { IfOk result
+        (λ read. HasColumns 0 (map column_view columns.now) file.rows read.items) }
+    ensures bad { IfErr result (IsFirstBadIn 0 (map column_view columns.now) file.rows) }
+{
+    let mut file = file;
+    let stretch = stretch_of(file.rows());
+    let mut first = file.rows().saturating_sub(1) / stretch * stretch;
+    let mut read = read_from(alloc, columns, &file, first);
+    while first >= stretch {
+        file.truncate(first);
+        first -= stretch;
+        read = read_before(alloc, columns, &file, first, read);
+    }
+    read
+}
