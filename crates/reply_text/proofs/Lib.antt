@@ -11,6 +11,7 @@ pub mod SizeLemmas
 pub mod PieceLemmas
 pub mod BoundLemmas
 pub mod RowSizeLemmas
+pub mod TurnLemmas
 pub mod CursorLemmas
 pub mod ErrorLemmas
 pub mod WaitingLemmas

@@ -12,6 +12,7 @@ use crate::body::row_body;
 use crate::csv_sizes::csv_sizes;
 use crate::json_rows::heads_of;
 use crate::json_sizes::json_sizes;
+use crate::json_turns::counted_in_turns;
 use crate::pieces::Pieces;
 use crate::row_sizes::RowSizes;
 use crate::sizes::Sizes;
@@ -84,6 +85,7 @@ impl BodyCursor {
         ensures longest { IfOk result (λ body. body.longest ≡ longest_of (json_pieces rows)) }
     {
         let heads = heads_of(alloc, rows.names())?;
+        let counted = counted_in_turns(alloc, &rows, counted)?;
         let sizes = json_sizes(&rows, counted);
         let body = of_pieces(Pieces::Json(rows, heads), sizes)?;
         Ok(body)

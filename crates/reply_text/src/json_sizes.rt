@@ -30,7 +30,7 @@ fn names_size(names: &[String]) -> usize
 }
 
 /// How many bytes a row takes without its values: the names and colons, the commas and the braces.
-fn frame_size(names: &[String]) -> usize
+pub(crate) fn frame_size(names: &[String]) -> usize
     ensures { result ≡ told (length (row_frame (map string_bytes names.now))) }
 {
     names_size(names)
@@ -54,7 +54,7 @@ fn object_size(columns: &Columns, row: usize, frame: usize) -> usize
 }
 
 /// The same with the comma before it.
-fn item_size(columns: &Columns, row: usize, frame: usize) -> usize
+pub(crate) fn item_size(columns: &Columns, row: usize, frame: usize) -> usize
     requires { row < length columns.now.rows }
     ensures { result ≡ told (frame
         + length (flat_map json_value (get_or columns.now.rows row []))

@@ -10,6 +10,7 @@ mod csv_sizes;
 mod cursor;
 mod json_rows;
 mod json_sizes;
+mod json_turns;
 mod laws;
 mod output;
 mod pieces;

@@ -30,6 +30,20 @@ packed_column piece col column packed inside is e =
     if_some (λ cells. cells.now ≡ column.cells) (λ cells. (row : ℕ) → get_or cells.now row null ≡ get_or (piece_row piece row) col null)
     (λ p same row. ap (λ cells. get_or cells row null) same ∙ cell_of_piece piece col row column inside is) packed (packed_are packed column.packed_type column.cells e)
 
+-- a row of the last block
+pub row_of_last : (pieces : List (List ColumnCells)) (last : ℕ) (piece : List ColumnCells) (numbers : List ℕ) → last < length pieces → piece ≡ get_or pieces last piece
+    → length numbers ≤ BLOCK_ROWS → ((i : ℕ) → i < length numbers → get_or numbers i 0 ≡ last * BLOCK_ROWS + i)
+    → (i : ℕ) → i < length numbers → numbered_row pieces (get_or numbers i 0) ≡ piece_row piece i
+row_of_last pieces last piece numbers inside at most from i less =
+    let none : List ColumnCells = [] in
+    let number = get_or numbers i 0 in
+    let is : number ≡ last * BLOCK_ROWS + i = from i less in
+    let block : number / BLOCK_ROWS ≡ last = omega (arith, is, less, most) in
+    let own : number % BLOCK_ROWS ≡ i = omega (arith, is, less, most) in
+    ap (λ b. piece_row (get_or pieces b none) (number % BLOCK_ROWS)) block
+    ∙ ap (λ (p : List ColumnCells). piece_row p (number % BLOCK_ROWS)) (sym (get_or_read pieces last piece inside at none))
+    ∙ ap (piece_row piece) own
+
 -- and the column of all rows of a block
 pub packed_rows : (pieces : List (List ColumnCells)) (last col : ℕ) (piece : List ColumnCells) (cells : List CellValue) (numbers : List ℕ) → last < length pieces → piece ≡ get_or pieces last piece
     → ((row : ℕ) → get_or cells row null ≡ get_or (piece_row piece row) col null) → length cells ≡ length numbers → length numbers ≤ BLOCK_ROWS
@@ -39,21 +53,8 @@ packed_rows pieces last col piece cells numbers inside at are long most from =
     (long ∙ sym (length-map (map (numbered_row pieces) numbers) (λ row. get_or row col null) ∙ length-map numbers (numbered_row pieces)))
     (λ i less. each i (omega (arith, less, long)))
   where
-    none : List ColumnCells
-    none = []
-
-    row_is : (i : ℕ) → i < length numbers → numbered_row pieces (get_or numbers i 0) ≡ piece_row piece i
-    row_is i less =
-        let number = get_or numbers i 0 in
-        let is : number ≡ last * BLOCK_ROWS + i = from i less in
-        let block : number / BLOCK_ROWS ≡ last = omega (arith, is, less, most) in
-        let own : number % BLOCK_ROWS ≡ i = omega (arith, is, less, most) in
-        ap (λ b. piece_row (get_or pieces b none) (number % BLOCK_ROWS)) block
-        ∙ ap (λ (p : List ColumnCells). piece_row p (number % BLOCK_ROWS)) (sym (get_or_read pieces last piece inside at none))
-        ∙ ap (piece_row piece) own
-
     each : (i : ℕ) → i < length numbers → get_or cells i null ≡ get_or (column_of (map (numbered_row pieces) numbers) col) i null
     each i less =
-        are i ∙ ap (λ row. get_or row col null) (sym (row_is i less))
+        are i ∙ ap (λ row. get_or row col null) (sym (row_of_last pieces last piece numbers inside at most from i less))
         ∙ sym (get_or-map (λ row. get_or row col null) (map (numbered_row pieces) numbers) i [] null (omega (arith, less, length-map numbers (numbered_row pieces)))
         ∙ ap (λ row. get_or row col null) (get_or-map (numbered_row pieces) numbers i 0 [] less))

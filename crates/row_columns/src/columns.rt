@@ -27,7 +27,7 @@ use table_store::Block;
 pub struct Columns {
     store: Store,
     /// A row of blocks has the number of its block and its own in the block, as one.
-    numbers: RowNumbers,
+    pub(crate) numbers: RowNumbers,
 }
 
 impl Model for Columns {
@@ -215,8 +215,7 @@ impl Columns {
         ensures { IfOk result (λ codes.
             IfSome codes (λ codes. HaveCodes codes.items col self.now.rows)) }
     {
-        let numbers = self.numbers.to_vec(alloc)?;
-        self.store.codes(alloc, numbers.as_slice(), col)
+        self.store.codes(alloc, &self.numbers, col)
     }
 
     /// The cells of a column as they are packed, where the rows are all those of one block, in their order; nothing where they are others, or the column has texts.

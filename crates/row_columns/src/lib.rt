@@ -10,6 +10,7 @@ mod numbers;
 mod piece;
 mod row_numbers;
 mod store;
+mod turns;
 mod value_rows;
 mod values;
 

@@ -1,15 +1,13 @@
 //! The cells of some columns of a block, which are shared with its table.
-ghost use Rattle.std.specs.Prelude.{◌≡◌, ◌<◌, ◌%◌, ℕ, [], IfOk, IfSome, get_or, length, map, option_map, slice_index_or};
+ghost use Rattle.std.specs.Prelude.{◌≡◌, ◌<◌, ℕ, [], IfOk, IfSome, get_or, length, map, option_map, slice_index_or};
 ghost use Rattle.std.specs.List.{All};
-ghost use Rattle.block_summary.specs.declared.block.TheConstants.{BLOCK_ROWS};
 ghost use Rattle.cell_types.specs.Value.{null, value_view};
-ghost use Rattle.row_columns.specs.Codes.{HaveCodes};
+ghost use Rattle.row_columns.specs.Codes.{HaveCodesAt};
 ghost use Rattle.row_columns.specs.Picked.{values_at};
 ghost use Rattle.row_columns.specs.Piece.{piece_at, piece_row};
 ghost use Rattle.row_columns.specs.Text.{text_of_cell};
 
-use crate::numbers::codes_at;
-use block_summary::{BLOCK_ROWS, PackedColumn};
+use block_summary::PackedColumn;
 use cell_types::Value;
 use std::alloc::{AllocError, Global};
 use std::marker::Model;
@@ -87,24 +85,14 @@ impl Piece {
         self.columns[col].packed()
     }
 
-    /// The codes of the rows with these numbers by their values in a column, where it has codes.
-    pub(crate) fn codes(
-        &self,
-        alloc: Global,
-        numbers: &[u32],
-        col: usize,
-    ) -> Result<Option<Vec<u8>>, AllocError>
+    /// The codes of all rows by their values in a column, where it has codes.
+    pub(crate) fn codes(&self, col: usize) -> Option<&[u8]>
         requires { col < length self.now }
-        ensures { IfOk result (λ codes. IfSome codes (λ codes. HaveCodes codes.items col
-            (map (λ number. piece_row self.now (number % BLOCK_ROWS)) numbers.now))) }
+        ensures { IfSome result (λ codes. HaveCodesAt codes.now col (piece_row self.now)) }
     {
-        let Some(texts) = self.columns[col].texts() else {
-            return Ok(None);
-        };
-        let Some(codes) = texts.codes() else {
-            return Ok(None);
-        };
-        codes_at(alloc, codes.codes.as_slice(), numbers)
+        let texts = self.columns[col].texts()?;
+        let codes = texts.codes()?;
+        Some(codes.codes.as_slice())
     }
 
     /// The columns with these places.

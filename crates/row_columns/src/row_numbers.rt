@@ -173,6 +173,19 @@ impl RowNumbers {
         }
     }
 
+    /// Whether each is greater than the one before it. So it is where none is listed; where only some are, it is not looked for, and the answer is no.
+    pub(crate) fn rise(&self) -> bool {
+        if self.listed.is_empty() {
+            return true;
+        }
+        let mut rise = self.count == 0 && self.marks.len() == 0;
+        let listed = self.listed.as_slice();
+        for i in 1..listed.len() {
+            rise = rise & (listed[i - 1] < listed[i]);
+        }
+        rise
+    }
+
     /// All of them, one by one.
     pub(crate) fn to_vec(&self, alloc: Global) -> Result<Vec<u32>, AllocError>
         ensures { IfOk result (λ made. made.items ≡ self.now) }

@@ -12,7 +12,7 @@ ghost use Rattle.row_columns.specs.Piece.{piece_at};
 ghost use Rattle.row_columns.specs.Store.{end_of, kind_of_type, stored_kinds, stored_row, IsPicked, IsStoredWide, HasTakenRows};
 ghost use Rattle.row_columns.specs.Text.{text_of_cell};
 
-use crate::numbers::are_of_block;
+use crate::numbers::{are_of_block, codes_at};
 use crate::piece::Piece;
 use crate::row_numbers::RowNumbers;
 use crate::value_rows::{rows_picked, rows_taken, text_of};
@@ -174,7 +174,7 @@ impl Store {
     pub(crate) fn codes(
         &self,
         alloc: Global,
-        numbers: &[u32],
+        numbers: &RowNumbers,
         col: usize,
     ) -> Result<Option<Vec<u8>>, AllocError>
         requires wide { IsStoredWide self.now }
@@ -185,14 +185,24 @@ impl Store {
         let Store::Blocks(_, pieces) = self else {
             return Ok(None);
         };
-        if pieces.is_empty() {
+        if pieces.is_empty() || pieces.len() > MOST_PIECES {
             return Ok(None);
         }
         let last = pieces.len() - 1;
-        if !are_of_block(numbers, last) {
+        let Some(codes) = pieces[last].codes(col) else {
+            return Ok(None);
+        };
+        if let Some((first, count)) = numbers.run() {
+            if first == last * BLOCK_ROWS && count == codes.len() && count <= BLOCK_ROWS {
+                let all = Vec::from_slice(alloc, codes)?;
+                return Ok(Some(all));
+            }
+        }
+        let listed = numbers.to_vec(alloc)?;
+        if !are_of_block(listed.as_slice(), last) {
             return Ok(None);
         }
-        pieces[last].codes(alloc, numbers, col)
+        codes_at(alloc, codes, listed.as_slice())
     }
 
     /// The rows under the same numbers, in the columns with these places.

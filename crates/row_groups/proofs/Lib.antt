@@ -11,3 +11,4 @@ pub mod JoinLemmas
 pub mod PartLemmas
 pub mod BegunLemmas
 pub mod KeptLemmas
+pub mod EndLemmas

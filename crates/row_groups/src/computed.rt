@@ -7,6 +7,7 @@ ghost use Rattle.query_meaning.specs.Apply.{computed_value, is_value};
 ghost use Rattle.row_columns.specs.Picked.{numbered};
 ghost use Rattle.row_groups.specs.Computed.{greater_value, lesser_value};
 
+use crate::kept::{kept_greatest, kept_least};
 use cell_types::Value;
 use row_columns::Columns;
 
@@ -17,6 +18,9 @@ pub(crate) fn least<'a>(columns: &'a Columns, numbers: &[usize], place: usize) -
     ensures { value_view result
         ≡ computed_value (numbered numbers.now columns.now.rows) (Min place) }
 {
+    if let Some(least) = kept_least(columns, numbers, place) {
+        return least;
+    }
     let mut least = Value::Null;
     let mut i = numbers.len();
     while i > 0 {
@@ -33,6 +37,9 @@ pub(crate) fn greatest<'a>(columns: &'a Columns, numbers: &[usize], place: usize
     ensures { value_view result
         ≡ computed_value (numbered numbers.now columns.now.rows) (Max place) }
 {
+    if let Some(greatest) = kept_greatest(columns, numbers, place) {
+        return greatest;
+    }
     let mut greatest = Value::Null;
     let mut i = numbers.len();
     while i > 0 {

@@ -1,8 +1,11 @@
-//! Sums of rows of a block by its columns as they are kept (OData Data Aggregation 4.0, section 3.1.3.1): nulls are passed over.
+//! Sums, least and greatest values of rows of a block by its columns as they are kept (OData Data Aggregation 4.0, section 3.1.3): nulls are passed over.
 ghost use Rattle.std.specs.Prelude.{◌≡◌, ◌<◌, ◌≤◌, IfSome, IsTrue, List, length};
 ghost use Rattle.std.specs.List.{All, filter_map};
+ghost use Rattle.block_summary.specs.Ranges.{column_of};
 ghost use Rattle.block_summary.specs.Types.{cells_of_type, numbers_of};
-ghost use Rattle.cell_types.specs.Value.{CellValue};
+ghost use Rattle.cell_types.specs.Value.{CellValue, value_view};
+ghost use Rattle.odata_query.specs.declared.aggregate.Aggregate.TheVariants.{Max, Min};
+ghost use Rattle.query_meaning.specs.Apply.{computed_value};
 ghost use Rattle.query_meaning.specs.Fitting.{AreSummable};
 ghost use Rattle.row_columns.specs.Picked.{numbered};
 ghost use Rattle.row_groups.specs.declared.sums.Summed.{Summed};
@@ -10,6 +13,8 @@ ghost use Rattle.row_groups.specs.Sums.{numbers_at, numbers_in, read_of, sum_of,
 
 use crate::sums::{Summed, sum_of};
 use block_summary::{PackedColumn, PackedType};
+use cell_types::Value;
+use query_meaning::extremes_are_values;
 use row_columns::Columns;
 
 /// Of fewer rows than this part of all, it is not worth while to ask how their column is kept.
@@ -28,6 +33,63 @@ fn are_all(numbers: &[usize], len: usize) -> bool
         same = same & (numbers[i] == i);
     }
     same
+}
+
+/// The column of these rows as it is kept, where they are all that there are.
+fn whole_column<'a>(
+    columns: &'a Columns,
+    numbers: &[usize],
+    place: usize,
+) -> Option<&'a PackedColumn>
+    requires { place < length columns.now.kinds }
+    ensures { IfSome result
+        (λ cells. cells.now ≡ column_of (numbered numbers.now columns.now.rows) place) }
+{
+    let cells = columns.packed(place)?;
+    if !are_all(numbers, columns.len()) {
+        return None;
+    }
+    Some(cells)
+}
+
+/// The least value that these rows have in a column, null where they have none; nothing where it is not told by how the column is kept. No number is looked at.
+pub(crate) fn kept_least(
+    columns: &Columns,
+    numbers: &[usize],
+    place: usize,
+) -> Option<Value<'static>>
+    requires { place < length columns.now.kinds }
+    ensures { IfSome result (λ value. value_view value
+        ≡ computed_value (numbered numbers.now columns.now.rows) (Min place)) }
+{
+    extremes_are_values();
+    cell_types::values_are_ordered();
+    let column = whole_column(columns, numbers, place)?;
+    let (least, _greatest) = column.ends();
+    match least {
+        Some(value) => Some(value),
+        None => Some(Value::Null),
+    }
+}
+
+/// The greatest of them.
+pub(crate) fn kept_greatest(
+    columns: &Columns,
+    numbers: &[usize],
+    place: usize,
+) -> Option<Value<'static>>
+    requires { place < length columns.now.kinds }
+    ensures { IfSome result (λ value. value_view value
+        ≡ computed_value (numbered numbers.now columns.now.rows) (Max place)) }
+{
+    extremes_are_values();
+    cell_types::values_are_ordered();
+    let column = whole_column(columns, numbers, place)?;
+    let (_least, greatest) = column.ends();
+    match greatest {
+        Some(value) => Some(value),
+        None => Some(Value::Null),
+    }
 }
 
 /// Whether numbers of that type are summed so.

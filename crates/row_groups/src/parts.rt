@@ -1,5 +1,5 @@
 //! Rows by their groups, before they join.
-ghost use Rattle.std.specs.Prelude.{◌≡◌, ◌<◌, ℕ, [], IfOk, IfSome, None, OnOk, length, map, slice_index_or};
+ghost use Rattle.std.specs.Prelude.{◌≡◌, ◌<◌, ℕ, [], IfOk, IfSome, None, OnOk, Some, length, map, slice_index_or};
 ghost use Rattle.std.specs.List.{All, AllByRecursion};
 ghost use Rattle.cell_types.specs.Value.{value_view};
 ghost use Rattle.query_meaning.specs.Apply.{values_at};
@@ -58,35 +58,40 @@ impl Groups {
             let number = *number;
             let code = codes[number] as usize;
             let row = RowAt { columns, number };
-            let group = self.group_of_row(alloc, row, grouping, known[code])?;
-            known[code] = Some(group);
+            let group = self.group_of_row(alloc, row, grouping, &mut known[code])?;
             groups.push(group)?;
         }
         Ok(Some(groups))
     }
 
-    /// The group of a row, which is known, or looked up by the row's values.
+    /// The group of a row, which is known, or looked up by the row's values; it is known from then on.
+    #[inline(always)]
     fn group_of_row(
         &mut self,
         alloc: Global,
         row: RowAt<'_>,
         grouping: Grouping<'_>,
-        known: Option<usize>,
+        known: &mut Option<usize>,
     ) -> Result<usize, AllocError>
         requires row { row.number < length row.columns.now.rows }
         requires places { All (λ place. place < length row.columns.now.kinds) grouping.places.now }
-        requires known { IfSome known (IsGroupOf self.old (values_at grouping.places.now
+        requires known { IfSome known.old (IsGroupOf self.old (values_at grouping.places.now
             (slice_index_or row.columns.now.rows row.number []))) }
         ensures group { IfOk result (IsGroupOf self.new (values_at grouping.entry.places.now
             (slice_index_or row.entry.columns.now.rows row.entry.number []))) }
         ensures more { OnOk result (HasGroupMore grouping.entry.aggregates.now self.old self.new
             (values_at grouping.entry.places.now
             (slice_index_or row.entry.columns.now.rows row.entry.number []))) }
+        ensures known { IfOk result (λ group. known.new ≡ Some group) }
     {
         cell_types::values_are_ordered();
-        match known {
+        match *known {
             Some(group) => Ok(group),
-            None => self.group_of_values(alloc, row.columns, row.number, grouping),
+            None => {
+                let group = self.group_of_values(alloc, row.columns, row.number, grouping)?;
+                *known = Some(group);
+                Ok(group)
+            }
         }
     }
 
@@ -171,7 +176,7 @@ pub(crate) fn parts_of(
     ensures parts { IfOk result (λ parts.
         ArePartsFrom 0 numbers.now groups.now parts.items) }
 {
-    let mut parts = no_parts(alloc, len)?;
+    let mut parts = no_parts(alloc, len, numbers.len() / (len / 2 + 1))?;
     for i in 0..numbers.len() {
         parts[groups[i]].push(numbers[i])?;
     }
@@ -191,15 +196,16 @@ fn none_known(alloc: Global) -> Result<Vec<Option<usize>>, AllocError>
     Ok(known)
 }
 
-/// So many parts, without rows.
-fn no_parts(alloc: Global, len: usize) -> Result<Vec<Vec<usize>>, AllocError>
+/// So many parts, without rows, each with room for so many.
+fn no_parts(alloc: Global, len: usize, room: usize) -> Result<Vec<Vec<usize>>, AllocError>
     ensures long { IfOk result (λ parts. length parts.items ≡ len) }
     ensures none { IfOk result (λ parts.
         AllByRecursion (λ part. part.items ≡ []) parts.items) }
 {
     let mut parts = Vec::with_capacity(alloc, len)?;
     for _ in 0..len {
-        parts.push(Vec::new(alloc))?;
+        let part = Vec::with_capacity(alloc, room)?;
+        parts.push(part)?;
     }
     Ok(parts)
 }

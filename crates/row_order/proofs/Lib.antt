@@ -5,6 +5,7 @@ pub mod SortingLemmas
 pub mod KeyedLemmas
 pub mod PrefixLemmas
 pub mod TextKeyLemmas
+pub mod TextsLateLemmas
 pub mod NumberLemmas
 pub mod BestLemmas
 pub mod PlainLemmas

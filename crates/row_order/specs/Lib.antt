@@ -8,4 +8,5 @@ pub mod Keys
 pub mod Best
 pub mod Plain
 pub mod TextKeys
+pub mod TextsLate
 pub mod InTime

@@ -13,6 +13,7 @@ mod pieces;
 mod plain;
 mod sorting;
 mod text_keys;
+mod texts_late;
 mod top_n;
 
 pub use best::best_numbers;

@@ -7,6 +7,7 @@ ghost use Rattle.block_lanes.specs.Lanes.{truth_lane, HasTruths, IsWanted};
 ghost use Rattle.text_lanes.specs.Texts.{answered, text_at, text_lane, AreAmong, AreTextsLong, HasAnswers};
 
 use crate::codes::spread;
+use crate::equality::equal;
 use crate::question::{TextQuestion, answer_of};
 use crate::relation::TextRelation;
 use crate::search::contain;
@@ -15,7 +16,7 @@ use block_lanes::Fallback;
 use row_eval::Truth;
 use std::alloc::Global;
 use text_columns::{TextCodes, TextColumn};
-use typed_trees::TextTest;
+use typed_trees::{ComparisonOperator, TextTest};
 
 /// What is said of the text of a row, where it is wanted.
 #[inline(always)]
@@ -75,8 +76,8 @@ fn answer_codes<'a>(
     Ok(truths)
 }
 
-/// What is said of the texts of a column, on the wanted rows. Without codes a part is sought in all texts at once, also where few rows are wanted: to
-/// pass over the others costs as much.
+/// What is said of the texts of a column, on the wanted rows. Without codes a part is sought in all texts at once, and a text is
+/// compared with all, also where few rows are wanted: to pass over the others costs as much.
 pub(crate) fn answer_column<'a>(
     alloc: Global,
     question: TextQuestion<'_>,
@@ -94,6 +95,10 @@ pub(crate) fn answer_column<'a>(
     match question {
         TextQuestion::Related(TextRelation::Test(TextTest::Contains), part) => {
             let truths = contain(alloc, texts, part)?;
+            Ok(truths)
+        }
+        TextQuestion::Related(TextRelation::Comparison(ComparisonOperator::Equal), part) => {
+            let truths = equal(alloc, texts, part)?;
             Ok(truths)
         }
         _ => {

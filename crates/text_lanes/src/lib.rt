@@ -4,6 +4,7 @@
 
 mod answers;
 mod codes;
+mod equality;
 mod pairs;
 mod question;
 mod relation;

@@ -3,6 +3,7 @@
 ghost use Rattle.std.specs.Prelude.{◌≡◌, option_map};
 ghost use Rattle.std.specs.Cmp.Lexicographic.{slice_cmp};
 ghost use Rattle.std.specs.Ordering.{nat_cmp};
+ghost use Rattle.std.specs.Str.{bytes_eq};
 ghost use Rattle.row_eval.specs.Comparison.{compared, holds as holds_of, is_equal};
 ghost use Rattle.text_lanes.specs.Texts.{related};
 
@@ -29,14 +30,26 @@ fn text_order(left: Option<&str>, right: Option<&str>) -> Option<Ordering>
     }
 }
 
-/// Whether both are the same text, or null. Of texts of different lengths no byte is looked at.
+/// Whether two texts are the same. Of texts of different lengths no byte is looked at.
+#[inline(always)]
+fn is_same_text(left: &str, right: &str) -> bool
+    ensures { result ≡ bytes_eq left.now right.now }
+{
+    if left.len() != right.len() {
+        return false;
+    }
+    left == right
+}
+
+/// Whether both are the same text, or null.
+#[inline(always)]
 pub(crate) fn are_same(left: Option<&str>, right: Option<&str>) -> bool
     ensures { result ≡ is_equal (compared (slice_cmp nat_cmp) (option_map (λ t. t.now) left.entry)
         (option_map (λ t. t.now) right.entry)) }
 {
     match (left, right) {
         (None, None) => true,
-        (Some(left), Some(right)) => left == right,
+        (Some(left), Some(right)) => is_same_text(left, right),
         _ => false,
     }
 }

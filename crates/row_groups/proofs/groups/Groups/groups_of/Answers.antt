@@ -1,5 +1,5 @@
-use Rattle.std.proofs.Common.{◌≡◌, ◌<◌, ◌+◌, ◌++◌, ◌∷◌, [], ℕ, List, Some, None, get_or, length, take, sym, ap, subst, ◌∙◌, arith, rules}
-use Rattle.std.specs.Prelude.{IfSome}
+use Rattle.std.proofs.Common.{◌≡◌, ◌<◌, ◌+◌, ◌++◌, ◌∷◌, [], ℕ, List, None, get_or, length, take, sym, ap, subst, ◌∙◌, arith, rules}
+use Rattle.std.specs.Prelude.{IfSome, slice_set}
 use Rattle.std.proofs.lemmas.List.{get_or_read, length-set, map_more, take_all}
 use Rattle.cell_types.specs.Value.{CellValue}
 use Rattle.query_meaning.specs.Apply.{values_at}
@@ -34,8 +34,8 @@ group_of_row-requires-clause-known c =
     let coded : code ≡ get_or codes number 0 = get_or_read codes number code within c.index.ensures 0 in
     let here : values_at places (get_or rows number []) ≡ have.0 code ∷ [] = value_here places rows codes have.0 number one within have.1 ∙ ap (λ k. have.0 k ∷ []) (sym coded) in
     let small : code < 256 = first_of (search rules, grind arith) in
-    let there : c.index-in-loop-number.result.now ≡ get_or known code None =
-    get_or_read known code c.index-in-loop-number.result.now (omega (arith, small, c.loop-number.invariant.long)) c.index-in-loop-number.ensures None in
+    let there : c.index_mut.result.now ≡ get_or known code None =
+    get_or_read known code c.index_mut.result.now (omega (arith, small, c.loop-number.invariant.long)) c.index_mut.ensures.value None in
     subst (λ o. IfSome o (IsGroupOf c.loop-number.self (values_at places (get_or rows number [])))) (sym there)
     (known_here c.loop-number.self have.0 (values_at places (get_or rows number [])) code (get_or known code None) here (c.loop-number.invariant.known have.0 have.1 code))
 
@@ -65,13 +65,14 @@ loop-number-preserved c =
     let g = c.in_ok-group.group in
     let found = c.loop-number.groups.items in
     let known = c.loop-number.known.items in
+    let told = c.group_of_row.new.known in
     let inside = c.requires.within i 0 c.loop-number-test.true in
     let one : length places ≡ 1 = omega (arith, c.if-grouping-ne1.false) in
     let next : numbered (take (i + 1) numbers) rows ≡ numbered (take i numbers) rows ++ row ∷ [] = map_more (λ n. get_or rows n []) numbers i 0 c.loop-number-test.true in
     let is : IsGroupOf new (values_at places row) g = c.in_ok-group.ensures.group in
     let has : HasGroupMore aggregates old new (values_at places row) = c.in_ok-group.ensures.more in
     record {
-      long = length-set known code (Some g) ∙ c.loop-number.invariant.long;
+      long = length-set known code told ∙ c.loop-number.invariant.long;
       begun = λ before held.
           subst (AreBegun places aggregates new before) (sym next)
           (begun_more equal places aggregates before (numbered (take i numbers) rows) row old new (c.loop-number.invariant.begun before held) has);
@@ -84,8 +85,9 @@ loop-number-preserved c =
           let within : number < length codes = omega (arith, inside, zip_long _ rows codes zip) in
           let coded : code ≡ get_or codes number 0 = get_or_read codes number code within c.index.ensures 0 in
           let here : values_at places row ≡ value_of code ∷ [] = value_here places rows codes value_of number one within zip ∙ ap (λ k. value_of k ∷ []) (sym coded) in
-          known_more old new value_of known code g (keeps_group old new (values_at places row) has.keys) (subst (λ vs. IsGroupOf new vs g) here is)
-          (c.loop-number.invariant.known value_of zip);
+          subst (λ o. (k : ℕ) → IfSome (get_or (slice_set known code o) k None) (IsGroupOf new (value_of k ∷ []))) (sym c.in_ok-group.ensures.known)
+          (known_more old new value_of known code g (keeps_group old new (values_at places row) has.keys) (subst (λ vs. IsGroupOf new vs g) here is)
+          (c.loop-number.invariant.known value_of zip));
     }
 
 pub returns-clause-groups : goal.returns-clause-groups
