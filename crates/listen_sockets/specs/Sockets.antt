@@ -1,5 +1,5 @@
 -- What the system's sockets tell and count.
-use Rattle.std.specs.Prelude.{◌≡◌, ◌≢◌, ℕ, ◌-◌, ◌^◌, Bool, true, false, List, Option, None, Some, MatchOption, slice_get, slice_set}
+use Rattle.std.specs.Prelude.{◌≡◌, ◌≢◌, ℕ, ◌-◌, ◌^◌, Bool, true, false, List, Option, None, Some, MatchOption, is_none, slice_get, slice_set}
 use Rattle.listen_sockets.specs.declared.peer.Peer.{Peer}
 use Rattle.listen_sockets.specs.declared.slow.Times.{Times}
 use Rattle.listen_sockets.specs.declared.sockets.Wire.{Wire}
@@ -23,6 +23,10 @@ wire_at wires place = wire_of (slice_get wires place)
 -- a place with no socket, at which nothing was counted
 abbrev pub free_wire : Wire
 free_wire = record { peer = None; waits = 0; losses = 0 }
+
+-- whether a place has no socket
+abbrev pub has_no_peer : Wire → Bool
+has_no_peer wire = is_none wire.peer
 
 -- this socket was put at a place, where there is such a place; the others are as they were
 abbrev pub IsPut : ℕ → Peer → List Wire → List Wire → Type 0

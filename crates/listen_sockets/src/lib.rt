@@ -8,6 +8,7 @@ mod poller;
 mod server;
 mod slow;
 mod sockets;
+mod told;
 
 pub use peer::Peer;
 pub use poller::Poller;

@@ -50,7 +50,9 @@ impl Peer {
     }
 
     /// Has the system report it under a number.
-    pub fn register(&mut self, poll: &Poll, place: u32) -> bool {
+    pub fn register(&mut self, poll: &Poll, place: u32) -> bool
+        ensures { self.new.ended ≡ self.old.ended }
+    {
         let both = Interest::READABLE | Interest::WRITABLE;
         poll.registry()
             .register(&mut self.stream, Token(place as usize), both)
@@ -63,7 +65,9 @@ impl Peer {
     }
 
     /// What the system says of it now.
-    pub fn mark(&mut self, event: &Event) {
+    pub fn mark(&mut self, event: &Event)
+        ensures { self.new.ended ≡ self.old.ended }
+    {
         let fails = event.is_error();
         self.readable = self.readable || event.is_readable() || fails;
         self.writable = self.writable || event.is_writable() || fails;
@@ -73,7 +77,9 @@ impl Peer {
 
     /// The next write is tried, whatever the system said: it tells of room only where a third of what it keeps for a peer is free, so that a peer
     /// that takes bytes slowly would seem to stand still.
-    pub fn try_write(&mut self) {
+    pub fn try_write(&mut self)
+        ensures { self.new.ended ≡ self.old.ended }
+    {
         self.writable = true;
     }
 

@@ -1,4 +1,6 @@
 //! The system's part of the service, over `mio`: where connections come from, and what the system says of them.
+ghost use Rattle.listen_sockets.specs.Sockets.{KeepsStreams};
+
 use crate::sockets::Sockets;
 use mio::net::TcpListener;
 use mio::{Events, Interest, Poll, Token};
@@ -17,16 +19,13 @@ const TICK: u64 = 500;
 const LISTENER: Token = Token(0xffff_ffff);
 
 /// Sets what the system says of each socket. Whether it says something of the listener.
-fn mark(sockets: &mut Sockets, events: &Events) -> bool {
+fn mark(sockets: &mut Sockets, events: &Events) -> bool
+    ensures { KeepsStreams sockets.old.wires.items sockets.new.wires.items }
+{
     let mut accepts = false;
     for event in events {
-        match sockets.wires.get_mut(event.token().0) {
-            Some(wire) => {
-                if let Some(peer) = &mut wire.peer {
-                    peer.mark(event);
-                }
-            }
-            None => accepts = true,
+        if !sockets.mark(event) {
+            accepts = true;
         }
     }
     accepts
@@ -66,8 +65,10 @@ impl Poller {
         })
     }
 
-    /// Waits for events, and gives the second that it is then.
-    pub fn wait<R: Clock>(&mut self, rt: &R, sockets: &mut Sockets, busy: bool) -> io::Result<u64> {
+    /// Waits for events, and gives the second that it is then. No stream ends by that.
+    pub fn wait<R: Clock>(&mut self, rt: &R, sockets: &mut Sockets, busy: bool) -> io::Result<u64>
+        ensures { KeepsStreams sockets.old.wires.items sockets.new.wires.items }
+    {
         let wait = Duration::from_millis(if busy { 0 } else { TICK });
         self.poll.poll(&mut self.events, Some(wait))?;
         self.accepts = mark(sockets, &self.events) || self.accepts;

@@ -98,6 +98,7 @@ impl Server {
         ensures slots { IfOk result (λ conn.
             self.new.slots.items ≡ slice_set self.old.slots.items conn.0 free_slot) }
         ensures kept { OnErr result (self.new.slots.items ≡ self.old.slots.items) }
+        ensures sockets { OnErr result (self.new.sockets ≡ self.old.sockets) }
         ensures peer { IfOk result (λ conn.
             IsPut conn.0 peer self.old.sockets.wires.items self.new.sockets.wires.items) }
     {
@@ -151,6 +152,7 @@ impl Server {
     pub fn tend_lingering_at(&mut self, at: u32)
         ensures hub { self.new.hub ≡ self.old.hub }
         ensures slots { self.new.slots.items ≡ self.old.slots.items }
+        ensures sockets { self.new.sockets ≡ self.old.sockets }
     {
         self.lingering.tend(at as usize, 1, &mut self.waste);
     }

@@ -6,6 +6,7 @@ ghost use Rattle.odata_http.specs.Device.{TakesSome};
 use crate::peer::Peer;
 use crate::slow::Times;
 use mio::Poll;
+use mio::event::Event;
 use odata_rounds::{PeerFault, Peers};
 use std::alloc::{AllocError, Global};
 
@@ -65,6 +66,34 @@ impl Wire {
         }
     }
 
+    /// Has the system report the socket under a number.
+    pub(crate) fn register(&mut self, poll: &Poll, place: u32) -> bool
+        ensures { is_ended_peer self.new.peer ≡ is_ended_peer self.old.peer }
+    {
+        match &mut self.peer {
+            Some(peer) => peer.register(poll, place),
+            None => false,
+        }
+    }
+
+    /// Sets what the system says of the socket now.
+    pub(crate) fn mark(&mut self, event: &Event)
+        ensures { is_ended_peer self.new.peer ≡ is_ended_peer self.old.peer }
+    {
+        if let Some(peer) = &mut self.peer {
+            peer.mark(event);
+        }
+    }
+
+    /// Has the next write to the socket tried.
+    pub(crate) fn try_write(&mut self)
+        ensures { is_ended_peer self.new.peer ≡ is_ended_peer self.old.peer }
+    {
+        if let Some(peer) = &mut self.peer {
+            peer.try_write();
+        }
+    }
+
     /// Notes what a visit that worked did.
     fn note_work(&mut self, now: u64)
         ensures { is_ended_peer self.new.peer ≡ is_ended_peer self.old.peer }
@@ -117,8 +146,9 @@ pub struct Sockets {
 }
 
 impl Sockets {
+    ghost use Rattle.std.specs.List.{list_any};
     ghost use Rattle.std.specs.Prelude.{IfOk, replicate};
-    ghost use Rattle.listen_sockets.specs.Sockets.{EndsStream, IsPut, KeepsStreams, free_wire, is_lost_at, times_at};
+    ghost use Rattle.listen_sockets.specs.Sockets.{EndsStream, IsPut, KeepsStreams, free_wire, has_no_peer, is_lost_at, times_at};
 
     /// So many places, at none of which is a socket.
     pub fn new(alloc: Global, places: u32) -> Result<Sockets, AllocError>
@@ -169,28 +199,10 @@ impl Sockets {
     }
 
     /// Whether there is a place with no socket.
-    pub fn has_free(&self) -> bool {
+    pub fn has_free(&self) -> bool
+        ensures { result ≡ list_any has_no_peer self.now.wires.items }
+    {
         self.wires.iter().any(|wire| wire.peer.is_none())
-    }
-
-    /// Has the system report the socket at a place under its number.
-    pub fn register(&mut self, poll: &Poll, place: u32) -> bool {
-        match self.wires.get_mut(place as usize) {
-            Some(wire) => match &mut wire.peer {
-                Some(peer) => peer.register(poll, place),
-                None => false,
-            },
-            None => false,
-        }
-    }
-
-    /// Has the next write to each socket tried.
-    pub fn try_writes(&mut self) {
-        for wire in &mut self.wires {
-            if let Some(peer) = &mut wire.peer {
-                peer.try_write();
-            }
-        }
     }
 
     /// Whether the system said that the connection at a place is lost.
