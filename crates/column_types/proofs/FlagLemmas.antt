@@ -1,43 +1,46 @@
 -- Flags that are set one after another, and words and columns that are made so.
-use Rattle.std.proofs.Common.{◌≡◌, ℕ, ◌+◌, ◌<◌, ◌≤◌, Bool, true, false, cond, ◌&&◌, ◌||◌, List, [], ◌∷◌, ◌++◌, length, map, take, get_or, ap, sym, subst, ◌∙◌, inl, inr, arith}
+use Rattle.std.proofs.Common.{◌≡◌, ℕ, ◌+◌, ◌<◌, ◌≤◌, Bool, true, false, cond, ◌||◌, List, [], ◌∷◌, ◌++◌, length, map, take, get_or, ap, sym, ◌∙◌, inl, inr, arith}
 use Rattle.std.proofs.Common.{get_or-set_other, get_or-set_same}
 use Rattle.std.specs.Prelude.{slice_set}
+use Rattle.std.proofs.Math.Bool.{or-false}
 use Rattle.std.proofs.lemmas.Bool.{cases_order}
-use Rattle.std.proofs.lemmas.List.{get_or-map, length-map, take_more, get_or_default}
+use Rattle.std.proofs.lemmas.List.{get_or-map, length-map, take_more}
 use Rattle.cell_types.specs.Column.{ColumnOf}
 use Rattle.cell_types.specs.Datatype.{DatatypeOf, text}
+use Rattle.column_types.proofs.ListLaws.{or_from_false}
 use Rattle.column_types.specs.Seen.{flagged}
 use Rattle.column_types.specs.Types.{candidate, null_column, null_words, types}
 use Rattle.column_types.proofs.SeenLemmas.{flagged-more}
 
--- the flag at a place is set by a test of the flag that was there
-set-done : (test : ℕ → Bool → Bool) (first flags : List Bool) (place : ℕ) (v d : Bool) → place < length flags
-    → ((k : ℕ) → k < place → get_or flags k false ≡ test k (get_or first k false)) → ((k : ℕ) → place ≤ k → get_or flags k false ≡ get_or first k false)
-    → v ≡ test place (get_or flags place d) → (k : ℕ) → k < place + 1 → get_or (slice_set flags place v) k false ≡ test k (get_or first k false)
-set-done test first flags place v d within done left is k less =
-    elim (cases_order k place) [
-      | inl same ↦
-          ap (λ n. get_or (slice_set flags place v) n false) same ∙ get_or-set_same flags place v false within
-          ∙ is ∙ ap (test place) (get_or_default flags place d false within ∙ left place (omega arith)) ∙ ap (λ n. test n (get_or first n false)) (sym same)
-      | inr (inl before) ↦ get_or-set_other flags place k v false (λ e. absurd (omega (arith, e, before))) ∙ done k before
-      | inr (inr after) ↦ absurd (omega (arith, less, after))
-    ]
-
+-- behind a flag that is set the others are as they were
 pub set-left : (first flags : List Bool) (place : ℕ) (v : Bool) → ((k : ℕ) → place ≤ k → get_or flags k false ≡ get_or first k false)
     → (k : ℕ) → place + 1 ≤ k → get_or (slice_set flags place v) k false ≡ get_or first k false
 set-left first flags place v left k less = get_or-set_other flags place k v false (λ e. absurd (omega (arith, e, less))) ∙ left k (omega (arith, less))
 
-pub and-done : (h : ℕ → Bool) (first flags : List Bool) (place : ℕ) (v d w : Bool) → place < length flags
-    → ((k : ℕ) → k < place → get_or flags k false ≡ (get_or first k false && h k)) → ((k : ℕ) → place ≤ k → get_or flags k false ≡ get_or first k false)
-    → v ≡ (get_or flags place d && w) → w ≡ h place → (k : ℕ) → k < place + 1 → get_or (slice_set flags place v) k false ≡ (get_or first k false && h k)
-and-done h first flags place v d w within done left is same =
-    set-done (λ k b. b && h k) first flags place v d within done left (is ∙ ap (λ t. get_or flags place d && t) same)
+-- the flag at a place is set where the test holds there, and stays where it does not
+pub marked-done : (h : ℕ → Bool) (first flags : List Bool) (place : ℕ) → place < length flags
+    → ((k : ℕ) → k < place → get_or flags k false ≡ (get_or first k false || h k)) → h place ≡ true
+    → (k : ℕ) → k < place + 1 → get_or (slice_set flags place true) k false ≡ (get_or first k false || h k)
+marked-done h first flags place within done is k less =
+    elim (cases_order k place) [
+      | inl same ↦
+          ap (λ n. get_or (slice_set flags place true) n false) same ∙ get_or-set_same flags place true false within
+          ∙ sym (or_from_false (get_or first place false) (h place) (λ _. is)) ∙ ap (λ n. get_or first n false || h n) (sym same)
+      | inr (inl before) ↦ get_or-set_other flags place k true false (λ e. absurd (omega (arith, e, before))) ∙ done k before
+      | inr (inr after) ↦ absurd (omega (arith, less, after))
+    ]
 
-pub or-done : (h : ℕ → Bool) (first flags : List Bool) (place : ℕ) (v d w : Bool) → place < length flags
-    → ((k : ℕ) → k < place → get_or flags k false ≡ (get_or first k false || h k)) → ((k : ℕ) → place ≤ k → get_or flags k false ≡ get_or first k false)
-    → v ≡ (get_or flags place d || w) → w ≡ h place → (k : ℕ) → k < place + 1 → get_or (slice_set flags place v) k false ≡ (get_or first k false || h k)
-or-done h first flags place v d w within done left is same =
-    set-done (λ k b. b || h k) first flags place v d within done left (is ∙ ap (λ t. get_or flags place d || t) same)
+pub kept-done : (h : ℕ → Bool) (first flags : List Bool) (place : ℕ) → ((k : ℕ) → k < place → get_or flags k false ≡ (get_or first k false || h k))
+    → ((k : ℕ) → place ≤ k → get_or flags k false ≡ get_or first k false) → h place ≡ false
+    → (k : ℕ) → k < place + 1 → get_or flags k false ≡ (get_or first k false || h k)
+kept-done h first flags place done left is k less =
+    elim (cases_order k place) [
+      | inl same ↦
+          ap (λ n. get_or flags n false) same ∙ left place (omega arith) ∙ sym (or-false (get_or first place false))
+          ∙ ap (λ b. get_or first place false || b) (sym is) ∙ ap (λ n. get_or first n false || h n) (sym same)
+      | inr (inl before) ↦ done k before
+      | inr (inr after) ↦ absurd (omega (arith, less, after))
+    ]
 
 -- one word more, where its flag is set
 pub flagged-push : (words : List (List ℕ)) (flags : List Bool) (place : ℕ) (flag : Bool) (word : List ℕ) → place < length flags → place < length null_words

@@ -1,6 +1,6 @@
 -- Crates above may cite this file: laws of lists and of truth values alone.
-use Rattle.std.proofs.Common.{◌≡◌, ℕ, ◌<◌, Bool, true, false, cond, ◌&&◌, ◌||◌, List, [], ◌∷◌, ◌++◌, length, get_or, Option, Some, None, refl, sym, ◌∙◌}
-use Rattle.std.specs.List.{list_all, list_any, find}
+use Rattle.std.proofs.Common.{◌≡◌, ℕ, ◌<◌, Bool, true, false, cond, ◌&&◌, ◌||◌, List, [], ◌∷◌, length, get_or, Option, Some, refl, sym}
+use Rattle.std.specs.List.{list_all, find}
 use Rattle.std.proofs.lemmas.List.Recursion.{and_at, and_from_places}
 
 pub or_from_false : (a b : Bool) → (a ≡ false → b ≡ true) → (a || b) ≡ true

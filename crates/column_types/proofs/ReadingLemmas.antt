@@ -1,5 +1,5 @@
 -- What a cell is in a column of a draft: null where its normal text stands for null, and else what its datatype reads.
-use Rattle.std.proofs.Common.{◌≡◌, ℕ, Bool, true, false, cond, ◌||◌, ◌&&◌, List, [], ◌∷◌, Ok, Err, Result, length, refl, ap, sym, ◌∙◌, arith}
+use Rattle.std.proofs.Common.{◌≡◌, ◌≢◌, ℕ, Bool, true, false, cond, ◌||◌, List, [], ◌∷◌, Ok, Err, Result, length, refl, ap, ◌∙◌, arith}
 use borrow.Author.Tests.{ne_eqb}
 use Rattle.std.specs.Prelude.{is_ok}
 use Rattle.std.specs.List.{list_any}
@@ -9,14 +9,17 @@ use Rattle.std.proofs.lemmas.Bool.{cond_both}
 use Rattle.std.proofs.Math.Bool.{or-false}
 use Rattle.cell_types.specs.declared.fault.CellFault.{CellFault}
 use Rattle.cell_types.specs.declared.fault.CellFault.TheVariants.{NotInteger, OutOfRange}
-use Rattle.cell_types.specs.Cell.{content_value, typed_value, value_of}
+use Rattle.cell_types.specs.Cell.{content_value, typed_value}
 use Rattle.cell_types.specs.Datatype.{DatatypeOf, is_text, integer, text, boolean, date, decimal}
 use Rattle.cell_types.specs.Integer.{fits_64_bits, integer_of, is_integer}
 use Rattle.cell_types.specs.Value as value
 use Rattle.cell_types.specs.Value.{CellValue, null}
 use Rattle.cell_types.specs.WhiteSpace.{normal_text}
 use Rattle.column_types.proofs.ListLaws.{or_from_false}
-use Rattle.column_types.specs.Types.{candidate, column_with, has_value, stands_for_null, is_null_in, is_null_value, null_column, null_words, stands_for}
+use Rattle.column_types.specs.declared.reading.Reading.{Reading}
+use Rattle.column_types.specs.declared.reading.Reading.TheVariants.{IsNull, HasValue, HasNone}
+use Rattle.column_types.specs.Reading.{reading_of}
+use Rattle.column_types.specs.Types.{column_with, has_value, stands_for_null, is_null_in, is_null_value, null_words, stands_for}
 
 -- a text is one of those
 abbrev pub is_among : List (List ℕ) → List ℕ → Bool
@@ -76,3 +79,42 @@ stands_for-is word cell = is_null_in-is (word ∷ []) cell ∙ or-false (bytes_e
 
 pub is_null-is : (cell : List ℕ) → stands_for_null cell ≡ is_among ([] ∷ null_words) (normal_text cell)
 is_null-is cell = is_null_in-is ([] ∷ null_words) cell
+
+-- what a reading says: whether the value is null, and whether there is one
+abbrev pub is_null_by : Reading → Bool
+is_null_by IsNull = true
+is_null_by HasValue = false
+is_null_by HasNone = false
+
+pub null-read : (r : Result CellValue CellFault) → is_null_value r ≡ is_null_by (reading_of r)
+null-read (Ok null) = refl
+null-read (Ok (value.integer z)) = refl
+null-read (Ok (value.text t)) = refl
+null-read (Ok (value.boolean b)) = refl
+null-read (Ok (value.date y m d)) = refl
+null-read (Ok (value.decimal z)) = refl
+null-read (Err fault) = refl
+
+pub not_null : (reading : Reading) → reading ≢ IsNull → is_null_by reading ≡ false
+not_null IsNull other = absurd (other refl)
+not_null HasValue other = refl
+not_null HasNone other = refl
+
+abbrev pub has_value_by : Reading → Bool
+has_value_by IsNull = true
+has_value_by HasValue = true
+has_value_by HasNone = false
+
+pub not_none : (reading : Reading) → reading ≢ HasNone → has_value_by reading ≡ true
+not_none IsNull other = refl
+not_none HasValue other = refl
+not_none HasNone other = absurd (other refl)
+
+pub value-read : (r : Result CellValue CellFault) → is_ok r ≡ has_value_by (reading_of r)
+value-read (Ok null) = refl
+value-read (Ok (value.integer z)) = refl
+value-read (Ok (value.text t)) = refl
+value-read (Ok (value.boolean b)) = refl
+value-read (Ok (value.date y m d)) = refl
+value-read (Ok (value.decimal z)) = refl
+value-read (Err fault) = refl

@@ -1,5 +1,5 @@
 -- What is known of a column when one more cell is read, and what its datatype is.
-use Rattle.std.proofs.Common.{◌≡◌, ℕ, zero, suc, ◌+◌, ◌<◌, Bool, true, false, cond, ◌&&◌, ◌||◌, eqb, List, [], ◌∷◌, ◌++◌, length, map, take, get_or, Option, Some, None, refl, ap, sym, ◌∙◌, arith, add-one}
+use Rattle.std.proofs.Common.{◌≡◌, ℕ, zero, suc, ◌+◌, ◌<◌, Bool, true, false, cond, ◌&&◌, ◌||◌, eqb, List, [], ◌∷◌, ◌++◌, length, take, get_or, None, refl, ap, sym, ◌∙◌, arith, add-one}
 use Rattle.std.specs.Prelude.{filter, unwrap_or}
 use Rattle.std.specs.List.{find, list_all, list_any}
 use Rattle.std.specs.Str.{bytes_eq}
@@ -16,8 +16,8 @@ use Rattle.column_types.specs.declared.seen.Seen.{Seen}
 use Rattle.column_types.specs.declared.types.Candidates.{Candidates}
 use Rattle.column_types.specs.Kinds.{AreCandidates}
 use Rattle.column_types.specs.Reading.{fits_at, has_value_at, datatype_at, IsDatatypePlace}
-use Rattle.column_types.specs.Seen.{places, AreMarked, HasForm, HasReadCells, HasSeen, HaveWords, IsOpen, flagged}
-use Rattle.column_types.specs.Types.{are_versions, candidate, datatype_for, ends_in_zero, fits_cells, has_one_place, has_point, have_two_dates, stands_for_null, is_null_in, is_padded, null_column, null_words, nulls_in, stands_for, stay_texts, types}
+use Rattle.column_types.specs.Seen.{places, HasForm, HasReadCells, HasSeen, HaveWords, IsOpen, flagged}
+use Rattle.column_types.specs.Types.{are_versions, candidate, datatype_for, ends_in_zero, fits_cells, has_one_place, has_point, have_two_dates, stands_for_null, is_padded, null_column, null_words, nulls_in, stands_for, stay_texts, types}
 use Rattle.column_types.proofs.OpenLemmas.{filter-all, left-at, null-all, open-more}
 use Rattle.column_types.proofs.ReadingLemmas.{is_among, is_null-is, stands_for-is}
 
@@ -226,14 +226,14 @@ typed-at candidates place column are less e =
     ∙ ap (λ cs. get_or cs place (candidate text)) are.typed
     ∙ get_or-map candidate types place text (candidate text) less
 
-pub nulls-marked : (candidates : Candidates) (old new : List Bool) (cell : List ℕ) → AreCandidates candidates
-    → AreMarked (map column_view candidates.nulls.items) cell old new → HaveWords old cell new
-nulls-marked candidates old new cell are marked k less =
-    let columns = map column_view candidates.nulls.items in
-    let within : k < length columns = omega (arith, less, ap (λ cs. length cs) are.nulls, length-map null_words null_column) in
-    marked k within
-    ∙ ap (λ column. get_or old k false || is_null_in column cell)
-    (ap (λ cs. get_or cs k (null_column [])) are.nulls ∙ get_or-map null_column null_words k [] (null_column []) less)
+-- the column of a word
+pub null-at : (candidates : Candidates) (place : ℕ) (column : Column) → AreCandidates candidates → place < length candidates.nulls.items
+    → column ≡ get_or candidates.nulls.items place column → column_view column ≡ null_column (get_or null_words place [])
+null-at candidates place column are less e =
+    ap column_view e
+    ∙ sym (get_or-map column_view candidates.nulls.items place column (null_column []) less)
+    ∙ ap (λ cs. get_or cs place (null_column [])) are.nulls
+    ∙ get_or-map null_column null_words place [] (null_column []) (omega (arith, less, nulls-count candidates are))
 
 -- an empty cell is none of the words
 empty-normal : is_among null_words (normal_text []) ≡ false

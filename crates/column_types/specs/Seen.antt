@@ -1,12 +1,11 @@
 -- What is known of a column when some of its cells are read.
 use Rattle.std.specs.Prelude.{◌≡◌, ℕ, ◌<◌, Bool, true, false, ◌&&◌, ◌||◌, List, [], ◌∷◌, ◌++◌, filter, length, slice_index_or, All, Option, None, Some}
 use Rattle.std.specs.List.{list_all, list_any, range_with_len}
-use Rattle.cell_types.specs.Column.{ColumnOf}
 use Rattle.cell_types.specs.Datatype.{DatatypeOf, text}
 use Rattle.column_types.specs.declared.form.Form.{Form}
 use Rattle.column_types.specs.declared.seen.Seen.{Seen}
 use Rattle.column_types.specs.Reading.{fits_at, has_value_at, datatype_at, IsDatatypePlace}
-use Rattle.column_types.specs.Types.{datatype_for, types, null_words, null_column, stands_for, stands_for_null, is_null_in, is_padded, has_point, has_one_place, ends_in_zero}
+use Rattle.column_types.specs.Types.{datatype_for, types, null_words, stands_for, stands_for_null, is_padded, has_point, has_one_place, ends_in_zero}
 
 -- so look the cells that were read
 pub record HasForm (form : Form) (cells : List (List ℕ)) : Type 0 where
@@ -45,11 +44,6 @@ pub record HasReadCells (old : Seen) (cell : List ℕ) (new : Seen) : Type 0 whe
 abbrev pub first_type : List ℕ → DatatypeOf
 first_type [] = text
 first_type (place ∷ others) = datatype_at place
-
--- a flag is set where the cell is null in its column
-abbrev pub AreMarked : List ColumnOf → List ℕ → List Bool → List Bool → Type 0
-AreMarked columns cell old new = (k : ℕ) → k < length columns
-    → slice_index_or new k false ≡ (slice_index_or old k false || is_null_in (slice_index_or columns k (null_column [])) cell)
 
 -- a flag is set where the cell stands for null by its word
 abbrev pub HaveWords : List Bool → List ℕ → List Bool → Type 0

@@ -1,6 +1,6 @@
 -- The datatype that the cells of a column speak for, and the texts among them that stand for null (Metadata Vocabulary for Tabular Data, sections
 -- 5.7 and 5.11; Model for Tabular Data and Metadata on the Web, section 6.4).
-use Rattle.std.specs.Prelude.{ℕ, Bool, true, false, ◌&&◌, ◌||◌, ◌==◌, List, [], ◌∷◌, ◌-◌, length, map, filter, find, codes, nat_lt, slice_index, unwrap_or, is_ok, if◌then◌else◌, Result, Ok}
+use Rattle.std.specs.Prelude.{ℕ, Bool, true, false, ◌&&◌, ◌||◌, ◌==◌, List, [], ◌∷◌, ◌-◌, length, filter, find, codes, nat_lt, slice_index, unwrap_or, is_ok, if◌then◌else◌, Result, Ok}
 use Rattle.std.specs.Char.{is_ascii_digit}
 use Rattle.std.specs.List.{list_all, list_any, before_first, after_first}
 use Rattle.cell_types.specs.declared.fault.CellFault.{CellFault}

@@ -32,7 +32,7 @@ impl Form {
     }
 
     /// Looks whether one more cell is a padded number.
-    fn read_code(&mut self, cell: &[u8])
+    fn read_code(&mut self, cell: &str)
         ensures padded { self.new.padded ≡ (self.old.padded || is_padded_of cell.now) }
         ensures points { self.new.points ≡ self.old.points }
         ensures one_place { self.new.one_place ≡ self.old.one_place }
@@ -42,7 +42,7 @@ impl Form {
     }
 
     /// Looks at the point of one more cell.
-    fn read_point(&mut self, cell: &[u8])
+    fn read_point(&mut self, cell: &str)
         ensures padded { self.new.padded ≡ self.old.padded }
         ensures points { self.new.points ≡ has_point_of cell.now }
         ensures one_place { self.new.one_place ≡ (self.old.one_place || has_one_place_of cell.now) }
@@ -55,7 +55,7 @@ impl Form {
     }
 
     /// Looks at one more cell. Where one has no point between digits, the others' don't matter.
-    pub fn read(&mut self, cell: &[u8])
+    pub fn read(&mut self, cell: &str)
         ensures { (cells : List (List ℕ)) → HasForm self.old cells
             → HasForm self.new (cells ++ cell.now ∷ []) }
     {

@@ -9,7 +9,6 @@ mod reading;
 mod seen;
 mod types;
 
-pub use cells::{has_value, is_null_in};
 pub use form::Form;
 pub use laws::cells_have_values;
 pub use seen::Seen;

@@ -1,5 +1,5 @@
 //! What a cell is under the datatypes that are left for its column.
-ghost use Rattle.std.specs.Prelude.{◌≡◌, ◌<◌, [], ◌∷◌, ◌++◌, true, Ok, IfOk, OnOk, All, filter, if◌then◌else◌, length};
+ghost use Rattle.std.specs.Prelude.{◌≡◌, ◌<◌, true, Ok, IfOk, All, filter, length};
 ghost use Rattle.cell_types.specs.Cell.{value_of};
 ghost use Rattle.cell_types.specs.Column.{column_view};
 ghost use Rattle.cell_types.specs.Value.{value_view};
@@ -7,7 +7,6 @@ ghost use Rattle.column_types.specs.Kinds.{AreCandidates};
 ghost use Rattle.column_types.specs.Reading.{has_value_at, reading_of, reading_under, datatype_at, IsDatatypePlace, IsReadingOfCell};
 ghost use Rattle.column_types.specs.declared.reading.Reading.TheVariants.{HasValue};
 
-use crate::cells::has_value;
 use crate::types::Candidates;
 use cell_types::{
     CellFault, Column, Datatype, Value, read_cell, read_plain_boolean, read_plain_date,
@@ -50,7 +49,7 @@ fn value_reading(value: &Value) -> Reading
 }
 
 /// What a cell is in a column.
-fn reading_in(alloc: Global, column: &Column, cell: &str) -> Result<Reading, AllocError>
+pub fn reading_in(alloc: Global, column: &Column, cell: &str) -> Result<Reading, AllocError>
     ensures { IfOk result
         (λ reading. reading ≡ reading_of (value_of (column_view column.now) cell.now)) }
 {
@@ -100,31 +99,6 @@ pub fn reading_under_all(
     Ok(Reading::HasValue)
 }
 
-/// Whether a cell has a value under the datatype of a place.
-fn has_value_under(
-    alloc: Global,
-    candidates: &Candidates,
-    place: usize,
-    cell: &str,
-) -> Result<bool, AllocError>
-    requires candidates { AreCandidates candidates.now }
-    requires place { IsDatatypePlace place }
-    ensures { IfOk result (λ has. has ≡ has_value_at cell.now place) }
-{
-    has_value(alloc, &candidates.typed[place], cell)
-}
-
-/// Adds a place where it is left.
-fn push_left(kept: &mut Vec<usize>, place: usize, is_left: bool) -> Result<(), AllocError>
-    ensures { OnOk result
-        (kept.new.items ≡ kept.old.items ++ (if is_left then place ∷ [] else [])) }
-{
-    if is_left {
-        kept.push(place)?;
-    }
-    Ok(())
-}
-
 /// Those of the places under whose datatypes a cell has a value.
 pub fn places_left(
     alloc: Global,
@@ -136,10 +110,12 @@ pub fn places_left(
     requires places { All IsDatatypePlace left.now }
     ensures { IfOk result (λ kept. kept.items ≡ filter (has_value_at cell.now) left.now) }
 {
-    let mut kept = Vec::with_capacity(alloc, left.len())?;
+    let mut kept = Vec::new(alloc);
     for place in left {
-        let is_left = has_value_under(alloc, candidates, *place, cell)?;
-        push_left(&mut kept, *place, is_left)?;
+        match reading_at(alloc, candidates, *place, cell)? {
+            Reading::HasNone => {}
+            _ => kept.push(*place)?,
+        }
     }
     Ok(kept)
 }

@@ -1,18 +1,18 @@
 //! What is known of a column when some of its cells are read.
-ghost use Rattle.std.specs.Prelude.{◌≡◌, ◌<◌, ◌==◌, ℕ, List, [], ◌∷◌, ◌++◌, ◌||◌, true, false, All, IfOk, OnOk, if◌then◌else◌, length, map, string_bytes};
+ghost use Rattle.std.specs.Prelude.{◌≡◌, ◌<◌, ◌==◌, ℕ, List, [], ◌∷◌, ◌++◌, true, false, All, IfOk, OnOk, length, map, string_bytes};
 ghost use Rattle.std.specs.List.{list_any};
-ghost use Rattle.cell_types.specs.Column.{column_view};
 ghost use Rattle.cell_types.specs.Datatype.{datatype_view, text};
 ghost use Rattle.column_types.specs.Kinds.{AreCandidates};
 ghost use Rattle.column_types.specs.Reading.{IsDatatypePlace};
-ghost use Rattle.column_types.specs.Seen.{flagged, first_type, AreMarked, HasReadCells, HasSeen, HaveWords, IsOpen};
-ghost use Rattle.column_types.specs.Types.{datatype_for, have_two_dates, is_null_in as is_null_in_of, null_words, nulls_in, stay_texts};
+ghost use Rattle.column_types.specs.Seen.{flagged, first_type, HasReadCells, HasSeen, HaveWords, IsOpen};
+ghost use Rattle.column_types.specs.Types.{datatype_for, have_two_dates, null_words, nulls_in, stay_texts};
 
-use crate::cells::is_null_in;
 use crate::form::Form;
-use crate::reading::{Reading, places_left, reading_under_all};
-use crate::types::{Candidates, DAY_FIRST, MONTH_FIRST, PLACES, WORD_COUNT, kind_at, null_word};
-use cell_types::{Column, Datatype};
+use crate::reading::{Reading, places_left, reading_in, reading_under_all};
+use crate::types::{
+    Candidates, DAY_FIRST, MONTH_FIRST, PLACES, WORD_COUNT, datatype_at, null_word,
+};
+use cell_types::Datatype;
 use std::alloc::{AllocError, Global};
 
 /// What is known of a column when some of its cells are read. The datatypes that are left for it only become fewer.
@@ -27,67 +27,24 @@ pub struct Seen {
     pub form: Form,
 }
 
-/// Whether a cell is null in a column, or one before it is.
-fn is_marked(alloc: Global, column: &Column, marked: bool, cell: &str) -> Result<bool, AllocError>
-    ensures { IfOk result (λ is. is ≡ (marked || is_null_in_of (column_view column.now) cell.now)) }
-{
-    if marked {
-        return Ok(true);
-    }
-    is_null_in(alloc, column, cell)
-}
-
-/// Marks the columns in which a cell is null.
-fn read_nulls(
-    alloc: Global,
-    columns: &[Column],
-    words: &mut [bool],
-    cell: &str,
-) -> Result<(), AllocError>
-    requires { length columns.now ≡ length words.old }
-    ensures { OnOk result (AreMarked (map column_view columns.now) cell.now words.old words.new) }
-{
-    for (place, column) in columns.iter().enumerate() {
-        words[place] = is_marked(alloc, column, words[place], cell)?;
-    }
-    Ok(())
-}
-
-/// Marks the columns in which a cell that is null stands for it. The empty one does in none of them.
+/// Marks the words for which a cell that is null stands. The empty one stands for none of them.
 fn mark_words(
     alloc: Global,
     candidates: &Candidates,
-    words: &mut Vec<bool>,
+    words: &mut [bool],
     cell: &str,
 ) -> Result<(), AllocError>
     requires candidates { AreCandidates candidates.now }
-    requires count { length words.old.items ≡ length null_words }
-    ensures marked { OnOk result (HaveWords words.old.items cell.now words.new.items) }
-    ensures count { length words.new.items ≡ length words.old.items }
+    requires count { length words.old ≡ length null_words }
+    ensures { OnOk result (HaveWords words.old cell.now words.new) }
 {
     if cell.is_empty() {
         return Ok(());
     }
-    read_nulls(
-        alloc,
-        candidates.nulls.as_slice(),
-        words.as_mut_slice(),
-        cell,
-    )
-}
-
-/// Adds a word where its flag is set.
-fn push_word(
-    alloc: Global,
-    words: &mut Vec<String>,
-    flag: bool,
-    word: &str,
-) -> Result<(), AllocError>
-    ensures { OnOk result (map string_bytes words.new.items
-        ≡ map string_bytes words.old.items ++ (if flag then word.now ∷ [] else [])) }
-{
-    if flag {
-        words.push(String::from_str(alloc, word)?)?;
+    for (place, column) in candidates.nulls.iter().enumerate() {
+        if let Reading::IsNull = reading_in(alloc, column, cell)? {
+            words[place] = true;
+        }
     }
     Ok(())
 }
@@ -101,7 +58,9 @@ pub(crate) fn flagged_words(alloc: Global, flags: &[bool]) -> Result<Vec<String>
     let mut words = Vec::new(alloc);
     words.push(String::new(alloc))?;
     for (place, flag) in flags.iter().enumerate() {
-        push_word(alloc, &mut words, *flag, null_word(place))?;
+        if *flag {
+            words.push(String::from_str(alloc, null_word(place))?)?;
+        }
     }
     Ok(words)
 }
@@ -141,20 +100,12 @@ impl Seen {
     {
         let left = self.left.as_slice();
         match reading_under_all(alloc, candidates, left, cell)? {
-            Reading::IsNull => {
-                mark_words(alloc, candidates, &mut self.words, cell)?;
-                Ok(())
-            }
-            Reading::HasValue => {
-                self.all_null = false;
-                Ok(())
-            }
-            Reading::HasNone => {
-                self.left = places_left(alloc, candidates, left, cell)?;
-                self.all_null = false;
-                Ok(())
-            }
+            Reading::IsNull => return mark_words(alloc, candidates, &mut self.words, cell),
+            Reading::HasValue => {}
+            Reading::HasNone => self.left = places_left(alloc, candidates, left, cell)?,
         }
+        self.all_null = false;
+        Ok(())
     }
 
     /// Reads one more cell.
@@ -170,7 +121,7 @@ impl Seen {
             → HasSeen self.new (cells ++ cell.now ∷ [])) }
     {
         self.read_value(alloc, candidates, cell)?;
-        self.form.read(cell.as_bytes());
+        self.form.read(cell);
         Ok(())
     }
 
@@ -204,7 +155,7 @@ impl Seen {
         ensures { IfOk result (λ made. datatype_view made ≡ first_type self.now.left.items) }
     {
         match self.left.first() {
-            Some(place) => kind_at(*place).datatype(alloc),
+            Some(place) => datatype_at(alloc, *place),
             None => Ok(Datatype::Text),
         }
     }

@@ -2,50 +2,22 @@
 ghost use Rattle.std.specs.Prelude.{◌≡◌, ◌<◌, [], ◌∷◌, IfOk, map, slice_index_or, string_bytes};
 ghost use Rattle.cell_types.specs.Column.{column_view};
 ghost use Rattle.cell_types.specs.Datatype.{datatype_view, text};
-ghost use Rattle.column_types.specs.Types.{candidate, column_with, null_column, null_words, types};
-ghost use Rattle.column_types.specs.Kinds.{kind_view, AreCandidates};
+ghost use Rattle.column_types.specs.Types.{candidate, column_with, null_column, null_words, truth_words, types};
+ghost use Rattle.column_types.specs.Kinds.{AreCandidates};
 
 use crate::seen::flagged_words;
 use cell_types::{BooleanForm, Column, Datatype, DateForm};
 use std::alloc::{AllocError, Global};
 
-/// A datatype other than `string`.
-#[derive(Clone, Copy)]
-pub enum Kind {
-    Integer,
-    /// A boolean with no format.
-    Boolean,
-    /// A boolean with a format of two words, that of true first.
-    Words(&'static str, &'static str),
-    Decimal,
-    Date(DateForm),
-}
-
 /// How many datatypes other than `string` there are.
-const KIND_COUNT: usize = 17;
+const DATATYPE_COUNT: usize = 17;
 
-/// The datatypes other than `string`, the first that fits first.
-pub const KINDS: [Kind; 17] = [
-    Kind::Integer,
-    Kind::Boolean,
-    Kind::Words("Y", "N"),
-    Kind::Words("y", "n"),
-    Kind::Words("yes", "no"),
-    Kind::Words("Yes", "No"),
-    Kind::Words("YES", "NO"),
-    Kind::Words("T", "F"),
-    Kind::Words("t", "f"),
-    Kind::Words("True", "False"),
-    Kind::Words("TRUE", "FALSE"),
-    Kind::Decimal,
-    Kind::Date(DateForm::YearMonthDay),
-    Kind::Date(DateForm::Compact),
-    Kind::Date(DateForm::DayMonthYear),
-    Kind::Date(DateForm::MonthDayYear),
-    Kind::Date(DateForm::Dotted),
-];
+/// The words of true and of false of the booleans that have a format, which stand behind the one that has none.
+const TRUE_WORDS: [&str; 9] = ["Y", "y", "yes", "Yes", "YES", "T", "t", "True", "TRUE"];
 
-/// The place of the decimals among them.
+const FALSE_WORDS: [&str; 9] = ["N", "n", "no", "No", "NO", "F", "f", "False", "FALSE"];
+
+/// The place of the decimals among the datatypes.
 pub const DECIMAL: usize = 11;
 
 /// The places of all.
@@ -74,14 +46,6 @@ pub struct Candidates {
     pub nulls: Vec<Column>,
 }
 
-/// The kind at a place.
-pub fn kind_at(place: usize) -> Kind
-    requires { place < 17 }
-    ensures { kind_view result ≡ slice_index_or types place text }
-{
-    KINDS[place]
-}
-
 /// The text at a place among those that may stand for null beside the empty one.
 pub fn null_word(place: usize) -> &'static str
     requires { place < 7 }
@@ -90,22 +54,30 @@ pub fn null_word(place: usize) -> &'static str
     NULL_WORDS[place]
 }
 
-impl Kind {
-    /// The datatype of the kind.
-    pub fn datatype(self, alloc: Global) -> Result<Datatype, AllocError>
-        ensures { IfOk result (λ made. datatype_view made ≡ kind_view self) }
-    {
-        match self {
-            Kind::Integer => Ok(Datatype::Integer),
-            Kind::Boolean => Ok(Datatype::Boolean(BooleanForm::Standard)),
-            Kind::Words(of_true, of_false) => {
-                let of_true = String::from_str(alloc, of_true)?;
-                let of_false = String::from_str(alloc, of_false)?;
-                Ok(Datatype::Boolean(BooleanForm::Texts(of_true, of_false)))
-            }
-            Kind::Decimal => Ok(Datatype::Decimal),
-            Kind::Date(form) => Ok(Datatype::Date(form)),
-        }
+/// Booleans with a format of those two words.
+fn boolean_of(alloc: Global, of_true: &str, of_false: &str) -> Result<Datatype, AllocError>
+    ensures { IfOk result (λ made. datatype_view made ≡ truth_words of_true.now of_false.now) }
+{
+    let of_true = String::from_str(alloc, of_true)?;
+    let of_false = String::from_str(alloc, of_false)?;
+    Ok(Datatype::Boolean(BooleanForm::Texts(of_true, of_false)))
+}
+
+/// The datatype at a place among those other than `string`, of which the first that fits stands first.
+pub fn datatype_at(alloc: Global, place: usize) -> Result<Datatype, AllocError>
+    requires { place < 17 }
+    ensures { IfOk result (λ made. datatype_view made ≡ slice_index_or types place text) }
+{
+    match place {
+        0 => Ok(Datatype::Integer),
+        1 => Ok(Datatype::Boolean(BooleanForm::Standard)),
+        2..=10 => boolean_of(alloc, TRUE_WORDS[place - 2], FALSE_WORDS[place - 2]),
+        11 => Ok(Datatype::Decimal),
+        12 => Ok(Datatype::Date(DateForm::YearMonthDay)),
+        13 => Ok(Datatype::Date(DateForm::Compact)),
+        14 => Ok(Datatype::Date(DateForm::DayMonthYear)),
+        15 => Ok(Datatype::Date(DateForm::MonthDayYear)),
+        _ => Ok(Datatype::Date(DateForm::Dotted)),
     }
 }
 
@@ -124,48 +96,27 @@ fn typed_column(alloc: Global, datatype: Datatype, nulls: Vec<String>) -> Column
     }
 }
 
-/// The empty text, and the texts that may stand for null beside it.
-fn null_texts(alloc: Global) -> Result<Vec<String>, AllocError>
-    ensures { IfOk result (λ texts. map string_bytes texts.items ≡ [] ∷ null_words) }
-{
-    flagged_words(alloc, &ALL_WORDS)
-}
-
-/// The column of a kind.
-fn candidate_of(alloc: Global, kind: Kind) -> Result<Column, AllocError>
-    ensures { IfOk result (λ made. column_view made ≡ candidate (kind_view kind)) }
-{
-    let nulls = null_texts(alloc)?;
-    Ok(typed_column(alloc, kind.datatype(alloc)?, nulls))
-}
-
 /// A column for each datatype.
 fn typed_columns(alloc: Global) -> Result<Vec<Column>, AllocError>
     ensures { IfOk result (λ columns. map column_view columns.items ≡ map candidate types) }
 {
-    let mut columns = Vec::with_capacity(alloc, KIND_COUNT)?;
-    for place in 0..KIND_COUNT {
-        columns.push(candidate_of(alloc, kind_at(place))?)?;
+    let mut columns = Vec::new(alloc);
+    for place in 0..DATATYPE_COUNT {
+        let nulls = flagged_words(alloc, &ALL_WORDS)?;
+        let datatype = datatype_at(alloc, place)?;
+        columns.push(typed_column(alloc, datatype, nulls))?;
     }
     Ok(columns)
-}
-
-/// A column in which that text alone stands for null.
-fn column_of_word(alloc: Global, word: &str) -> Result<Column, AllocError>
-    ensures { IfOk result (λ made. column_view made ≡ null_column word.now) }
-{
-    let mut nulls = Vec::with_capacity(alloc, 1)?;
-    nulls.push(String::from_str(alloc, word)?)?;
-    Ok(typed_column(alloc, Datatype::Integer, nulls))
 }
 
 /// A column for each text that may stand for null beside the empty one.
 fn null_columns(alloc: Global) -> Result<Vec<Column>, AllocError>
     ensures { IfOk result (λ columns. map column_view columns.items ≡ map null_column null_words) }
 {
-    let mut columns = Vec::with_capacity(alloc, WORD_COUNT)?;
+    let mut columns = Vec::new(alloc);
     for place in 0..WORD_COUNT {
-        columns.push(column_of_word(alloc, null_word(place))?)?;
+        let nulls = vec![in alloc; String::from_str(alloc, null_word(place))?]?;
+        columns.push(typed_column(alloc, Datatype::Integer, nulls))?;
     }
     Ok(columns)
 }

@@ -2,11 +2,10 @@
 use Rattle.std.specs.Prelude.{◌≡◌, ◌⊎◌, ⊤, Bool, true, false, not, List, [], Option, Some, None, codes}
 use Rattle.std.specs.List.{list_any}
 use Rattle.clap.specs.Facts.{explicit_source}
-use Rattle.clap.specs.Words.{App, IsAmong, Row, Rule, Text, fault_of, first_of, found_of, kind_of, matches_of, new_app, new_rule, one_of, rows_of, subcommand_of, subcommand_rows_of, with_rule, with_subcommand}
+use Rattle.clap.specs.Words.{App, IsAmong, Row, Rule, Text, fault_of, first_of, kind_of, matches_of, new_app, new_rule, one_of, subcommand_of, with_rule, with_subcommand}
 use Rattle.clap.specs.declared.builder.action.ArgAction.TheVariants.{SetTrue}
 use Rattle.clap.specs.declared.error.ErrorKind.{ErrorKind}
 use Rattle.clap.specs.declared.error.ErrorKind.TheVariants.{DisplayHelp, DisplayVersion, OutOfMemory}
-use Rattle.clap.specs.declared.parser.matches.ArgMatches.{ArgMatches}
 use Rattle.command_words.specs.Words.{required_rule}
 use Rattle.csvw_draft.specs.declared.words.Words.{Words}
 use Rattle.csvw_draft.specs.declared.words.Words.TheVariants.{Draft, Show, Explain}
@@ -72,12 +71,6 @@ AsksNot rows reading = (words : Words) → AsksSo words rows reading → ⊥
 -- `clap` takes the texts
 abbrev pub IsAcceptedLine : List Text → Type 0
 IsAcceptedLine line = fault_of whole_command line ≡ []
-
--- `clap` takes the texts, and these are the matches
-pub record AreLineMatches (line : List Text) (matches : ArgMatches) : Type 0 where
-  pub accepted : IsAcceptedLine line
-  pub rows : rows_of (found_of matches) ≡ matches_of whole_command line
-  pub reading : subcommand_rows_of matches ≡ subcommand_of whole_command line
 
 -- `clap` takes the texts, and what it reads asks for these words
 abbrev pub LineAsksFor : List Text → Words → Type 0

@@ -1,12 +1,10 @@
 //! The CSV files of a folder on a disk.
-use crate::told::warn;
 use csvw_meta::MOST_FILE_BYTES;
-use folder_report::{Line, cut};
+use folder_report::cut;
 use served_folders::look;
 use std::alloc::{AllocError, Global};
 use std::fs::{self, DirEntry, File, OpenFile};
 use std::io::{self, ErrorKind, Read};
-use std::rt::Files;
 use table_store::NamedFile;
 
 /// The bytes of a file from which on its reading is told.
@@ -20,56 +18,39 @@ fn is_csv(name: &str) -> bool {
     }
 }
 
-/// Adds a name, where it is that of a CSV file.
-fn push_csv(alloc: Global, names: &mut Vec<String>, name: &str) -> Result<(), AllocError> {
-    if is_csv(name) {
-        names.push(String::from_str(alloc, name)?)?;
-    }
-    Ok(())
-}
-
 /// Adds the name of an entry, where it is that of a CSV file. A name that is not UTF-8 is passed.
-fn push_entry<R>(
-    alloc: Global,
-    names: &mut Vec<String>,
-    entry: io::Result<DirEntry<R>>,
-) -> io::Result<()>
-where
-    R: Files + Drop,
-{
+fn push_entry(names: &mut Vec<String>, entry: io::Result<DirEntry>) -> io::Result<()> {
     match entry {
-        Ok(entry) => Ok(push_csv(alloc, names, entry.file_name())?),
-        Err(error) if error.kind() == ErrorKind::InvalidFilename => Ok(()),
-        Err(error) => Err(error),
+        Ok(entry) => {
+            let name = entry.file_name();
+            if is_csv(name) {
+                let name = String::from_str(*names.allocator(), name)?;
+                names.push(name)?;
+            }
+            Ok(())
+        }
+        Err(error) => match error.kind() {
+            ErrorKind::InvalidFilename => Ok(()),
+            _ => Err(error),
+        },
     }
 }
 
-/// Adds the names of the CSV files of a folder.
-fn push_names<R>(rt: &R, folder: &str, names: &mut Vec<String>) -> io::Result<()>
-where
-    R: Files + AllocGlobal + Clone + Drop,
-{
+/// Adds the names of the CSV files of a folder, in the order of their bytes.
+fn push_names(rt: &HostRuntime, folder: &str, names: &mut Vec<String>) -> io::Result<()> {
     for entry in fs::read_dir(rt, folder)? {
-        push_entry(rt.alloc(), names, entry)?;
+        push_entry(names, entry)?;
     }
     Ok(names.sort()?)
 }
 
-/// The names of the CSV files of a folder, in the order of their bytes.
-fn csv_names<R>(rt: &R, folder: &str) -> io::Result<Vec<String>>
-where
-    R: Files + AllocGlobal + Clone + Drop,
-{
-    let mut names = Vec::new(rt.alloc());
-    push_names(rt, folder, &mut names)?;
-    Ok(names)
+/// The path of a name in a folder.
+pub fn path_in(alloc: Global, folder: &str, name: &str) -> Result<String, AllocError> {
+    format!(in alloc; "{folder}/{name}")
 }
 
 /// The bytes of a plain file, or one more than the limit.
-fn read_plain<R>(rt: &R, path: &str) -> io::Result<Vec<u8>>
-where
-    R: Files + AllocGlobal,
-{
+fn read_plain(rt: &HostRuntime, path: &str) -> io::Result<Vec<u8>> {
     let file = File::open(rt, path)?;
     // what was opened may be another than what was looked at
     if !file.metadata()?.is_file() {
@@ -81,90 +62,61 @@ where
     Ok(bytes)
 }
 
-/// The path of a name in a folder.
-pub fn path_in(alloc: Global, folder: &str, name: &str) -> Result<String, AllocError> {
-    format!(in alloc; "{folder}/{name}")
-}
-
-/// The bytes of the plain file of a name in a folder, where there is anything of that name; of a file above the limit its front alone.
-pub fn file_in<R>(rt: &R, folder: &str, name: &str) -> io::Result<Option<Vec<u8>>>
-where
-    R: Files + AllocGlobal,
-{
-    let path = path_in(rt.alloc(), folder, name)?;
-    match look(rt, path.as_str(), true) {
-        Ok(found) if found.is_file() => Ok(Some(read_plain(rt, path.as_str())?)),
-        Ok(_) => Err(io::Error::from(ErrorKind::InvalidInput)),
-        Err(error) if error.kind() == ErrorKind::NotFound => Ok(None),
-        Err(error) => Err(error),
-    }
-}
-
 /// Tells that so many bytes are read.
-fn tell_long<R>(rt: &R, name: &str, bytes: u64) -> io::Result<()>
-where
-    R: Eprint + AllocGlobal,
-{
+fn tell_long(rt: &HostRuntime, name: &str, bytes: u64) -> io::Result<()> {
     let shown = cut(rt.alloc(), name)?;
     let megabytes = bytes / 1_000_000;
     eprintln!(rt; "reading {shown}, {megabytes} MB")
 }
 
-/// Tells that a name is that of no plain file.
-fn warn_other<R>(rt: &R, name: &str) -> io::Result<()>
-where
-    R: Eprint + AllocGlobal,
-{
-    let mut line = Line::new(rt.alloc());
-    line.push_made(cut(rt.alloc(), name));
-    line.push(": left out: no plain file");
-    warn(rt, line)
-}
-
-/// The file of a name in a folder, where it is a plain one; else that is told.
-fn csv_file<R>(rt: &R, folder: &str, name: String, tells: bool) -> io::Result<Option<NamedFile>>
-where
-    R: Files + Eprint + AllocGlobal,
-{
-    let path = path_in(rt.alloc(), folder, name.as_str())?;
+/// The bytes of the plain file of a name in a folder; of a file above the limit its front alone. Where someone looks on, it tells of a long one. What is no plain file is
+/// an invalid input.
+pub fn file_in(rt: &HostRuntime, folder: &str, name: &str, tells: bool) -> io::Result<Vec<u8>> {
+    let path = path_in(rt.alloc(), folder, name)?;
     let found = look(rt, path.as_str(), true)?;
     if !found.is_file() {
-        warn_other(rt, name.as_str())?;
-        return Ok(None);
+        return Err(io::Error::from(ErrorKind::InvalidInput));
     }
     if tells && found.len() > LONG {
-        tell_long(rt, name.as_str(), found.len())?;
+        tell_long(rt, name, found.len())?;
     }
-    let bytes = read_plain(rt, path.as_str())?;
-    Ok(Some(NamedFile { name, bytes }))
+    read_plain(rt, path.as_str())
 }
 
-/// Adds the files of those names in a folder, in their order.
-fn push_files<R>(
-    rt: &R,
+/// Tells that a name is that of no plain file.
+fn warn_other(rt: &HostRuntime, name: &str) -> io::Result<()> {
+    let shown = cut(rt.alloc(), name)?;
+    eprintln!(rt; "warning: {shown}: left out: no plain file")
+}
+
+/// Adds the file of a name in a folder, where it is a plain one; else that is told.
+fn push_file(
+    rt: &HostRuntime,
     folder: &str,
-    names: Vec<String>,
+    name: String,
     tells: bool,
     files: &mut Vec<NamedFile>,
-) -> io::Result<()>
-where
-    R: Files + Eprint + AllocGlobal,
-{
-    for name in names {
-        if let Some(file) = csv_file(rt, folder, name, tells)? {
-            files.push(file)?;
-        }
+) -> io::Result<()> {
+    match file_in(rt, folder, name.as_str(), tells) {
+        Ok(bytes) => Ok(files.push(NamedFile { name, bytes })?),
+        Err(error) => match error.kind() {
+            ErrorKind::InvalidInput => warn_other(rt, name.as_str()),
+            _ => Err(error),
+        },
     }
-    Ok(())
 }
 
-/// The CSV files of a folder, in the order of their names.
-pub fn csv_files<R>(rt: &R, folder: &str, tells: bool) -> io::Result<Vec<NamedFile>>
-where
-    R: Files + Eprint + AllocGlobal + Clone + Drop,
-{
-    let names = csv_names(rt, folder)?;
-    let mut files = Vec::new(rt.alloc());
-    push_files(rt, folder, names, tells, &mut files)?;
-    Ok(files)
+/// Adds the CSV files of a folder, in the order of their names.
+pub fn push_files(
+    rt: &HostRuntime,
+    folder: &str,
+    tells: bool,
+    files: &mut Vec<NamedFile>,
+) -> io::Result<()> {
+    let mut names = Vec::new(rt.alloc());
+    push_names(rt, folder, &mut names)?;
+    for name in names {
+        push_file(rt, folder, name, tells, files)?;
+    }
+    Ok(())
 }

@@ -20,7 +20,9 @@ pub const MEMORY: u8 = 4;
 pub fn status_of(end: io::Result<u8>) -> u8 {
     match end {
         Ok(status) => status,
-        Err(error) if error.kind() == ErrorKind::OutOfMemory => MEMORY,
-        Err(_) => DEVICE,
+        Err(error) => match error.kind() {
+            ErrorKind::OutOfMemory => MEMORY,
+            _ => DEVICE,
+        },
     }
 }

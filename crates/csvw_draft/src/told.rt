@@ -1,43 +1,23 @@
-//! What is told on standard error, a line for each.
-use crate::status::REFUSED;
-use folder_report::Line;
-use std::io::{self, ErrorKind};
-
-/// Tells a line after the word of its kind.
-fn tell<R>(rt: &R, kind: &str, line: &str) -> io::Result<()>
-where
-    R: Eprint,
-{
-    eprintln!(rt; "{kind}: {line}")
-}
-
-/// Tells what the publisher should look at.
-pub fn warn<R>(rt: &R, line: Line) -> io::Result<()>
-where
-    R: Eprint,
-{
-    if line.is_short {
-        return Err(io::Error::from(ErrorKind::OutOfMemory));
-    }
-    tell(rt, "warning", line.text.as_str())
-}
+//! What is told, on standard error, a line for each thing; and the texts that were asked for.
+use crate::status::{DONE, REFUSED};
+use std::io::{self, Write};
 
 /// Tells why a folder is refused, and gives the exit status.
-pub fn refuse<R>(rt: &R, lines: &[String]) -> io::Result<u8>
-where
-    R: Eprint,
-{
+pub fn refuse_for(rt: &HostRuntime, line: &str) -> io::Result<u8> {
+    eprintln!(rt; "refused: {line}")?;
+    Ok(REFUSED)
+}
+
+/// [`refuse_for`] for several things.
+pub fn refuse(rt: &HostRuntime, lines: &[String]) -> io::Result<u8> {
     for line in lines {
-        tell(rt, "refused", line.as_str())?;
+        refuse_for(rt, line.as_str())?;
     }
     Ok(REFUSED)
 }
 
-/// [`refuse`] for one thing.
-pub fn refuse_for<R>(rt: &R, line: &str) -> io::Result<u8>
-where
-    R: Eprint,
-{
-    tell(rt, "refused", line)?;
-    Ok(REFUSED)
+/// Prints a text, and gives the exit status.
+pub fn print_text(rt: &HostRuntime, text: &[u8]) -> io::Result<u8> {
+    io::writer(rt).write_all(text)?;
+    Ok(DONE)
 }

@@ -5,7 +5,7 @@ ghost use Rattle.clap.specs.Facts.{explicit_source};
 ghost use Rattle.clap.specs.Words.{app_of, found_of, kind_of, one_of, rows_of, rule_of, subcommand_rows_of, with_rule, with_subcommand};
 ghost use Rattle.clap.specs.declared.Command.TheViews.{out-Command};
 ghost use Rattle.command_words.specs.Words.{texts};
-ghost use Rattle.csvw_draft.specs.Words.{AreLineMatches, LineAsksFor, AsksNot, AsksSo, HasSwitch, IsFaultBy, IsWordsFault, draft_app, over_folder, switch_rule, with_folder, whole_command};
+ghost use Rattle.csvw_draft.specs.Words.{LineAsksFor, AsksNot, AsksSo, HasSwitch, IsFaultBy, IsWordsFault, draft_app, over_folder, switch_rule, with_folder, whole_command};
 
 use clap::error::ErrorKind;
 use clap::{Arg, ArgAction, ArgMatches, Command, Error};
@@ -230,29 +230,18 @@ fn fault_by(error: Error) -> WordsFault
     }
 }
 
-/// The matches of the words of the command line.
-fn line_matches<'a>(alloc: Global, words: &'a [&'a str]) -> Result<ArgMatches<'a>, WordsFault>
-    ensures matches { IfOk result (AreLineMatches (texts words.now)) }
-    ensures fault { IfErr result (IsWordsFault (texts words.now)) }
-{
-    let command = program_command(alloc)?;
-    match command.try_get_matches_from(words) {
-        Ok(matches) => Ok(matches),
-        Err(error) => Err(fault_by(error)),
-    }
-}
-
 /// What the words of the command line ask for, of which the first is the program's own name. They are `Usage` only where `clap` finds a mistake in them, or they
 /// ask for nothing.
 pub fn read_words<'a>(alloc: Global, words: &'a [&'a str]) -> Result<Words<'a>, WordsFault>
     ensures words { IfOk result (LineAsksFor (texts words.now)) }
     ensures fault { IfErr result (IsWordsFault (texts words.now)) }
 {
-    match line_matches(alloc, words) {
+    let command = program_command(alloc)?;
+    match command.try_get_matches_from(words) {
         Ok(matches) => match matches_words(&matches) {
             Some(read) => Ok(read),
             None => Err(WordsFault::Usage),
         },
-        Err(fault) => Err(fault),
+        Err(error) => Err(fault_by(error)),
     }
 }

@@ -111,6 +111,20 @@ is-draft limits file table schema url size is width drafted = record {
   drafted = drafted;
 }
 
+-- a table of too many columns is left out
+pub is-wide : (limits : LimitsOf) (earlier : List FileOf) (file : FileOf) (table : RawTable) → length file.bytes ≤ limits.file → IsRawTable file.bytes table
+    → limits.columns < length table.header → IsLeftOut limits earlier file
+is-wide limits earlier file table size is width =
+    inr (inr (
+      size,
+      record {
+        header = map field_of table.header;
+        records = map (map field_of) table.rows;
+        is = is.is;
+        width = omega (arith, width, length-map table.header field_of);
+      },
+    ))
+
 first_bad : (limits : LimitsOf) (files : List FileOf) (number n : ℕ) (cause : DraftCause) (schemas : List SchemaOf) → n ≡ number → number < length files
     → HaveDrafts limits [] (take number files) schemas → IsBadAt limits files number cause → IsFirstBad limits files n cause
 first_bad limits files number n cause schemas same less have bad =

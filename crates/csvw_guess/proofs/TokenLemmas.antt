@@ -1,9 +1,11 @@
 -- The tokens of arrays and objects, piece by piece.
-use Rattle.std.proofs.Common.{◌≡◌, ◌<◌, ◌≤◌, ℕ, ◌+◌, Bool, false, List, [], ◌∷◌, ◌++◌, map, length, drop, get_or, None, Some, Result, OnOk, refl, sym, ap, ◌∙◌, append_assoc}
-use Rattle.std.proofs.lemmas.List.{append-nil, drop_more, drop_all}
+use Rattle.std.proofs.Common.{◌≡◌, ◌<◌, ◌≤◌, ℕ, ◌+◌, Bool, false, List, [], ◌∷◌, ◌++◌, map, length, take, drop, get_or, None, Some, Result, OnOk, refl, sym, ap, ◌∙◌, append_assoc}
+use Rattle.std.proofs.lemmas.List.{append-nil, drop_more, drop_all, map-append, take_more}
 use Rattle.std.proofs.lemmas.Result.{on_ok_weaker}
 use Rattle.json.specs.Token.{Token, key, begin_array, end_array, begin_object, end_object}
 use Rattle.json.specs.Json.{Json}
+use Rattle.json.specs.declared.token.Token as json
+use Rattle.json.specs.Reads.{token_of}
 use Rattle.json.specs.Tree.{json_tokens, items_tokens, members_tokens}
 use Rattle.json.specs.Value.{items_of}
 use Rattle.csvw_guess.specs.Members.{JsonMember, members_with, object_with, unless, array_of, field_tokens, fields_tokens}
@@ -25,6 +27,16 @@ array_next json view xs i x out h e = rw (drop_more xs i x h, ← e) (append_ass
 -- at the end the closing bracket is left
 pub array_ended : {A B : Type 0} (json : B → Json) (view : A → B) (xs : List A) (i : ℕ) → length xs ≤ i → left json view xs i ≡ end_array ∷ []
 array_ended json view xs i h = rw (drop_all i xs h) refl
+
+-- ---- tokens that are written one after another
+
+pub tokens_next : (out now : List Token) (tokens : List json.Token) (k : ℕ) (d : json.Token) → now ≡ out ++ map token_of (take k tokens) → k < length tokens
+    → now ++ token_of (get_or tokens k d) ∷ [] ≡ out ++ map token_of (take (k + 1) tokens)
+tokens_next out now tokens k d so_far within =
+    let token = get_or tokens k d in
+    ap (λ o. o ++ token_of token ∷ []) so_far
+    ∙ append_assoc out (map token_of (take k tokens)) (token_of token ∷ [])
+    ∙ ap (λ more. out ++ more) (sym (map-append token_of (take k tokens) (token ∷ [])) ∙ ap (map token_of) (sym (take_more tokens k d within)))
 
 -- the tokens of an object are those of its members that have a value
 pub members_tokens_of : (fields : List JsonMember) → members_tokens (members_with fields) ≡ fields_tokens fields ++ end_object ∷ []
@@ -95,3 +107,11 @@ pub object_written : {T E : Type 0} (r : Result T E) (out opened a b new : List 
 object_written r out opened a b new f fields begun first rest last =
     written_last r new b (end_object ∷ []) (out ++ json_tokens (object_with (f ∷ fields))) last
     (object_ended out opened b (f ∷ fields) begun (one_more opened a b f fields first rest))
+
+-- an object that begins with some tokens, and ends behind some others
+pub object_around : {T E : Type 0} (r : Result T E) (out opened inner new front value : List Token) → opened ≡ out ++ front → inner ≡ opened ++ value
+    → OnOk r (new ≡ inner ++ end_object ∷ []) → OnOk r (new ≡ out ++ (front ++ (value ++ end_object ∷ [])))
+object_around r out opened inner new front value begun rest last =
+    written_last r new inner (end_object ∷ []) (out ++ (front ++ (value ++ end_object ∷ []))) last
+    (ap (λ tokens. tokens ++ end_object ∷ []) (rest ∙ ap (λ tokens. tokens ++ value) begun)
+    ∙ append_assoc (out ++ front) value (end_object ∷ []) ∙ append_assoc out front (value ++ end_object ∷ []))

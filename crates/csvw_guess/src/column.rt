@@ -21,7 +21,7 @@ fn make_names(alloc: Global, file: &IndexedText) -> Result<Vec<Vec<u8>>, AllocEr
     ensures { IfOk result
         (λ names. name_items names.items ≡ names_after [] (header_cells file.now)) }
 {
-    let mut names = Vec::with_capacity(alloc, file.width())?;
+    let mut names = Vec::new(alloc);
     for col in 0..file.width() {
         let cell = file.header(col).text(alloc)?;
         let name = next_name(alloc, names.as_slice(), cell.as_str())?;
@@ -30,32 +30,28 @@ fn make_names(alloc: Global, file: &IndexedText) -> Result<Vec<Vec<u8>>, AllocEr
     Ok(names)
 }
 
-/// The texts that stand for null in a column of texts: the empty one.
-fn empty_text(alloc: Global) -> Result<Vec<String>, AllocError>
-    ensures { IfOk result (λ texts. map string_bytes texts.items ≡ [] ∷ []) }
+/// The datatype of a column whose cells are all read.
+fn datatype_of(alloc: Global, known: &Option<Seen>) -> Result<Datatype, AllocError>
+    requires { IsKnownOfCells known.now }
+    ensures { IfOk result (λ made. (cells : List (List ℕ)) → EndsAs known.now cells
+        → datatype_view made ≡ datatype_for cells) }
 {
-    let mut texts = Vec::with_capacity(alloc, 1)?;
-    texts.push(String::new(alloc))?;
-    Ok(texts)
+    match known {
+        Some(seen) => seen.datatype(alloc),
+        None => Ok(Datatype::Text),
+    }
 }
 
-/// The datatype of a column whose cells are all read, and the texts that stand for null in it.
-fn datatype_and_nulls(
-    alloc: Global,
-    known: &Option<Seen>,
-) -> Result<(Datatype, Vec<String>), AllocError>
+/// The texts that stand for null in a column of the datatype that its cells speak for: of texts the empty one.
+fn nulls_of(alloc: Global, known: &Option<Seen>, base: &Datatype) -> Result<Vec<String>, AllocError>
     requires { IsKnownOfCells known.now }
-    ensures datatype { IfOk result (λ made. (cells : List (List ℕ)) → EndsAs known.now cells
-        → datatype_view made.0 ≡ datatype_for cells) }
-    ensures nulls { IfOk result (λ made. (cells : List (List ℕ)) → EndsAs known.now cells
-        → map string_bytes made.1.items ≡ nulls_under (datatype_for cells) cells) }
+    ensures { IfOk result (λ made. (cells : List (List ℕ)) → EndsAs known.now cells
+        → datatype_view base.now ≡ datatype_for cells
+        → map string_bytes made.items ≡ nulls_under (datatype_for cells) cells) }
 {
-    let Some(seen) = known else {
-        return Ok((Datatype::Text, empty_text(alloc)?));
-    };
-    match seen.datatype(alloc)? {
-        Datatype::Text => Ok((Datatype::Text, empty_text(alloc)?)),
-        datatype => Ok((datatype, seen.nulls(alloc)?)),
+    match known {
+        Some(seen) if !matches!(base, Datatype::Text) => seen.nulls(alloc),
+        _ => Ok(vec![in alloc; String::new(alloc)]?),
     }
 }
 
@@ -88,7 +84,8 @@ fn make_column(
     let name = String::from_str(alloc, name_text(name))?;
     let cell = file.header(col).text(alloc)?;
     let titles = titles(alloc, name.as_str(), cell.as_str())?;
-    let (datatype, nulls) = datatype_and_nulls(alloc, known)?;
+    let datatype = datatype_of(alloc, known)?;
+    let nulls = nulls_of(alloc, known, &datatype)?;
     Ok(Column {
         name,
         titles,
@@ -111,7 +108,7 @@ pub fn make_columns(
 {
     let names = make_names(alloc, file)?;
     let known = read_columns(alloc, candidates, file)?;
-    let mut columns = Vec::with_capacity(alloc, names.len())?;
+    let mut columns = Vec::new(alloc);
     for (col, name) in names.iter().enumerate() {
         columns.push(make_column(alloc, &known[col], file, col, name.as_slice())?)?;
     }

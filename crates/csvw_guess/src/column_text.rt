@@ -7,19 +7,26 @@ ghost use Rattle.cell_types.specs.declared.datatype.Datatype.TheVariants.{Date};
 ghost use Rattle.csvw_guess.specs.ColumnText.{column_json, datatype_json, inherited_fields, is_empty_text_alone as is_empty_text_alone_of, with_format};
 ghost use Rattle.csvw_guess.specs.Members.{fields_tokens};
 
-use crate::members::{write_text, write_text_unless, write_texts_unless, write_truth};
+use crate::members::{write_text_unless, write_texts_unless, write_tokens, write_truth};
 use cell_types::{BooleanForm, Column, Datatype, DateForm};
 use json::{Pretty, Token};
 use std::alloc::{AllocError, Global};
 
 /// A datatype with a format.
-fn write_format(out: &mut Pretty, base: &str, format: &str) -> Result<(), AllocError>
+fn write_format<'a>(out: &mut Pretty, base: &'a str, format: &'a str) -> Result<(), AllocError>
     ensures { OnOk result (out.new ≡ out.old ++ json_tokens (with_format base.now format.now)) }
 {
-    out.token(Token::BeginObject)?;
-    write_text(out, "base", base)?;
-    write_text(out, "format", format)?;
-    out.token(Token::EndObject)
+    write_tokens(
+        out,
+        &[
+            Token::BeginObject,
+            Token::Key("base"),
+            Token::String(base),
+            Token::Key("format"),
+            Token::String(format),
+            Token::EndObject,
+        ],
+    )
 }
 
 /// Dates of a form.
@@ -116,8 +123,11 @@ pub(crate) fn write_column(
     ensures { OnOk result
         (out.new ≡ out.old ++ json_tokens (column_json (column_view column.now))) }
 {
-    out.token(Token::BeginObject)?;
-    write_text(out, "name", &column.name)?;
+    let name = column.name.as_str();
+    write_tokens(
+        out,
+        &[Token::BeginObject, Token::Key("name"), Token::String(name)],
+    )?;
     write_texts_unless(out, is_none(&column.titles), "titles", &column.titles)?;
     write_inherited(alloc, out, column)?;
     out.token(Token::EndObject)

@@ -18,7 +18,7 @@ pub enum DraftFault {
 }
 
 /// What the publisher of files should look at. Files and columns count from 0.
-#[derive(Clone, Copy, PartialEq, Eq)]
+#[derive(Clone, Copy)]
 pub enum Warning {
     /// The name of a file can't be a `url`: the file is left out.
     NotUrl { file: usize },

@@ -1,18 +1,31 @@
 //! Members of objects, and arrays of texts.
 ghost use Rattle.std.specs.Prelude.{◌≡◌, ◌++◌, map, not, true, OnOk, Some, string_bytes};
+ghost use Rattle.std.specs.List.{AllByRecursion};
 ghost use Rattle.json.specs.Json.{boolean, string};
+ghost use Rattle.json.specs.Print.{IsPrintable};
+ghost use Rattle.json.specs.Reads.{token_of};
 ghost use Rattle.json.specs.Tree.{json_tokens};
 ghost use Rattle.csvw_guess.specs.Members.{field_tokens, texts_json, unless};
 
 use json::{Pretty, Token};
 use std::alloc::AllocError;
 
+/// Tokens, one after another.
+pub(crate) fn write_tokens(out: &mut Pretty, tokens: &[Token<'_>]) -> Result<(), AllocError>
+    requires { AllByRecursion (λ token. IsPrintable (token_of token)) tokens.now }
+    ensures { OnOk result (out.new ≡ out.old ++ map token_of tokens.now) }
+{
+    for next in tokens {
+        out.token(*next)?;
+    }
+    Ok(())
+}
+
 /// A member that is a text.
 pub(crate) fn write_text(out: &mut Pretty, name: &str, text: &str) -> Result<(), AllocError>
     ensures { OnOk result (out.new ≡ out.old ++ field_tokens (name.now, Some (string text.now))) }
 {
-    out.token(Token::Key(name))?;
-    out.token(Token::String(text))
+    write_tokens(out, &[Token::Key(name), Token::String(text)])
 }
 
 /// A member that is a text, unless it goes without saying.
@@ -68,6 +81,5 @@ pub(crate) fn write_truth(out: &mut Pretty, name: &str, truth: bool) -> Result<(
     if !truth {
         return Ok(());
     }
-    out.token(Token::Key(name))?;
-    out.token(Token::Bool(true))
+    write_tokens(out, &[Token::Key(name), Token::Bool(true)])
 }

@@ -34,7 +34,7 @@ pub fn begins_with_letter(name: &[u8]) -> bool
 fn name_bytes(alloc: Global, cell: &str) -> Result<Vec<u8>, AllocError>
     ensures { IfOk result (λ name. name.items ≡ map name_char_of (chars cell.now)) }
 {
-    let mut name = Vec::with_capacity(alloc, cell.len())?;
+    let mut name = Vec::new(alloc);
     for c in cell.chars() {
         name.push(name_char(c))?;
     }

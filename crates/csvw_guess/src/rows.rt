@@ -33,7 +33,6 @@ fn read_field(
     seen.read(alloc, candidates, text.as_str())?;
     if seen.is_text() {
         *known = None;
-        return Ok(());
     }
     Ok(())
 }
@@ -64,7 +63,7 @@ fn new_columns(alloc: Global, width: usize) -> Result<Vec<Option<Seen>>, AllocEr
     ensures known { IfOk result (λ columns.
         (col : ℕ) → col < width → Knows (slice_index_or columns.items col None) []) }
 {
-    let mut columns = Vec::with_capacity(alloc, width)?;
+    let mut columns = Vec::new(alloc);
     for _made in 0..width {
         columns.push(Some(Seen::new(alloc)?))?;
     }

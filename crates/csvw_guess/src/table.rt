@@ -34,8 +34,7 @@ fn make_schema(
     ensures { IfOk result (λ made. schema_view made ≡ file_schema url.now file.now) }
 {
     let columns = make_columns(alloc, candidates, file)?;
-    let mut key = Vec::with_capacity(alloc, 1)?;
-    key.push(0)?;
+    let key = vec![in alloc; 0]?;
     let mut schema = Schema {
         url: String::from_str(alloc, url)?,
         name: String::from_str(alloc, table_name(url))?,

@@ -8,7 +8,7 @@ ghost use Rattle.csvw_guess.specs.Members.{array_of, field_tokens, object_with, 
 ghost use Rattle.csvw_guess.specs.TableText.{key_field, names_of_key, name_at as name_in, schema_fields, table_json};
 
 use crate::column_text::write_column;
-use crate::members::write_text;
+use crate::members::write_tokens;
 use cell_types::Column;
 use csvw_meta::Schema;
 use json::{Pretty, Token};
@@ -80,9 +80,16 @@ pub(crate) fn write_table(
 ) -> Result<(), AllocError>
     ensures { OnOk result (out.new ≡ out.old ++ json_tokens (table_json (schema_view schema.now))) }
 {
-    out.token(Token::BeginObject)?;
-    write_text(out, "url", &schema.url)?;
-    out.token(Token::Key("tableSchema"))?;
+    let url = schema.url.as_str();
+    write_tokens(
+        out,
+        &[
+            Token::BeginObject,
+            Token::Key("url"),
+            Token::String(url),
+            Token::Key("tableSchema"),
+        ],
+    )?;
     write_schema(alloc, out, schema)?;
     out.token(Token::EndObject)
 }

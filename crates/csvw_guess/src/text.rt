@@ -6,7 +6,7 @@ ghost use Rattle.csvw_guess.specs.Members.{array_of};
 ghost use Rattle.csvw_guess.specs.TableText.{group_json, table_json};
 ghost use Rattle.csvw_guess.specs.Text.{schemas_text};
 
-use crate::members::write_text;
+use crate::members::write_tokens;
 use crate::table_text::write_table;
 use csvw_meta::Schema;
 use json::{Pretty, Token};
@@ -29,9 +29,15 @@ fn write_group(alloc: Global, out: &mut Pretty, schemas: &[Schema]) -> Result<()
     ensures { OnOk result
         (out.new ≡ out.old ++ json_tokens (group_json (map schema_view schemas.now))) }
 {
-    out.token(Token::BeginObject)?;
-    write_text(out, "@context", "http://www.w3.org/ns/csvw")?;
-    out.token(Token::Key("tables"))?;
+    write_tokens(
+        out,
+        &[
+            Token::BeginObject,
+            Token::Key("@context"),
+            Token::String("http://www.w3.org/ns/csvw"),
+            Token::Key("tables"),
+        ],
+    )?;
     write_tables(alloc, out, schemas)?;
     out.token(Token::EndObject)
 }

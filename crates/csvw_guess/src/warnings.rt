@@ -25,29 +25,6 @@ enum Fit {
     Others,
 }
 
-/// What a cell is to a column.
-fn fit_of(alloc: Global, column: &Column, field: Raw<'_>) -> Result<Fit, AllocError> {
-    match cell_value(alloc, column, field) {
-        Ok(Value::Null) => Ok(Fit::Nulls),
-        Ok(_) => Ok(Fit::Values),
-        Err(CellFault::TooFine) => Ok(Fit::TooFine),
-        Err(CellFault::NoMemory) => Err(AllocError),
-        Err(_) => Ok(Fit::Others),
-    }
-}
-
-/// What those and one more cell are.
-fn joined(before: Fit, cell: Fit) -> Fit {
-    match cell {
-        Fit::Nulls => before,
-        Fit::Values => match before {
-            Fit::TooFine => before,
-            _ => cell,
-        },
-        _ => cell,
-    }
-}
-
 /// What the cells of a column are to that of a datatype.
 fn column_fit(
     alloc: Global,
@@ -63,9 +40,16 @@ fn column_fit(
     };
     let mut fit = Fit::Nulls;
     for row in 0..file.rows() {
-        fit = joined(fit, fit_of(alloc, column, file.cell(row, col))?);
-        if let Fit::Others = fit {
-            return Ok(fit);
+        match cell_value(alloc, column, file.cell(row, col)) {
+            Ok(Value::Null) => {}
+            Ok(_) => {
+                if let Fit::Nulls = fit {
+                    fit = Fit::Values;
+                }
+            }
+            Err(CellFault::TooFine) => fit = Fit::TooFine,
+            Err(CellFault::NoMemory) => return Err(AllocError),
+            Err(_) => return Ok(Fit::Others),
         }
     }
     Ok(fit)
@@ -107,15 +91,7 @@ fn text_warning(
     }
 }
 
-/// Whether a column is one of texts.
-fn is_text(schema: &Schema, col: usize) -> bool {
-    match schema.columns.get(col) {
-        Some(column) => matches!(column.datatype, Datatype::Text),
-        None => false,
-    }
-}
-
-/// Whether a header cell has a value of its column's datatype, which is none of texts, that is not null.
+/// Whether a header cell has a value of its column's datatype that is not null.
 fn is_data(
     alloc: Global,
     column: &Column,
@@ -124,26 +100,16 @@ fn is_data(
 ) -> Result<bool, AllocError>
     requires { col < length file.now.header }
 {
-    if let Datatype::Text = column.datatype {
-        return Ok(false);
+    match cell_value(alloc, column, file.header(col)) {
+        Ok(Value::Null) => Ok(false),
+        Ok(_) => Ok(true),
+        Err(CellFault::NoMemory) => Err(AllocError),
+        Err(_) => Ok(false),
     }
-    let fit = fit_of(alloc, column, file.header(col))?;
-    Ok(matches!(fit, Fit::Values))
 }
 
-/// Whether there is such a header cell.
-fn has_data(alloc: Global, file: &IndexedText, schema: &Schema) -> Result<bool, AllocError> {
-    for col in 0..file.width() {
-        if let Some(column) = schema.columns.get(col) {
-            if is_data(alloc, column, file, col)? {
-                return Ok(true);
-            }
-        }
-    }
-    Ok(false)
-}
-
-/// Adds what there is to look at in the columns of the file of that number.
+/// Adds what there is to look at in the columns of the file of that number: in those of texts one by one, and whether a header cell has a value of
+/// another datatype.
 pub fn column_warnings(
     candidates: &Candidates,
     number: usize,
@@ -152,14 +118,18 @@ pub fn column_warnings(
     warnings: &mut Vec<Warning>,
 ) -> Result<(), AllocError> {
     let alloc = *warnings.allocator();
+    let mut has_data = false;
     for col in 0..file.width() {
-        if is_text(schema, col) {
-            if let Some(warning) = text_warning(alloc, candidates, number, file, col)? {
-                warnings.push(warning)?;
-            }
+        let Some(column) = schema.columns.get(col) else {
+            break;
+        };
+        if !matches!(column.datatype, Datatype::Text) {
+            has_data = has_data || is_data(alloc, column, file, col)?;
+        } else if let Some(warning) = text_warning(alloc, candidates, number, file, col)? {
+            warnings.push(warning)?;
         }
     }
-    if has_data(alloc, file, schema)? {
+    if has_data {
         warnings.push(Warning::HeaderIsData { file: number })?;
     }
     Ok(())

@@ -1,3 +1,2 @@
 pub mod BoundLemmas
 pub mod ShowLemmas
-pub mod TextLemmas

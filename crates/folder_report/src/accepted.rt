@@ -34,68 +34,78 @@ pub fn accepted_metadata(fault: &MetaFault) -> &'static str {
     }
 }
 
+/// What may stand in the place of members that are not served.
+const IN_PLACE: [(&str, &str); 16] = [
+    ("name", "a column with a name"),
+    ("tableSchema", "the schema itself, and no url of it"),
+    ("virtual", "columns of the file alone"),
+    ("format", "a format of a boolean or of a date"),
+    ("dialect", "metadata without it"),
+    ("transformations", "metadata without it"),
+    ("separator", "metadata without it"),
+    ("length", "a datatype without it"),
+    ("minLength", "a datatype without it"),
+    ("maxLength", "a datatype without it"),
+    ("minimum", "a datatype without it"),
+    ("maximum", "a datatype without it"),
+    ("minInclusive", "a datatype without it"),
+    ("maxInclusive", "a datatype without it"),
+    ("minExclusive", "a datatype without it"),
+    ("maxExclusive", "a datatype without it"),
+];
+
 /// What may stand in the place of a member or a datatype that is not served.
 fn accepted_in_place(key: &str) -> &'static str {
-    match key {
-        "name" => "a column with a name",
-        "tableSchema" => "the schema itself, and no url of it",
-        "virtual" => "columns of the file alone",
-        "format" => "a format of a boolean or of a date",
-        "dialect" | "transformations" | "separator" => "metadata without it",
-        "length"
-        | "minLength"
-        | "maxLength"
-        | "minimum"
-        | "maximum"
-        | "minInclusive"
-        | "maxInclusive"
-        | "minExclusive"
-        | "maxExclusive" => "a datatype without it",
-        _ => "integer, decimal, boolean, date or string",
+    for (name, accepted) in &IN_PLACE {
+        if *name == key {
+            return *accepted;
+        }
     }
+    "integer, decimal, boolean, date or string"
 }
 
-/// What a file may have there.
-pub fn accepted_file(fault: TextFault) -> &'static str {
+/// The place in a file that a fault names, or its begin; and what the file may have there.
+pub fn accepted_file(fault: TextFault) -> (usize, &'static str) {
     match fault {
-        TextFault::NotUtf8 { .. } => "UTF-8",
-        TextFault::BareCr { .. } => "a line feed after a carriage return",
-        TextFault::StrayQuote { .. } => {
-            "a double quote as the first of a field, and each one inside such a field twice"
-        }
-        TextFault::AfterQuote { .. } => {
-            "after a closing double quote a comma or the end of the line; a double quote inside stands twice"
-        }
-        TextFault::Unfinished { .. } =>
+        TextFault::NotUtf8 { at } => (at, "UTF-8"),
+        TextFault::BareCr { at } => (at, "a line feed after a carriage return"),
+        TextFault::StrayQuote { at } => (
+            at,
+            "a double quote as the first of a field, and each one inside such a field twice",
+        ),
+        TextFault::AfterQuote { at } => (
+            at,
+            "after a closing double quote a comma or the end of the line; a double quote inside stands twice",
+        ),
+        TextFault::Unfinished { at } => (
+            at,
             "a closing double quote, and a line feed after a carriage return",
-        TextFault::NoHeader => "a header line",
-        TextFault::Width { .. } => "as many fields as the header has",
-        TextFault::NoMemory => "more memory",
+        ),
+        TextFault::NoHeader => (0, "a header line"),
+        TextFault::Width { .. } => (0, "as many fields as the header has"),
+        TextFault::NoMemory => (0, "more memory"),
     }
 }
 
 /// Appends what a cell of a column may be, where it has no value for that fault.
-pub fn push_accepted_cell(detail: &mut Line, column: &Column, fault: CellFault) {
-    if matches!(fault, CellFault::Missing) {
-        return detail.push("a value, which the column requires");
-    }
-    match &column.datatype {
-        Datatype::Integer => detail.push(
+pub fn push_accepted_cell(line: &mut Line, column: &Column, fault: CellFault) {
+    let accepted = match &column.datatype {
+        _ if matches!(fault, CellFault::Missing) => "a value, which the column requires",
+        Datatype::Integer =>
             "digits with a sign or none, from -9223372036854775808 to 9223372036854775807",
-        ),
-        Datatype::Text => detail.push("a text"),
-        Datatype::Boolean(BooleanForm::Standard) => detail.push("true, false, 1 or 0"),
+        Datatype::Text => "a text",
+        Datatype::Boolean(BooleanForm::Standard) => "true, false, 1 or 0",
         Datatype::Boolean(BooleanForm::Texts(of_true, of_false)) => {
-            detail.push_quoted(of_true.as_str());
-            detail.push(" or ");
-            detail.push_quoted(of_false.as_str());
+            line.push_quoted(of_true.as_str());
+            line.push(" or ");
+            return line.push_quoted(of_false.as_str());
         }
         Datatype::Date(form) => {
-            detail.push("a day of the calendar as ");
-            detail.push(pattern_of(*form));
+            line.push("a day of the calendar as ");
+            pattern_of(*form)
         }
-        Datatype::Decimal => detail.push(
+        Datatype::Decimal =>
             "digits with a sign or none and at most one point, of six decimal places at most",
-        ),
-    }
+    };
+    line.push(accepted);
 }

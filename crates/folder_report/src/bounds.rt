@@ -22,12 +22,9 @@ fn put_least<'t>(least: &mut Option<Value<'t>>, value: Value<'t>)
         ≡ Some (lesser (option_map value_view least.old) (value_view value.entry)) }
 {
     cell_types::values_compare_as_their_views();
-    let stays = match least {
-        Some(old) => *old <= value,
-        None => false,
-    };
-    if !stays {
-        *least = Some(value);
+    match least {
+        Some(old) if *old <= value => {}
+        _ => *least = Some(value),
     }
 }
 
@@ -37,12 +34,9 @@ fn put_greatest<'t>(greatest: &mut Option<Value<'t>>, value: Value<'t>)
         ≡ Some (greater (option_map value_view greatest.old) (value_view value.entry)) }
 {
     cell_types::values_compare_as_their_views();
-    let stays = match greatest {
-        Some(old) => *old >= value,
-        None => false,
-    };
-    if !stays {
-        *greatest = Some(value);
+    match greatest {
+        Some(old) if *old >= value => {}
+        _ => *greatest = Some(value),
     }
 }
 

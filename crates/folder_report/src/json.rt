@@ -1,5 +1,6 @@
 //! Members of JSON values.
 use serde_json::Value;
+use std::slice::from_ref;
 
 /// The value of a member, where there is one that is not null.
 pub fn member<'v>(value: &'v Value, name: &str) -> Option<&'v Value> {
@@ -17,14 +18,26 @@ pub fn array_member<'v>(value: &'v Value, name: &str) -> &'v [Value] {
     items.as_slice()
 }
 
-/// The member of a value, where it is a text that an earlier one has.
-pub fn repeated<'v>(earlier: &[Value], value: &'v Value, name: &str) -> Option<&'v Value> {
-    let found = member(value, name)?;
-    let text = found.as_str()?;
-    for other in earlier {
-        if matches!(other.get(name), Some(Value::String(same)) if same.as_str() == text) {
-            return Some(found);
+/// Whether it is a text that one of the objects has as a member.
+pub fn is_among(objects: &[Value], name: &str, text: &Value) -> bool {
+    for object in objects {
+        if matches!(object.get(name), Some(other) if other == text) {
+            return text.is_string();
         }
     }
-    None
+    false
+}
+
+/// Whether it is the name of one of the columns, or an array of different such names.
+pub fn is_key(columns: &[Value], key: &Value) -> bool {
+    let names = match key {
+        Value::Array(names) => names.as_slice(),
+        name => from_ref(name),
+    };
+    for (i, name) in names.iter().enumerate() {
+        if names[..i].contains(name) || !is_among(columns, "name", name) {
+            return false;
+        }
+    }
+    !names.is_empty()
 }

@@ -1,4 +1,6 @@
 //! What is told, written piece by piece.
+ghost use Rattle.std.specs.Prelude.{◌≡◌, ◌++◌, ◌⊎◌, true, string_bytes};
+
 use crate::text::quoted;
 use std::alloc::{AllocError, Global};
 
@@ -19,23 +21,12 @@ impl Line {
         }
     }
 
-    /// One that begins with the number of a line of a file.
-    pub fn of_line(alloc: Global, number: usize) -> Line {
-        let mut line = Line::new(alloc);
-        line.push("line ");
-        line.push_number(number);
-        line
-    }
-
-    /// One that begins with the number of a line and that of a column.
-    pub fn of_column(alloc: Global, number: usize, column: usize) -> Line {
-        let mut line = Line::of_line(alloc, number);
-        line.push(", column ");
-        line.push_number(column);
-        line
-    }
-
-    pub fn push(&mut self, text: &str) {
+    /// Appends a text, or memory runs out.
+    pub fn push(&mut self, text: &str)
+        ensures { (self.new.is_short ≡ true)
+            ⊎ ((self.new.is_short ≡ self.old.is_short)
+            × (string_bytes self.new.text ≡ string_bytes self.old.text ++ text.now)) }
+    {
         if self.text.push_str(text).is_err() {
             self.is_short = true;
         }
@@ -45,6 +36,19 @@ impl Line {
         if write!(self.text, "{number}").is_err() {
             self.is_short = true;
         }
+    }
+
+    /// Appends the number of a line of a file.
+    pub fn push_line(&mut self, number: usize) {
+        self.push("line ");
+        self.push_number(number);
+    }
+
+    /// Appends the number of a line and that of a column.
+    pub fn push_place(&mut self, number: usize, column: usize) {
+        self.push_line(number);
+        self.push(", column ");
+        self.push_number(column);
     }
 
     /// Appends a text that was made for it.
@@ -58,12 +62,5 @@ impl Line {
     /// Appends a text as a JSON text, cut.
     pub fn push_quoted(&mut self, text: &str) {
         self.push_made(quoted(self.alloc, text));
-    }
-
-    /// Takes away what stands after so many bytes.
-    pub fn shorten(&mut self, len: usize) {
-        if self.text.is_char_boundary(len) {
-            self.text.truncate(len);
-        }
     }
 }

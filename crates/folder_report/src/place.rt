@@ -1,9 +1,14 @@
 //! Where bytes and records stand in a file. Lines count from 1; a line feed ends one, inside double quotes too.
-ghost use Rattle.std.specs.Prelude.{◌≤◌, length};
 
 /// How many line feeds stand in a text.
 pub fn line_feeds(bytes: &[u8]) -> usize {
-    bytes.iter().filter(|byte| **byte == b'\n').count()
+    let mut count: usize = 0;
+    for byte in bytes {
+        if *byte == b'\n' {
+            count = count.saturating_add(1);
+        }
+    }
+    count
 }
 
 /// The line in which the byte at a place stands.
@@ -20,35 +25,32 @@ pub struct Records<'a> {
 }
 
 impl<'a> Records<'a> {
-    /// The line in which the next record begins and how many fields it has, where bytes are left.
+    /// The line in which the next record begins and how many fields it has, one more than commas outside double quotes, where bytes are left.
     pub fn next_record(&mut self) -> Option<(usize, usize)> {
-        if self.rest.is_empty() {
+        let line = self.line;
+        let bytes = self.rest;
+        if bytes.is_empty() {
             return None;
         }
-        let line = self.line;
-        let (length, fields) = first_record(self.rest);
-        let (record, rest) = self.rest.split_at(length);
-        self.line = line.saturating_add(line_feeds(record));
-        self.rest = rest;
+        self.rest = &[];
+        let mut fields: usize = 1;
+        let mut quoted = false;
+        for (place, byte) in bytes.iter().enumerate() {
+            match *byte {
+                b'"' => quoted = !quoted,
+                b',' if !quoted => fields = fields.saturating_add(1),
+                b'\n' => {
+                    self.line = self.line.saturating_add(1);
+                    if !quoted {
+                        self.rest = &bytes[place + 1..];
+                        break;
+                    }
+                }
+                _ => {}
+            }
+        }
         Some((line, fields))
     }
-}
-
-/// How many bytes the first record of some has, its line feed among them; and how many fields, one more than commas outside double quotes.
-fn first_record(bytes: &[u8]) -> (usize, usize)
-    ensures { result.0 ≤ length bytes.now }
-{
-    let mut quoted = false;
-    let mut fields: usize = 1;
-    for (place, byte) in bytes.iter().enumerate() {
-        match *byte {
-            b'"' => quoted = !quoted,
-            b'\n' if !quoted => return (place + 1, fields),
-            b',' if !quoted => fields = fields.saturating_add(1),
-            _ => {}
-        }
-    }
-    (bytes.len(), fields)
 }
 
 /// The line in which a record begins, counted from 0; the last line where there is no such record.

@@ -1,29 +1,38 @@
-//! All that is refused, one refusal after another.
+//! All that is refused of a folder, a line each.
+ghost use Rattle.std.specs.Prelude.{◌≡◌, ◌++◌, ◌⊎◌, [], ◌∷◌, false, true, IfOk, map, string_bytes};
+ghost use Rattle.table_store.specs.Fault.{load_fault_text};
+ghost use Rattle.folder_report.specs.Refusal.{AreLinesOf, HasFront};
+
 use crate::line::Line;
-use crate::refusal::{MOST_REFUSALS, Refusal};
 use std::alloc::{AllocError, Global};
 use table_store::LoadFault;
 
-/// What is refused so far. Where memory runs out that is kept in it, so that a refusal has no failure of its own.
+/// The most refusals that are told.
+pub const MOST_REFUSALS: usize = 20;
+
+/// The lines of what is refused so far. Where memory runs out that is kept in it, so that a refusal has no failure of its own.
 #[derive(Drop)]
 pub struct Report {
     pub alloc: Global,
-    pub refusals: Vec<Refusal>,
+    pub lines: Vec<String>,
     pub is_short: bool,
 }
 
 impl Report {
-    pub fn new(alloc: Global) -> Report {
+    pub fn new(alloc: Global) -> Report
+        ensures lines { result.lines.items ≡ [] }
+        ensures short { result.is_short ≡ false }
+    {
         Report {
             alloc,
-            refusals: Vec::new(alloc),
+            lines: Vec::new(alloc),
             is_short: false,
         }
     }
 
     /// Whether there are as many refusals as are told, or memory ran out.
     pub fn is_full(&self) -> bool {
-        self.is_short || self.refusals.len() >= MOST_REFUSALS
+        self.is_short || self.lines.len() >= MOST_REFUSALS
     }
 
     /// A text of its own for a fault, empty where memory runs out.
@@ -37,20 +46,52 @@ impl Report {
         }
     }
 
-    /// Adds the refusal for a fault, with what is told of it.
-    pub fn refuse(&mut self, fault: LoadFault, detail: Line) {
-        let is_short = detail.is_short;
-        let detail = detail.text;
-        if is_short || self.refusals.push(Refusal { fault, detail }).is_err() {
+    /// A line that begins with a cause, and what is told of it after a colon.
+    pub fn begin(&self, fault: LoadFault) -> Line {
+        let mut line = Line::new(self.alloc);
+        line.push_made(fault.text(self.alloc));
+        line.push(": ");
+        line
+    }
+
+    /// Adds a line, or memory ran out.
+    pub fn put(&mut self, line: Line)
+        ensures { (self.new.is_short ≡ true)
+            ⊎ ((line.is_short ≡ false) × (self.new.is_short ≡ self.old.is_short)
+            × (self.new.lines.items ≡ self.old.lines.items ++ line.text ∷ [])) }
+    {
+        if line.is_short || self.lines.push(line.text).is_err() {
             self.is_short = true;
         }
     }
 
-    /// The refusals.
-    pub fn end(self) -> Result<Vec<Refusal>, AllocError> {
+    /// The lines of a folder that is refused for that cause, at most [`MOST_REFUSALS`]: the first begins with the cause, as the service tells it, and the others follow
+    /// in their order.
+    pub fn end(self, cause: &LoadFault) -> Result<Vec<String>, AllocError>
+        ensures { IfOk result (λ lines.
+            AreLinesOf (load_fault_text cause.now) (map string_bytes lines.items)) }
+    {
         if self.is_short {
             return Err(AllocError);
         }
-        Ok(self.refusals)
+        let cause = cause.text(self.alloc)?;
+        let mut lines = self.lines;
+        let first = take_first(&mut lines, cause);
+        lines.insert(0, first)?;
+        lines.truncate(MOST_REFUSALS);
+        Ok(lines)
     }
+}
+
+/// The line of a cause, taken out of the others: the first that tells more of it, else the cause alone.
+fn take_first(lines: &mut Vec<String>, cause: String) -> String
+    ensures { HasFront (string_bytes cause) (string_bytes result) }
+{
+    for place in 0..lines.len() {
+        match lines[place].as_bytes().strip_prefix(cause.as_bytes()) {
+            Some(detail) if detail.starts_with(b": ") => return lines.remove(place),
+            _ => {}
+        }
+    }
+    cause
 }

@@ -28,25 +28,17 @@ fn value_in<'f>(
     found
 }
 
-/// What is told of a cell of a column that has no value, by its line and its column's number.
-fn cell_detail(
-    alloc: Global,
-    column: &Column,
-    (line, number): (usize, usize),
-    field: Raw<'_>,
-    fault: CellFault,
-) -> Line {
-    let mut detail = Line::of_column(alloc, line, number);
-    detail.push(" ");
-    detail.push(column.name.as_str());
-    detail.push(": ");
-    match field.text(alloc) {
-        Ok(text) => detail.push_quoted(text.as_str()),
-        Err(_) => detail.is_short = true,
+/// Appends what is told of a cell of a column that has no value.
+fn push_cell(line: &mut Line, column: &Column, field: Raw<'_>, fault: CellFault) {
+    line.push(" ");
+    line.push(column.name.as_str());
+    line.push(": ");
+    match field.text(line.alloc) {
+        Ok(text) => line.push_quoted(text.as_str()),
+        Err(_) => line.is_short = true,
     }
-    detail.push("; accepted: ");
-    push_accepted_cell(&mut detail, column, fault);
-    detail
+    line.push("; accepted: ");
+    push_accepted_cell(line, column, fault);
 }
 
 /// Adds the refusals of the cells of a row that have no value. The row's fields are the next of those that are left.
@@ -63,17 +55,17 @@ fn refuse_row(
             return;
         };
         if let Err(fault) = value_in(report, column, field) {
-            let line = line_of(text, row).saturating_add(before);
-            let place = (line, col.saturating_add(1));
-            let detail = cell_detail(report.alloc, column, place, field, fault);
             let table = report.owned(schema.url.as_str());
-            let fault = LoadFault::Cell {
+            let mut line = report.begin(LoadFault::Cell {
                 table,
                 row,
                 col,
                 fault,
-            };
-            report.refuse(fault, detail);
+            });
+            let number = line_of(text, row).saturating_add(before);
+            line.push_place(number, col.saturating_add(1));
+            push_cell(&mut line, column, field, fault);
+            report.put(line);
         }
         before = before.saturating_add(line_feeds(field.bytes.as_bytes()));
     }
@@ -135,82 +127,66 @@ fn key_text(alloc: Global, key: &[Value<'_>]) -> Result<String, AllocError> {
 }
 
 /// Appends the names of the columns of the key.
-fn push_names(detail: &mut Line, schema: &Schema) {
-    for (place, col) in schema.key.iter().enumerate() {
-        if place > 0 {
-            detail.push(", ");
-        }
+fn push_names(line: &mut Line, schema: &Schema) {
+    let mut comma = "";
+    for col in &schema.key {
+        line.push(comma);
         if let Some(column) = schema.columns.get(*col) {
-            detail.push(column.name.as_str());
+            line.push(column.name.as_str());
         }
+        comma = ", ";
     }
 }
 
-/// What is told of the key of a row, with the line in which that begins.
-fn key_detail(alloc: Global, schema: &Schema, text: &str, row: usize, key: &[Value<'_>]) -> Line {
-    let mut detail = Line::of_line(alloc, line_of(text, row));
-    detail.push(", key ");
-    push_names(&mut detail, schema);
-    detail.push(": ");
-    detail.push_made(key_text(alloc, key));
-    detail
-}
-
-/// Adds the refusal of a row whose key has a null.
-fn refuse_null(report: &mut Report, schema: &Schema, text: &str, row: usize, key: &[Value<'_>]) {
-    let mut detail = key_detail(report.alloc, schema, text, row, key);
-    detail.push("; accepted: a value in each column of the key");
-    let table = report.owned(schema.url.as_str());
-    report.refuse(LoadFault::KeyNull { table, row }, detail);
-}
-
-/// Adds the refusals of the first rows of a table whose key has a null.
-pub fn refuse_nulls(report: &mut Report, schema: &Schema, text: &str, index: &Index)
-    requires { FitsFile index.now text.now }
-{
-    for row in 0..index.rows() {
-        let key = key_of(report, schema, text, index, row);
-        if key.iter().any(|value| matches!(value, Value::Null)) {
-            refuse_null(report, schema, text, row, key.as_slice());
-        }
-        if report.is_full() {
-            return;
-        }
-    }
-}
-
-/// Adds the refusal of a row whose key is that of an earlier row, by the numbers of both.
-fn refuse_again(
+/// Adds the refusal of a row whose key has a null, or is that of an earlier row.
+fn refuse_key(
     report: &mut Report,
     schema: &Schema,
     text: &str,
-    (earlier, row): (usize, usize),
+    (row, earlier): (usize, Option<usize>),
     key: &[Value<'_>],
 ) {
-    let mut detail = key_detail(report.alloc, schema, text, row, key);
-    detail.push(" is the key of row ");
-    detail.push_number(earlier);
-    detail.push(", line ");
-    detail.push_number(line_of(text, earlier));
-    detail.push(", too; accepted: a key that no other row has");
     let table = report.owned(schema.url.as_str());
-    report.refuse(LoadFault::KeyTwice { table, row }, detail);
+    let mut line = report.begin(match earlier {
+        None => LoadFault::KeyNull { table, row },
+        Some(_) => LoadFault::KeyTwice { table, row },
+    });
+    line.push_line(line_of(text, row));
+    line.push(", key ");
+    push_names(&mut line, schema);
+    line.push(": ");
+    line.push_made(key_text(report.alloc, key));
+    match earlier {
+        None => line.push("; accepted: a value in each column of the key"),
+        Some(earlier) => {
+            line.push(" is the key of row ");
+            line.push_number(earlier);
+            line.push(", ");
+            line.push_line(line_of(text, earlier));
+            line.push(", too; accepted: a key that no other row has");
+        }
+    }
+    report.put(line);
 }
 
-/// Adds the refusals of the first rows of a table whose key is that of an earlier row.
-pub fn refuse_twice(report: &mut Report, schema: &Schema, text: &str, index: &Index)
+/// Adds the refusals of the first rows of a table whose key has a null or is that of an earlier row. Where many are told before the first null, that is told too.
+pub fn refuse_keys(report: &mut Report, schema: &Schema, text: &str, index: &Index)
     requires { FitsFile index.now text.now }
 {
     let mut keys: BTreeMap<Vec<Value<'_>>, usize> = BTreeMap::new(report.alloc);
     for row in 0..index.rows() {
         let key = key_of(report, schema, text, index, row);
-        if let Some(earlier) = keys.get(&key) {
-            refuse_again(report, schema, text, (*earlier, row), key.as_slice());
+        if key.contains(&Value::Null) {
+            refuse_key(report, schema, text, (row, None), key.as_slice());
+            if report.is_full() {
+                return;
+            }
+        } else if let Some(earlier) = keys.get(&key) {
+            if !report.is_full() {
+                refuse_key(report, schema, text, (row, Some(*earlier)), key.as_slice());
+            }
         } else if keys.insert(key, row).is_err() {
             report.is_short = true;
-        }
-        if report.is_full() {
-            break;
         }
     }
 }

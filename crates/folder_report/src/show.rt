@@ -32,22 +32,23 @@ pub fn pattern_of(form: DateForm) -> &'static str
 fn datatype_name(alloc: Global, datatype: &Datatype) -> Result<String, AllocError>
     ensures { IfOk result (λ text. string_bytes text ≡ datatype_text (datatype_view datatype.now)) }
 {
-    match datatype {
-        Datatype::Integer => String::from_str(alloc, "integer"),
-        Datatype::Text => String::from_str(alloc, "string"),
-        Datatype::Boolean(BooleanForm::Standard) => String::from_str(alloc, "boolean"),
+    let name = match datatype {
+        Datatype::Integer => "integer",
+        Datatype::Text => "string",
+        Datatype::Boolean(BooleanForm::Standard) => "boolean",
         Datatype::Boolean(BooleanForm::Texts(of_true, of_false)) => {
             let format = format!(in alloc; "{of_true}|{of_false}")?;
             let format = quoted(alloc, format.as_str())?;
             let text = format!(in alloc; "boolean {format}")?;
-            Ok(text)
+            return Ok(text);
         }
         Datatype::Date(form) => {
             let pattern = pattern_of(*form);
-            format!(in alloc; "date {pattern}")
+            return format!(in alloc; "date {pattern}");
         }
-        Datatype::Decimal => String::from_str(alloc, "decimal"),
-    }
+        Datatype::Decimal => "decimal",
+    };
+    String::from_str(alloc, name)
 }
 
 /// Appends a bound after its name, where there is one.
@@ -69,15 +70,20 @@ fn push_bound(
     }
 }
 
-/// What stands before the bounds of a column.
-fn front_of(alloc: Global, column: &Column, nulls: usize) -> Result<String, AllocError>
-    ensures { IfOk result
-        (λ text. string_bytes text ≡ column_front (column_view column.now) nulls) }
+/// Appends what stands before the bounds of a column.
+fn push_front(
+    alloc: Global,
+    out: &mut Vec<u8>,
+    column: &Column,
+    nulls: usize,
+) -> Result<(), AllocError>
+    ensures { OnOk result
+        (out.new.items ≡ out.old.items ++ column_front (column_view column.now) nulls) }
 {
     let name = column.name.as_str();
     let datatype = datatype_name(alloc, &column.datatype)?;
-    let text = format!(in alloc; "  {name} {datatype}, nulls {nulls}")?;
-    Ok(text)
+    let front = format!(in alloc; "  {name} {datatype}, nulls {nulls}")?;
+    out.extend_from_slice(front.as_bytes())
 }
 
 /// Appends the line of a column.
@@ -91,23 +97,22 @@ fn push_column(
     ensures { OnOk result (out.new.items ≡ out.old.items
         ++ column_line (column_view column.now) (bounds_view bounds.now) is_key) }
 {
-    let front = front_of(alloc, column, bounds.nulls)?;
-    out.extend_from_slice(front.as_bytes())?;
+    push_front(alloc, out, column, bounds.nulls)?;
     push_bound(alloc, out, ", least ", &bounds.least)?;
     push_bound(alloc, out, ", greatest ", &bounds.greatest)?;
     let end = if is_key { ", key\n" } else { "\n" };
     out.extend_from_slice(end.as_bytes())
 }
 
-/// The line of a table: its name, its number of rows and its number of columns.
-fn line_of(alloc: Global, table: &Table) -> Result<String, AllocError>
-    ensures { IfOk result (λ line. string_bytes line ≡ shown_table table.now) }
+/// Appends the line of a table: its name, its number of rows and its number of columns.
+fn push_line(alloc: Global, out: &mut Vec<u8>, table: &Table) -> Result<(), AllocError>
+    ensures { OnOk result (out.new.items ≡ out.old.items ++ shown_table table.now) }
 {
     let name = table.name();
     let rows = table.rows();
     let width = table.width();
     let line = format!(in alloc; "{name} {rows} {width}\n")?;
-    Ok(line)
+    out.extend_from_slice(line.as_bytes())
 }
 
 /// Whether a column is one of the key.
@@ -121,8 +126,7 @@ fn is_of_key(schema: &Schema, col: usize) -> bool
 fn push_table(alloc: Global, out: &mut Vec<u8>, table: &Table) -> Result<(), AllocError>
     ensures { OnOk result (out.new.items ≡ out.old.items ++ table_text table.now) }
 {
-    let line = line_of(alloc, table)?;
-    out.extend_from_slice(line.as_bytes())?;
+    push_line(alloc, out, table)?;
     let schema = table.schema();
     let columns = schema.columns.as_slice();
     for (col, column) in columns.iter().enumerate() {

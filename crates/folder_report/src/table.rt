@@ -5,24 +5,12 @@ use crate::accepted::accepted_file;
 use crate::line::Line;
 use crate::place::{Records, line_at};
 use crate::report::Report;
-use crate::rows::{refuse_cells, refuse_nulls, refuse_twice};
+use crate::rows::{refuse_cells, refuse_keys};
 use cell_types::Column;
 use csv_index::{Index, TextFault};
 use csvw_meta::{MOST_FILE_BYTES, Schema};
 use std::str::from_utf8;
 use table_store::LoadFault;
-
-/// The place in a file that a fault names.
-fn place_in(fault: TextFault) -> usize {
-    match fault {
-        TextFault::NotUtf8 { at } => at,
-        TextFault::BareCr { at } => at,
-        TextFault::StrayQuote { at } => at,
-        TextFault::AfterQuote { at } => at,
-        TextFault::Unfinished { at } => at,
-        _ => 0,
-    }
-}
 
 /// Adds the refusal of a row that has not the wanted number of fields, by the line in which it begins and its fields.
 fn refuse_width(
@@ -32,20 +20,21 @@ fn refuse_width(
     (line, fields): (usize, usize),
     wanted: usize,
 ) {
-    let mut detail = Line::of_line(report.alloc, line);
-    detail.push(": fields ");
-    detail.push_number(fields);
-    detail.push("; accepted: ");
-    detail.push_number(wanted);
-    detail.push(", as the header has");
+    let table = report.owned(url);
+    let fault = TextFault::Width { row };
+    let mut told = report.begin(LoadFault::Text { table, fault });
+    told.push_line(line);
+    told.push(": fields ");
+    told.push_number(fields);
+    told.push("; accepted: ");
+    told.push_number(wanted);
+    told.push(", as the header has");
     if fields == wanted.saturating_add(1) {
-        detail.push(
+        told.push(
             "; where each row has one more, the header lacks its first name: sed '1s/^/Row,/' gives it one",
         );
     }
-    let table = report.owned(url);
-    let fault = TextFault::Width { row };
-    report.refuse(LoadFault::Text { table, fault }, detail);
+    report.put(told);
 }
 
 /// Adds the refusals of the first rows of another width than the header.
@@ -75,46 +64,60 @@ pub fn refuse_text(report: &mut Report, url: &str, bytes: &[u8], fault: TextFaul
     if matches!(fault, TextFault::Width { .. }) {
         return refuse_widths(report, url, bytes);
     }
-    let mut detail = Line::of_line(report.alloc, line_at(bytes, place_in(fault)));
-    detail.push("; accepted: ");
-    detail.push(accepted_file(fault));
+    let (at, accepted) = accepted_file(fault);
     let table = report.owned(url);
-    report.refuse(LoadFault::Text { table, fault }, detail);
+    let mut line = report.begin(LoadFault::Text { table, fault });
+    line.push_line(line_at(bytes, at));
+    line.push("; accepted: ");
+    line.push(accepted);
+    report.put(line);
 }
 
 /// Appends what a header cell may be: the name of its column or one of its titles, or nothing where there is no column.
-fn push_accepted(detail: &mut Line, column: Option<&Column>) {
+fn push_accepted(line: &mut Line, column: Option<&Column>) {
     let Some(column) = column else {
-        return detail.push("no cell, or a column of it in the metadata");
+        return line.push("no cell, or a column of it in the metadata");
     };
-    detail.push_quoted(column.name.as_str());
+    line.push_quoted(column.name.as_str());
     for title in &column.titles {
-        detail.push(" or ");
-        detail.push_quoted(title.as_str());
+        line.push(" or ");
+        line.push_quoted(title.as_str());
     }
 }
 
-/// Whether there is a column and a header cell may be its own.
-fn is_called(column: Option<&Column>, cell: &str) -> bool {
+/// Whether there is a column and a cell, and that may be the column's header.
+fn is_called(column: Option<&Column>, cell: Option<&str>) -> bool {
     let Some(column) = column else {
         return false;
     };
-    let mut titles = column.titles.iter();
-    column.name.as_str() == cell || titles.any(|title| title.as_str() == cell)
+    let Some(cell) = cell else {
+        return false;
+    };
+    for title in &column.titles {
+        if title.as_str() == cell {
+            return true;
+        }
+    }
+    column.name.as_str() == cell
 }
 
-/// Adds the refusal of what stands in the place of a column's header cell: a cell, or none.
+/// Adds the refusal of what stands in the place of a column's header, a cell or none, where it is not that.
 fn refuse_header(report: &mut Report, schema: &Schema, cell: Option<&str>, col: usize) {
-    let mut detail = Line::of_column(report.alloc, 1, col.saturating_add(1));
-    detail.push(": ");
-    match cell {
-        Some(cell) => detail.push_quoted(cell),
-        None => detail.push("no cell"),
+    let column = schema.columns.get(col);
+    if is_called(column, cell) {
+        return;
     }
-    detail.push("; accepted: ");
-    push_accepted(&mut detail, schema.columns.get(col));
     let table = report.owned(schema.url.as_str());
-    report.refuse(LoadFault::Header { table, col }, detail);
+    let mut line = report.begin(LoadFault::Header { table, col });
+    line.push_place(1, col.saturating_add(1));
+    line.push(": ");
+    match cell {
+        Some(cell) => line.push_quoted(cell),
+        None => line.push("no cell"),
+    }
+    line.push("; accepted: ");
+    push_accepted(&mut line, column);
+    report.put(line);
 }
 
 /// Adds the refusals of the header cells that do not match the columns.
@@ -123,7 +126,6 @@ fn refuse_headers(report: &mut Report, schema: &Schema, text: &str, index: &Inde
 {
     for col in 0..index.width() {
         match index.header(text, col).text(report.alloc) {
-            Ok(cell) if is_called(schema.columns.get(col), cell.as_str()) => {}
             Ok(cell) => refuse_header(report, schema, Some(cell.as_str()), col),
             Err(_) => report.is_short = true,
         }
@@ -137,16 +139,13 @@ fn refuse_headers(report: &mut Report, schema: &Schema, text: &str, index: &Inde
 fn refuse_indexed(report: &mut Report, schema: &Schema, text: &str, index: &Index)
     requires { FitsFile index.now text.now }
 {
-    let before = report.refusals.len();
+    let before = report.lines.len();
     refuse_headers(report, schema, text, index);
-    if report.refusals.len() == before {
+    if report.lines.len() == before {
         refuse_cells(report, schema, text, index);
     }
-    if report.refusals.len() == before && !schema.key.is_empty() {
-        refuse_nulls(report, schema, text, index);
-    }
-    if report.refusals.len() == before && !schema.key.is_empty() {
-        refuse_twice(report, schema, text, index);
+    if report.lines.len() == before && !schema.key.is_empty() {
+        refuse_keys(report, schema, text, index);
     }
 }
 
@@ -169,19 +168,20 @@ fn refuse_bytes(report: &mut Report, schema: &Schema, bytes: &[u8]) {
 
 /// Adds all that is refused of the file of a schema, where there is one: nothing where it is its table.
 pub fn refuse_table(report: &mut Report, schema: &Schema, file: Option<&[u8]>) {
-    let mut detail = Line::new(report.alloc);
     match file {
         None => {
-            detail.push("no file of the folder has this name");
             let table = report.owned(schema.url.as_str());
-            report.refuse(LoadFault::FileMissing { table }, detail);
+            let mut line = report.begin(LoadFault::FileMissing { table });
+            line.push("no file of the folder has this name");
+            report.put(line);
         }
         Some(bytes) if bytes.len() > MOST_FILE_BYTES as usize => {
-            detail.push("accepted: ");
-            detail.push_number(MOST_FILE_BYTES as usize);
-            detail.push(" bytes at most");
             let table = report.owned(schema.url.as_str());
-            report.refuse(LoadFault::FileTooLarge { table }, detail);
+            let mut line = report.begin(LoadFault::FileTooLarge { table });
+            line.push("accepted: ");
+            line.push_number(MOST_FILE_BYTES as usize);
+            line.push(" bytes at most");
+            report.put(line);
         }
         Some(bytes) => refuse_bytes(report, schema, bytes),
     }

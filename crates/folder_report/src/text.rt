@@ -1,5 +1,6 @@
 //! Texts of others in a line.
-ghost use Rattle.std.specs.Prelude.{◌≡◌, ◌++◌, ◌<◌, IfOk, OnOk, encode_utf8_all, length, nat_lt, chars, string_bytes, take};
+ghost use Rattle.std.specs.Prelude.{◌≡◌, IfOk, string_bytes};
+ghost use Rattle.message_text.specs.Escapes.{escaped as escaped_text};
 ghost use Rattle.folder_report.specs.Text.{cut_text, front_of, is_long, quoted_text, with_mark};
 
 use message_text::escaped;
@@ -14,26 +15,20 @@ fn front(alloc: Global, text: &str) -> Result<(String, bool), AllocError>
     ensures front { IfOk result (λ found. string_bytes found.0 ≡ front_of text.now) }
     ensures long { IfOk result (λ found. found.1 ≡ is_long text.now) }
 {
-    let mut front = String::new(alloc);
-    let mut room = MOST_CHARACTERS;
-    for character in text.chars() {
-        if room == 0 {
-            return Ok((front, true));
-        }
-        front.push(character)?;
-        room -= 1;
-    }
-    Ok((front, false))
+    let front = text.chars().take(MOST_CHARACTERS).collect(alloc)?;
+    let is_long = text.chars().count() > MOST_CHARACTERS;
+    Ok((front, is_long))
 }
 
-/// Appends three points where a text is cut.
-fn mark(mut text: String, is_cut: bool) -> Result<String, AllocError>
-    ensures { IfOk result (λ line. string_bytes line ≡ with_mark (string_bytes text) is_cut) }
+/// A text on one line, with three points after it where it is cut.
+fn marked(alloc: Global, text: &str, is_cut: bool) -> Result<String, AllocError>
+    ensures { IfOk result (λ line. string_bytes line ≡ with_mark (escaped_text text.now) is_cut) }
 {
+    let mut line = escaped(alloc, text)?;
     if is_cut {
-        text.push_str("...")?;
+        line.push_str("...")?;
     }
-    Ok(text)
+    Ok(line)
 }
 
 /// A text on one line, cut at eighty characters.
@@ -41,8 +36,7 @@ pub fn cut(alloc: Global, text: &str) -> Result<String, AllocError>
     ensures { IfOk result (λ line. string_bytes line ≡ cut_text text.now) }
 {
     let (front, is_cut) = front(alloc, text)?;
-    let line = mark(escaped(alloc, front.as_str())?, is_cut)?;
-    Ok(line)
+    marked(alloc, front.as_str(), is_cut)
 }
 
 /// A text as a JSON text on one line, cut at eighty characters.
@@ -51,6 +45,5 @@ pub fn quoted(alloc: Global, text: &str) -> Result<String, AllocError>
 {
     let (front, is_cut) = front(alloc, text)?;
     let json = Value::String(front).to_string(alloc)?;
-    let line = mark(escaped(alloc, json.as_str())?, is_cut)?;
-    Ok(line)
+    marked(alloc, json.as_str(), is_cut)
 }

@@ -1,5 +1,5 @@
 -- What a round makes of places that a vector has, and which streams are ended there.
-use Rattle.std.proofs.Common.{◌≡◌, ◌<◌, ℕ, List, [], ◌∷◌, ◌++◌, length, take, drop, Option, Some, None, Ok, Err, refl, sym, ap, subst, ◌∙◌, inl, arith, append-nil, length-append}
+use Rattle.std.proofs.Common.{◌≡◌, ◌<◌, ℕ, List, [], ◌∷◌, ◌++◌, length, take, drop, Option, Some, None, Ok, Err, refl, sym, ap, subst, ◌∙◌, inl, inr, arith, append-nil, length-append}
 use Rattle.std.specs.Prelude.{Bool, true, false, not, ◌==◌}
 use Rattle.std.proofs.lemmas.Bool.Decides.{nat_tests}
 use Rattle.std.proofs.lemmas.Bool.{false≢true}
@@ -14,7 +14,10 @@ use Rattle.odata_hub.specs.Stands.{LendsAt, TellsHopelessAt}
 use Rattle.odata_rounds.specs.declared.slot.Slot.{Slot}
 use Rattle.odata_rounds.specs.Peers.{WireOf}
 use Rattle.odata_rounds.specs.Rounds.{Rounds, sight}
-use Rattle.listen_sockets.specs.Server.{IsEndedIfHopeless, TellsHopelessOf, has_waiting}
+use Rattle.listen_sockets.specs.declared.sockets.Wire.{Wire}
+use Rattle.listen_sockets.specs.Peer.{after_end}
+use Rattle.listen_sockets.specs.Server.{IsEndIfHopeless, IsEndedIfHopeless, TellsHopelessOf, has_waiting}
+use Rattle.listen_sockets.specs.Sockets.{ChangesPeer}
 
 taken_whole : (n : ℕ) (new items : List Slot) → length new ≡ n → length items ≡ n → take n (new ++ drop (length new) items) ≡ new
 taken_whole n new items a b =
@@ -67,3 +70,14 @@ untold_of (Some c) fault e = absurd (cc e.1)
 pub told_ends : (o : Option ConnOf) (told old new : Bool) → TellsHopelessOf o told → told ≡ true → new ≡ true → IsEndedIfHopeless o old new
 told_ends None told old new t e ends = absurd (false≢true (sym t ∙ e))
 told_ends (Some c) told old new t e ends = inl (t.hopeless e, ends)
+
+-- and no other socket is touched by that; where it is not told so, none is
+pub told_end : (now place : ℕ) (o : Option ConnOf) (told : Bool) (old new : List Wire) → TellsHopelessOf o told → told ≡ true
+    → ChangesPeer place (after_end now) old new → IsEndIfHopeless now place o old new
+told_end now place None told old new t e ends = absurd (false≢true (sym t ∙ e))
+told_end now place (Some c) told old new t e ends = inl (t.hopeless e, ends)
+
+pub untold_end : (now place : ℕ) (o : Option ConnOf) (told : Bool) (wires : List Wire) → TellsHopelessOf o told → told ≡ false
+    → IsEndIfHopeless now place o wires wires
+untold_end now place None told wires t e = refl
+untold_end now place (Some c) told wires t e = inr (t.waits e, refl)

@@ -1,3 +1,4 @@
+pub mod Peer
 pub mod Slow
 pub mod Sockets
 pub mod Server

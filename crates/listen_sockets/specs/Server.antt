@@ -14,7 +14,8 @@ use Rattle.listen_sockets.specs.declared.slow.Due.{Due}
 use Rattle.listen_sockets.specs.declared.slow.Limits.{Limits}
 use Rattle.listen_sockets.specs.declared.sockets.Wire.{Wire}
 use Rattle.listen_sockets.specs.Slow.{due_where}
-use Rattle.listen_sockets.specs.Sockets.{free_wire, is_ended_at, times_at}
+use Rattle.listen_sockets.specs.Peer.{after_end}
+use Rattle.listen_sockets.specs.Sockets.{ChangesPeer, free_wire, is_ended_at, times_at}
 
 -- so many places over some tables: the hub's are free, nothing became of any, and none has a socket
 pub record AreFree (catalog : CatalogOf) (places : ℕ) (hub : Hub) (slots : List Slot) (wires : List Wire) : Type 0 where
@@ -55,3 +56,13 @@ IsEndedIfHopeless (Some c) old new = (IsHopeless c.rest × (new ≡ true)) ⊎ (
 pub record EndsHopeless (place : ℕ) (hub : Hub) (old new : List Wire) : Type 0 where
   pub here : (h : HubOf) → Models hub h → IsEndedIfHopeless (conn_at h place) (is_ended_at old place) (is_ended_at new place)
   pub others : (other : ℕ) → other ≢ place → is_ended_at new other ≡ is_ended_at old other
+
+-- The sockets of the places, before and after: the stream at a place is ended where the rest of its connection can begin no head any more; where that may
+-- begin one, and where there is no connection, all are as they were.
+abbrev pub IsEndIfHopeless : ℕ → ℕ → Option ConnOf → List Wire → List Wire → Type 0
+IsEndIfHopeless now place None old new = new ≡ old
+IsEndIfHopeless now place (Some c) old new =
+    (IsHopeless c.rest × ChangesPeer place (after_end now) old new) ⊎ (MayBegin c.rest × (new ≡ old))
+
+abbrev pub EndsIfHopeless : ℕ → ℕ → Hub → List Wire → List Wire → Type 0
+EndsIfHopeless now place hub old new = (h : HubOf) → Models hub h → IsEndIfHopeless now place (conn_at h place) old new

@@ -1,8 +1,9 @@
 -- What the system's sockets tell and count.
-use Rattle.std.specs.Prelude.{◌≡◌, ◌≢◌, ℕ, ◌-◌, ◌^◌, Bool, true, false, List, Option, None, Some, MatchOption, is_none, slice_get, slice_set}
+use Rattle.std.specs.Prelude.{◌≡◌, ◌≢◌, ℕ, ◌-◌, ◌^◌, Bool, true, false, List, map, Option, None, Some, MatchOption, is_none, option_map, slice_get, slice_set}
 use Rattle.listen_sockets.specs.declared.peer.Peer.{Peer}
 use Rattle.listen_sockets.specs.declared.slow.Times.{Times}
 use Rattle.listen_sockets.specs.declared.sockets.Wire.{Wire}
+use Rattle.listen_sockets.specs.Peer.{but_for_events}
 use Rattle.odata_rounds.specs.Peers.{WireOf}
 
 -- a socket that tells no bytes, and counts
@@ -28,9 +29,43 @@ free_wire = record { peer = None; waits = 0; losses = 0 }
 abbrev pub has_no_peer : Wire → Bool
 has_no_peer wire = is_none wire.peer
 
+-- a place becomes so, where there is such a place; all others are as they were
+abbrev pub ChangesAt : ℕ → (Wire → Wire) → List Wire → List Wire → Type 0
+ChangesAt place change old new = MatchOption (slice_get old place) (new ≡ old) (λ wire. new ≡ slice_set old place (change wire))
+
 -- this socket was put at a place, where there is such a place; the others are as they were
 abbrev pub IsPut : ℕ → Peer → List Wire → List Wire → Type 0
-IsPut place peer old new = MatchOption (slice_get old place) (new ≡ old) (λ wire. new ≡ slice_set old place (record wire { peer = Some peer }))
+IsPut place peer = ChangesAt place (λ wire. record wire { peer = Some peer })
+
+-- no socket is at a place any more; what was counted there is kept, and the others are as they were
+abbrev pub TakesPeer : ℕ → List Wire → List Wire → Type 0
+TakesPeer place = ChangesAt place (λ wire. record wire { peer = None })
+
+-- the socket at a place, where there is one
+abbrev pub wire_peer : Option Wire → Option Peer
+wire_peer None = None
+wire_peer (Some wire) = wire.peer
+
+abbrev pub peer_at : List Wire → ℕ → Option Peer
+peer_at wires place = wire_peer (slice_get wires place)
+
+-- a place whose socket became so, where there is one; what was counted there is kept
+abbrev pub with_peer : (Peer → Peer) → Wire → Wire
+with_peer change wire = record wire { peer = option_map change wire.peer }
+
+-- the socket at a place became so, where there is one; all others are as they were
+abbrev pub ChangesPeer : ℕ → (Peer → Peer) → List Wire → List Wire → Type 0
+ChangesPeer place change = ChangesAt place (with_peer change)
+
+-- the same socket is at a place, where there is one, and the same is known of it as far as this tells; all other places are as they were
+pub record KeepsAt (known : Peer → Peer) (place : ℕ) (old new : List Wire) : Type 0 where
+  pub here : option_map known (peer_at new place) ≡ option_map known (peer_at old place)
+  pub others : (other : ℕ) → other ≢ place → slice_get new other ≡ slice_get old other
+
+-- The same sockets are at the same places, and what was counted there, what was noted of them and whether more is read of each is as it was: only the
+-- system may have said something of them.
+abbrev pub KeepsSockets : List Wire → List Wire → Type 0
+KeepsSockets old new = map (with_peer but_for_events) new ≡ map (with_peer but_for_events) old
 
 -- the times of the connection at a place, where there is one
 abbrev pub peer_times : Option Peer → Option Times

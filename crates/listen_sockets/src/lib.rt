@@ -5,6 +5,7 @@
 mod lingering;
 mod peer;
 mod poller;
+mod rounds;
 mod server;
 mod slow;
 mod sockets;

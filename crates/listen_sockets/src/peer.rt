@@ -1,5 +1,5 @@
 //! One socket, over `mio`.
-ghost use Rattle.std.specs.Prelude.{◌≡◌, length, true};
+ghost use Rattle.std.specs.Prelude.{◌≡◌, length};
 ghost use Rattle.std.specs.Io.{ReadsAtMost, WritesAtMost};
 ghost use Rattle.odata_http.specs.Device.{TakesSome};
 
@@ -34,8 +34,12 @@ pub struct Peer {
 }
 
 impl Peer {
+    ghost use Rattle.listen_sockets.specs.Peer.{after_end, after_event, after_visit, before_try, but_for_reads, but_for_writes, fresh_peer};
+
     /// A socket of which nothing is known yet.
-    pub fn new(stream: TcpStream, now: u64) -> Peer {
+    pub fn new(stream: TcpStream, now: u64) -> Peer
+        ensures { result ≡ fresh_peer stream now }
+    {
         Peer {
             stream,
             readable: true,
@@ -51,7 +55,7 @@ impl Peer {
 
     /// Has the system report it under a number.
     pub fn register(&mut self, poll: &Poll, place: u32) -> bool
-        ensures { self.new.ended ≡ self.old.ended }
+        ensures { self.new ≡ self.old }
     {
         let both = Interest::READABLE | Interest::WRITABLE;
         poll.registry()
@@ -60,32 +64,34 @@ impl Peer {
     }
 
     /// Has the system report it no more.
-    pub fn deregister(&mut self, poll: &Poll) -> bool {
+    pub fn deregister(&mut self, poll: &Poll) -> bool
+        ensures { self.new ≡ self.old }
+    {
         poll.registry().deregister(&mut self.stream).is_ok()
     }
 
     /// What the system says of it now.
     pub fn mark(&mut self, event: &Event)
-        ensures { self.new.ended ≡ self.old.ended }
+        ensures { self.new ≡ after_event event.now self.old }
     {
         let fails = event.is_error();
-        self.readable = self.readable || event.is_readable() || fails;
-        self.writable = self.writable || event.is_writable() || fails;
-        self.closing = self.closing || event.is_read_closed() || fails;
-        self.lost = self.lost || fails;
+        self.readable |= event.is_readable() | fails;
+        self.writable |= event.is_writable() | fails;
+        self.closing |= event.is_read_closed() | fails;
+        self.lost |= fails;
     }
 
     /// The next write is tried, whatever the system said: it tells of room only where a third of what it keeps for a peer is free, so that a peer
     /// that takes bytes slowly would seem to stand still.
     pub fn try_write(&mut self)
-        ensures { self.new.ended ≡ self.old.ended }
+        ensures { self.new ≡ before_try self.old }
     {
         self.writable = true;
     }
 
     /// No more is read of its stream.
     pub fn end(&mut self, now: u64)
-        ensures { self.new.ended ≡ true }
+        ensures { self.new ≡ after_end now self.old }
     {
         self.ended = true;
         self.times.turned(now);
@@ -93,7 +99,7 @@ impl Peer {
 
     /// Notes what a visit that worked did, by the clock.
     pub fn note_work(&mut self, now: u64)
-        ensures { self.new.ended ≡ self.old.ended }
+        ensures { self.new ≡ after_visit now self.old }
     {
         if self.has_read {
             self.times.read(now);
@@ -108,6 +114,7 @@ impl Peer {
 
     /// Drops what came and was not read. Whether the peer may still send.
     pub fn drop_rest(&mut self, room: &mut [u8]) -> bool
+        ensures peer { self.new ≡ self.old }
         ensures len { length room.new ≡ length room.old }
     {
         for _ in 0..MOST_DROPPED_READS {
@@ -122,6 +129,7 @@ impl Peer {
 
     /// Says that no more is sent, and drops what came and was not read. Whether the peer may still send.
     pub fn close(&mut self, room: &mut [u8]) -> bool
+        ensures peer { self.new ≡ self.old }
         ensures len { length room.new ≡ length room.old }
     {
         let _ = self.stream.shutdown(Shutdown::Write);
@@ -132,6 +140,7 @@ impl Peer {
     pub fn write(&mut self, bytes: &[u8]) -> Result<usize, PeerFault>
         ensures bound { WritesAtMost result bytes.now }
         ensures some { TakesSome bytes.now result }
+        ensures peer { but_for_writes self.new ≡ but_for_writes self.old }
     {
         if !self.writable {
             return Err(PeerFault::Waits);
@@ -152,6 +161,7 @@ impl Peer {
     /// Takes bytes of it.
     pub fn read(&mut self, buf: &mut [u8]) -> Result<usize, PeerFault>
         ensures bound { ReadsAtMost result buf.new }
+        ensures peer { but_for_reads self.new ≡ but_for_reads self.old }
     {
         if self.ended {
             return Ok(0);

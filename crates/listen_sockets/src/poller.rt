@@ -1,5 +1,5 @@
 //! The system's part of the service, over `mio`: where connections come from, and what the system says of them.
-ghost use Rattle.listen_sockets.specs.Sockets.{KeepsStreams};
+ghost use Rattle.listen_sockets.specs.Sockets.{KeepsSockets, KeepsStreams};
 
 use crate::sockets::Sockets;
 use mio::net::TcpListener;
@@ -20,7 +20,8 @@ const LISTENER: Token = Token(0xffff_ffff);
 
 /// Sets what the system says of each socket. Whether it says something of the listener.
 fn mark(sockets: &mut Sockets, events: &Events) -> bool
-    ensures { KeepsStreams sockets.old.wires.items sockets.new.wires.items }
+    ensures sockets { KeepsSockets sockets.old.wires.items sockets.new.wires.items }
+    ensures streams { KeepsStreams sockets.old.wires.items sockets.new.wires.items }
 {
     let mut accepts = false;
     for event in events {
@@ -65,9 +66,10 @@ impl Poller {
         })
     }
 
-    /// Waits for events, and gives the second that it is then. No stream ends by that.
+    /// Waits for events, and gives the second that it is then. No stream ends by that, and each socket stays at its place.
     pub fn wait<R: Clock>(&mut self, rt: &R, sockets: &mut Sockets, busy: bool) -> io::Result<u64>
-        ensures { KeepsStreams sockets.old.wires.items sockets.new.wires.items }
+        ensures sockets { KeepsSockets sockets.old.wires.items sockets.new.wires.items }
+        ensures streams { KeepsStreams sockets.old.wires.items sockets.new.wires.items }
     {
         let wait = Duration::from_millis(if busy { 0 } else { TICK });
         self.poll.poll(&mut self.events, Some(wait))?;

@@ -51,8 +51,8 @@ impl Server {
     ghost use Rattle.odata_hub.specs.Connections.{Done, Opened, call_answer};
     ghost use Rattle.odata_hub.specs.Schedules.{Drop, HubOf, Open, conn_at};
     ghost use Rattle.odata_hub.specs.Stands.{IsHubStep, Models};
-    ghost use Rattle.listen_sockets.specs.Server.{AreFree, EndsHopeless, IsDueAt, TellsHopelessOf, has_waiting, state_at};
-    ghost use Rattle.listen_sockets.specs.Sockets.{EndsStream, IsPut, wire_at};
+    ghost use Rattle.listen_sockets.specs.Server.{AreFree, EndsHopeless, EndsIfHopeless, IsDueAt, TellsHopelessOf, has_waiting, state_at};
+    ghost use Rattle.listen_sockets.specs.Sockets.{EndsStream, IsPut, TakesPeer, wire_at};
 
     /// So many places, all of them free, over these tables.
     pub fn new(alloc: Global, catalog: Rc<Catalog>, places: u32) -> Result<Server, AllocError>
@@ -113,6 +113,8 @@ impl Server {
         ensures step { IsHubStep self.old.hub (Drop place) (call_answer (λ _. Done) result)
             self.new.hub }
         ensures slots { self.new.slots.items ≡ slice_set self.old.slots.items place free_slot }
+        ensures sockets { TakesPeer place
+            self.old.sockets.wires.items self.new.sockets.wires.items }
         ensures streams { EndsStream place
             self.old.sockets.wires.items self.new.sockets.wires.items }
     {
@@ -139,6 +141,8 @@ impl Server {
         ensures step { IsHubStep self.old.hub (Drop place) (call_answer (λ _. Done) result)
             self.new.hub }
         ensures slots { self.new.slots.items ≡ slice_set self.old.slots.items place free_slot }
+        ensures sockets { TakesPeer place
+            self.old.sockets.wires.items self.new.sockets.wires.items }
         ensures streams { EndsStream place
             self.old.sockets.wires.items self.new.sockets.wires.items }
     {
@@ -199,6 +203,8 @@ impl Server {
     pub fn end_hopeless(&mut self, place: u32, now: u64)
         ensures hub { self.new.hub ≡ self.old.hub }
         ensures slots { self.new.slots.items ≡ self.old.slots.items }
+        ensures sockets { EndsIfHopeless now place self.old.hub
+            self.old.sockets.wires.items self.new.sockets.wires.items }
         ensures ends { EndsHopeless place self.old.hub
             self.old.sockets.wires.items self.new.sockets.wires.items }
     {

@@ -7,7 +7,7 @@ use crate::peer::Peer;
 use crate::slow::Times;
 use mio::Poll;
 use mio::event::Event;
-use odata_rounds::{PeerFault, Peers};
+use odata_rounds::PeerFault;
 use std::alloc::{AllocError, Global};
 
 /// A place, and what is counted there.
@@ -19,12 +19,15 @@ pub struct Wire {
 }
 
 impl Wire {
+    ghost use Rattle.std.specs.Prelude.{option_map};
     ghost use Rattle.odata_rounds.specs.Peers.{CountsFault, IsRead, IsWrite};
-    ghost use Rattle.listen_sockets.specs.Sockets.{is_ended_peer, is_lost_peer, peer_times, untold_wire};
+    ghost use Rattle.listen_sockets.specs.Peer.{after_end, after_event, after_visit, before_try, but_for_reads, but_for_writes};
+    ghost use Rattle.listen_sockets.specs.Sockets.{is_ended_peer, is_lost_peer, peer_times, untold_wire, with_peer};
 
     /// Counts what a socket answered.
     fn count(&mut self, answer: Result<usize, PeerFault>)
-        ensures { CountsFault (untold_wire self.old) (untold_wire self.new) answer }
+        ensures counts { CountsFault (untold_wire self.old) (untold_wire self.new) answer }
+        ensures peer { self.new.peer ≡ self.old.peer }
     {
         match answer {
             Ok(_) => {}
@@ -38,6 +41,8 @@ impl Wire {
         ensures bound { WritesAtMost result bytes.now }
         ensures some { TakesSome bytes.now result }
         ensures counts { untold_wire self.new ≡ untold_wire self.old }
+        ensures peer { option_map but_for_writes self.new.peer
+            ≡ option_map but_for_writes self.old.peer }
     {
         match &mut self.peer {
             Some(peer) => peer.write(bytes),
@@ -49,6 +54,8 @@ impl Wire {
     fn read_peer(&mut self, buf: &mut [u8]) -> Result<usize, PeerFault>
         ensures bound { ReadsAtMost result buf.new }
         ensures counts { untold_wire self.new ≡ untold_wire self.old }
+        ensures peer { option_map but_for_reads self.new.peer
+            ≡ option_map but_for_reads self.old.peer }
     {
         match &mut self.peer {
             Some(peer) => peer.read(buf),
@@ -68,7 +75,7 @@ impl Wire {
 
     /// Has the system report the socket under a number.
     pub(crate) fn register(&mut self, poll: &Poll, place: u32) -> bool
-        ensures { is_ended_peer self.new.peer ≡ is_ended_peer self.old.peer }
+        ensures { self.new ≡ self.old }
     {
         match &mut self.peer {
             Some(peer) => peer.register(poll, place),
@@ -78,7 +85,8 @@ impl Wire {
 
     /// Sets what the system says of the socket now.
     pub(crate) fn mark(&mut self, event: &Event)
-        ensures { is_ended_peer self.new.peer ≡ is_ended_peer self.old.peer }
+        ensures peer { self.new ≡ with_peer (after_event event.now) self.old }
+        ensures stream { is_ended_peer self.new.peer ≡ is_ended_peer self.old.peer }
     {
         if let Some(peer) = &mut self.peer {
             peer.mark(event);
@@ -87,7 +95,8 @@ impl Wire {
 
     /// Has the next write to the socket tried.
     pub(crate) fn try_write(&mut self)
-        ensures { is_ended_peer self.new.peer ≡ is_ended_peer self.old.peer }
+        ensures peer { self.new ≡ with_peer before_try self.old }
+        ensures stream { is_ended_peer self.new.peer ≡ is_ended_peer self.old.peer }
     {
         if let Some(peer) = &mut self.peer {
             peer.try_write();
@@ -96,7 +105,8 @@ impl Wire {
 
     /// Notes what a visit that worked did.
     fn note_work(&mut self, now: u64)
-        ensures { is_ended_peer self.new.peer ≡ is_ended_peer self.old.peer }
+        ensures peer { self.new ≡ with_peer (after_visit now) self.old }
+        ensures stream { is_ended_peer self.new.peer ≡ is_ended_peer self.old.peer }
     {
         if let Some(peer) = &mut self.peer {
             peer.note_work(now);
@@ -105,7 +115,8 @@ impl Wire {
 
     /// No more is read of its stream.
     fn end(&mut self, now: u64)
-        ensures { is_ended_peer self.new.peer ≡ true }
+        ensures peer { self.new ≡ with_peer (after_end now) self.old }
+        ensures stream { is_ended_peer self.new.peer ≡ true }
     {
         if let Some(peer) = &mut self.peer {
             peer.end(now);
@@ -122,16 +133,22 @@ impl Wire {
         }
     }
 
-    fn write(&mut self, bytes: &[u8]) -> Result<usize, PeerFault>
-        ensures { IsWrite (untold_wire self.old) (untold_wire self.new) bytes.now result }
+    /// Gives bytes to the socket, and counts what it answered.
+    pub(crate) fn write(&mut self, bytes: &[u8]) -> Result<usize, PeerFault>
+        ensures write { IsWrite (untold_wire self.old) (untold_wire self.new) bytes.now result }
+        ensures peer { option_map but_for_writes self.new.peer
+            ≡ option_map but_for_writes self.old.peer }
     {
         let answer = self.write_peer(bytes);
         self.count(answer);
         answer
     }
 
-    fn read(&mut self, buf: &mut [u8]) -> Result<usize, PeerFault>
-        ensures { IsRead (untold_wire self.old) (untold_wire self.new) buf.new result }
+    /// Takes bytes of the socket, and counts what it answered.
+    pub(crate) fn read(&mut self, buf: &mut [u8]) -> Result<usize, PeerFault>
+        ensures read { IsRead (untold_wire self.old) (untold_wire self.new) buf.new result }
+        ensures peer { option_map but_for_reads self.new.peer
+            ≡ option_map but_for_reads self.old.peer }
     {
         let answer = self.read_peer(buf);
         self.count(answer);
@@ -147,8 +164,9 @@ pub struct Sockets {
 
 impl Sockets {
     ghost use Rattle.std.specs.List.{list_any};
-    ghost use Rattle.std.specs.Prelude.{IfOk, replicate};
-    ghost use Rattle.listen_sockets.specs.Sockets.{EndsStream, IsPut, KeepsStreams, free_wire, has_no_peer, is_lost_at, times_at};
+    ghost use Rattle.std.specs.Prelude.{IfOk, IfSome, Some, replicate};
+    ghost use Rattle.listen_sockets.specs.Peer.{after_end, after_visit};
+    ghost use Rattle.listen_sockets.specs.Sockets.{ChangesPeer, EndsStream, IsPut, KeepsStreams, TakesPeer, free_wire, has_no_peer, is_lost_at, peer_at, times_at};
 
     /// So many places, at none of which is a socket.
     pub fn new(alloc: Global, places: u32) -> Result<Sockets, AllocError>
@@ -177,7 +195,9 @@ impl Sockets {
 
     /// Takes the socket of a place from there, where there is one.
     fn take(&mut self, place: u32) -> Option<Peer>
-        ensures { EndsStream place self.old.wires.items self.new.wires.items }
+        ensures peer { result ≡ peer_at self.old.wires.items place }
+        ensures sockets { TakesPeer place self.old.wires.items self.new.wires.items }
+        ensures streams { EndsStream place self.old.wires.items self.new.wires.items }
     {
         let place = place as usize;
         if place >= self.wires.len() {
@@ -189,6 +209,8 @@ impl Sockets {
     /// Sends no more to the socket at a place, and gives it where its peer may still send. No other stream ends by that.
     pub fn close(&mut self, place: u32, room: &mut [u8]) -> Option<Peer>
         ensures len { length room.new ≡ length room.old }
+        ensures peer { IfSome result (λ peer. peer_at self.old.wires.items place ≡ Some peer) }
+        ensures sockets { TakesPeer place self.old.wires.items self.new.wires.items }
         ensures streams { EndsStream place self.old.wires.items self.new.wires.items }
     {
         let mut peer = self.take(place)?;
@@ -217,7 +239,9 @@ impl Sockets {
 
     /// Notes what a visit that worked did at a place.
     pub fn note_work(&mut self, place: u32, now: u64)
-        ensures { KeepsStreams self.old.wires.items self.new.wires.items }
+        ensures sockets { ChangesPeer place (after_visit now)
+            self.old.wires.items self.new.wires.items }
+        ensures streams { KeepsStreams self.old.wires.items self.new.wires.items }
     {
         let place = place as usize;
         if place >= self.wires.len() {
@@ -228,7 +252,9 @@ impl Sockets {
 
     /// Ends the stream of the socket at a place.
     pub fn end_stream(&mut self, place: u32, now: u64)
-        ensures { EndsStream place self.old.wires.items self.new.wires.items }
+        ensures sockets { ChangesPeer place (after_end now)
+            self.old.wires.items self.new.wires.items }
+        ensures streams { EndsStream place self.old.wires.items self.new.wires.items }
     {
         let place = place as usize;
         if place >= self.wires.len() {
@@ -245,27 +271,5 @@ impl Sockets {
             Some(wire) => wire.times(),
             None => None,
         }
-    }
-}
-
-impl Peers for Sockets {
-    ghost use Rattle.listen_sockets.specs.Sockets.{wire_at};
-
-    ghost wires = { λ s place. wire_at s.wires.items place };
-
-    fn write(&mut self, place: u32, bytes: &[u8]) -> Result<usize, PeerFault> {
-        let place = place as usize;
-        if place >= self.wires.len() {
-            return Err(PeerFault::Lost);
-        }
-        self.wires[place].write(bytes)
-    }
-
-    fn read(&mut self, place: u32, buf: &mut [u8]) -> Result<usize, PeerFault> {
-        let place = place as usize;
-        if place >= self.wires.len() {
-            return Err(PeerFault::Lost);
-        }
-        self.wires[place].read(buf)
     }
 }

@@ -1,14 +1,19 @@
-//! What the system is asked and says of the sockets of the places. No stream ends by that.
+//! What the system is asked and says of the sockets of the places. No stream ends by that, and each socket stays at its place.
+ghost use Rattle.std.specs.Prelude.{◌≡◌, map};
+ghost use Rattle.mio.specs.Event.{event_token};
+
 use crate::sockets::Sockets;
 use mio::Poll;
 use mio::event::Event;
 
 impl Sockets {
-    ghost use Rattle.listen_sockets.specs.Sockets.{KeepsStreams};
+    ghost use Rattle.listen_sockets.specs.Peer.{after_event, before_try};
+    ghost use Rattle.listen_sockets.specs.Sockets.{ChangesPeer, KeepsStreams, with_peer};
 
     /// Has the system report the socket at a place under its number.
     pub fn register(&mut self, poll: &Poll, place: u32) -> bool
-        ensures { KeepsStreams self.old.wires.items self.new.wires.items }
+        ensures sockets { self.new.wires.items ≡ self.old.wires.items }
+        ensures streams { KeepsStreams self.old.wires.items self.new.wires.items }
     {
         let at = place as usize;
         if at >= self.wires.len() {
@@ -19,7 +24,9 @@ impl Sockets {
 
     /// Sets what the system says of the socket of an event. Whether there is such a place.
     pub(crate) fn mark(&mut self, event: &Event) -> bool
-        ensures { KeepsStreams self.old.wires.items self.new.wires.items }
+        ensures sockets { ChangesPeer (event_token event.now).0 (after_event event.now)
+            self.old.wires.items self.new.wires.items }
+        ensures streams { KeepsStreams self.old.wires.items self.new.wires.items }
     {
         let place = event.token().0;
         if place >= self.wires.len() {
@@ -31,7 +38,8 @@ impl Sockets {
 
     /// Has the next write to the socket at a place tried.
     fn try_write(&mut self, place: usize)
-        ensures { KeepsStreams self.old.wires.items self.new.wires.items }
+        ensures sockets { ChangesPeer place before_try self.old.wires.items self.new.wires.items }
+        ensures streams { KeepsStreams self.old.wires.items self.new.wires.items }
     {
         if place < self.wires.len() {
             self.wires[place].try_write();
@@ -40,7 +48,8 @@ impl Sockets {
 
     /// Has the next write to each socket tried.
     pub fn try_writes(&mut self)
-        ensures { KeepsStreams self.old.wires.items self.new.wires.items }
+        ensures sockets { self.new.wires.items ≡ map (with_peer before_try) self.old.wires.items }
+        ensures streams { KeepsStreams self.old.wires.items self.new.wires.items }
     {
         for place in 0..self.wires.len() {
             self.try_write(place);

@@ -53,22 +53,42 @@ block_inside law plan table handed number e =
 -- the block that is there is the one that the run is to be handed
 pub block_is : (catalog : CatalogOf) (seen : List TableOf) (reading : Reading) (found : TableOf) (block : Option TableOf) (asked : RowsRequestOf) (left : ℕ)
     → (is : IsReading catalog asked left reading) → seen ≡ catalog.tables → found ≡ get_or seen reading.table found
-    → ((plan : PlanOf) (handed : ℕ) → StandsFor reading.run plan found handed → block ≡ handed_block plan found handed) → block ≡ handed_block is.plan is.table is.handed
+    → ((plan : PlanOf) (handed : ℕ) → StandsFor reading.run.value plan found handed → block ≡ handed_block plan found handed) → block ≡ handed_block is.plan is.table is.handed
 block_is catalog seen reading found block asked left is same at given =
     let here = table_is catalog.tables seen reading.table found is.table same at (subst (λ (n : ℕ). slice_get catalog.tables n ≡ Some is.table) (sym is.number_is) is.table_is) in
-    let stands = subst (λ (t : TableOf). StandsFor reading.run is.plan t is.handed) (sym here) is.stands in
+    let stands = subst (λ (t : TableOf). StandsFor reading.run.value is.plan t is.handed) (sym here) is.stands in
     subst (λ (t : TableOf). block ≡ handed_block is.plan t is.handed) here (given is.plan is.handed stands)
 
+-- ---- a run in a box, as it is lent
+
+pub lent_needs : (run lent : Run) (table : TableOf) → lent ≡ run → NeedsBlocksOf run table → NeedsBlocksOf lent table
+lent_needs run lent table e h = subst (λ (r : Run). NeedsBlocksOf r table) (sym e) h
+
+pub lent_handed : (run lent : Run) (block : Option TableOf) → lent ≡ run → MayBeHanded run block → MayBeHanded lent block
+lent_handed run lent block e h = subst (λ (r : Run). MayBeHanded r block) (sym e) h
+
+pub lent_stands : (run lent : Run) (plan : PlanOf) (table : TableOf) (handed : ℕ) → lent ≡ run → StandsFor run plan table handed → StandsFor lent plan table handed
+lent_stands run lent plan table handed e h = subst (λ (r : Run). StandsFor r plan table handed) (sym e) h
+
+abbrev pub TellsNext : Run → TableOf → Option TableOf → Type 0
+TellsNext run table block = (plan : PlanOf) (handed : ℕ) → StandsFor run plan table handed → block ≡ handed_block plan table handed
+
+pub lent_tells : (run lent : Run) (table : TableOf) (block : Option TableOf) → lent ≡ run → TellsNext lent table block → TellsNext run table block
+lent_tells run lent table block e h = subst (λ (r : Run). TellsNext r table block) e h
+
+pub lent_gives : (run lent : Run) (rows : RowsOf) → lent ≡ run → RunGives run rows → RunGives lent rows
+lent_gives run lent rows e h = subst (λ (r : Run). RunGives r rows) (sym e) h
+
 pub needs_blocks : (catalog : CatalogOf) (seen : List TableOf) (reading : Reading) (found : TableOf) → MayRead catalog reading → seen ≡ catalog.tables
-    → found ≡ get_or seen reading.table found → NeedsBlocksOf reading.run found
+    → found ≡ get_or seen reading.table found → NeedsBlocksOf reading.run.value found
 needs_blocks catalog seen reading found may same at =
     let is = may.2 in
     let here : found ≡ is.table = table_is catalog.tables seen reading.table found is.table same at (subst (λ (n : ℕ). slice_get catalog.tables n ≡ Some is.table) (sym is.number_is) is.table_is) in
-    (is.plan, is.handed, subst (λ (t : TableOf). StandsFor reading.run is.plan t is.handed) (sym here) is.stands)
+    (is.plan, is.handed, subst (λ (t : TableOf). StandsFor reading.run.value is.plan t is.handed) (sym here) is.stands)
 
 pub may_be_handed : (catalog : CatalogOf) (seen : List TableOf) (reading : Reading) (found : TableOf) (block : Option TableOf) → MayRead catalog reading
     → seen ≡ catalog.tables → found ≡ get_or seen reading.table found
-    → ((plan : PlanOf) (handed : ℕ) → StandsFor reading.run plan found handed → block ≡ handed_block plan found handed) → MayBeHanded reading.run block
+    → ((plan : PlanOf) (handed : ℕ) → StandsFor reading.run.value plan found handed → block ≡ handed_block plan found handed) → MayBeHanded reading.run.value block
 may_be_handed catalog seen reading found block may same at given =
     let is = may.2 in
     awaited (is.plan, is.table, is.handed, is.stands, block_is catalog seen reading found block may.0 may.1 is same at given)
@@ -107,7 +127,7 @@ pub starts : (catalog : CatalogOf) (seen : List TableOf) (asked : RowsRequestOf)
     → schema ≡ found.schema → HasTableRows found → AreSummariesOf found summaries → asked.query.key ≡ None → (first : PlanOf) → MeansQuery first asked.query → MeansTheSame table.schema first plan
     → reading.table ≡ number → reading.format ≡ asked.format → reading.counting ≡ asked.query.counting → reading.most ≡ max (length summaries) 1
     → ((rows : RowsOf) → HaveSizesIn reading.format reading.sizes rows)
-    → ((t : TableOf) → t.schema ≡ schema → HasTableRows t → AreSummariesOf t summaries → StandsFor reading.run plan t 0)
+    → ((t : TableOf) → t.schema ≡ schema → HasTableRows t → AreSummariesOf t summaries → StandsFor reading.run.value plan t 0)
     → PlansNeedBlocks → needed plan table.rows ≡ needed_blocks asked.query table.rows → StartsReading catalog asked reading
 starts catalog seen asked number found table schema reading plan summaries is number_is same at of fit those unkeyed first means alike table_of format counting most sizes stands law blocks =
     let here = table_is catalog.tables seen number found table same at is in
@@ -159,7 +179,7 @@ advanced_fault plan table handed run fault e h = subst (λ (f : ExecFault). Adva
 -- one call more
 pub reads_more : (catalog : CatalogOf) (asked : RowsRequestOf) (left : ℕ) (old new : Reading) → (is : IsReading catalog asked left old)
     → new.table ≡ old.table → new.format ≡ old.format → new.counting ≡ old.counting → new.most ≡ old.most → is.handed + 1 < run_length is.plan is.table
-    → StandsFor new.run is.plan is.table (is.handed + 1)
+    → StandsFor new.run.value is.plan is.table (is.handed + 1)
     → ((rows : RowsOf) → plan_answer is.plan is.table ≡ Some rows → HaveSizesIn old.format old.sizes rows → HaveSizesIn old.format new.sizes rows)
     → (1 < left) × IsReading catalog asked (left - 1) new
 reads_more catalog asked left old new is number format counting most goes_on stands counts =

@@ -67,7 +67,7 @@ pub record IsReading (catalog : CatalogOf) (asked : RowsRequestOf) (left : ℕ) 
   pub plan : PlanOf
   pub means : MeansOn table plan asked.query
   pub handed : ℕ
-  pub stands : StandsFor reading.run plan table handed
+  pub stands : StandsFor reading.run.value plan table handed
   pub left_are : left + handed ≡ run_length plan table
   pub few : left ≤ reading.most
   pub counted : (rows : RowsOf) → plan_answer plan table ≡ Some rows → HaveSizesIn reading.format reading.sizes rows

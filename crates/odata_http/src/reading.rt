@@ -26,7 +26,7 @@ pub(crate) struct Reading {
     pub(crate) counting: bool,
     /// No more calls than so many are left.
     pub(crate) most: usize,
-    pub(crate) run: Run,
+    pub(crate) run: Box<Run>,
     /// Those of some first rows of the answer, in its format.
     pub(crate) sizes: RowSizes,
 }
@@ -70,7 +70,7 @@ fn counted(sizes: RowSizes, run: &Run, format: Format) -> RowSizes
 }
 
 /// A run is let go, here alone: each function that may let one go is dear to prove.
-fn let_go(_run: Run) {}
+fn let_go(_run: Box<Run>) {}
 
 impl Reading {
     /// Before the first block. No block is read.
@@ -97,7 +97,7 @@ impl Reading {
                 format: asked.format,
                 counting,
                 most: summaries.len().max(1),
-                run,
+                run: Box::new(alloc, run)?,
                 sizes: RowSizes::none(),
             }),
             Err(_) => Err(AllocError),
@@ -121,7 +121,7 @@ impl Reading {
                 Ok(Reached::On(Reading { run, sizes, ..self }))
             }
             Ok(Step::Done) => {
-                let rows = run.finish();
+                let rows = Box::into_inner(run).finish();
                 let answer = answer_response(alloc, rows, self.counting, self.format, self.sizes)?;
                 Ok(Reached::Over(answer))
             }

@@ -70,13 +70,13 @@ runs_free place a b f = runs_given place f.answer a b f.step f.slots
 pub runs_round : (a b : Server) → AreSettled a.slots.items → Rounds (length a.slots.items) (sight_of a) (sight_of b) → RunsTo a b
 runs_round a b s r = runs_one a b Goes (s, r)
 
-pub runs_settled : (state : SlotState) (place : ℕ) (a b : Server) → Settles state place a b → RunsTo a b
-runs_settled Free place a b k = runs_kept a b k.kept
-runs_settled Rests place a b k = runs_kept a b k.kept
-runs_settled Worked place a b k = runs_kept a b k.kept
-runs_settled Answered place a b f = runs_free place a b f
-runs_settled Lost place a b f = runs_free place a b f
-runs_settled Failed place a b f = runs_free place a b f
+pub runs_settled : (now : ℕ) (state : SlotState) (place : ℕ) (a b : Server) → Settles now state place a b → RunsTo a b
+runs_settled now Free place a b k = runs_kept a b k.kept
+runs_settled now Rests place a b k = runs_kept a b k.kept
+runs_settled now Worked place a b k = runs_kept a b k.kept
+runs_settled now Answered place a b f = runs_free place a b f
+runs_settled now Lost place a b f = runs_free place a b f
+runs_settled now Failed place a b f = runs_free place a b f
 
 -- ---- places that are settled
 
@@ -115,14 +115,14 @@ slots_after Answered place slots = set slots place free_slot
 slots_after Lost place slots = set slots place free_slot
 slots_after Failed place slots = set slots place free_slot
 
-after_settles : (state : SlotState) (place : ℕ) (a b : Server) → Settles state place a b → b.slots.items ≡ slots_after state place a.slots.items
+after_settles : (now : ℕ) (state : SlotState) (place : ℕ) (a b : Server) → Settles now state place a b → b.slots.items ≡ slots_after state place a.slots.items
 unfolding slots_after
-after_settles Free place a b k = k.kept.1
-after_settles Rests place a b k = k.kept.1
-after_settles Worked place a b k = k.kept.1
-after_settles Answered place a b f = f.slots
-after_settles Lost place a b f = f.slots
-after_settles Failed place a b f = f.slots
+after_settles now Free place a b k = k.kept.1
+after_settles now Rests place a b k = k.kept.1
+after_settles now Worked place a b k = k.kept.1
+after_settles now Answered place a b f = f.slots
+after_settles now Lost place a b f = f.slots
+after_settles now Failed place a b f = f.slots
 
 after_first : (state : SlotState) (slot : Slot) (slots : List Slot) → slots_after state zero (slot ∷ slots) ≡ settled_by state slot ∷ slots
 unfolding slots_after
@@ -151,11 +151,11 @@ one_more (suc n) (slot ∷ slots) = after_later (state_at (settled_to n slots) n
     ∙ ap (λ l. settled slot ∷ l) (one_more n slots)
 
 -- one place more is settled
-pub settles_next : (n next : ℕ) (slots : List Slot) (a b : Server) → next ≡ suc n → a.slots.items ≡ settled_to n slots
-    → Settles (state_at a.slots.items n) n a b → b.slots.items ≡ settled_to next slots
-settles_next n next slots a b is e s =
+pub settles_next : (now n next : ℕ) (slots : List Slot) (a b : Server) → next ≡ suc n → a.slots.items ≡ settled_to n slots
+    → Settles now (state_at a.slots.items n) n a b → b.slots.items ≡ settled_to next slots
+settles_next now n next slots a b is e s =
     let P : ℕ → Type 0 = λ x. b.slots.items ≡ settled_to x slots in
-    subst P (sym is) (after_settles (state_at a.slots.items n) n a b s ∙ ap (λ l. slots_after (state_at l n) n l) e ∙ one_more n slots)
+    subst P (sym is) (after_settles now (state_at a.slots.items n) n a b s ∙ ap (λ l. slots_after (state_at l n) n l) e ∙ one_more n slots)
 
 settled_whole : (n : ℕ) (slots : List Slot) → length slots ≤ n → settled_to n slots ≡ map settled slots
 settled_whole zero [] h = refl
@@ -193,10 +193,10 @@ on_free place a b f = on_given place f.answer a b f.step f.slots
 pub on_round : (a b c : Server) → Rounds (length a.slots.items) (sight_of a) (sight_of b) → RunsTo b c → c.slots.items ≡ map settled b.slots.items → RunsOn a c
 on_round a b c r t e = record { runs = λ s. runs_join a b c (runs_round a b s r) t; settled = λ s. are_settled b.slots.items c.slots.items e }
 
-pub on_slow : (due : Due) (place : ℕ) (a b : Server) → EndsSlow due place a b → RunsOn a b
-on_slow slow.Nothing place a b k = on_kept a b k.kept
-on_slow slow.End place a b k = on_kept a b k.kept
-on_slow slow.Drop place a b f = on_free place a b f
+pub on_slow : (now : ℕ) (due : Due) (place : ℕ) (a b : Server) → EndsSlow now due place a b → RunsOn a b
+on_slow now slow.Nothing place a b k = on_kept a b k.kept
+on_slow now slow.End place a b k = on_kept a b k.kept
+on_slow now slow.Drop place a b f = on_free place a b f
 
 pub on_lost : (lost : Bool) (place : ℕ) (a b : Server) → EndsLost lost place a b → RunsOn a b
 on_lost true place a b f = on_free place a b f

@@ -64,23 +64,23 @@ one_kept state place h a b k s after = record {
   next = h;
   stands = kept_stands a b k.kept h s;
   conns = λ other away. refl;
-  here = after (k.streams place);
-  others = λ other away. k.streams other;
+  here = after (ap (λ l. is_ended_at l place) k.sockets);
+  others = λ other away. ap (λ l. is_ended_at l other) k.sockets;
 }
 
-one_settled : (state : SlotState) (place : ℕ) (h : HubOf) (a b : Server) → Settles state place a b → Models a.hub h → SettlesOne state place h a b
-one_settled Free place h a b k s = one_kept Free place h a b k s (λ e. e)
-one_settled Rests place h a b k s = one_kept Rests place h a b k s (λ e. e)
-one_settled Worked place h a b k s = record {
+one_settled : (now : ℕ) (state : SlotState) (place : ℕ) (h : HubOf) (a b : Server) → Settles now state place a b → Models a.hub h → SettlesOne state place h a b
+one_settled now Free place h a b k s = one_kept Free place h a b k s (λ e. e)
+one_settled now Rests place h a b k s = one_kept Rests place h a b k s (λ e. e)
+one_settled now Worked place h a b k s = record {
   next = h;
   stands = kept_stands a b k.kept h s;
   conns = λ other away. refl;
   here = k.streams.here h s;
   others = k.streams.others;
 }
-one_settled Answered place h a b f s = one_free Answered place h a b f s (λ e. e)
-one_settled Lost place h a b f s = one_free Lost place h a b f s (λ e. e)
-one_settled Failed place h a b f s = one_free Failed place h a b f s (λ e. e)
+one_settled now Answered place h a b f s = one_free Answered place h a b f s (λ e. e)
+one_settled now Lost place h a b f s = one_free Lost place h a b f s (λ e. e)
+one_settled now Failed place h a b f s = one_free Failed place h a b f s (λ e. e)
 
 -- ---- the first so many
 
@@ -126,16 +126,16 @@ told_before state was conn old x y z a b c s =
     subst P a (subst Q b (subst R c s))
 
 -- one place more
-pub first_more : (n next : ℕ) (a b c : Server) → next ≡ suc n → b.slots.items ≡ settled_to n a.slots.items → SettledTo n a b
-    → Settles (state_at b.slots.items n) n b c → SettledTo next a c
-first_more n next a b c is slots f settles =
+pub first_more : (now n next : ℕ) (a b c : Server) → next ≡ suc n → b.slots.items ≡ settled_to n a.slots.items → SettledTo n a b
+    → Settles now (state_at b.slots.items n) n b c → SettledTo next a c
+first_more now n next a b c is slots f settles =
     let P : ℕ → Type 0 = λ count. SettledTo count a c in
-    subst P (sym is) (λ h stands. more n a b c h (ap (λ l. state_at l n) slots ∙ state_later n a.slots.items) (f h stands) settles)
+    subst P (sym is) (λ h stands. more now n a b c h (ap (λ l. state_at l n) slots ∙ state_later n a.slots.items) (f h stands) settles)
   where
-    more : (n : ℕ) (a b c : Server) (h : HubOf) → state_at b.slots.items n ≡ state_at a.slots.items n → SettlesFirst n h a b
-        → Settles (state_at b.slots.items n) n b c → SettlesFirst (suc n) h a c
-    more n a b c h state x settles =
-        let one = one_settled (state_at b.slots.items n) n x.next b c settles x.stands in
+    more : (now n : ℕ) (a b c : Server) (h : HubOf) → state_at b.slots.items n ≡ state_at a.slots.items n → SettlesFirst n h a b
+        → Settles now (state_at b.slots.items n) n b c → SettlesFirst (suc n) h a c
+    more now n a b c h state x settles =
+        let one = one_settled now (state_at b.slots.items n) n x.next b c settles x.stands in
         let conn : conn_at x.next n ≡ conn_at h n = x.conns n (omega arith) in
         let stood : ended b n ≡ ended a n = x.later n (omega arith) in
         record {

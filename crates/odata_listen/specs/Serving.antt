@@ -13,9 +13,11 @@ use Rattle.listen_sockets.specs.declared.server.Server.{Server}
 use Rattle.listen_sockets.specs.declared.slow.Due.{Due}
 use Rattle.listen_sockets.specs.declared.slow.Due.TheVariants as due
 use Rattle.listen_sockets.specs.declared.slow.Limits.{Limits}
-use Rattle.listen_sockets.specs.Server.{EndsHopeless, IsDueAt, IsEndedIfHopeless, state_at}
+use Rattle.listen_sockets.specs.declared.sockets.Wire.{Wire}
+use Rattle.listen_sockets.specs.Peer.{after_end, after_visit}
+use Rattle.listen_sockets.specs.Server.{EndsHopeless, EndsIfHopeless, IsDueAt, IsEndedIfHopeless, state_at}
 use Rattle.listen_sockets.specs.Sights.{sight_of}
-use Rattle.listen_sockets.specs.Sockets.{EndsStream, KeepsStreams, is_ended_at}
+use Rattle.listen_sockets.specs.Sockets.{ChangesPeer, EndsStream, TakesPeer, is_ended_at}
 
 -- a life leads from the server as it was to the server as it is: what holds of each connection in every life holds there
 pub record RunsTo (old new : Server) : Type 0 where
@@ -31,37 +33,46 @@ pub record RunsOn (old new : Server) : Type 0 where
 abbrev pub IsKept : Server → Server → Type 0
 IsKept old new = (new.hub ≡ old.hub) × (new.slots.items ≡ old.slots.items)
 
--- the same, and no stream is ended
+-- the same, and so are the sockets
 pub record Stays (old new : Server) : Type 0 where
   pub kept : IsKept old new
-  pub streams : KeepsStreams old.sockets.wires.items new.sockets.wires.items
+  pub sockets : new.sockets.wires.items ≡ old.sockets.wires.items
 
--- the same, but that the stream at a place is ended, and no other
-pub record Ends (place : ℕ) (old new : Server) : Type 0 where
+-- the same, but that the stream at a place is ended; all other sockets are as they were
+pub record Ends (now place : ℕ) (old new : Server) : Type 0 where
   pub kept : IsKept old new
-  pub streams : EndsStream place old.sockets.wires.items new.sockets.wires.items
+  pub sockets : ChangesPeer place (after_end now) old.sockets.wires.items new.sockets.wires.items
 
--- the same, but that the stream at a place is ended where its rest can begin no head any more, and there alone
-pub record Notes (place : ℕ) (old new : Server) : Type 0 where
+-- a visit that worked is noted of the socket at a place, and then its stream is ended where its rest can begin no head any more; all other sockets are as
+-- they were
+pub record NotesVisit (now place : ℕ) (hub : Hub) (old new : List Wire) : Type 0 where
+  pub mid : List Wire
+  pub visit : ChangesPeer place (after_visit now) old mid
+  pub ends : EndsIfHopeless now place hub mid new
+
+-- the same, but that a visit is noted, and that the stream at a place is ended where its rest can begin no head any more, and there alone
+pub record Notes (now place : ℕ) (old new : Server) : Type 0 where
   pub kept : IsKept old new
+  pub sockets : NotesVisit now place old.hub old.sockets.wires.items new.sockets.wires.items
   pub streams : EndsHopeless place old.hub old.sockets.wires.items new.sockets.wires.items
 
--- a place was given back, by one call, and is kept as one of which nothing became; what is kept of the others, and their streams, are as they were
+-- a place was given back, by one call, and is kept as one of which nothing became; what is kept of the others, and their sockets, are as they were
 pub record Frees (place : ℕ) (old new : Server) : Type 0 where
   pub answer : Answer
   pub step : IsHubStep old.hub (Drop place) answer new.hub
   pub slots : new.slots.items ≡ slice_set old.slots.items place free_slot
+  pub sockets : TakesPeer place old.sockets.wires.items new.sockets.wires.items
   pub streams : EndsStream place old.sockets.wires.items new.sockets.wires.items
 
 -- A place is given back where its connection is over, lost or failed, and there alone. Where something was done its stream is ended if its rest can
 -- begin no head any more, and no stream else.
-abbrev pub Settles : SlotState → ℕ → Server → Server → Type 0
-Settles Free place old new = Stays old new
-Settles Rests place old new = Stays old new
-Settles Worked place old new = Notes place old new
-Settles Answered place old new = Frees place old new
-Settles Lost place old new = Frees place old new
-Settles Failed place old new = Frees place old new
+abbrev pub Settles : ℕ → SlotState → ℕ → Server → Server → Type 0
+Settles now Free place old new = Stays old new
+Settles now Rests place old new = Stays old new
+Settles now Worked place old new = Notes now place old new
+Settles now Answered place old new = Frees place old new
+Settles now Lost place old new = Frees place old new
+Settles now Failed place old new = Frees place old new
 
 -- The stream at a place, before and after, by what became of the place and its connection: none is read any more of a place that was given back.
 abbrev pub StreamAfter : SlotState → Option ConnOf → Bool → Bool → Type 0
@@ -91,16 +102,16 @@ abbrev pub settled : Slot → Slot
 settled slot = settled_by slot.state slot
 
 -- a stream is ended where that is due, and a place is given back where its connection is to be dropped since its peer is slow; both there alone
-abbrev pub EndsSlow : Due → ℕ → Server → Server → Type 0
-EndsSlow due.Nothing place old new = Stays old new
-EndsSlow due.End place old new = Ends place old new
-EndsSlow due.Drop place old new = Frees place old new
+abbrev pub EndsSlow : ℕ → Due → ℕ → Server → Server → Type 0
+EndsSlow now due.Nothing place old new = Stays old new
+EndsSlow now due.End place old new = Ends now place old new
+EndsSlow now due.Drop place old new = Frees place old new
 
 -- what is due at a place is done there
 pub record DoesDue (limits : Limits) (now place : ℕ) (old new : Server) : Type 0 where
   pub due : Due
   pub is : IsDueAt limits now place old.hub old.sockets.wires.items due
-  pub ends : EndsSlow due place old new
+  pub ends : EndsSlow now due place old new
 
 -- a place is given back where the system said that its connection is lost, and there alone
 abbrev pub EndsLost : Bool → ℕ → Server → Server → Type 0

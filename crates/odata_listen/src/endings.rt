@@ -39,7 +39,7 @@ fn linger<R: Print + Eprint + AllocGlobal>(
 /// Notes that something was done at a place, and ends its stream where what came can begin no head any more: its 400 need not wait for the seconds that
 /// a head may take.
 fn note(server: &mut Server, place: u32, now: u64)
-    ensures { Notes place server.old server.new }
+    ensures { Notes now place server.old server.new }
 {
     server.sockets.note_work(place, now);
     server.end_hopeless(place, now);
@@ -53,7 +53,7 @@ fn settle<R: Print + Eprint + AllocGlobal>(
     now: u64,
     log: &mut Log<'_, R>,
 )
-    ensures { Settles (state_at server.old.slots.items place) place server.old server.new }
+    ensures { Settles now (state_at server.old.slots.items place) place server.old server.new }
 {
     match server.state(place) {
         SlotState::Free | SlotState::Rests => {}
@@ -88,7 +88,7 @@ fn do_due<R: Print + Eprint + AllocGlobal>(
     now: u64,
     log: &mut Log<'_, R>,
 )
-    ensures { EndsSlow due place server.old server.new }
+    ensures { EndsSlow now due place server.old server.new }
 {
     match due {
         Due::Nothing => {}

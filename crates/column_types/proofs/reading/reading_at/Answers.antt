@@ -1,5 +1,5 @@
 -- The column of a place is that of its datatype.
-use Rattle.std.proofs.Common.{◌<◌, length, ap, subst, sym, ◌∙◌, arith}
+use Rattle.std.proofs.Common.{ap, ◌∙◌, arith}
 use Rattle.std.proofs.lemmas.Result.{IfOk-weaker}
 use Rattle.cell_types.specs.Cell.{value_of}
 use Rattle.column_types.specs.Reading.{reading_of}

@@ -1,4 +1,4 @@
-use Rattle.std.proofs.Common.{◌≡◌, ◌<◌, get_or, arith, sym, ◌∙◌, below_more}
+use Rattle.std.proofs.Common.{get_or, arith, sym, ◌∙◌, below_more}
 use Rattle.column_types.proofs.OpenLemmas.{reading-none, reading-null, readings-all}
 use Rattle.column_types.proofs.reading.reading_under_all.Goals as goal
 

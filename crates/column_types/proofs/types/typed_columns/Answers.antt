@@ -1,13 +1,15 @@
 use Rattle.std.proofs.Common.{[], ◌∷◌, map, arith, ap, ◌∙◌}
 use Rattle.std.proofs.lemmas.List.{map-append}
 use Rattle.cell_types.specs.Column.{column_view}
-use Rattle.column_types.specs.Kinds.{kind_view}
+use Rattle.cell_types.specs.Datatype.{datatype_view}
+use Rattle.column_types.specs.Types.{column_with}
 use Rattle.column_types.proofs.FlagLemmas.{candidates-more}
 use Rattle.column_types.proofs.types.typed_columns.Goals as goal
 
 pub loop-place-preserved : goal.loop-place-preserved
 loop-place-preserved c =
+    let datatype = datatype_view c.in_ok-datatype.datatype in
     ap (map column_view) c.in_ok-push.ensures.items
-    ∙ map-append column_view c.loop-place.columns.items (c.in_ok-candidate_of.field-0 ∷ [])
-    ∙ candidates-more (map column_view c.loop-place.columns.items) (column_view c.in_ok-candidate_of.field-0) (kind_view c.kind_at.result) c.loop-place.place (omega arith)
-    c.loop-place.invariant c.in_ok-candidate_of.ensures c.kind_at.ensures
+    ∙ map-append column_view c.loop-place.columns.items (c.typed_column.result ∷ [])
+    ∙ candidates-more (map column_view c.loop-place.columns.items) (column_view c.typed_column.result) datatype c.loop-place.place (omega arith)
+    c.loop-place.invariant (c.typed_column.ensures ∙ ap (column_with [] [] datatype) c.in_ok-nulls.ensures) c.in_ok-datatype.ensures

@@ -5,13 +5,16 @@ use Rattle.csvw_guess.proofs.RowsLemmas.{is-known}
 use Rattle.csvw_guess.proofs.PlaceLemmas.{column-parts, header-says}
 use Rattle.csvw_guess.proofs.column.make_column.Goals as goal
 
-pub datatype_and_nulls-requires : goal.datatype_and_nulls-requires
-datatype_and_nulls-requires c = is-known c.args.known.now (file_cells c.args.col c.args.file.now) c.requires.known
+pub datatype_of-requires : goal.datatype_of-requires
+datatype_of-requires c = is-known c.args.known.now (file_cells c.args.col c.args.file.now) c.requires.known
+
+pub nulls_of-requires : goal.nulls_of-requires
+nulls_of-requires c = is-known c.args.known.now (file_cells c.args.col c.args.file.now) c.requires.known
 
 pub returns : goal.returns
 returns c =
     let cells = file_cells c.args.col c.args.file.now in
-    let datatype = c.in_ok-datatype.ensures.datatype cells c.requires.known in
-    let nulls = c.in_ok-datatype.ensures.nulls cells c.requires.known in
+    let datatype = c.in_ok-datatype.ensures cells c.requires.known in
+    let nulls = c.in_ok-nulls.ensures cells c.requires.known datatype in
     let says = header-says c.args.file.now c.args.col _ c.header.ensures in
     column-parts _ _ _ _ _ (search rules) (search rules) datatype nulls (search rules) refl

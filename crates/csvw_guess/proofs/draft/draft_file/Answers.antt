@@ -13,9 +13,29 @@ use Rattle.table_store.specs.File.{FileOf, file_view, files_view}
 use Rattle.csvw_guess.specs.Draft.{IsDraft, IsLeftOut, file_at, has_file_name}
 use Rattle.csvw_guess.specs.Fault.{draft_cause}
 use Rattle.csvw_guess.specs.Table.{file_schema}
-use Rattle.csvw_guess.proofs.DraftLemmas.{bad-at, file-there, has-name, is-draft}
+use Rattle.csvw_guess.proofs.DraftLemmas.{bad-at, file-there, has-name, is-draft, is-wide}
 use Rattle.csvw_guess.proofs.FolderLemmas.{some_header}
 use Rattle.csvw_guess.proofs.draft.draft_file.Goals as goal
+
+pub returns-then-not-is_table_url-clause-outcome : goal.returns-then-not-is_table_url-clause-outcome
+returns-then-not-is_table_url-clause-outcome c =
+    let files = c.args.files.now in
+    let number = c.args.number in
+    let file = c.index-files-number.result in
+    let there : file_at (files_view files) number ≡ file_view file = file-there files number file c.requires.number c.index-files-number.is in
+    subst (IsLeftOut (limits_view c.args.limits.now) (take number (files_view files))) (sym there)
+    (inl (ap is_table_url (sym c.as_str-name.ensures.value) ∙ sym c.is_table_url.ensures ∙ c.if-not-is_table_url.true))
+
+pub returns-then-columns-limits-clause-outcome : goal.returns-then-columns-limits-clause-outcome
+returns-then-columns-limits-clause-outcome c =
+    let files = c.args.files.now in
+    let number = c.args.number in
+    let file = c.index-files-number.result in
+    let limits = limits_view c.args.limits.now in
+    let earlier = take number (files_view files) in
+    let there : file_at (files_view files) number ≡ file_view file = file-there files number file c.requires.number c.index-files-number.is in
+    subst (IsLeftOut limits earlier) (sym there)
+    (is-wide limits earlier (file_view file) c.in_ok-table.table c.in_ok-table.ensures.size c.in_ok-table.ensures.table (omega (arith, c.width-columns.ensures.header, c.if-columns-limits.true)))
 
 pub returns-then-has_name-clause-outcome : goal.returns-then-has_name-clause-outcome
 returns-then-has_name-clause-outcome c =

@@ -18,7 +18,7 @@ returns c =
     let columns = map column_view c.in_ok-columns.columns.items in
     let same : columns ≡ file_columns file = c.in_ok-columns.ensures in
     let some : 0 < length (file_columns file) = omega (arith, length-columns_in file, c.requires.width) in
-    let pushed : c.push.new.self.items ≡ 0 ∷ [] = search rules in
+    let pushed : c.in_ok-key.key.items ≡ 0 ∷ [] = search rules in
     schema-parts _ c.args.url.now file c.in_ok-from_str.ensures.ok (c.in_ok-from_str-2.ensures.ok ∙ c.table_name.ensures) same
     (c.truncate.ensures.items
     ∙ ap (take c.count_of.result) pushed

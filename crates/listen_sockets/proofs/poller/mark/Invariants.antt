@@ -1,6 +1,6 @@
-use Rattle.listen_sockets.specs.Sockets.{KeepsStreams}
+use Rattle.listen_sockets.specs.Sockets.{KeepsSockets}
 use Rattle.listen_sockets.proofs.poller.mark.Given as goal
 
--- no stream ended, and none that had ended goes on
+-- each socket stays at its place
 abbrev pub invariant-loop-event : goal.invariant-loop-event
-invariant-loop-event l = KeepsStreams l.fn.sockets.wires.items l.sockets.wires.items
+invariant-loop-event l = KeepsSockets l.fn.sockets.wires.items l.sockets.wires.items

@@ -4,5 +4,6 @@ use Rattle.odata_listen.proofs.endings.note.Goals as goal
 pub returns : goal.returns
 returns c = record {
   kept = (c.end_hopeless.ensures.hub, c.end_hopeless.ensures.slots);
-  streams = kept_then c.args.place _ _ _ _ c.note_work.ensures c.end_hopeless.ensures.ends;
+  sockets = record { mid = _; visit = c.note_work.ensures.sockets; ends = c.end_hopeless.ensures.sockets };
+  streams = kept_then c.args.place _ _ _ _ c.note_work.ensures.streams c.end_hopeless.ensures.ends;
 }

@@ -8,9 +8,9 @@ loop-place-init g c = record { runs = runs_none _; slots = refl; streams = first
 
 pub loop-place-preserved : goal.loop-place-preserved
 loop-place-preserved g c = record {
-  runs = runs_join _ _ _ c.loop-place.invariant.runs (runs_settled _ _ _ _ c.settle.ensures);
-  slots = settles_next _ _ _ _ _ (add-one _) c.loop-place.invariant.slots c.settle.ensures;
-  streams = first_more _ _ _ _ _ (add-one _) c.loop-place.invariant.slots c.loop-place.invariant.streams c.settle.ensures;
+  runs = runs_join _ _ _ c.loop-place.invariant.runs (runs_settled _ _ _ _ _ c.settle.ensures);
+  slots = settles_next _ _ _ _ _ _ (add-one _) c.loop-place.invariant.slots c.settle.ensures;
+  streams = first_more _ _ _ _ _ _ (add-one _) c.loop-place.invariant.slots c.loop-place.invariant.streams c.settle.ensures;
 }
 
 pub returns : goal.returns

@@ -1,4 +1,4 @@
-use Rattle.std.proofs.Common.{◌≡◌, refl, ap, sym, ◌∙◌, ◌&&◌}
+use Rattle.std.proofs.Common.{refl, ap, sym, ◌∙◌, ◌&&◌}
 use Rattle.column_types.specs.Reading.{fits_at}
 use Rattle.column_types.proofs.SeenLemmas.{left-there}
 use Rattle.column_types.proofs.seen.Seen.has_two_dates.Goals as goal

@@ -1,0 +1,61 @@
+-- What becomes of a socket, and of what is known of it.
+use Rattle.std.specs.Prelude.{ℕ, true, false, ◌||◌, None, if◌then◌else◌}
+use Rattle.mio.specs.Event.{is_error, is_read_closed, is_readable, is_writable}
+use Rattle.mio.specs.declared.event.event.Event.{Event}
+use Rattle.mio.specs.declared.net.stream.TcpStream.{TcpStream}
+use Rattle.listen_sockets.specs.Slow.{times_after_read, times_after_turn, times_after_write}
+use Rattle.listen_sockets.specs.declared.peer.Peer.{Peer}
+use Rattle.listen_sockets.specs.declared.slow.Times.{Times}
+
+-- a socket of which nothing is known yet: it is read and written until the system says that it waits
+abbrev pub fresh_peer : TcpStream → ℕ → Peer
+fresh_peer stream now = record {
+  stream = stream;
+  readable = true;
+  writable = true;
+  closing = false;
+  ended = false;
+  lost = false;
+  has_read = false;
+  has_written = false;
+  times = record { active = now; head = None };
+}
+
+-- after an event: what it says is added to what the system said before, and a failure is found by a read or a write
+abbrev pub after_event : Event → Peer → Peer
+after_event event peer = record peer {
+  readable = peer.readable || (is_readable event || is_error event);
+  writable = peer.writable || (is_writable event || is_error event);
+  closing = peer.closing || (is_read_closed event || is_error event);
+  lost = peer.lost || is_error event;
+}
+
+-- the next write is tried, whatever the system said
+abbrev pub before_try : Peer → Peer
+before_try peer = record peer { writable = true }
+
+-- no more is read of its stream, which counts as a turn
+abbrev pub after_end : ℕ → Peer → Peer
+after_end now peer = record peer { ended = true; times = times_after_turn now }
+
+-- the times after a visit that worked: it read, or else it wrote, or else it was a turn
+abbrev pub times_after_visit : ℕ → Peer → Times
+times_after_visit now peer =
+    if peer.has_read then times_after_read peer.times now
+    else (if peer.has_written then times_after_write peer.times now else times_after_turn now)
+
+-- after a visit that worked was noted, the next begins with nothing read and nothing written
+abbrev pub after_visit : ℕ → Peer → Peer
+after_visit now peer = record peer { has_read = false; has_written = false; times = times_after_visit now peer }
+
+-- a socket, and what is known of it but for what a write finds
+abbrev pub but_for_writes : Peer → Peer
+but_for_writes peer = record peer { writable = false; has_written = false }
+
+-- a socket, and what is known of it but for what a read finds
+abbrev pub but_for_reads : Peer → Peer
+but_for_reads peer = record peer { readable = false; ended = false; has_read = false }
+
+-- a socket, and what is known of it but for what the system says
+abbrev pub but_for_events : Peer → Peer
+but_for_events peer = record peer { readable = false; writable = false; closing = false; lost = false }
