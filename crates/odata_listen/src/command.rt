@@ -18,16 +18,13 @@ use std::rt::{Clock, Env, Files};
 use table_store::Catalog;
 
 /// Tells where it listens, and serves.
-fn listen<R>(
-    rt: &R,
+fn listen(
+    rt: &HostRuntime,
     words: &Words<'_>,
     address: IpAddr,
     folder: Folder<'_>,
     catalog: Catalog,
-) -> io::Result<()>
-where
-    R: Net + Clock + Files + Print + Eprint + AllocGlobal + Clone + Drop,
-{
+) -> io::Result<()> {
     let tables = Rc::new(rt.alloc(), catalog)?;
     let mut server = Server::new(rt.alloc(), tables, words.places)?;
     let listener = TcpListener::bind(rt, SocketAddr::new(address, words.port))?;
@@ -46,7 +43,7 @@ where
 }
 
 /// Says how the program is called.
-fn usage_status(rt: &impl Eprint) -> u8
+fn usage_status(rt: &HostRuntime) -> u8
     ensures { result ≡ USAGE }
 {
     let _ = rt.eprintln(USAGE_LINE);
@@ -54,7 +51,7 @@ fn usage_status(rt: &impl Eprint) -> u8
 }
 
 /// Says why a folder is not served.
-fn unserved(rt: &(impl Eprint + AllocGlobal), fault: &ProgramFault) -> u8
+fn unserved(rt: &HostRuntime, fault: &ProgramFault) -> u8
     ensures { IsFaultStatus fault.now result }
 {
     let status = report(rt, fault);
@@ -68,10 +65,7 @@ fn unserved(rt: &(impl Eprint + AllocGlobal), fault: &ProgramFault) -> u8
 }
 
 /// Serves a folder.
-fn serve_folder<R>(rt: &R, words: &Words<'_>) -> u8
-where
-    R: Net + Clock + Files + Print + Eprint + AllocGlobal + Clone + Drop,
-{
+fn serve_folder(rt: &HostRuntime, words: &Words<'_>) -> u8 {
     let Ok(address) = words.address.parse::<IpAddr>() else {
         return usage_status(rt);
     };
@@ -91,10 +85,7 @@ where
 }
 
 /// Does what the system's words ask for.
-fn words_status<R>(rt: &R) -> io::Result<u8>
-where
-    R: Env + Net + Clock + Files + Print + Eprint + AllocGlobal + Clone + Drop,
-{
+fn words_status(rt: &HostRuntime) -> io::Result<u8> {
     let words = system_words(rt)?;
     let line = line_of(rt.alloc(), words.as_slice())?;
     match read_words(rt.alloc(), line.as_slice()) {
@@ -109,10 +100,7 @@ where
 }
 
 /// Does what the command line asks for, and gives the exit status.
-pub fn command_status<R>(rt: &R) -> u8
-where
-    R: Env + Net + Clock + Files + Print + Eprint + AllocGlobal + Clone + Drop,
-{
+pub fn command_status(rt: &HostRuntime) -> u8 {
     match words_status(rt) {
         Ok(status) => status,
         // a word that is not UTF-8 is no word of the command

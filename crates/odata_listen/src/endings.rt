@@ -11,12 +11,7 @@ use mio::Poll;
 use odata_rounds::SlotState;
 
 /// Frees a place, and tells why.
-fn end<R: Print + Eprint + AllocGlobal>(
-    server: &mut Server,
-    place: u32,
-    reason: CloseReason,
-    log: &mut Log<'_, R>,
-)
+fn end(server: &mut Server, place: u32, reason: CloseReason, log: &mut Log<'_>)
     ensures { Frees place server.old server.new }
 {
     let _ = server.free(place);
@@ -24,12 +19,7 @@ fn end<R: Print + Eprint + AllocGlobal>(
 }
 
 /// Frees a place whose connection is over. What its peer still sends is dropped for a while.
-fn linger<R: Print + Eprint + AllocGlobal>(
-    server: &mut Server,
-    place: u32,
-    poll: &Poll,
-    log: &mut Log<'_, R>,
-)
+fn linger(server: &mut Server, place: u32, poll: &Poll, log: &mut Log<'_>)
     ensures { Frees place server.old server.new }
 {
     let _ = server.linger(place, poll);
@@ -46,13 +36,7 @@ fn note(server: &mut Server, place: u32, now: u64)
 }
 
 /// Notes what the last round did at a place, and frees it where its connection is over, lost or failed.
-fn settle<R: Print + Eprint + AllocGlobal>(
-    server: &mut Server,
-    place: u32,
-    poll: &Poll,
-    now: u64,
-    log: &mut Log<'_, R>,
-)
+fn settle(server: &mut Server, place: u32, poll: &Poll, now: u64, log: &mut Log<'_>)
     ensures { Settles now (state_at server.old.slots.items place) place server.old server.new }
 {
     match server.state(place) {
@@ -65,12 +49,7 @@ fn settle<R: Print + Eprint + AllocGlobal>(
 }
 
 /// The same at each place.
-pub fn settle_all<R: Print + Eprint + AllocGlobal>(
-    server: &mut Server,
-    poll: &Poll,
-    now: u64,
-    log: &mut Log<'_, R>,
-)
+pub fn settle_all(server: &mut Server, poll: &Poll, now: u64, log: &mut Log<'_>)
     ensures runs { RunsTo server.old server.new }
     ensures settled { server.new.slots.items ≡ map settled server.old.slots.items }
     ensures streams { SettlesStreams server.old server.new }
@@ -81,13 +60,7 @@ pub fn settle_all<R: Print + Eprint + AllocGlobal>(
 }
 
 /// Does what is due of the connection at a place: ends the stream of a peer whose head takes too long, and drops one that stands still.
-fn do_due<R: Print + Eprint + AllocGlobal>(
-    server: &mut Server,
-    place: u32,
-    due: Due,
-    now: u64,
-    log: &mut Log<'_, R>,
-)
+fn do_due(server: &mut Server, place: u32, due: Due, now: u64, log: &mut Log<'_>)
     ensures { EndsSlow now due place server.old server.new }
 {
     match due {
@@ -98,13 +71,7 @@ fn do_due<R: Print + Eprint + AllocGlobal>(
 }
 
 /// Ends a peer that is slow.
-fn end_slow<R: Print + Eprint + AllocGlobal>(
-    server: &mut Server,
-    place: u32,
-    limits: &Limits,
-    now: u64,
-    log: &mut Log<'_, R>,
-)
+fn end_slow(server: &mut Server, place: u32, limits: &Limits, now: u64, log: &mut Log<'_>)
     ensures { DoesDue limits.now now place server.old server.new }
 {
     let due = server.due(place, limits, now);
@@ -113,12 +80,7 @@ fn end_slow<R: Print + Eprint + AllocGlobal>(
 
 /// The same at each place.
 #[tactic(auto, using(crate::proofs::ServingLemmas::on_none))]
-pub fn end_all_slow<R: Print + Eprint + AllocGlobal>(
-    server: &mut Server,
-    limits: &Limits,
-    now: u64,
-    log: &mut Log<'_, R>,
-)
+pub fn end_all_slow(server: &mut Server, limits: &Limits, now: u64, log: &mut Log<'_>)
     ensures { RunsOn server.old server.new }
 {
     for place in 0..server.places() {
@@ -127,7 +89,7 @@ pub fn end_all_slow<R: Print + Eprint + AllocGlobal>(
 }
 
 /// Frees a place whose connection is lost: whatever its query would still do, nobody takes its reply.
-fn end_lost<R: Print + Eprint + AllocGlobal>(server: &mut Server, place: u32, log: &mut Log<'_, R>)
+fn end_lost(server: &mut Server, place: u32, log: &mut Log<'_>)
     ensures { EndsLost (is_lost_at server.old.sockets.wires.items place) place
         server.old server.new }
 {
@@ -138,7 +100,7 @@ fn end_lost<R: Print + Eprint + AllocGlobal>(server: &mut Server, place: u32, lo
 
 /// The same at each place.
 #[tactic(auto, using(crate::proofs::ServingLemmas::on_none))]
-pub fn end_all_lost<R: Print + Eprint + AllocGlobal>(server: &mut Server, log: &mut Log<'_, R>)
+pub fn end_all_lost(server: &mut Server, log: &mut Log<'_>)
     ensures { RunsOn server.old server.new }
 {
     for place in 0..server.places() {

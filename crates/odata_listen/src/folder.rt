@@ -43,7 +43,7 @@ impl<'a> Folder<'a> {
     ghost use Rattle.odata_listen.specs.Serving.{MayReload};
 
     /// The folder as it is now, before it is loaded; where a link in the place of a file is followed, or is none of its files.
-    pub fn new<R: Files + AllocGlobal>(rt: &R, name: &'a str, follows: bool) -> Folder<'a> {
+    pub fn new(rt: &HostRuntime, name: &'a str, follows: bool) -> Folder<'a> {
         let mut folder = Folder {
             name,
             follows,
@@ -58,12 +58,7 @@ impl<'a> Folder<'a> {
     }
 
     /// Adds the state of a file of the folder; of one that is not there, or can't be looked at, only that.
-    fn push_file<R: Files + AllocGlobal>(
-        &self,
-        rt: &R,
-        file: &str,
-        text: &mut String,
-    ) -> Result<(), AllocError> {
+    fn push_file(&self, rt: &HostRuntime, file: &str, text: &mut String) -> Result<(), AllocError> {
         let folder = self.name;
         let path = format!(in rt.alloc(); "{folder}/{file}")?;
         match look(rt, path.as_str(), self.follows) {
@@ -74,11 +69,7 @@ impl<'a> Folder<'a> {
     }
 
     /// Reads the names of the files where the metadata is not as it was when they were read last. Where it can't be read, they are read again at the next look.
-    fn read_names<R: Files + AllocGlobal>(
-        &mut self,
-        rt: &R,
-        metadata: &str,
-    ) -> Result<(), AllocError> {
+    fn read_names(&mut self, rt: &HostRuntime, metadata: &str) -> Result<(), AllocError> {
         if self.metadata.as_str() == metadata {
             return Ok(());
         }
@@ -94,7 +85,7 @@ impl<'a> Folder<'a> {
     }
 
     /// The state of the metadata and of the files that it names.
-    fn read_state<R: Files + AllocGlobal>(&mut self, rt: &R) -> Result<String, AllocError> {
+    fn read_state(&mut self, rt: &HostRuntime) -> Result<String, AllocError> {
         let mut text = String::new(rt.alloc());
         self.push_file(rt, METADATA, &mut text)?;
         self.read_names(rt, text.as_str())?;
@@ -105,19 +96,14 @@ impl<'a> Folder<'a> {
     }
 
     /// The same; nothing where memory ran out.
-    fn state<R: Files + AllocGlobal>(&mut self, rt: &R) -> String {
+    fn state(&mut self, rt: &HostRuntime) -> String {
         self.read_state(rt).unwrap_or(String::new(rt.alloc()))
     }
 
     /// Loads the folder; where it is afterwards as it was at the last look, the hub has its tables from now on. Where a device failed or memory ran out, the
     /// folder counts as it was taken before, so that the next look finds it changed again.
     #[tactic(auto, using(crate::proofs::ServingLemmas::may_hand_over))]
-    fn take_up<R: Files + Print + Eprint + AllocGlobal>(
-        &mut self,
-        rt: &R,
-        hub: &mut Hub,
-        log: &mut Log<'_, R>,
-    )
+    fn take_up(&mut self, rt: &HostRuntime, hub: &mut Hub, log: &mut Log<'_>)
         ensures { MayReload hub.old hub.new }
     {
         let mut disk = Disk::new(rt).follow_links(self.follows);
@@ -137,12 +123,7 @@ impl<'a> Folder<'a> {
     }
 
     /// Looks at the folder. Where it changed, and stands still since the last look, it is taken up.
-    pub fn look<R: Files + Print + Eprint + AllocGlobal>(
-        &mut self,
-        rt: &R,
-        hub: &mut Hub,
-        log: &mut Log<'_, R>,
-    )
+    pub fn look(&mut self, rt: &HostRuntime, hub: &mut Hub, log: &mut Log<'_>)
         ensures { MayReload hub.old hub.new }
     {
         let found = self.state(rt);

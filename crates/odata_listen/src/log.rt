@@ -72,13 +72,13 @@ fn refused_line(alloc: Global, fault: &ProgramFault) -> Result<String, AllocErro
 
 /// The lines of a log. It ends where its output takes no more.
 #[derive(Drop)]
-pub struct Log<'a, R> {
-    rt: &'a R,
+pub struct Log<'a> {
+    rt: &'a HostRuntime,
     open: bool,
 }
 
-impl<'a, R: Print + Eprint + AllocGlobal> Log<'a, R> {
-    pub fn new(rt: &'a R, open: bool) -> Log<'a, R> {
+impl<'a> Log<'a> {
+    pub fn new(rt: &'a HostRuntime, open: bool) -> Log<'a> {
         Log { rt, open }
     }
 

@@ -11,7 +11,6 @@ use mio::Poll;
 use mio::net::TcpListener;
 use odata_hub::Conn;
 use std::io::{self, ErrorKind};
-use std::net::Net;
 use std::rt::{Clock, Files};
 
 /// The most rounds before the system is asked again.
@@ -19,19 +18,14 @@ const ROUNDS: u32 = 16;
 
 /// What the service has beside its places and sockets: the folder that it serves, how long a peer may take, and where it tells what it did.
 #[derive(Drop)]
-pub struct Service<'a, R> {
+pub struct Service<'a> {
     pub folder: Folder<'a>,
     pub limits: Limits,
-    pub log: Log<'a, R>,
+    pub log: Log<'a>,
 }
 
 /// Opens a connection for a socket, and has the system report it.
-fn open<R: Print + Eprint + AllocGlobal>(
-    server: &mut Server,
-    poll: &Poll,
-    peer: Peer,
-    log: &mut Log<'_, R>,
-)
+fn open(server: &mut Server, poll: &Poll, peer: Peer, log: &mut Log<'_>)
     ensures { RunsOn server.old server.new }
 {
     let Ok(Conn(place)) = server.open(peer) else {
@@ -57,12 +51,7 @@ enum Taken {
 
 /// Takes in a connection that waits, where a place is free.
 #[tactic(auto, using(crate::proofs::ServingLemmas::on_none))]
-fn take_in<R: Print + Eprint + AllocGlobal>(
-    server: &mut Server,
-    poller: &Poller,
-    now: u64,
-    log: &mut Log<'_, R>,
-) -> Taken
+fn take_in(server: &mut Server, poller: &Poller, now: u64, log: &mut Log<'_>) -> Taken
     ensures { RunsOn server.old server.new }
 {
     if !server.sockets.has_free() {
@@ -82,12 +71,7 @@ fn take_in<R: Print + Eprint + AllocGlobal>(
 
 /// Takes in connections, where some may wait, as long as places are free. Whether one was taken in.
 #[tactic(auto, using(crate::proofs::ServingLemmas::on_none))]
-fn accept<R: Print + Eprint + AllocGlobal>(
-    server: &mut Server,
-    poller: &mut Poller,
-    now: u64,
-    log: &mut Log<'_, R>,
-) -> bool
+fn accept(server: &mut Server, poller: &mut Poller, now: u64, log: &mut Log<'_>) -> bool
     ensures { RunsOn server.old server.new }
 {
     let mut took = false;
@@ -118,12 +102,7 @@ fn tend_lingering(server: &mut Server)
 }
 
 /// One round, and what it did. Whether it did something.
-fn run_round<R: Print + Eprint + AllocGlobal>(
-    server: &mut Server,
-    poll: &Poll,
-    now: u64,
-    log: &mut Log<'_, R>,
-) -> bool
+fn run_round(server: &mut Server, poll: &Poll, now: u64, log: &mut Log<'_>) -> bool
     ensures { RunsOn server.old server.new }
 {
     let worked = server.round();
@@ -133,12 +112,7 @@ fn run_round<R: Print + Eprint + AllocGlobal>(
 
 /// Some rounds, until one did nothing. Whether the last of them did something.
 #[tactic(auto, using(crate::proofs::ServingLemmas::on_none))]
-fn run_rounds<R: Print + Eprint + AllocGlobal>(
-    server: &mut Server,
-    poll: &Poll,
-    now: u64,
-    log: &mut Log<'_, R>,
-) -> bool
+fn run_rounds(server: &mut Server, poll: &Poll, now: u64, log: &mut Log<'_>) -> bool
     ensures { RunsOn server.old server.new }
 {
     for _turn in 0..ROUNDS {
@@ -151,9 +125,7 @@ fn run_rounds<R: Print + Eprint + AllocGlobal>(
 
 /// What is done where a second began: slow peers are ended, and the folder is looked at. The next write to each socket is tried.
 #[tactic(auto, using(crate::proofs::ServingLemmas::on_none))]
-fn tend<R>(rt: &R, server: &mut Server, service: &mut Service<'_, R>, now: u64, is_new: bool)
-where
-    R: Files + Print + Eprint + AllocGlobal + Clone + Drop,
+fn tend(rt: &HostRuntime, server: &mut Server, service: &mut Service<'_>, now: u64, is_new: bool)
     ensures { RunsOn server.old server.new }
 {
     if !is_new {
@@ -166,15 +138,13 @@ where
 }
 
 /// One tick: the events that there are, some rounds, what is done once a second, and new connections. Whether there is more to do at once.
-fn tick<R>(
-    rt: &R,
+fn tick(
+    rt: &HostRuntime,
     poller: &mut Poller,
     server: &mut Server,
-    service: &mut Service<'_, R>,
+    service: &mut Service<'_>,
     busy: bool,
 ) -> io::Result<bool>
-where
-    R: Net + Clock + Files + Print + Eprint + AllocGlobal + Clone + Drop,
     ensures { RunsOn server.old server.new }
 {
     let now = poller.wait(rt, &mut server.sockets, busy)?;
@@ -189,15 +159,13 @@ where
 
 /// Serves a folder for so many ticks.
 #[tactic(auto, using(crate::proofs::ServingLemmas::on_none))]
-pub fn serve<R>(
-    rt: &R,
+pub fn serve(
+    rt: &HostRuntime,
     server: &mut Server,
     listener: TcpListener,
-    service: &mut Service<'_, R>,
+    service: &mut Service<'_>,
     ticks: u64,
 ) -> io::Result<()>
-where
-    R: Net + Clock + Files + Print + Eprint + AllocGlobal + Clone + Drop,
     ensures { RunsOn server.old server.new }
 {
     let mut poller = Poller::new(rt, listener)?;

@@ -1,7 +1,7 @@
 //! The words of the command line, read by `clap` as one command. What is read is `clap`'s reading of that command, with the profile's numbers where
 //! an option is left out; and `clap` has the texts of `--help` and `--version`.
-ghost use Rattle.std.specs.Prelude.{◌≡◌, IfErr, IfNone, IfOk, IfSome, false};
-ghost use Rattle.clap.specs.Words.{app_of, found_of, one_of, rows_of, rule_of};
+ghost use Rattle.std.specs.Prelude.{◌≡◌, IfErr, IfNone, IfOk, IfSome};
+ghost use Rattle.clap.specs.Words.{app_of, found_of, one_of, rows_of, with_rule};
 ghost use Rattle.command_words.specs.Words.{texts};
 ghost use Rattle.odata_listen.specs.Laws.{ListenSizes};
 ghost use Rattle.odata_listen.specs.Words.{AreListenWords, HasFlag, IsFaultOfWords, AsksBy, flag_rule, folder_and_port, listen_app, number_rule, text_rule, with_flags};
@@ -76,35 +76,47 @@ impl From<AllocError> for WordsFault {
     }
 }
 
-/// An option with a number of 32 bits, which help calls by a letter.
-fn number_option<'a>(alloc: Global, id: &'a str, letter: &'a str, help: &'a str) -> Arg<'a>
-    ensures rule { rule_of result ≡ number_rule id.entry.now }
-    ensures local { result.global ≡ false }
+/// The command with one more option with a number of 32 bits, which help calls by a letter.
+fn add_number<'a>(
+    alloc: Global,
+    command: Command<'a>,
+    id: &'a str,
+    letter: &'a str,
+    help: &'a str,
+) -> Result<Command<'a>, AllocError>
+    ensures app { IfOk result (λ c. app_of c
+        ≡ with_rule (app_of command.entry) (number_rule id.entry.now)) }
 {
-    Arg::new(alloc, id)
-        .long(id)
-        .value_name(letter)
-        .help(help)
-        .value_parser(value_parser!(u32))
+    let option = Arg::new(alloc, id).long(id).value_name(letter).help(help);
+    command.arg(option.value_parser(value_parser!(u32)))
 }
 
-/// An option with a text, which help calls by a letter.
-fn text_option<'a>(alloc: Global, id: &'a str, letter: &'a str, help: &'a str) -> Arg<'a>
-    ensures rule { rule_of result ≡ text_rule id.entry.now }
-    ensures local { result.global ≡ false }
+/// The command with one more option with a text, which help calls by a letter.
+fn add_text<'a>(
+    alloc: Global,
+    command: Command<'a>,
+    id: &'a str,
+    letter: &'a str,
+    help: &'a str,
+) -> Result<Command<'a>, AllocError>
+    ensures app { IfOk result (λ c. app_of c
+        ≡ with_rule (app_of command.entry) (text_rule id.entry.now)) }
 {
-    Arg::new(alloc, id).long(id).value_name(letter).help(help)
+    command.arg(Arg::new(alloc, id).long(id).value_name(letter).help(help))
 }
 
-/// An option without a value.
-fn flag_option<'a>(alloc: Global, id: &'a str, help: &'a str) -> Arg<'a>
-    ensures rule { rule_of result ≡ flag_rule id.entry.now }
-    ensures local { result.global ≡ false }
+/// The command with one more option without a value.
+fn add_flag<'a>(
+    alloc: Global,
+    command: Command<'a>,
+    id: &'a str,
+    help: &'a str,
+) -> Result<Command<'a>, AllocError>
+    ensures app { IfOk result (λ c. app_of c
+        ≡ with_rule (app_of command.entry) (flag_rule id.entry.now)) }
 {
-    Arg::new(alloc, id)
-        .long(id)
-        .action(ArgAction::SetTrue)
-        .help(help)
+    let option = Arg::new(alloc, id).long(id).action(ArgAction::SetTrue);
+    command.arg(option.help(help))
 }
 
 /// The command with what has to be there.
@@ -117,11 +129,9 @@ fn folder_command<'a>(alloc: Global) -> Result<Command<'a>, AllocError>
     let port = port_option(alloc)
         .value_name("P")
         .help("The port; 0 takes a free one");
-    Command::new(alloc, "odata_listen")
-        .about(ABOUT)
-        .version(VERSION)
-        .arg(folder)?
-        .arg(port)
+    let named = Command::new(alloc, "odata_listen");
+    let one = named.about(ABOUT).version(VERSION).arg(folder)?;
+    one.arg(port)
 }
 
 /// The command with the address and the options that have no value.
@@ -131,10 +141,10 @@ fn flag_command<'a>(alloc: Global) -> Result<Command<'a>, AllocError>
     let address = "An address of IPv4 or IPv6 of this machine; without it 127.0.0.1";
     let plain = "A link in the place of a file is no file of the folder";
     let log = "A line for each connection that is opened or ends, and for each reload";
-    folder_command(alloc)?
-        .arg(text_option(alloc, "address", "A", address))?
-        .arg(flag_option(alloc, "plain-files", plain))?
-        .arg(flag_option(alloc, "log", log))
+    let folder = folder_command(alloc)?;
+    let one = add_text(alloc, folder, "address", "A", address)?;
+    let two = add_flag(alloc, one, "plain-files", plain)?;
+    add_flag(alloc, two, "log", log)
 }
 
 /// The whole command.
@@ -144,10 +154,10 @@ fn program_command<'a>(alloc: Global) -> Result<Command<'a>, AllocError>
     let connections = "So many connections at a time, from 1 to 1024; without it 64";
     let head = "The most seconds from a head's first byte to its last; without it 30";
     let idle = "The most seconds of a connection that does not get on; without it 60";
-    flag_command(alloc)?
-        .arg(number_option(alloc, "connections", "N", connections))?
-        .arg(number_option(alloc, "head-seconds", "S", head))?
-        .arg(number_option(alloc, "idle-seconds", "S", idle))
+    let flags = flag_command(alloc)?;
+    let one = add_number(alloc, flags, "connections", "N", connections)?;
+    let two = add_number(alloc, one, "head-seconds", "S", head)?;
+    add_number(alloc, two, "idle-seconds", "S", idle)
 }
 
 /// Whether an option without a value is there.

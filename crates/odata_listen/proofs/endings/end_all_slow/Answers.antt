@@ -2,4 +2,4 @@ use Rattle.odata_listen.proofs.ServingLemmas.{on_join, on_slow}
 use Rattle.odata_listen.proofs.endings.end_all_slow.Goals as goal
 
 pub loop-place-preserved : goal.loop-place-preserved
-loop-place-preserved g c = on_join _ _ _ c.loop-place.invariant (on_slow _ _ _ _ _ c.end_slow.ensures.ends)
+loop-place-preserved c = on_join _ _ _ c.loop-place.invariant (on_slow _ _ _ _ _ c.end_slow.ensures.ends)

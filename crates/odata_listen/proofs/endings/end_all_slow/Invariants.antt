@@ -3,4 +3,4 @@ use Rattle.odata_listen.proofs.endings.end_all_slow.Given as goal
 
 -- a life led from the server at the start to this one
 abbrev pub invariant-loop-place : goal.invariant-loop-place
-invariant-loop-place g l = RunsOn l.fn.server l.server
+invariant-loop-place l = RunsOn l.fn.server l.server

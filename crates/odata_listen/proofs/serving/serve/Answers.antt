@@ -2,7 +2,7 @@ use Rattle.odata_listen.proofs.ServingLemmas.{on_join}
 use Rattle.odata_listen.proofs.serving.serve.Goals as goal
 
 pub loop-tick-preserved : goal.loop-tick-preserved
-loop-tick-preserved g c = on_join _ _ _ c.loop-tick.invariant c.tick.ensures
+loop-tick-preserved c = on_join _ _ _ c.loop-tick.invariant c.tick.ensures
 
 pub returns-in_err-busy : goal.returns-in_err-busy
-returns-in_err-busy g c = on_join _ _ _ c.loop-tick.invariant c.tick.ensures
+returns-in_err-busy c = on_join _ _ _ c.loop-tick.invariant c.tick.ensures

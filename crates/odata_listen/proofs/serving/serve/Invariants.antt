@@ -3,4 +3,4 @@ use Rattle.odata_listen.proofs.serving.serve.Given as goal
 
 -- a life led from the server at the start to this one
 abbrev pub invariant-loop-tick : goal.invariant-loop-tick
-invariant-loop-tick g l = RunsOn l.fn.server l.server
+invariant-loop-tick l = RunsOn l.fn.server l.server
