@@ -1,11 +1,12 @@
 -- Each cell of a column has a value under its draft.
-use Rattle.std.proofs.Common.{◌≡◌, ℕ, ◌<◌, Bool, true, false, not, cond, ◌||◌, List, [], ◌∷◌, length, get_or, Option, Some, None, refl, sym, ◌∙◌}
+use Rattle.std.proofs.Common.{◌≡◌, ℕ, ◌<◌, Bool, true, false, not, cond, ◌||◌, List, [], ◌∷◌, length, get_or, Option, Some, None, refl, ap, sym, ◌∙◌}
 use Rattle.std.specs.Prelude.{is_ok, unwrap_or, filter}
 use Rattle.std.specs.List.{list_all, list_any, find}
 use Rattle.std.specs.Str.{bytes_eq}
 use Rattle.std.proofs.lemmas.Bool.{cond_both, not-true}
 use Rattle.std.proofs.lemmas.List.Folds.{list_any_at}
 use Rattle.cell_types.specs.Cell.{typed_value}
+use Rattle.cell_types.specs.Column.{ColumnOf}
 use Rattle.cell_types.specs.Datatype.{DatatypeOf, is_text, integer, text, boolean, date, decimal}
 use Rattle.cell_types.specs.WhiteSpace.{normal_text}
 use Rattle.column_types.proofs.ListLaws.{find-among, find-passes, list_all-at, list_all-from, false_from_true, or_second, or_from_false}
@@ -79,3 +80,18 @@ draft-accepts name titles cells =
     cond_both (stay_texts cells) text (unwrap_or (find (fits_cells cells) types) text) (Accepts name titles cells)
     (λ _. texts-accepted name titles cells)
     (λ _. found-accepted name titles cells (find (fits_cells cells) types) refl)
+
+-- ---- the column
+column_of : List ℕ → List (List ℕ) → DatatypeOf → List (List ℕ) → List ℕ → Bool → ColumnOf
+column_of name titles datatype nulls default required = record { name = name; titles = titles; datatype = datatype; nulls = nulls; default = default; required = required }
+
+pub column-parts : (column : ColumnOf) (name : List ℕ) (titles : List (List ℕ)) (datatype : DatatypeOf) (nulls : List (List ℕ)) → column.name ≡ name → column.titles ≡ titles
+    → column.datatype ≡ datatype → column.nulls ≡ nulls → column.default ≡ [] → column.required ≡ false → column ≡ column_with name titles datatype nulls
+unfolding column_of
+column-parts column name titles datatype nulls a b c d e f =
+    ap (λ n. column_of n column.titles column.datatype column.nulls column.default column.required) a
+    ∙ ap (λ t. column_of name t column.datatype column.nulls column.default column.required) b
+    ∙ ap (λ t. column_of name titles t column.nulls column.default column.required) c
+    ∙ ap (λ n. column_of name titles datatype n column.default column.required) d
+    ∙ ap (λ o. column_of name titles datatype nulls o column.required) e
+    ∙ ap (column_of name titles datatype nulls []) f

@@ -1,11 +1,11 @@
 -- The datatypes that are left for a column when one more cell is read, and the first of them.
-use Rattle.std.proofs.Common.{◌≡◌, ℕ, ◌+◌, ◌<◌, Bool, true, false, not, cond, ◌&&◌, ◌||◌, eqb, pos, List, [], ◌∷◌, ◌++◌, length, map, take, get_or, Option, Some, Result, Ok, Err, refl, ap, sym, ◌∙◌, arith}
+use Rattle.std.proofs.Common.{◌≡◌, ℕ, zero, suc, ◌+◌, ◌<◌, Bool, true, false, not, cond, ◌&&◌, ◌||◌, eqb, pos, List, [], ◌∷◌, ◌++◌, length, map, get_or, Option, Some, Result, Ok, Err, refl, ap, sym, subst, ◌∙◌, inl, inr, arith}
 use Rattle.std.specs.Prelude.{All, filter, is_ok, unwrap_or}
-use Rattle.std.specs.List.{find, list_all, list_any}
+use Rattle.std.specs.List.{find, list_all, list_any, remove}
 use Rattle.std.specs.Str.{bytes_eq}
 use Rattle.std.proofs.Math.Bool.{and-true}
-use Rattle.std.proofs.lemmas.Bool.{cond_both, eqb-true, not-true, or_left}
-use Rattle.std.proofs.lemmas.List.Elements.{filter_more}
+use Rattle.std.proofs.lemmas.Bool.{cases_order, cond_both, eqb-true, not-true, or_left}
+use Rattle.std.proofs.lemmas.List.Edits.{get_or-remove_above, get_or-remove_below, length-remove}
 use Rattle.std.proofs.lemmas.List.FromFn.{get_or-range_with_len}
 use Rattle.std.proofs.lemmas.List.Folds.{list_all-append}
 use Rattle.std.proofs.lemmas.Map.Views.{any-filter_same}
@@ -24,7 +24,7 @@ use Rattle.cell_types.specs.WhiteSpace.{normal_text}
 use Rattle.column_types.proofs.ListLaws.{and_first, and_second, list_all-at, list_all-from}
 use Rattle.column_types.specs.declared.reading.Reading.{Reading}
 use Rattle.column_types.specs.declared.reading.Reading.TheVariants.{IsNull, HasValue, HasNone}
-use Rattle.column_types.specs.Reading.{fits_at, has_value_at, reading_of, reading_under, datatype_at, IsDatatypePlace, IsReadingOfCell}
+use Rattle.column_types.specs.Reading.{fits_at, has_value_at, reading_of, reading_under, datatype_at, IsDatatypePlace}
 use Rattle.column_types.specs.Seen.{first_type, places}
 use Rattle.column_types.specs.Types.{candidate, datatype_for, fits_cells, has_value, stands_for_null, is_null_value, null_words, stay_texts, types}
 use Rattle.column_types.proofs.ReadingLemmas.{content_value-is, has_value-is, integer_of-some, is_among, is_null-is}
@@ -127,7 +127,7 @@ pub reading-null : (place : ℕ) (cell : List ℕ) → IsDatatypePlace place →
 reading-null place cell less e =
     let kind = datatype_at place in null-by (stands_for_null cell) (reads kind cell) (sym (reading-is kind cell (place-other place less)) ∙ e)
 
-reading-value : (place : ℕ) (cell : List ℕ) → IsDatatypePlace place → reading_under (datatype_at place) cell ≡ HasValue
+pub reading-value : (place : ℕ) (cell : List ℕ) → IsDatatypePlace place → reading_under (datatype_at place) cell ≡ HasValue
     → (stands_for_null cell ≡ false) × (has_value_at cell place ≡ true)
 reading-value place cell less e =
     let kind = datatype_at place in
@@ -138,15 +138,7 @@ pub reading-none : (place : ℕ) (cell : List ℕ) → IsDatatypePlace place →
 reading-none place cell less e =
     let kind = datatype_at place in none-by (stands_for_null cell) (reads kind cell) (sym (reading-is kind cell (place-other place less)) ∙ e)
 
-pub readings-all : (left : List ℕ) (cell : List ℕ) → All IsDatatypePlace left → 0 < length left
-    → ((k : ℕ) → k < length left → reading_under (datatype_at (get_or left k 0)) cell ≡ HasValue) → IsReadingOfCell left cell HasValue
-readings-all left cell are some all = (
-  (reading-value (get_or left 0 0) cell (are 0 0 some) (all 0 some)).0,
-  list_all-from (has_value_at cell) left 0 (λ k less. (reading-value (get_or left k 0) cell (are k 0 less) (all k less)).1),
-)
-
 -- a cell that is null has a value under each
-
 pub null-all : (left : List ℕ) (cell : List ℕ) → All IsDatatypePlace left → stands_for_null cell ≡ true → list_all (has_value_at cell) left ≡ true
 null-all left cell are e =
     list_all-from (has_value_at cell) left 0 (λ k less.
@@ -213,10 +205,22 @@ left-at cells place there =
     any-filter_same (λ other. eqb other place) (fits_at cells) (fits_at cells place) (λ k e. ap (fits_at cells) (eqb-true k place e)) places
     ∙ ap (λ b. fits_at cells place && b) there ∙ and-true (fits_at cells place)
 
--- ---- one place after another
-pub filter-more : (p : ℕ → Bool) (xs : List ℕ) (k : ℕ) (kept : List ℕ) (b : Bool) → k < length xs → kept ≡ filter p (take k xs) → b ≡ p (get_or xs k 0)
-    → kept ++ cond b (get_or xs k 0 ∷ []) [] ≡ filter p (take (k + 1) xs)
-filter-more p xs k kept b less so_far is =
-    ap (λ ks. ks ++ cond b (get_or xs k 0 ∷ []) []) so_far
-    ∙ ap (λ t. filter p (take k xs) ++ cond t (get_or xs k 0 ∷ []) []) is
-    ∙ sym (filter_more p xs k 0 less)
+-- ---- one place fewer
+-- one whose datatype gives a cell no value may go
+pub filter-without : (p : ℕ → Bool) (xs : List ℕ) (k : ℕ) → k < length xs → p (get_or xs k 0) ≡ false → filter p (remove xs k) ≡ filter p xs
+filter-without p [] k less e = absurd (omega (arith, less))
+filter-without p (x ∷ xs) zero less e = sym (ap (λ b. cond b (x ∷ filter p xs) (filter p xs)) e)
+filter-without p (x ∷ xs) (suc k) less e = ap (λ rest. cond (p x) (x ∷ rest) rest) (filter-without p xs k (omega (arith, less)) e)
+
+pub places-without : (left : List ℕ) (k : ℕ) → k < length left → All IsDatatypePlace left → All IsDatatypePlace (remove left k)
+places-without left k within are j d less =
+    let count = length-remove left k within in
+    elim (cases_order j k) [
+      | inl same ↦ subst IsDatatypePlace (sym (get_or-remove_above left k d j (omega (arith, same)) within)) (are (j + 1) d (omega (arith, less, count)))
+      | inr (inl before) ↦ subst IsDatatypePlace (sym (get_or-remove_below left k d j before within)) (are j d (omega (arith, before, within)))
+      | inr (inr after) ↦ subst IsDatatypePlace (sym (get_or-remove_above left k d j (omega (arith, after)) within)) (are (j + 1) d (omega (arith, less, count)))
+    ]
+
+-- where each that is left gives a value, those are left of the first that do
+pub all-left : (p : ℕ → Bool) (first left : List ℕ) → filter p left ≡ filter p first → list_all p left ≡ true → left ≡ filter p first
+all-left p first left same all = sym (filter-all p left all) ∙ same

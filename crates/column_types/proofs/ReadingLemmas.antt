@@ -105,11 +105,6 @@ has_value_by IsNull = true
 has_value_by HasValue = true
 has_value_by HasNone = false
 
-pub not_none : (reading : Reading) → reading ≢ HasNone → has_value_by reading ≡ true
-not_none IsNull other = refl
-not_none HasValue other = refl
-not_none HasNone other = absurd (other refl)
-
 pub value-read : (r : Result CellValue CellFault) → is_ok r ≡ has_value_by (reading_of r)
 value-read (Ok null) = refl
 value-read (Ok (value.integer z)) = refl

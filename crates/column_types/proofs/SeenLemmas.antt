@@ -1,24 +1,29 @@
 -- What is known of a column when one more cell is read, and what its datatype is.
-use Rattle.std.proofs.Common.{◌≡◌, ℕ, zero, suc, ◌+◌, ◌<◌, Bool, true, false, cond, ◌&&◌, ◌||◌, eqb, List, [], ◌∷◌, ◌++◌, length, take, get_or, None, refl, ap, sym, ◌∙◌, arith, add-one}
-use Rattle.std.specs.Prelude.{filter, unwrap_or}
+use Rattle.std.proofs.Common.{◌≡◌, ◌≢◌, ℕ, zero, suc, ◌+◌, ◌<◌, Bool, true, false, cond, ◌&&◌, ◌||◌, eqb, List, [], ◌∷◌, ◌++◌, length, take, get_or, None, refl, ap, sym, subst, ◌∙◌, arith, add-one}
+use Rattle.std.specs.Prelude.{All, filter, unwrap_or}
 use Rattle.std.specs.List.{find, list_all, list_any}
 use Rattle.std.specs.Str.{bytes_eq}
 use Rattle.std.proofs.lemmas.Bool.{cond_both}
-use Rattle.std.proofs.lemmas.List.{get_or-map, length-map}
+use Rattle.std.proofs.lemmas.List.{get_or-map, get_or_default, length-map}
 use Rattle.std.proofs.lemmas.List.Folds.{list_all-append, list_any-append}
-use Rattle.cell_types.specs.Datatype.{text}
+use Rattle.cell_types.specs.Cell.{value_of}
+use Rattle.cell_types.specs.Datatype.{datatype_view, text}
+use Rattle.cell_types.specs.declared.datatype.Datatype.{Datatype}
+use Rattle.cell_types.specs.declared.datatype.Datatype.TheVariants.{Integer, Text, Boolean, Date, Decimal}
+use Rattle.cell_types.specs.declared.datatype.BooleanForm.TheVariants.{Standard, Texts}
 use Rattle.cell_types.specs.WhiteSpace.{normal_text, words}
 use Rattle.cell_types.specs.Column.{column_view}
 use Rattle.cell_types.specs.declared.column.Column.{Column}
 use Rattle.column_types.proofs.ListLaws.{and_first}
 use Rattle.column_types.specs.declared.form.Form.{Form}
+use Rattle.column_types.specs.declared.reading.Reading.{Reading}
 use Rattle.column_types.specs.declared.seen.Seen.{Seen}
 use Rattle.column_types.specs.declared.types.Candidates.{Candidates}
 use Rattle.column_types.specs.Kinds.{AreCandidates}
-use Rattle.column_types.specs.Reading.{fits_at, has_value_at, datatype_at, IsDatatypePlace}
-use Rattle.column_types.specs.Seen.{places, HasForm, HasReadCells, HasSeen, HaveWords, IsOpen, flagged}
-use Rattle.column_types.specs.Types.{are_versions, candidate, datatype_for, ends_in_zero, fits_cells, has_one_place, has_point, have_two_dates, stands_for_null, is_padded, null_column, null_words, nulls_in, stands_for, stay_texts, types}
-use Rattle.column_types.proofs.OpenLemmas.{filter-all, left-at, null-all, open-more}
+use Rattle.column_types.specs.Reading.{fits_at, has_value_at, datatype_at, reading_of, reading_under, IsDatatypePlace}
+use Rattle.column_types.specs.Seen.{places, HasForm, HasSeen, HaveWords, flagged}
+use Rattle.column_types.specs.Types.{are_versions, candidate, datatype_for, ends_in_zero, fits_cells, has_one_place, has_point, have_two_dates, stands_for_null, is_padded, null_column, null_words, nulls_in, nulls_under, stands_for, stay_texts, types}
+use Rattle.column_types.proofs.OpenLemmas.{left-at, open-more}
 use Rattle.column_types.proofs.ReadingLemmas.{is_among, is_null-is, stands_for-is}
 
 or_left_false : (a b : Bool) → (a || b) ≡ false → a ≡ false
@@ -104,7 +109,14 @@ no_word cell e k less =
     ∙ none-among ([] ∷ null_words) (normal_text cell) (sym (is_null-is cell) ∙ e) (suc k) (omega (arith, less))
 
 -- ---- one more cell
-pub seen-more : (old new : Seen) (cells : List (List ℕ)) (cell : List ℕ) → HasReadCells old cell new → HasForm new.form (cells ++ cell ∷ []) → HasSeen old cells
+-- the value of one more cell was read
+pub record HasReadCell (old : Seen) (cell : List ℕ) (new : Seen) : Type 0 where
+  pub left : new.left.items ≡ filter (has_value_at cell) old.left.items
+  pub count : length new.words.items ≡ length old.words.items
+  pub words : HaveWords old.words.items cell new.words.items
+  pub nulls : new.all_null ≡ (old.all_null && stands_for_null cell)
+
+pub seen-more : (old new : Seen) (cells : List (List ℕ)) (cell : List ℕ) → HasReadCell old cell new → HasForm new.form (cells ++ cell ∷ []) → HasSeen old cells
     → HasSeen new (cells ++ cell ∷ [])
 seen-more old new cells cell read form seen = record {
   left = read.left ∙ open-more old.left.items cells cell seen.left;
@@ -124,10 +136,10 @@ and-false-right : (a b : Bool) → b ≡ false → false ≡ (a && b)
 and-false-right true b e = sym e
 and-false-right false b e = refl
 
-pub read-null : (old new : Seen) (cell : List ℕ) → IsOpen old → stands_for_null cell ≡ true → new.left.items ≡ old.left.items → length new.words.items ≡ length old.words.items
-    → HaveWords old.words.items cell new.words.items → new.all_null ≡ old.all_null → HasReadCells old cell new
-read-null old new cell is null same count words nulls = record {
-  left = same ∙ sym (filter-all (has_value_at cell) old.left.items (null-all old.left.items cell is.places null));
+pub read-null : (old new : Seen) (cell : List ℕ) → stands_for_null cell ≡ true → new.left.items ≡ filter (has_value_at cell) old.left.items
+    → length new.words.items ≡ length old.words.items → HaveWords old.words.items cell new.words.items → new.all_null ≡ old.all_null → HasReadCell old cell new
+read-null old new cell null left count words nulls = record {
+  left = left;
   count = count;
   words = words;
   nulls = nulls ∙ and-true-right old.all_null (stands_for_null cell) null;
@@ -138,7 +150,7 @@ or-last true = refl
 or-last false = refl
 
 pub read-value : (old new : Seen) (cell : List ℕ) → stands_for_null cell ≡ false → new.left.items ≡ filter (has_value_at cell) old.left.items → new.words.items ≡ old.words.items
-    → new.all_null ≡ false → HasReadCells old cell new
+    → new.all_null ≡ false → HasReadCell old cell new
 read-value old new cell value left same nulls = record {
   left = left;
   count = ap (λ ws. length ws) same;
@@ -186,6 +198,14 @@ flagged-filter p (flag ∷ flags) (word ∷ words) e f =
 pub flagged-nulls : (seen : Seen) (cells : List (List ℕ)) → HasSeen seen cells → ([] ∷ flagged seen.words.items null_words) ≡ nulls_in cells
 flagged-nulls seen cells has =
     ap (λ words. [] ∷ words) (flagged-filter (λ word. list_any (stands_for word) cells) seen.words.items null_words has.count has.words)
+
+pub other-nulls : (datatype : Datatype) (cells : List (List ℕ)) → datatype ≢ Text → nulls_in cells ≡ nulls_under (datatype_view datatype) cells
+other-nulls Integer cells other = refl
+other-nulls Text cells other = absurd (other refl)
+other-nulls (Boolean Standard) cells other = refl
+other-nulls (Boolean (Texts of_true of_false)) cells other = refl
+other-nulls (Date form) cells other = refl
+other-nulls Decimal cells other = refl
 
 -- one flag more
 flagged-step : (flag : Bool) (flags : List Bool) (word : List ℕ) (words more : List (List ℕ)) (others : List Bool)
@@ -251,3 +271,13 @@ pub left-there : (seen : Seen) (cells : List (List ℕ)) (left : List ℕ) (plac
     → there ≡ list_any (λ other. eqb other place) left → list_any (λ other. eqb other place) places ≡ true → there ≡ fits_at cells place
 left-there seen cells left place there has same is among =
     is ∙ ap (list_any (λ other. eqb other place)) (same ∙ has.left) ∙ left-at cells place among
+
+-- what a cell is in the column of a place that is left
+pub place-reads : (candidates : Candidates) (left : List ℕ) (next place : ℕ) (column : Column) (cell : List ℕ) (reading : Reading) → AreCandidates candidates
+    → All IsDatatypePlace left → next < length left → place ≡ get_or left next place → column ≡ get_or candidates.typed.items place column
+    → reading ≡ reading_of (value_of (column_view column) cell) → reading ≡ reading_under (datatype_at (get_or left next 0)) cell
+place-reads candidates left next place column cell reading are places less at there is =
+    let here : place ≡ get_or left next 0 = at ∙ get_or_default left next place 0 less in
+    is
+    ∙ ap (λ c. reading_of (value_of c cell)) (typed-at candidates place column are (subst IsDatatypePlace (sym here) (places next 0 less)) there)
+    ∙ ap (λ k. reading_under (datatype_at k) cell) here

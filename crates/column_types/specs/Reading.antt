@@ -1,13 +1,12 @@
 -- What a cell is under the datatypes that are left for its column.
-use Rattle.std.specs.Prelude.{◌≡◌, ℕ, ◌<◌, Bool, true, false, List, length, slice_index_or, Result, Ok, Err}
-use Rattle.std.specs.List.{list_all}
+use Rattle.std.specs.Prelude.{ℕ, ◌<◌, Bool, List, length, slice_index_or, Result, Ok, Err}
 use Rattle.cell_types.specs.declared.fault.CellFault.{CellFault}
 use Rattle.cell_types.specs.Cell.{value_of}
 use Rattle.cell_types.specs.Datatype.{DatatypeOf, text}
 use Rattle.cell_types.specs.Value.{CellValue, null}
 use Rattle.column_types.specs.declared.reading.Reading.{Reading}
 use Rattle.column_types.specs.declared.reading.Reading.TheVariants.{IsNull, HasValue, HasNone}
-use Rattle.column_types.specs.Types.{candidate, fits_cells, has_value, stands_for_null, types}
+use Rattle.column_types.specs.Types.{candidate, fits_cells, has_value, types}
 
 -- what a reading says of a cell
 abbrev pub reading_of : Result CellValue CellFault → Reading
@@ -31,9 +30,3 @@ has_value_at cell place = has_value (candidate (datatype_at place)) cell
 
 abbrev pub fits_at : List (List ℕ) → ℕ → Bool
 fits_at cells place = fits_cells cells (datatype_at place)
-
--- this is what a cell is under the datatypes of the places: null under each, of a value under each, or of none under one of them
-abbrev pub IsReadingOfCell : List ℕ → List ℕ → Reading → Type 0
-IsReadingOfCell left cell IsNull = stands_for_null cell ≡ true
-IsReadingOfCell left cell HasValue = (stands_for_null cell ≡ false) × (list_all (has_value_at cell) left ≡ true)
-IsReadingOfCell left cell HasNone = stands_for_null cell ≡ false

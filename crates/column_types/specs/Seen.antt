@@ -1,11 +1,12 @@
 -- What is known of a column when some of its cells are read.
-use Rattle.std.specs.Prelude.{◌≡◌, ℕ, ◌<◌, Bool, true, false, ◌&&◌, ◌||◌, List, [], ◌∷◌, ◌++◌, filter, length, slice_index_or, All, Option, None, Some}
+use Rattle.std.specs.Prelude.{◌≡◌, ℕ, ◌<◌, Bool, true, false, ◌&&◌, ◌||◌, ◌==◌, List, [], ◌∷◌, ◌++◌, filter, length, slice_index_or, All}
 use Rattle.std.specs.List.{list_all, list_any, range_with_len}
+use Rattle.cell_types.specs.Column.{ColumnOf}
 use Rattle.cell_types.specs.Datatype.{DatatypeOf, text}
 use Rattle.column_types.specs.declared.form.Form.{Form}
 use Rattle.column_types.specs.declared.seen.Seen.{Seen}
 use Rattle.column_types.specs.Reading.{fits_at, has_value_at, datatype_at, IsDatatypePlace}
-use Rattle.column_types.specs.Types.{datatype_for, types, null_words, stands_for, stands_for_null, is_padded, has_point, has_one_place, ends_in_zero}
+use Rattle.column_types.specs.Types.{column_with, datatype_for, nulls_under, types, null_words, stands_for, stands_for_null, is_padded, has_point, has_one_place, ends_in_zero}
 
 -- so look the cells that were read
 pub record HasForm (form : Form) (cells : List (List ℕ)) : Type 0 where
@@ -57,26 +58,29 @@ flagged (flag ∷ flags) [] = []
 flagged (true ∷ flags) (word ∷ words) = word ∷ flagged flags words
 flagged (false ∷ flags) (word ∷ words) = flagged flags words
 
--- ---- a column that may be known as one of texts
--- these cells of a column were read: nothing is kept where it can only be one of texts, whatever its other cells are
-abbrev pub Knows : Option Seen → List (List ℕ) → Type 0
-Knows None cells = (more : List (List ℕ)) → datatype_for (cells ++ more) ≡ text
-Knows (Some seen) cells = HasSeen seen cells × (0 < length seen.left.items)
+-- ---- a column of which no more is read once it can only be one of texts
+-- a padded number was read, or no datatype is left: no other cells make the column another than one of texts
+abbrev pub must_be_text : Seen → Bool
+must_be_text seen = seen.form.padded || (length seen.left.items == 0)
 
--- these are all cells of a column
-abbrev pub EndsAs : Option Seen → List (List ℕ) → Type 0
-EndsAs None cells = datatype_for cells ≡ text
-EndsAs (Some seen) cells = HasSeen seen cells
+-- these are the cells of a column so far: they were read, up to where it could only be one of texts
+pub record Knows (seen : Seen) (cells : List (List ℕ)) : Type 0 where
+  pub first : List (List ℕ)
+  pub others : List (List ℕ)
+  pub parts : cells ≡ first ++ others
+  pub read : HasSeen seen first
+  pub passed : must_be_text seen ≡ false → others ≡ []
 
--- what is kept of the cells that were read
-abbrev pub IsKnownOfCells : Option Seen → Type 0
-IsKnownOfCells None = Unit {0}
-IsKnownOfCells (Some seen) = All IsDatatypePlace seen.left.items × (length seen.words.items ≡ length null_words)
+-- only places of datatypes are left, and there is a flag for each word
+pub record HasPlaces (seen : Seen) : Type 0 where
+  pub places : All IsDatatypePlace seen.left.items
+  pub count : length seen.words.items ≡ length null_words
 
-abbrev pub IsOpenOrText : Option Seen → Type 0
-IsOpenOrText None = Unit {0}
-IsOpenOrText (Some seen) = IsOpen seen
-
--- one more cell was read
-abbrev pub HasMore : Option Seen → List ℕ → Option Seen → Type 0
+-- one more cell is known
+abbrev pub HasMore : Seen → List ℕ → Seen → Type 0
 HasMore old cell new = (cells : List (List ℕ)) → Knows old cells → Knows new (cells ++ cell ∷ [])
+
+-- the column of that name and those titles that the cells speak for
+abbrev pub SpeaksFor : Seen → List ℕ → List (List ℕ) → ColumnOf → Type 0
+SpeaksFor seen name titles column = (cells : List (List ℕ)) → Knows seen cells
+    → column ≡ column_with name titles (datatype_for cells) (nulls_under (datatype_for cells) cells)

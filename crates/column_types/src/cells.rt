@@ -9,7 +9,7 @@ ghost use Rattle.column_types.specs.Types.{is_padded as is_padded_of, places as 
 fn are_ascii_digits(text: &str) -> bool
     ensures { result ≡ list_all is_ascii_digit text.now }
 {
-    text.as_bytes().iter().all(|byte| byte.is_ascii_digit())
+    text.as_bytes().iter().all(u8::is_ascii_digit)
 }
 
 /// Whether there is a digit, and nothing else.

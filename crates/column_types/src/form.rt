@@ -1,7 +1,7 @@
 //! How the texts of a column's cells look: as codes, or as versions.
 ghost use Rattle.std.specs.Prelude.{◌≡◌, ℕ, List, [], ◌∷◌, ◌++◌, ◌||◌, true};
 ghost use Rattle.column_types.specs.Seen.{HasForm};
-ghost use Rattle.column_types.specs.Types.{are_versions, ends_in_zero as ends_in_zero_of, has_one_place as has_one_place_of, has_point as has_point_of, is_padded as is_padded_of};
+ghost use Rattle.column_types.specs.Types.{are_versions, ends_in_zero as ends_in_zero_of, has_one_place as has_one_place_of, has_point as has_point_of};
 
 use crate::cells::{are_digits, is_padded, last_is_zero, parts};
 
@@ -31,16 +31,6 @@ impl Form {
         }
     }
 
-    /// Looks whether one more cell is a padded number.
-    fn read_code(&mut self, cell: &str)
-        ensures padded { self.new.padded ≡ (self.old.padded || is_padded_of cell.now) }
-        ensures points { self.new.points ≡ self.old.points }
-        ensures one_place { self.new.one_place ≡ self.old.one_place }
-        ensures zero { self.new.zero ≡ self.old.zero }
-    {
-        self.padded = self.padded || is_padded(cell);
-    }
-
     /// Looks at the point of one more cell.
     fn read_point(&mut self, cell: &str)
         ensures padded { self.new.padded ≡ self.old.padded }
@@ -50,8 +40,8 @@ impl Form {
     {
         let (whole, places) = parts(cell);
         self.points = are_digits(whole) && are_digits(places);
-        self.one_place = self.one_place || places.len() == 1;
-        self.zero = self.zero || last_is_zero(places);
+        self.one_place |= places.len() == 1;
+        self.zero |= last_is_zero(places);
     }
 
     /// Looks at one more cell. Where one has no point between digits, the others' don't matter.
@@ -59,7 +49,7 @@ impl Form {
         ensures { (cells : List (List ℕ)) → HasForm self.old cells
             → HasForm self.new (cells ++ cell.now ∷ []) }
     {
-        self.read_code(cell);
+        self.padded |= is_padded(cell);
         if !self.points {
             return;
         }

@@ -1,10 +1,11 @@
 //! What a cell is under the datatypes that are left for its column.
-ghost use Rattle.std.specs.Prelude.{◌≡◌, ◌<◌, true, Ok, IfOk, All, filter, length};
+ghost use Rattle.std.specs.Prelude.{◌≡◌, ◌<◌, true, Ok, IfOk, OnOk, All, filter, length};
 ghost use Rattle.cell_types.specs.Cell.{value_of};
 ghost use Rattle.cell_types.specs.Column.{column_view};
 ghost use Rattle.cell_types.specs.Value.{value_view};
 ghost use Rattle.column_types.specs.Kinds.{AreCandidates};
-ghost use Rattle.column_types.specs.Reading.{has_value_at, reading_of, reading_under, datatype_at, IsDatatypePlace, IsReadingOfCell};
+ghost use Rattle.column_types.specs.Reading.{has_value_at, reading_of, IsDatatypePlace};
+ghost use Rattle.column_types.specs.Types.{stands_for_null};
 ghost use Rattle.column_types.specs.declared.reading.Reading.TheVariants.{HasValue};
 
 use crate::types::Candidates;
@@ -63,59 +64,28 @@ pub fn reading_in(alloc: Global, column: &Column, cell: &str) -> Result<Reading,
     }
 }
 
-/// What a cell is under the datatype of a place.
-fn reading_at(
+/// Whether a cell is null, under whichever of the datatypes of some places. Where it is not, those stay under whose datatypes it has a value.
+pub fn is_null_under(
     alloc: Global,
     candidates: &Candidates,
-    place: usize,
+    left: &mut Vec<usize>,
     cell: &str,
-) -> Result<Reading, AllocError>
+) -> Result<bool, AllocError>
     requires candidates { AreCandidates candidates.now }
-    requires place { IsDatatypePlace place }
-    ensures { IfOk result (λ reading. reading ≡ reading_under (datatype_at place) cell.now) }
+    requires places { All IsDatatypePlace left.old.items }
+    requires some { 0 < length left.old.items }
+    ensures null { IfOk result (λ is_null. is_null ≡ stands_for_null cell.now) }
+    ensures left { OnOk result (left.new.items ≡ filter (has_value_at cell.now) left.old.items) }
 {
-    reading_in(alloc, &candidates.typed[place], cell)
-}
-
-/// What a cell is under the datatypes of those places: of a value, where it has one under each.
-pub fn reading_under_all(
-    alloc: Global,
-    candidates: &Candidates,
-    left: &[usize],
-    cell: &str,
-) -> Result<Reading, AllocError>
-    requires candidates { AreCandidates candidates.now }
-    requires places { All IsDatatypePlace left.now }
-    requires some { 0 < length left.now }
-    ensures { IfOk result (IsReadingOfCell left.now cell.now) }
-{
-    for place in left {
-        match reading_at(alloc, candidates, *place, cell)? {
-            Reading::IsNull => return Ok(Reading::IsNull),
-            Reading::HasValue => {}
-            Reading::HasNone => return Ok(Reading::HasNone),
+    let mut next = 0;
+    while next < left.len() {
+        match reading_in(alloc, &candidates.typed[left[next]], cell)? {
+            Reading::IsNull => return Ok(true),
+            Reading::HasValue => next += 1,
+            Reading::HasNone => {
+                left.remove(next);
+            }
         }
     }
-    Ok(Reading::HasValue)
-}
-
-/// Those of the places under whose datatypes a cell has a value.
-pub fn places_left(
-    alloc: Global,
-    candidates: &Candidates,
-    left: &[usize],
-    cell: &str,
-) -> Result<Vec<usize>, AllocError>
-    requires candidates { AreCandidates candidates.now }
-    requires places { All IsDatatypePlace left.now }
-    ensures { IfOk result (λ kept. kept.items ≡ filter (has_value_at cell.now) left.now) }
-{
-    let mut kept = Vec::new(alloc);
-    for place in left {
-        match reading_at(alloc, candidates, *place, cell)? {
-            Reading::HasNone => {}
-            _ => kept.push(*place)?,
-        }
-    }
-    Ok(kept)
+    Ok(false)
 }

@@ -1,18 +1,19 @@
 //! What is known of a column when some of its cells are read.
-ghost use Rattle.std.specs.Prelude.{◌≡◌, ◌<◌, ◌==◌, ℕ, List, [], ◌∷◌, ◌++◌, true, false, All, IfOk, OnOk, length, map, string_bytes};
+ghost use Rattle.std.specs.Prelude.{◌≡◌, ◌<◌, ◌≤◌, ◌==◌, ℕ, List, [], ◌∷◌, ◌++◌, true, All, IfOk, OnOk, length, map, string_bytes};
 ghost use Rattle.std.specs.List.{list_any};
+ghost use Rattle.cell_types.specs.Column.{column_view};
 ghost use Rattle.cell_types.specs.Datatype.{datatype_view, text};
 ghost use Rattle.column_types.specs.Kinds.{AreCandidates};
 ghost use Rattle.column_types.specs.Reading.{IsDatatypePlace};
-ghost use Rattle.column_types.specs.Seen.{flagged, first_type, HasReadCells, HasSeen, HaveWords, IsOpen};
-ghost use Rattle.column_types.specs.Types.{datatype_for, have_two_dates, null_words, nulls_in, stay_texts};
+ghost use Rattle.column_types.specs.Seen.{flagged, first_type, must_be_text, HasPlaces, HasSeen, HaveWords, SpeaksFor, IsOpen, Knows};
+ghost use Rattle.column_types.specs.Types.{datatype_for, have_two_dates, null_words, nulls_under, stay_texts};
 
 use crate::form::Form;
-use crate::reading::{Reading, places_left, reading_in, reading_under_all};
+use crate::reading::{Reading, is_null_under, reading_in};
 use crate::types::{
     Candidates, DAY_FIRST, MONTH_FIRST, PLACES, WORD_COUNT, datatype_at, null_word,
 };
-use cell_types::Datatype;
+use cell_types::{Column, Datatype};
 use std::alloc::{AllocError, Global};
 
 /// What is known of a column when some of its cells are read. The datatypes that are left for it only become fewer.
@@ -51,7 +52,7 @@ fn mark_words(
 
 /// The empty text, and the words of those flags.
 pub(crate) fn flagged_words(alloc: Global, flags: &[bool]) -> Result<Vec<String>, AllocError>
-    requires { length flags.now ≡ length null_words }
+    requires { length flags.now ≤ length null_words }
     ensures { IfOk result
         (λ words. map string_bytes words.items ≡ [] ∷ flagged flags.now null_words) }
 {
@@ -86,28 +87,6 @@ impl Seen {
         })
     }
 
-    /// Reads the value of one more cell.
-    fn read_value(
-        &mut self,
-        alloc: Global,
-        candidates: &Candidates,
-        cell: &str,
-    ) -> Result<(), AllocError>
-        requires candidates { AreCandidates candidates.now }
-        requires live { IsOpen self.old }
-        ensures read { OnOk result (HasReadCells self.old cell.now self.new) }
-        ensures form { self.new.form ≡ self.old.form }
-    {
-        let left = self.left.as_slice();
-        match reading_under_all(alloc, candidates, left, cell)? {
-            Reading::IsNull => return mark_words(alloc, candidates, &mut self.words, cell),
-            Reading::HasValue => {}
-            Reading::HasNone => self.left = places_left(alloc, candidates, left, cell)?,
-        }
-        self.all_null = false;
-        Ok(())
-    }
-
     /// Reads one more cell.
     pub fn read(
         &mut self,
@@ -120,8 +99,11 @@ impl Seen {
         ensures { OnOk result ((cells : List (List ℕ)) → HasSeen self.old cells
             → HasSeen self.new (cells ++ cell.now ∷ [])) }
     {
-        self.read_value(alloc, candidates, cell)?;
         self.form.read(cell);
+        if is_null_under(alloc, candidates, &mut self.left, cell)? {
+            return mark_words(alloc, candidates, &mut self.words, cell);
+        }
+        self.all_null = false;
         Ok(())
     }
 
@@ -129,13 +111,13 @@ impl Seen {
     pub fn is_text(&self) -> bool
         ensures text { result ≡ true → (cells more : List (List ℕ)) → HasSeen self.now cells
             → datatype_for (cells ++ more) ≡ text }
-        ensures some { result ≡ false → 0 < length self.now.left.items }
+        ensures must { result ≡ must_be_text self.now }
     {
         self.form.padded || self.left.as_slice().is_empty()
     }
 
     /// Whether the cells fit a date with the day first and one with the month first.
-    fn has_two_dates(&self) -> bool
+    pub fn has_two_dates(&self) -> bool
         ensures { (cells : List (List ℕ)) → HasSeen self.now cells → result ≡ have_two_dates cells }
     {
         let left = self.left.as_slice();
@@ -160,10 +142,10 @@ impl Seen {
         }
     }
 
-    /// The datatype of the column whose cells are all read.
-    pub fn datatype(&self, alloc: Global) -> Result<Datatype, AllocError>
+    /// The datatype of the column of whose cells this is known.
+    fn datatype(&self, alloc: Global) -> Result<Datatype, AllocError>
         requires { All IsDatatypePlace self.now.left.items }
-        ensures { IfOk result (λ made. (cells : List (List ℕ)) → HasSeen self.now cells
+        ensures { IfOk result (λ made. (cells : List (List ℕ)) → Knows self.now cells
             → datatype_view made ≡ datatype_for cells) }
     {
         if self.stays_text() {
@@ -172,12 +154,38 @@ impl Seen {
         self.first_open(alloc)
     }
 
-    /// The texts that stand for null in the column whose cells are all read, where it is none of texts.
-    pub fn nulls(&self, alloc: Global) -> Result<Vec<String>, AllocError>
+    /// The texts that stand for null in a column of the datatype.
+    fn nulls(&self, alloc: Global, datatype: &Datatype) -> Result<Vec<String>, AllocError>
         requires { length self.now.words.items ≡ length null_words }
         ensures { IfOk result (λ nulls. (cells : List (List ℕ)) → HasSeen self.now cells
-            → map string_bytes nulls.items ≡ nulls_in cells) }
+            → map string_bytes nulls.items ≡ nulls_under (datatype_view datatype.now) cells) }
     {
-        flagged_words(alloc, self.words.as_slice())
+        match datatype {
+            Datatype::Text => flagged_words(alloc, &[]),
+            _ => flagged_words(alloc, self.words.as_slice()),
+        }
+    }
+
+    /// The column of whose cells this is known, with that name and those titles.
+    pub fn column(
+        &self,
+        alloc: Global,
+        name: String,
+        titles: Vec<String>,
+    ) -> Result<Column, AllocError>
+        requires { HasPlaces self.now }
+        ensures { IfOk result (λ made. SpeaksFor self.now (string_bytes name)
+            (map string_bytes titles.items) (column_view made)) }
+    {
+        let datatype = self.datatype(alloc)?;
+        let nulls = self.nulls(alloc, &datatype)?;
+        Ok(Column {
+            name,
+            titles,
+            datatype,
+            nulls,
+            default: String::new(alloc),
+            required: false,
+        })
     }
 }

@@ -12,7 +12,7 @@ use std::alloc::{AllocError, Global};
 /// How many datatypes other than `string` there are.
 const DATATYPE_COUNT: usize = 17;
 
-/// The words of true and of false of the booleans that have a format, which stand behind the one that has none.
+/// The words of true and of false of the booleans that have a format, which stand after the one that has none.
 const TRUE_WORDS: [&str; 9] = ["Y", "y", "yes", "Yes", "YES", "T", "t", "True", "TRUE"];
 
 const FALSE_WORDS: [&str; 9] = ["N", "n", "no", "No", "NO", "F", "f", "False", "FALSE"];
@@ -115,7 +115,8 @@ fn null_columns(alloc: Global) -> Result<Vec<Column>, AllocError>
 {
     let mut columns = Vec::new(alloc);
     for place in 0..WORD_COUNT {
-        let nulls = vec![in alloc; String::from_str(alloc, null_word(place))?]?;
+        let mut nulls = Vec::new(alloc);
+        nulls.push(String::from_str(alloc, null_word(place))?)?;
         columns.push(typed_column(alloc, Datatype::Integer, nulls))?;
     }
     Ok(columns)

@@ -1,9 +1,11 @@
 -- The program's command, as `clap` describes commands, and what its reading of a command line asks for.
-use Rattle.std.specs.Prelude.{◌≡◌, ◌⊎◌, ⊤, Bool, true, false, not, List, [], Option, Some, None, codes}
+use Rattle.std.specs.Prelude.{◌≡◌, ◌⊎◌, ⊤, Bool, true, false, not, List, [], Option, Some, None, Result, IfOk, codes}
 use Rattle.std.specs.List.{list_any}
 use Rattle.clap.specs.Facts.{explicit_source}
-use Rattle.clap.specs.Words.{App, IsAmong, Row, Rule, Text, fault_of, first_of, kind_of, matches_of, new_app, new_rule, one_of, subcommand_of, with_rule, with_subcommand}
+use Rattle.clap.specs.Words.{App, IsAmong, Row, Rule, Text, app_of, fault_of, first_of, kind_of, matches_of, new_app, new_rule, one_of, subcommand_of, with_rule, with_subcommand}
+use Rattle.std.specs.declared.alloc.AllocError.{AllocError}
 use Rattle.clap.specs.declared.builder.action.ArgAction.TheVariants.{SetTrue}
+use Rattle.clap.specs.declared.builder.command.Command.{Command}
 use Rattle.clap.specs.declared.error.ErrorKind.{ErrorKind}
 use Rattle.clap.specs.declared.error.ErrorKind.TheVariants.{DisplayHelp, DisplayVersion, OutOfMemory}
 use Rattle.command_words.specs.Words.{required_rule}
@@ -15,6 +17,10 @@ use Rattle.csvw_draft.specs.declared.words.WordsFault.TheVariants.{Shows, Usage,
 -- the same argument, whose value help calls by one name
 abbrev pub shown_rule : Rule → Rule
 shown_rule rule = record rule { value_names = 1 }
+
+-- `[FOLDER]`, or `FOLDER` where it is needed
+abbrev pub folder_rule : Bool → Rule
+folder_rule needed = record (shown_rule (new_rule (codes "folder"))) { required = needed }
 
 -- `--ID`
 abbrev pub switch_rule : Text → Rule
@@ -39,6 +45,10 @@ draft_app = with_rule (with_rule with_folder (switch_rule (codes "write"))) (swi
 -- the whole command, with `show FOLDER` and `explain FOLDER`
 abbrev pub whole_command : App
 whole_command = with_subcommand (with_subcommand draft_app (over_folder (codes "show")).top) (over_folder (codes "explain")).top
+
+-- what was made is this command, where memory was had for it
+abbrev pub MakesCommand : Result Command AllocError → App → Type 0
+MakesCommand made app = IfOk made (λ command. app_of command ≡ app)
 
 -- whether an option without a value is there: `clap` reads `true` for it
 abbrev pub HasSwitch : Option Text → Bool → Type 0

@@ -4,7 +4,7 @@ use crate::explain::tell_folder;
 use crate::status::{DONE, MEMORY, USAGE, status_of};
 use crate::words::{USAGE_LINE, Words, WordsFault, read_words};
 use command_words::{line_of, system_words};
-use std::io::{self, ErrorKind};
+use std::io::{self, ErrorKind, IsTerminal};
 
 /// Tells how the program is called, and gives the exit status.
 fn usage_status(rt: &HostRuntime) -> u8 {
@@ -12,12 +12,8 @@ fn usage_status(rt: &HostRuntime) -> u8 {
     USAGE
 }
 
-/// Does what the words ask for, or tells why there is nothing to do.
-fn words_status(
-    rt: &HostRuntime,
-    words: Result<Words<'_>, WordsFault>,
-    tells: bool,
-) -> io::Result<u8> {
+/// Does what the words ask for, or tells why there is nothing to do. Where someone looks on, it tells of long work.
+fn words_status(rt: &HostRuntime, words: Result<Words<'_>, WordsFault>) -> io::Result<u8> {
     match words {
         Ok(
             Words::Draft {
@@ -25,28 +21,25 @@ fn words_status(
                 write,
                 keys,
             },
-        ) => draft_folder(rt, folder, write, keys, tells),
-        Ok(Words::Show { folder }) => tell_folder(rt, folder, false),
-        Ok(Words::Explain { folder }) => tell_folder(rt, folder, true),
-        Err(WordsFault::Shows(text)) => {
-            text.print(rt)?;
-            Ok(DONE)
-        }
+        ) => draft_folder(rt, folder, write, keys, rt.stderr().is_terminal()),
+        Ok(Words::Show { folder }) => Ok(tell_folder(rt, folder, false)),
+        Ok(Words::Explain { folder }) => Ok(tell_folder(rt, folder, true)),
+        Err(WordsFault::Shows(text)) => text.print(rt).and(Ok(DONE)),
         Err(WordsFault::Usage) => Ok(usage_status(rt)),
         Err(WordsFault::NoMemory) => Ok(MEMORY),
     }
 }
 
 /// Does what the system's words ask for.
-fn line_status(rt: &HostRuntime, words: &[String], tells: bool) -> io::Result<u8> {
+fn line_status(rt: &HostRuntime, words: &[String]) -> io::Result<u8> {
     let line = line_of(rt.alloc(), words)?;
-    words_status(rt, read_words(rt.alloc(), line.as_slice()), tells)
+    words_status(rt, read_words(rt.alloc(), line.as_slice()))
 }
 
-/// Does what the command line asks for, and gives the exit status. Where someone looks on, it tells of long work.
-pub fn command_status(rt: &HostRuntime, tells: bool) -> u8 {
+/// Does what the command line asks for, and gives the exit status.
+pub fn command_status(rt: &HostRuntime) -> u8 {
     match system_words(rt) {
-        Ok(words) => status_of(line_status(rt, words.as_slice(), tells)),
+        Ok(words) => status_of(line_status(rt, words.as_slice())),
         Err(error) => match error.kind() {
             // a word that is not UTF-8 is no word of the command
             ErrorKind::InvalidData => usage_status(rt),

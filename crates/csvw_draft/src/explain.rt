@@ -1,6 +1,6 @@
 //! What the service understands of a folder, and why it refuses one.
 use crate::folder::file_in;
-use crate::status::{DEVICE, MEMORY};
+use crate::status::{DEVICE, MEMORY, status_of};
 use crate::told::{print_text, refuse, refuse_for};
 use csvw_meta::{Limits, MetaFault, Schema, Schemas};
 use folder_report::{Report, catalog_text, refuse_metadata, refuse_table};
@@ -15,28 +15,6 @@ const NO_METADATA: &str = "csv-metadata.json: NoMetadata";
 const NO_METADATA_DETAIL: &str =
     "csv-metadata.json: NoMetadata: the folder has no such file; accepted: one, as csvw_draft FOLDER --write makes it";
 
-/// Adds what is refused of the table of a schema.
-fn refuse_schema(
-    rt: &HostRuntime,
-    folder: &str,
-    schema: &Schema,
-    report: &mut Report,
-) -> io::Result<()> {
-    match file_in(rt, folder, schema.url.as_str(), false) {
-        Ok(bytes) => {
-            refuse_table(report, schema, Some(bytes.as_slice()));
-            Ok(())
-        }
-        Err(error) => match error.kind() {
-            ErrorKind::NotFound => {
-                refuse_table(report, schema, None);
-                Ok(())
-            }
-            _ => Err(error),
-        },
-    }
-}
-
 /// Adds what is refused of tables, in the order of the metadata, until there are as many refusals as are told.
 fn refuse_schemas(
     rt: &HostRuntime,
@@ -45,8 +23,15 @@ fn refuse_schemas(
     report: &mut Report,
 ) -> io::Result<()> {
     for schema in schemas {
-        if !report.is_full() {
-            refuse_schema(rt, folder, schema, report)?;
+        if report.is_full() {
+            return Ok(());
+        }
+        match file_in(rt, folder, schema.url.as_str(), false) {
+            Ok(bytes) => refuse_table(report, schema, Some(bytes.as_slice())),
+            Err(error) => match error.kind() {
+                ErrorKind::NotFound => refuse_table(report, schema, None),
+                _ => return Err(error),
+            },
         }
     }
     Ok(())
@@ -66,45 +51,44 @@ fn refuse_folder(rt: &HostRuntime, folder: &str, report: &mut Report) -> io::Res
 }
 
 /// Tells why a folder is refused: the one cause, as the service does, or all that is refused of it.
-fn tell_cause(rt: &HostRuntime, folder: &str, cause: &LoadFault, explains: bool) -> io::Result<u8> {
-    if cause.is_memory() {
-        return Ok(MEMORY);
-    }
+fn tell_cause(rt: &HostRuntime, folder: &str, cause: &LoadFault, explains: bool) -> u8 {
     let mut report = Report::new(rt.alloc());
     if explains {
-        refuse_folder(rt, folder, &mut report)?;
+        if let Err(error) = refuse_folder(rt, folder, &mut report) {
+            return status_of(Err(error));
+        }
     }
-    let lines = report.end(cause)?;
-    refuse(rt, lines.as_slice())
+    match report.end(cause) {
+        Ok(lines) => refuse(rt, lines.as_slice()),
+        Err(_) => MEMORY,
+    }
 }
 
 /// Tells why a folder has no catalog.
-fn tell_fault(
-    rt: &HostRuntime,
-    folder: &str,
-    fault: &FolderFault,
-    explains: bool,
-) -> io::Result<u8> {
+fn tell_fault(rt: &HostRuntime, folder: &str, fault: &FolderFault, explains: bool) -> u8 {
     match fault {
         FolderFault::NoMetadata if explains => refuse_for(rt, NO_METADATA_DETAIL),
         FolderFault::NoMetadata => refuse_for(rt, NO_METADATA),
+        FolderFault::Load(LoadFault::NoMemory) | FolderFault::NoMemory => MEMORY,
         FolderFault::Load(cause) => tell_cause(rt, folder, cause, explains),
-        FolderFault::Device => Ok(DEVICE),
-        FolderFault::NoMemory => Ok(MEMORY),
+        FolderFault::Device => DEVICE,
     }
 }
 
 /// Prints what the service understands of the tables of a folder; where it is asked why the folder is refused, that it is accepted.
-fn tell_catalog(rt: &HostRuntime, catalog: &Catalog, explains: bool) -> io::Result<u8> {
+fn tell_catalog(rt: &HostRuntime, catalog: &Catalog, explains: bool) -> u8 {
     if explains {
         return print_text(rt, b"accepted\n");
     }
-    let text = catalog_text(rt.alloc(), catalog)?;
-    print_text(rt, text.as_slice())
+    match catalog_text(rt.alloc(), catalog) {
+        Ok(text) => print_text(rt, text.as_slice()),
+        Err(_) => MEMORY,
+    }
 }
 
-/// Prints what the service understands of a folder, or tells why it is refused. To explain is to tell of all that is refused of it, a line for each.
-pub fn tell_folder(rt: &HostRuntime, folder: &str, explains: bool) -> io::Result<u8> {
+/// Prints what the service understands of a folder, or tells why it is refused; and gives the exit status. To explain is to tell of all that is refused of it, a line for
+/// each.
+pub fn tell_folder(rt: &HostRuntime, folder: &str, explains: bool) -> u8 {
     match Disk::new(rt).load(rt.alloc(), folder) {
         Ok(catalog) => tell_catalog(rt, &catalog, explains),
         Err(fault) => tell_fault(rt, folder, &fault, explains),

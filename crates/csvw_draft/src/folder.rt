@@ -1,10 +1,11 @@
 //! The CSV files of a folder on a disk.
+use crate::told::tell;
 use csvw_meta::MOST_FILE_BYTES;
-use folder_report::cut;
-use served_folders::look;
+use folder_report::{Line, cut};
 use std::alloc::{AllocError, Global};
-use std::fs::{self, DirEntry, File, OpenFile};
+use std::fs::{self, File, OpenFile};
 use std::io::{self, ErrorKind, Read};
+use std::rt::Files;
 use table_store::NamedFile;
 
 /// The bytes of a file from which on its reading is told.
@@ -12,36 +13,37 @@ const LONG: u64 = 50_000_000;
 
 /// Whether a name is that of a CSV file, in letters of either case.
 fn is_csv(name: &str) -> bool {
-    match name.as_bytes() {
-        [.., b'.', b'c' | b'C', b's' | b'S', b'v' | b'V'] => true,
-        _ => false,
+    match name.as_bytes().last_chunk::<4>() {
+        Some(end) => end.eq_ignore_ascii_case(b".csv"),
+        None => false,
     }
 }
 
-/// Adds the name of an entry, where it is that of a CSV file. A name that is not UTF-8 is passed.
-fn push_entry(names: &mut Vec<String>, entry: io::Result<DirEntry>) -> io::Result<()> {
-    match entry {
-        Ok(entry) => {
-            let name = entry.file_name();
-            if is_csv(name) {
-                let name = String::from_str(*names.allocator(), name)?;
-                names.push(name)?;
-            }
-            Ok(())
-        }
-        Err(error) => match error.kind() {
-            ErrorKind::InvalidFilename => Ok(()),
-            _ => Err(error),
-        },
+/// Adds a name, where it is that of a CSV file.
+fn push_name(names: &mut Vec<String>, name: &str) -> io::Result<()> {
+    if is_csv(name) {
+        let name = String::from_str(*names.allocator(), name)?;
+        names.push(name)?;
     }
+    Ok(())
 }
 
-/// Adds the names of the CSV files of a folder, in the order of their bytes.
+/// Adds the names of the CSV files of a folder, in the order of their bytes. A name that is not UTF-8 is passed.
 fn push_names(rt: &HostRuntime, folder: &str, names: &mut Vec<String>) -> io::Result<()> {
+    let mut end = Ok(());
     for entry in fs::read_dir(rt, folder)? {
-        push_entry(names, entry)?;
+        let pushed = match entry {
+            Ok(entry) => push_name(names, entry.file_name()),
+            Err(error) => match error.kind() {
+                ErrorKind::InvalidFilename => Ok(()),
+                _ => Err(error),
+            },
+        };
+        // the first fault counts; the folder is read to its end
+        end = end.and(pushed);
     }
-    Ok(names.sort()?)
+    names.as_mut_slice().sort_unstable();
+    end
 }
 
 /// The path of a name in a folder.
@@ -49,64 +51,70 @@ pub fn path_in(alloc: Global, folder: &str, name: &str) -> Result<String, AllocE
     format!(in alloc; "{folder}/{name}")
 }
 
-/// The bytes of a plain file, or one more than the limit.
-fn read_plain(rt: &HostRuntime, path: &str) -> io::Result<Vec<u8>> {
-    let file = File::open(rt, path)?;
-    // what was opened may be another than what was looked at
-    if !file.metadata()?.is_file() {
-        return Err(io::Error::from(ErrorKind::InvalidInput));
-    }
+/// The bytes of a file, or one more than the limit.
+fn read_front(rt: &HostRuntime, file: &File) -> io::Result<Vec<u8>> {
     let mut bytes = Vec::new(rt.alloc());
     file.take(u64::from(MOST_FILE_BYTES) + 1)
         .read_to_end(&mut bytes)?;
     Ok(bytes)
 }
 
-/// Tells that so many bytes are read.
-fn tell_long(rt: &HostRuntime, name: &str, bytes: u64) -> io::Result<()> {
-    let shown = cut(rt.alloc(), name)?;
-    let megabytes = bytes / 1_000_000;
-    eprintln!(rt; "reading {shown}, {megabytes} MB")
+/// The bytes of a plain file, or one more than the limit.
+fn read_plain(rt: &HostRuntime, path: &str) -> io::Result<Vec<u8>> {
+    let file = File::open(rt, path)?;
+    // what was opened may be another than what was looked at
+    match file.metadata() {
+        Ok(found) => {
+            if found.is_file() {
+                read_front(rt, &file)
+            } else {
+                Err(io::Error::from(ErrorKind::InvalidInput))
+            }
+        }
+        Err(error) => Err(error),
+    }
+}
+
+/// Tells that so many bytes are read, as far as that can be told.
+fn tell_long(rt: &HostRuntime, name: &str, bytes: u64) {
+    let mut line = Line::new(rt.alloc());
+    line.push("reading ");
+    line.push_made(cut(rt.alloc(), name));
+    line.push(", ");
+    line.push_number((bytes / 1_000_000) as usize);
+    line.push(" MB\n");
+    let _ = tell(rt, &line);
+}
+
+/// Tells that a name is that of no plain file.
+fn warn_other(rt: &HostRuntime, name: &str) -> io::Result<()> {
+    let mut line = Line::new(rt.alloc());
+    line.push("warning: ");
+    line.push_made(cut(rt.alloc(), name));
+    line.push(": left out: no plain file\n");
+    tell(rt, &line)
 }
 
 /// The bytes of the plain file of a name in a folder; of a file above the limit its front alone. Where someone looks on, it tells of a long one. What is no plain file is
 /// an invalid input.
 pub fn file_in(rt: &HostRuntime, folder: &str, name: &str, tells: bool) -> io::Result<Vec<u8>> {
     let path = path_in(rt.alloc(), folder, name)?;
-    let found = look(rt, path.as_str(), true)?;
-    if !found.is_file() {
-        return Err(io::Error::from(ErrorKind::InvalidInput));
-    }
-    if tells && found.len() > LONG {
-        tell_long(rt, name, found.len())?;
-    }
-    read_plain(rt, path.as_str())
-}
-
-/// Tells that a name is that of no plain file.
-fn warn_other(rt: &HostRuntime, name: &str) -> io::Result<()> {
-    let shown = cut(rt.alloc(), name)?;
-    eprintln!(rt; "warning: {shown}: left out: no plain file")
-}
-
-/// Adds the file of a name in a folder, where it is a plain one; else that is told.
-fn push_file(
-    rt: &HostRuntime,
-    folder: &str,
-    name: String,
-    tells: bool,
-    files: &mut Vec<NamedFile>,
-) -> io::Result<()> {
-    match file_in(rt, folder, name.as_str(), tells) {
-        Ok(bytes) => Ok(files.push(NamedFile { name, bytes })?),
-        Err(error) => match error.kind() {
-            ErrorKind::InvalidInput => warn_other(rt, name.as_str()),
-            _ => Err(error),
-        },
+    match rt.metadata(path.as_str()) {
+        Ok(found) => {
+            if found.is_file() {
+                if tells && found.len() > LONG {
+                    tell_long(rt, name, found.len());
+                }
+                read_plain(rt, path.as_str())
+            } else {
+                Err(io::Error::from(ErrorKind::InvalidInput))
+            }
+        }
+        Err(error) => Err(error),
     }
 }
 
-/// Adds the CSV files of a folder, in the order of their names.
+/// Adds the CSV files of a folder, in the order of their names. What is no plain file is told, and left out.
 pub fn push_files(
     rt: &HostRuntime,
     folder: &str,
@@ -116,7 +124,13 @@ pub fn push_files(
     let mut names = Vec::new(rt.alloc());
     push_names(rt, folder, &mut names)?;
     for name in names {
-        push_file(rt, folder, name, tells, files)?;
+        match file_in(rt, folder, name.as_str(), tells) {
+            Ok(bytes) => files.push(NamedFile { name, bytes })?,
+            Err(error) => match error.kind() {
+                ErrorKind::InvalidInput => warn_other(rt, name.as_str())?,
+                _ => return Err(error),
+            },
+        }
     }
     Ok(())
 }

@@ -12,10 +12,8 @@ mod warning;
 mod words;
 
 use command::command_status;
-use std::io::IsTerminal;
 use std::process::ExitCode;
 
 fn main(rt: HostRuntime) -> ExitCode {
-    let tells = rt.stderr().is_terminal();
-    ExitCode::from(command_status(&rt, tells))
+    ExitCode::from(command_status(&rt))
 }

@@ -1,23 +1,41 @@
 //! What is told, on standard error, a line for each thing; and the texts that were asked for.
-use crate::status::{DONE, REFUSED};
-use std::io::{self, Write};
+use crate::status::{DONE, REFUSED, status_of};
+use folder_report::Line;
+use std::io::{self, ErrorKind};
+
+/// Tells lines that were written.
+pub fn tell(rt: &HostRuntime, lines: &Line) -> io::Result<()> {
+    if lines.is_short {
+        return Err(io::Error::from(ErrorKind::OutOfMemory));
+    }
+    rt.eprint(lines.text.as_str())
+}
+
+/// The exit status after what was done: that one, or that of an error of the system.
+pub fn status_after(done: io::Result<()>, status: u8) -> u8 {
+    match done {
+        Ok(()) => status,
+        Err(error) => status_of(Err(error)),
+    }
+}
 
 /// Tells why a folder is refused, and gives the exit status.
-pub fn refuse_for(rt: &HostRuntime, line: &str) -> io::Result<u8> {
-    eprintln!(rt; "refused: {line}")?;
-    Ok(REFUSED)
+pub fn refuse_for(rt: &HostRuntime, line: &str) -> u8 {
+    status_after(eprintln!(rt; "refused: {line}"), REFUSED)
 }
 
 /// [`refuse_for`] for several things.
-pub fn refuse(rt: &HostRuntime, lines: &[String]) -> io::Result<u8> {
+pub fn refuse(rt: &HostRuntime, lines: &[String]) -> u8 {
     for line in lines {
-        refuse_for(rt, line.as_str())?;
+        let status = refuse_for(rt, line.as_str());
+        if status != REFUSED {
+            return status;
+        }
     }
-    Ok(REFUSED)
+    REFUSED
 }
 
 /// Prints a text, and gives the exit status.
-pub fn print_text(rt: &HostRuntime, text: &[u8]) -> io::Result<u8> {
-    io::writer(rt).write_all(text)?;
-    Ok(DONE)
+pub fn print_text(rt: &HostRuntime, text: &[u8]) -> u8 {
+    status_after(rt.write_all(text), DONE)
 }

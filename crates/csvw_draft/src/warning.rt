@@ -1,8 +1,9 @@
 //! What the publisher of files should look at, and what mends it.
+use crate::told::tell;
 use csvw_guess::{Draft, Warning};
 use csvw_meta::Schema;
 use folder_report::{Line, cut};
-use std::io::{self, ErrorKind};
+use std::io;
 use table_store::NamedFile;
 
 /// What reads fields that are parted by that byte.
@@ -87,8 +88,5 @@ pub fn warn_of(rt: &HostRuntime, draft: &Draft, files: &[NamedFile]) -> io::Resu
     for warning in &draft.warnings {
         push_warning(&mut lines, *warning, draft.schemas.as_slice(), files);
     }
-    if lines.is_short {
-        return Err(io::Error::from(ErrorKind::OutOfMemory));
-    }
-    rt.eprint(lines.text.as_str())
+    tell(rt, &lines)
 }

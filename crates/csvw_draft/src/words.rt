@@ -1,15 +1,13 @@
 //! The words of the command line, read by `clap` as one command. What is read is `clap`'s reading of that command; and `clap` has the texts of `--help` and `--version`.
-ghost use Rattle.std.specs.Prelude.{◌≡◌, None, Some, IfErr, IfNone, IfOk, IfSome, false, not};
-ghost use Rattle.std.specs.List.{list_any};
-ghost use Rattle.clap.specs.Facts.{explicit_source};
-ghost use Rattle.clap.specs.Words.{app_of, found_of, kind_of, one_of, rows_of, rule_of, subcommand_rows_of, with_rule, with_subcommand};
+ghost use Rattle.std.specs.Prelude.{◌≡◌, None, Ok, Some, IfErr, IfOk, false};
+ghost use Rattle.clap.specs.Words.{App, FailsBy, HasMatchesOf, app_of, fault_of, found_of, kind_of, rows_of, subcommand_rows_of, with_rule, with_subcommand};
 ghost use Rattle.clap.specs.declared.Command.TheViews.{out-Command};
 ghost use Rattle.command_words.specs.Words.{texts};
-ghost use Rattle.csvw_draft.specs.Words.{LineAsksFor, AsksNot, AsksSo, HasSwitch, IsFaultBy, IsWordsFault, draft_app, over_folder, switch_rule, with_folder, whole_command};
+ghost use Rattle.csvw_draft.specs.Words.{LineAsksFor, AsksNot, AsksSo, IsFaultBy, IsWordsFault, MakesCommand, folder_rule, over_folder, switch_rule, whole_command};
 
 use clap::error::ErrorKind;
 use clap::{Arg, ArgAction, ArgMatches, Command, Error};
-use command_words::{required, text};
+use command_words::text;
 use std::alloc::{AllocError, Global};
 
 /// What is said of words that are no command.
@@ -22,6 +20,17 @@ const VERSION: &str = "1.0.0";
 /// What help says of the program.
 const ABOUT: &str =
     "Prints a draft of csv-metadata.json for the CSV files of a folder; shows what the service understands of a folder, and explains why it refuses one";
+
+/// What help says of `--write`.
+const WRITE: &str = "Writes csv-metadata.json into the folder, where there is none";
+
+/// What help says of `show`.
+const SHOW: &str =
+    "Prints what the service understands of a folder: tables, columns, datatypes, nulls, least and greatest values, keys";
+
+/// What help says of `explain`.
+const EXPLAIN: &str =
+    "Tells why a folder is refused: the file, the line, the column, the cell, and what would be accepted";
 
 /// What the program is asked to do.
 #[derive(Clone, Copy)]
@@ -53,165 +62,135 @@ pub enum WordsFault {
     NoMemory,
 }
 
-impl From<AllocError> for WordsFault {
-    ghost use Rattle.csvw_draft.specs.declared.words.WordsFault.TheVariants.{NoMemory};
-
-    ghost from_gives = { λ _ e. e ≡ NoMemory };
-
-    fn from(_e: AllocError) -> WordsFault {
-        WordsFault::NoMemory
-    }
-}
-
-/// An option without a value.
-fn flag_option<'a>(alloc: Global, id: &'a str, help: &'a str) -> Arg<'a>
-    ensures rule { rule_of result ≡ switch_rule id.entry.now }
-    ensures local { result.global ≡ false }
-{
-    Arg::new(alloc, id)
-        .long(id)
-        .action(ArgAction::SetTrue)
-        .help(help)
-}
-
-/// A subcommand over a folder.
-fn folder_command<'a>(
+/// The command with the folder as its argument, which it may need.
+fn add_folder<'a>(
     alloc: Global,
-    name: &'a str,
-    about: &'a str,
+    command: Command<'a>,
+    needed: bool,
+    help: &'a str,
 ) -> Result<Command<'a>, AllocError>
-    ensures app { IfOk result (λ c. app_of c ≡ over_folder name.entry.now) }
-    ensures local { IfOk result (λ c. (out-Command c).has_globals ≡ false) }
+    ensures app { IfOk result (λ c. app_of c
+        ≡ with_rule (app_of command.entry) (folder_rule needed)) }
+    ensures local { (out-Command command.entry).has_globals ≡ false
+        → IfOk result (λ c. (out-Command c).has_globals ≡ false) }
 {
-    let folder = required(alloc, "folder").value_name("FOLDER").help(
-        "The folder, with csv-metadata.json and the files that it names",
-    );
-    Command::new(alloc, name).about(about).arg(folder)
-}
-
-/// The command over a folder.
-fn top_command<'a>(alloc: Global) -> Result<Command<'a>, AllocError>
-    ensures app { IfOk result (λ c. app_of c ≡ with_folder) }
-{
-    let folder = Arg::new(alloc, "folder")
-        .value_name("FOLDER")
-        .help("The folder with the CSV files");
-    Command::new(alloc, "csvw_draft")
-        .about(ABOUT)
-        .version(VERSION)
-        .disable_help_subcommand(true)
-        .arg(folder)
+    let folder = Arg::new(alloc, "folder").value_name("FOLDER");
+    command.arg(folder.required(needed).help(help))
 }
 
 /// The command with one more option without a value.
 fn add_flag<'a>(
     alloc: Global,
-    command: Command<'a>,
+    command: Result<Command<'a>, AllocError>,
     id: &'a str,
     help: &'a str,
 ) -> Result<Command<'a>, AllocError>
-    ensures app { IfOk result (λ c. app_of c
-        ≡ with_rule (app_of command.entry) (switch_rule id.entry.now)) }
+    ensures app { (app : App) → MakesCommand command.entry app
+        → MakesCommand result (with_rule app (switch_rule id.entry.now)) }
 {
-    let option = flag_option(alloc, id, help);
-    command.arg(option)
+    match command {
+        Ok(command) => command.arg(
+            Arg::new(alloc, id)
+                .long(id)
+                .action(ArgAction::SetTrue)
+                .help(help),
+        ),
+        Err(error) => Err(error),
+    }
 }
 
-/// The command without its subcommands.
-fn draft_command<'a>(alloc: Global) -> Result<Command<'a>, AllocError>
-    ensures app { IfOk result (λ c. app_of c ≡ draft_app) }
+/// Two things that were made.
+fn both<T: Drop, U: Drop>(
+    first: Result<T, AllocError>,
+    second: Result<U, AllocError>,
+) -> Result<(T, U), AllocError>
+    ensures { IfOk result (λ made. (first ≡ Ok made.0) × (second ≡ Ok made.1)) }
 {
-    let write = "Writes csv-metadata.json into the folder, where there is none";
-    let no_key = "Leaves out the keys";
-    let top = top_command(alloc)?;
-    let one = add_flag(alloc, top, "write", write)?;
-    add_flag(alloc, one, "no-key", no_key)
+    Ok((first?, second?))
 }
 
 /// The command with one more subcommand over a folder.
 fn add_folder_command<'a>(
     alloc: Global,
-    command: Command<'a>,
+    command: Result<Command<'a>, AllocError>,
     name: &'a str,
     about: &'a str,
 ) -> Result<Command<'a>, AllocError>
-    ensures app { IfOk result (λ c. app_of c
-        ≡ with_subcommand (app_of command.entry) (over_folder name.entry.now).top) }
+    ensures app { (app : App) → MakesCommand command.entry app
+        → MakesCommand result (with_subcommand app (over_folder name.entry.now).top) }
 {
-    let inner = folder_command(alloc, name, about)?;
-    command.subcommand(inner)
+    let help = "The folder, with csv-metadata.json and the files that it names";
+    let inner = add_folder(alloc, Command::new(alloc, name).about(about), true, help);
+    match both(command, inner) {
+        Ok((command, inner)) => command.subcommand(inner),
+        Err(error) => Err(error),
+    }
 }
 
-/// The whole command.
-fn program_command<'a>(alloc: Global) -> Result<Command<'a>, AllocError>
-    ensures app { IfOk result (λ c. app_of c ≡ whole_command) }
+/// What `clap` reads of the words by the whole command.
+fn line_matches<'a>(alloc: Global, words: &'a [&'a str]) -> Result<ArgMatches<'a>, Error>
+    ensures matches { IfOk result (HasMatchesOf whole_command (texts words.now)) }
+    ensures kinds { FailsBy (fault_of whole_command (texts words.now)) result }
 {
-    let show =
-        "Prints what the service understands of a folder: tables, columns, datatypes, nulls, least and greatest values, keys";
-    let explain =
-        "Tells why a folder is refused: the file, the line, the column, the cell, and what would be accepted";
-    let top = draft_command(alloc)?;
-    let one = add_folder_command(alloc, top, "show", show)?;
-    add_folder_command(alloc, one, "explain", explain)
-}
-
-/// Whether an option without a value is there.
-fn flag<'a>(matches: &ArgMatches<'a>, id: &str) -> bool
-    ensures { HasSwitch (one_of id.now (rows_of (found_of matches.now))) result }
-{
-    matches.get_flag(id)
+    let top = Command::new(alloc, "csvw_draft")
+        .about(ABOUT)
+        .version(VERSION)
+        .disable_help_subcommand(true);
+    let one = add_folder(alloc, top, false, "The folder with the CSV files");
+    let two = add_flag(alloc, one, "write", WRITE);
+    let three = add_flag(alloc, two, "no-key", "Leaves out the keys");
+    let four = add_folder_command(alloc, three, "show", SHOW);
+    let whole = add_folder_command(alloc, four, "explain", EXPLAIN)?;
+    whole.try_get_matches_from(words)
 }
 
 /// What the words without a subcommand ask for.
-fn draft_words<'a>(matches: &ArgMatches<'a>) -> Option<Words<'a>>
-    ensures some { IfSome result (λ words. AsksSo words (rows_of (found_of matches.now)) None) }
-    ensures none { IfNone result (AsksNot (rows_of (found_of matches.now)) None) }
+fn draft_words<'a>(matches: &ArgMatches<'a>) -> Result<Words<'a>, WordsFault>
+    ensures words { IfOk result (λ words. AsksSo words (rows_of (found_of matches.now)) None) }
+    ensures fault { IfErr result (λ fault. (fault ≡ WordsFault.Usage)
+        × AsksNot (rows_of (found_of matches.now)) None) }
 {
-    let folder = text(matches, "folder")?;
-    let no_key = flag(matches, "no-key");
-    Some(Words::Draft {
-        folder,
-        write: flag(matches, "write"),
-        keys: !no_key,
-    })
+    match text(matches, "folder") {
+        Some(folder) => Ok(Words::Draft {
+            folder,
+            write: matches.get_flag("write"),
+            keys: !matches.get_flag("no-key"),
+        }),
+        None => Err(WordsFault::Usage),
+    }
 }
 
-/// Whether no argument stands before a subcommand.
-fn stands_alone<'a>(matches: &ArgMatches<'a>) -> bool
-    ensures { list_any (λ row. explicit_source row.source) (rows_of (found_of matches.now))
-        ≡ not result }
-{
-    !matches.args_present()
-}
-
-/// What the words of a subcommand ask for, which stands alone.
+/// What the words of a subcommand ask for, before which no argument stands.
 fn subcommand_words<'a>(
     matches: &ArgMatches<'a>,
     name: &'a str,
     inner: &ArgMatches<'a>,
-) -> Option<Words<'a>>
-    ensures some { IfSome result (λ words. AsksSo words (rows_of (found_of matches.now))
+) -> Result<Words<'a>, WordsFault>
+    ensures words { IfOk result (λ words. AsksSo words (rows_of (found_of matches.now))
         (Some (name.now, rows_of (found_of inner.now)))) }
-    ensures none { IfNone result (AsksNot (rows_of (found_of matches.now))
+    ensures fault { IfErr result (λ fault. (fault ≡ WordsFault.Usage)
+        × AsksNot (rows_of (found_of matches.now))
         (Some (name.now, rows_of (found_of inner.now)))) }
 {
-    if !stands_alone(matches) {
-        return None;
+    if matches.args_present() {
+        return Err(WordsFault::Usage);
     }
-    let folder = text(inner, "folder")?;
+    let Some(folder) = text(inner, "folder") else {
+        return Err(WordsFault::Usage);
+    };
     match name {
-        "show" => Some(Words::Show { folder }),
-        "explain" => Some(Words::Explain { folder }),
-        _ => None,
+        "show" => Ok(Words::Show { folder }),
+        "explain" => Ok(Words::Explain { folder }),
+        _ => Err(WordsFault::Usage),
     }
 }
 
 /// What the matches ask for.
-fn matches_words<'a>(matches: &ArgMatches<'a>) -> Option<Words<'a>>
-    ensures some { IfSome result (λ words. AsksSo words (rows_of (found_of matches.now))
+fn matches_words<'a>(matches: &ArgMatches<'a>) -> Result<Words<'a>, WordsFault>
+    ensures words { IfOk result (λ words. AsksSo words (rows_of (found_of matches.now))
         (subcommand_rows_of matches.now)) }
-    ensures none { IfNone result (AsksNot (rows_of (found_of matches.now))
-        (subcommand_rows_of matches.now)) }
+    ensures fault { IfErr result (λ fault. (fault ≡ WordsFault.Usage)
+        × AsksNot (rows_of (found_of matches.now)) (subcommand_rows_of matches.now)) }
 {
     match matches.subcommand() {
         None => draft_words(matches),
@@ -236,12 +215,8 @@ pub fn read_words<'a>(alloc: Global, words: &'a [&'a str]) -> Result<Words<'a>, 
     ensures words { IfOk result (LineAsksFor (texts words.now)) }
     ensures fault { IfErr result (IsWordsFault (texts words.now)) }
 {
-    let command = program_command(alloc)?;
-    match command.try_get_matches_from(words) {
-        Ok(matches) => match matches_words(&matches) {
-            Some(read) => Ok(read),
-            None => Err(WordsFault::Usage),
-        },
+    match line_matches(alloc, words) {
+        Ok(matches) => matches_words(&matches),
         Err(error) => Err(fault_by(error)),
     }
 }

@@ -1,9 +1,9 @@
 -- The schemas of a draft are as those of metadata that is accepted.
-use Rattle.std.proofs.Common.{◌≡◌, ℕ, zero, suc, ◌+◌, ◌-◌, ◌^◌, ◌<◌, ◌≤◌, ◌⊎◌, Bool, true, false, not, cond, ◌&&◌, ◌||◌, List, [], ◌∷◌, ◌++◌, length, map, take, drop, get_or, Option, Some, None, min, refl, ap, sym, subst, ◌∙◌, inl, inr, arith, length-append}
+use Rattle.std.proofs.Common.{◌≡◌, ℕ, zero, suc, ◌+◌, ◌-◌, ◌<◌, ◌≤◌, Bool, true, false, not, ◌&&◌, ◌||◌, List, [], ◌∷◌, ◌++◌, length, map, take, Option, Some, None, min, refl, ap, sym, subst, ◌∙◌, inl, inr, arith, length-append}
 use Rattle.std.specs.Prelude.{codes, nat_eq, nat_le, unwrap_or}
 use Rattle.std.specs.Char.{is_ascii_alphabetic}
 use Rattle.std.specs.Fmt.{decimal}
-use Rattle.std.specs.List.{All, AllByRecursion, IsDistinct, find, list_all, list_any, range_with_len}
+use Rattle.std.specs.List.{All, AllByRecursion, IsDistinct, find, list_all, range_with_len}
 use Rattle.std.specs.Str.{bytes_eq, chars}
 use Rattle.std.proofs.lemmas.Bool.{cond_both, and_from, or_left, false_from_ne_true}
 use Rattle.std.proofs.lemmas.Fmt.{length-decimal-le_wide}
@@ -15,16 +15,16 @@ use borrow.Author.Tests.{le-leb, lt-ltb}
 use Rattle.csv_grammar.specs.Records.{Field, content}
 use Rattle.cell_types.specs.Column.{ColumnOf}
 use Rattle.csvw_meta.specs.Forms.{has_url_end, is_column_name, is_name_byte, is_table_url, is_url_byte, is_word_of, table_name, url_end}
-use Rattle.csvw_meta.specs.Laws.{AreAccepted, IsAccepted}
+use Rattle.csvw_meta.specs.Laws.{IsAccepted}
 use Rattle.csvw_meta.specs.Limits.{LimitsOf}
 use Rattle.csvw_meta.specs.Schema.{SchemaOf}
 use Rattle.table_store.specs.File.{FileOf}
 use Rattle.column_types.proofs.ListLaws.{and_first, and_second, find-among, or_from_false}
-use Rattle.csvw_guess.specs.Draft.{AreDrafts, HaveDrafts, IsDraft, has_file_name}
+use Rattle.csvw_guess.specs.Draft.{HaveDrafts, IsDraft, has_file_name}
 use Rattle.csvw_guess.specs.Laws.{DraftsAreWellFormed}
 use Rattle.csvw_guess.specs.Names.{base_name, begins_with_letter, free_number, is_taken, name_after, name_char, names_after, with_number, with_letter}
-use Rattle.csvw_guess.specs.Table.{are_keys, texts_of_column, columns_from, draft_columns, draft_key, draft_schema}
-use Rattle.csvw_guess.proofs.NameLemmas.{are_name_bytes, base_name-named, decimal-named, numbered-named}
+use Rattle.csvw_guess.specs.Table.{are_keys, texts_of_column, columns_from, draft_columns, draft_key}
+use Rattle.csvw_guess.proofs.NameLemmas.{are_name_bytes, base_name-named, numbered-named}
 use Rattle.csvw_guess.proofs.DistinctLemmas.{names_after-distinct}
 use Rattle.csvw_guess.proofs.FolderLemmas.{some_header}
 use Rattle.csvw_guess.proofs.MatchLemmas.{bytes_eq-same}

@@ -1,6 +1,6 @@
 -- The files of a folder have tables under the schemas of their draft.
-use Rattle.std.proofs.Common.{◌≡◌, ℕ, ◌<◌, ◌≤◌, ◌⊎◌, Bool, true, false, cond, List, [], ◌∷◌, ◌++◌, map, length, Option, None, Some, option_map, Ok, refl, ap, sym, subst, ◌∙◌, append_assoc, inl, inr, arith}
-use Rattle.std.specs.List.{AllByRecursion, AllZip, find, list_any}
+use Rattle.std.proofs.Common.{◌≡◌, ℕ, ◌<◌, Bool, true, false, cond, List, [], ◌∷◌, ◌++◌, map, length, Option, None, Some, option_map, refl, ap, sym, subst, ◌∙◌, append_assoc, inl, inr, arith}
+use Rattle.std.specs.List.{AllByRecursion, find}
 use Rattle.std.specs.Str.{bytes_eq}
 use Rattle.std.specs.Prelude.{option_to_list, IfSome}
 use Rattle.std.proofs.lemmas.Bool.{or_parts}
@@ -8,14 +8,13 @@ use Rattle.csv_grammar.specs.Records.{Field, Line, content, IsLast, IsRecord}
 use Rattle.csv_grammar.specs.Files.{IsTable}
 use Rattle.csvw_meta.specs.Limits.{LimitsOf}
 use Rattle.csvw_meta.specs.Schema.{SchemaOf}
-use Rattle.csvw_meta.specs.Document.{schemas_of}
 use Rattle.table_store.specs.File.{FileOf, file_named}
 use Rattle.table_store.specs.Table.{TableOf, IsAnnotated}
-use Rattle.table_store.specs.Catalog.{HasTable, HaveTables, Means}
+use Rattle.table_store.specs.Catalog.{HasTable, HaveTables}
 use Rattle.column_types.specs.Laws.{CellsHaveValues}
 use Rattle.csvw_guess.specs.Names.{names_after}
 use Rattle.csvw_guess.specs.Table.{draft_columns, draft_schema}
-use Rattle.csvw_guess.specs.Draft.{AreDrafts, HaveDrafts, IsDraft, has_file_name}
+use Rattle.csvw_guess.specs.Draft.{HaveDrafts, IsDraft, has_file_name}
 use Rattle.csvw_guess.specs.Laws.{DraftsAreAccepted, DraftsHaveTables}
 use Rattle.csvw_guess.proofs.MatchLemmas.{bytes_eq-same, header-matches}
 use Rattle.csvw_guess.proofs.RowLemmas.{columns-have, row_values, rows-ok}

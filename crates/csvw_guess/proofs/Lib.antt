@@ -13,6 +13,7 @@ pub mod UrlLemmas
 pub mod MatchLemmas
 pub mod RowLemmas
 pub mod KeyLemmas
+pub mod FirstKeyLemmas
 pub mod FolderLemmas
 pub mod DraftLemmas
 pub mod NameLemmas

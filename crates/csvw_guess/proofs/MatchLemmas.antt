@@ -1,5 +1,5 @@
 -- The header of a table is called as the columns of its draft are.
-use Rattle.std.proofs.Common.{◌≡◌, ℕ, ◌+◌, Bool, true, false, cond, ◌||◌, List, [], ◌∷◌, ◌++◌, map, Option, Some, None, refl, ap, sym, ◌∙◌, eq-eqb}
+use Rattle.std.proofs.Common.{◌≡◌, ℕ, ◌+◌, Bool, true, false, cond, ◌||◌, List, [], ◌∷◌, ◌++◌, map, Some, None, refl, ap, sym, ◌∙◌, eq-eqb}
 use Rattle.std.specs.Prelude.{nat_eq}
 use Rattle.std.specs.List.{list_any}
 use Rattle.std.specs.Str.{bytes_eq}
@@ -7,7 +7,7 @@ use Rattle.std.proofs.lemmas.Bool.{and_from}
 use Rattle.csv_grammar.specs.Records.{Field, content}
 use Rattle.table_store.specs.Table.{is_called, mismatch_from}
 use Rattle.column_types.proofs.ListLaws.{or_from_false}
-use Rattle.csvw_guess.specs.Names.{name_after, names_after, titles_for}
+use Rattle.csvw_guess.specs.Names.{name_after, names_after}
 use Rattle.csvw_guess.specs.Table.{texts_of_column, columns_from, draft_column}
 
 pub bytes_eq-same : (bytes : List ℕ) → bytes_eq bytes bytes ≡ true

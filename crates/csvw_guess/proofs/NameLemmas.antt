@@ -1,17 +1,22 @@
 -- The names of columns have letters, digits and low lines alone, and so are ASCII.
-use Rattle.std.proofs.Common.{◌≡◌, ℕ, zero, suc, ◌+◌, ◌-◌, ◌^◌, ◌<◌, ◌≤◌, ◌%◌, ◌/◌, Bool, true, false, not, cond, ◌&&◌, ◌||◌, List, [], ◌∷◌, ◌++◌, length, map, take, get_or, Option, None, Some, refl, ap, sym, ◌∙◌, ◌⊎◌, inl, inr, arith, length-append, append_assoc}
-use Rattle.std.specs.Prelude.{unwrap_or, codes}
+use Rattle.std.proofs.Common.{◌≡◌, ℕ, zero, suc, ◌+◌, ◌-◌, ◌^◌, ◌<◌, ◌≤◌, ◌%◌, Bool, true, false, not, cond, ◌&&◌, ◌||◌, List, [], ◌∷◌, ◌++◌, length, map, take, get_or, Option, None, Some, refl, ap, sym, subst, ◌∙◌, ◌⊎◌, inl, inr, arith, length-append, append_assoc}
+use Rattle.std.specs.Prelude.{unwrap_or, codes, nat_eq, string_bytes}
+use Rattle.std.specs.Char.{encode_utf8, is_ascii_alphabetic}
 use Rattle.std.specs.Fmt.{decimal}
 use Rattle.std.specs.List.{find, list_all, list_any, range_with_len}
 use Rattle.std.specs.Int.{is_in_range}
-use Rattle.std.specs.Str.{bytes_eq, chars, IsAscii}
-use Rattle.std.proofs.lemmas.Bool.{cond_both, cases_order, and_from}
+use Rattle.std.specs.Str.{bytes_eq, chars, IsAscii, IsUtf8}
+use lib.Utf8.{encodes}
+use Rattle.std.proofs.lemmas.Bool.{cond_both, cases_order, and_from, false_from_ne_true, lt-ltb}
+use Rattle.std.proofs.lemmas.Str.{chars_from_encodes, encode_ascii, inside_one, len_utf8_bounds, length-encode}
 use Rattle.std.proofs.lemmas.Fmt.{decimal_by_steps_wide}
 use Rattle.std.proofs.lemmas.List.Folds.{list_all-append}
 use borrow.Author.Tests.{eqb-true, leb-true}
+use Rattle.cell_types.specs.declared.column.Column.{Column}
+use Rattle.cell_types.proofs.ListLaws.{list_any-map}
 use Rattle.csvw_meta.specs.Forms.{is_name_byte}
 use Rattle.column_types.proofs.ListLaws.{and_first, and_second, find-among, list_all-at}
-use Rattle.csvw_guess.specs.Names.{base_name, begins_with_letter, free_number, is_taken, name_after, name_char, names_after, with_number, with_letter}
+use Rattle.csvw_guess.specs.Names.{base_name, begins_with_letter, free_number, is_taken, name_after, name_char, names_after, names_in, with_number, with_letter}
 
 -- ---- ASCII
 in_range-below : (low high byte : ℕ) → is_in_range low high byte ≡ true → high < 128 → byte < 128
@@ -57,6 +62,9 @@ named-ascii name all k =
 char-named : (c : ℕ) → is_name_byte (name_char c) ≡ true
 char-named c = cond_both (is_name_byte c) c 95 (λ b. is_name_byte b ≡ true) (λ e. e) (λ _. refl)
 
+pub name_char-ascii : (c : ℕ) → name_char c < 128
+name_char-ascii c = eq-below (name_char c) (char-named c)
+
 chars-named : (cs : List ℕ) → are_name_bytes (map name_char cs) ≡ true
 chars-named [] = refl
 chars-named (c ∷ cs) = and_from (is_name_byte (name_char c)) (are_name_bytes (map name_char cs)) (char-named c) (chars-named cs)
@@ -76,11 +84,12 @@ with_prefix true front name = refl
 with_prefix false front name = refl
 
 -- the parts of a name
-pub base_name-parts : (cell name before whole made : List ℕ) → name ≡ map name_char (chars cell) → before ≡ cond (begins_with_letter name) [] (codes "c_")
-    → whole ≡ before ++ name → made ≡ take 128 whole → made ≡ base_name cell
+pub base_name-parts : (cell before whole made : List ℕ) → before ≡ cond (begins_with_letter (map name_char (chars cell))) [] (codes "c_")
+    → whole ≡ before ++ map name_char (chars cell) → made ≡ take 128 whole → made ≡ base_name cell
 unfolding base_name
-base_name-parts cell name before whole made is first both cut =
-    cut ∙ ap (take 128) (both ∙ ap (λ front. front ++ name) first ∙ with_prefix (begins_with_letter name) (codes "c_") name ∙ ap with_letter is)
+base_name-parts cell before whole made first both cut =
+    let name = map name_char (chars cell) in
+    cut ∙ ap (take 128) (both ∙ ap (λ front. front ++ name) first ∙ with_prefix (begins_with_letter name) (codes "c_") name)
 
 with_letter-named : (name : List ℕ) → are_name_bytes name ≡ true → are_name_bytes (with_letter name) ≡ true
 with_letter-named name all =
@@ -94,6 +103,68 @@ take-named (suc k) (b ∷ name) all = and_from (is_name_byte b) (are_name_bytes 
 pub base_name-named : (cell : List ℕ) → are_name_bytes (base_name cell) ≡ true
 unfolding base_name
 base_name-named cell = take-named 128 (with_letter (map name_char (chars cell))) (with_letter-named (map name_char (chars cell)) (chars-named (chars cell)))
+
+pub base_name-ascii : (cell : List ℕ) → IsAscii (base_name cell)
+base_name-ascii cell = named-ascii (base_name cell) (base_name-named cell)
+
+pub whole-ascii : (cell before whole : List ℕ) → before ≡ cond (begins_with_letter (map name_char (chars cell))) [] (codes "c_") → whole ≡ before ++ map name_char (chars cell)
+    → IsAscii whole
+whole-ascii cell before whole first both =
+    let name = map name_char (chars cell) in
+    subst IsAscii (sym (both ∙ ap (λ front. front ++ name) first ∙ with_prefix (begins_with_letter name) (codes "c_") name))
+    (named-ascii (with_letter name) (with_letter-named name (chars-named (chars cell))))
+
+-- a text of ASCII may be cut anywhere
+pub ascii-split : (bytes : List ℕ) (n : ℕ) → IsAscii bytes → n ≤ length bytes
+    → (n ≤ length bytes) × (0 < n → n < length bytes → 128 ≤ get_or bytes n 0 → 192 ≤ get_or bytes n 0)
+ascii-split bytes n ascii le = (le, λ _ _ high. absurd (omega (arith, ascii n, high)))
+
+-- ---- the letter that comes first
+-- what stands in the place of a character is a letter where it is one
+or_named : (digit upper lower line : Bool) → (upper || lower) ≡ true → (((digit || upper) || lower) || line) ≡ true
+or_named true upper lower line e = refl
+or_named false true lower line e = refl
+or_named false false true line e = refl
+or_named false false false line e = cc
+
+letter-named : (c : ℕ) → is_ascii_alphabetic (name_char c) ≡ is_ascii_alphabetic c
+letter-named c =
+    cond_both (is_name_byte c) c 95 (λ b. is_ascii_alphabetic b ≡ is_ascii_alphabetic c) (λ _. refl)
+    (λ e. sym (false_from_ne_true (is_ascii_alphabetic c) (λ letter. let both : true ≡ false = sym (or_named (is_in_range 48 57 c) (is_in_range 65 90 c) (is_in_range 97 122 c) (nat_eq c 95) letter) ∙ e in cc)))
+
+letter-below : (c : ℕ) → is_ascii_alphabetic c ≡ true → c < 128
+letter-below c e =
+    elim (either_of _ _ e) [
+      | inl upper ↦ in_range-below 65 90 c upper (omega arith)
+      | inr lower ↦ in_range-below 97 122 c lower (omega arith)
+    ]
+
+not-letter : (bytes rest : List ℕ) (c : ℕ) → bytes ≡ encode_utf8 c ++ rest → 128 ≤ c → begins_with_letter bytes ≡ false
+not-letter bytes rest c parts high =
+    false_from_ne_true (begins_with_letter bytes) (λ e.
+    let below : get_or bytes 0 0 < 128 = letter-below (get_or bytes 0 0) (and_second _ _ e) in
+    let same : c ≡ get_or bytes 0 0 = inside_one c rest bytes 0 parts (omega (arith, length-encode c, (len_utf8_bounds c).0)) below in
+    absurd (omega (arith, same, below, high)))
+
+cons-letter : (c : ℕ) (rest : List ℕ) → begins_with_letter (c ∷ rest) ≡ is_ascii_alphabetic c
+cons-letter c rest = ap (λ b. b && is_ascii_alphabetic c) (lt-ltb 0 (length (c ∷ rest)) (omega arith))
+
+first-letter : (bytes rest : List ℕ) (c : ℕ) → bytes ≡ encode_utf8 c ++ rest → begins_with_letter bytes ≡ is_ascii_alphabetic c
+first-letter bytes rest c parts =
+    elim (cases_order c 128) [
+      | inl same ↦
+          not-letter bytes rest c parts (omega (arith, same)) ∙ sym (false_from_ne_true (is_ascii_alphabetic c) (λ e. absurd (omega (arith, letter-below c e, same))))
+      | inr (inl less) ↦ ap begins_with_letter (parts ∙ ap (λ l. l ++ rest) (encode_ascii c less)) ∙ cons-letter c rest
+      | inr (inr more) ↦
+          not-letter bytes rest c parts (omega (arith, more)) ∙ sym (false_from_ne_true (is_ascii_alphabetic c) (λ e. absurd (omega (arith, letter-below c e, more))))
+    ]
+
+pub letter-first : (bytes : List ℕ) → IsUtf8 bytes → begins_with_letter (map name_char (chars bytes)) ≡ begins_with_letter bytes
+letter-first bytes utf8 = by utf8.0 (chars_from_encodes utf8.0 bytes utf8 utf8.1.1) utf8.1.1
+  where
+    by : (cs : List ℕ) → cs ≡ chars bytes → encodes cs ≡ bytes → begins_with_letter (map name_char (chars bytes)) ≡ begins_with_letter bytes
+    by [] e f = ap (λ cs. begins_with_letter (map name_char cs)) (sym e) ∙ ap begins_with_letter f
+    by (c ∷ cs) e f = ap (λ cs. begins_with_letter (map name_char cs)) (sym e) ∙ cons-letter (name_char c) (map name_char cs) ∙ letter-named c ∙ sym (first-letter bytes (encodes cs) c (sym f))
 
 -- ---- a name with a number
 append-named : (xs ys : List ℕ) → are_name_bytes xs ≡ true → are_name_bytes ys ≡ true → are_name_bytes (xs ++ ys) ≡ true
@@ -156,3 +227,7 @@ names_after-named taken (cell ∷ cells) small =
     and_from (are_name_bytes name) (list_all are_name_bytes (names_after (taken ++ name ∷ []) cells))
     (name_after-named taken cell (omega (arith, small)))
     (names_after-named (taken ++ name ∷ []) cells (omega (arith, small, length-append taken (name ∷ []))))
+
+-- ---- the names of columns
+pub taken-is : (earlier : List Column) (name : List ℕ) → list_any (λ column. bytes_eq name (string_bytes column.name)) earlier ≡ is_taken (names_in earlier) name
+taken-is earlier name = sym (list_any-map (bytes_eq name) (λ column. string_bytes column.name) earlier)

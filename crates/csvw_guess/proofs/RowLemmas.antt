@@ -1,5 +1,5 @@
 -- Each record of a table has a value in each column of its draft.
-use Rattle.std.proofs.Common.{◌≡◌, ℕ, zero, suc, ◌+◌, Bool, true, List, [], ◌∷◌, map, get_or, Ok, Err, Result, refl, ap, sym, subst, ◌∙◌, add-one}
+use Rattle.std.proofs.Common.{◌≡◌, ℕ, zero, suc, ◌+◌, true, List, [], ◌∷◌, map, get_or, Ok, Err, Result, refl, ap, subst, ◌∙◌, add-one}
 use Rattle.std.specs.Prelude.{is_ok}
 use Rattle.std.specs.List.{list_all}
 use Rattle.csv_grammar.specs.Records.{Field, content}

@@ -1,25 +1,24 @@
 -- The fields that are left of a file, row by row, and what is known of its columns.
-use Rattle.std.proofs.Common.{◌≡◌, ℕ, ◌+◌, ◌<◌, ◌≤◌, false, List, [], ◌∷◌, ◌++◌, length, map, take, drop, get_or, Option, Some, None, ap, sym, subst, ◌∙◌, arith, append_assoc, length-append}
-use Rattle.std.specs.Prelude.{All, filter, option_and_then, slice_get}
+use Rattle.std.proofs.Common.{◌≡◌, ℕ, zero, suc, ◌+◌, ◌<◌, ◌≤◌, ◌||◌, Bool, true, false, List, [], ◌∷◌, ◌++◌, length, take, drop, get_or, Some, refl, ap, sym, subst, ◌∙◌, arith, append_assoc, length-append}
+use Rattle.std.specs.Prelude.{All, nat_eq, option_and_then, slice_get}
 use Rattle.std.specs.Prelude.{slice_set}
 use Rattle.std.proofs.Common.{get_or-set_other, get_or-set_same, inl, inr}
 use Rattle.std.proofs.lemmas.Bool.{cases_order}
 use Rattle.std.specs.List.{AllByRecursion}
-use Rattle.std.proofs.lemmas.List.{append-nil, drop_more, drop_at, get_or_append_left, get_or-drop, length-map, take-append-drop, take_more}
+use Rattle.std.proofs.lemmas.List.{append-nil, drop_more, drop_at, get_or_append_left, get_or-drop, take-append-drop, take_more}
 use Rattle.std.proofs.lemmas.List.Elements.{All-filter, All-from_recursion}
 use Rattle.std.proofs.lemmas.Option.{get_or_from_slice_get, slice_get-get_or}
-use Rattle.csv_grammar.specs.Raw.{RawField, RawTable, field_of, raw_content}
+use Rattle.csv_grammar.specs.Raw.{RawField, RawTable, raw_content}
 use Rattle.csv_index.specs.Index.{row_fields}
 use Rattle.raw_fields.specs.Rows.{cell_at}
-use Rattle.cell_types.specs.Datatype.{text}
 use Rattle.column_types.specs.declared.seen.Seen.{Seen}
 use Rattle.column_types.specs.Reading.{fits_at, IsDatatypePlace}
-use Rattle.column_types.specs.Seen.{places, EndsAs, HasMore, IsKnownOfCells, IsOpenOrText, Knows}
+use Rattle.column_types.specs.Seen.{must_be_text, places, HasMore, HasPlaces, HasSeen, Knows}
 use Rattle.csvw_guess.specs.Rows.{content_at}
 use Rattle.csvw_guess.specs.Table.{file_cells}
-use Rattle.column_types.specs.Types.{datatype_for, types}
+use Rattle.column_types.specs.Types.{types}
 use Rattle.std.proofs.lemmas.List.FromFn.{get_or-range_with_len}
-use Rattle.csvw_guess.proofs.PlaceLemmas.{cell-says, length-cells}
+use Rattle.csvw_guess.proofs.PlaceLemmas.{cell-says}
 
 abbrev no_field : RawField
 no_field = record { bytes = []; quoted = false }
@@ -68,54 +67,74 @@ first-says file width left row raw some at e = sym (at.says 0 some) ∙ ap raw_c
 places-are : All IsDatatypePlace places
 places-are k d less = let here : get_or places k d ≡ 0 + k = get_or-range_with_len 0 (length types) k d (omega (arith, less)) in omega (arith, here, less)
 
-pub open-or-text : (known : Option Seen) (cells : List (List ℕ)) → Knows known cells → IsOpenOrText known
-open-or-text None cells k = tt
-open-or-text (Some seen) cells k = record {
-  some = k.1;
-  places = subst (All IsDatatypePlace) (sym k.0.left) (All-filter (fits_at cells) IsDatatypePlace places places-are);
-  count = k.0.count;
+pub has-places : (seen : Seen) (cells : List (List ℕ)) → Knows seen cells → HasPlaces seen
+has-places seen cells known = record {
+  places = subst (All IsDatatypePlace) (sym known.read.left) (All-filter (fits_at known.first) IsDatatypePlace places places-are);
+  count = known.read.count;
 }
 
-pub is-known : (known : Option Seen) (cells : List (List ℕ)) → EndsAs known cells → IsKnownOfCells known
-is-known None cells e = tt
-is-known (Some seen) cells has = (subst (All IsDatatypePlace) (sym has.left) (All-filter (fits_at cells) IsDatatypePlace places places-are), has.count)
+-- no datatype is left only where a column must be one of texts
+pub some-left : (seen : Seen) → must_be_text seen ≡ false → 0 < length seen.left.items
+some-left seen e = some (length seen.left.items) (or_right_false seen.form.padded (nat_eq (length seen.left.items) 0) e)
+  where
+    or_right_false : (a b : Bool) → (a || b) ≡ false → b ≡ false
+    or_right_false true b e = cc
+    or_right_false false b e = e
 
-pub more-text : (cell : List ℕ) → HasMore None cell None
-more-text cell = λ cells known more. subst (λ all. datatype_for all ≡ text) (sym (append_assoc cells (cell ∷ []) more)) (known (cell ∷ more))
+    some : (n : ℕ) → nat_eq n 0 ≡ false → 0 < n
+    some zero e = cc
+    some (suc n) e = omega arith
 
-ends-text : (row : ℕ) (cells : List (List ℕ)) → Knows None (take row cells) → datatype_for cells ≡ text
-ends-text row cells known = subst (λ all. datatype_for all ≡ text) (take-append-drop row cells) (known (drop row cells))
+pub knows-none : (seen : Seen) → HasSeen seen [] → Knows seen []
+knows-none seen has = record { first = []; others = []; parts = refl; read = has; passed = λ _. refl }
 
-pub ends-early : (known : Option Seen) (row : ℕ) (cells : List (List ℕ)) → known ≡ None → Knows known (take row cells) → EndsAs known cells
-ends-early None row cells e known = ends-text row cells known
-ends-early (Some seen) row cells e known = cc
+-- cells that are passed
+pub knows-past : (seen : Seen) (cells more : List (List ℕ)) → must_be_text seen ≡ true → Knows seen cells → Knows seen (cells ++ more)
+knows-past seen cells more must known = record {
+  first = known.first;
+  others = known.others ++ more;
+  parts = ap (λ cs. cs ++ more) known.parts ∙ append_assoc known.first known.others more;
+  read = known.read;
+  passed = λ e. let both : true ≡ false = sym must ∙ e in cc;
+}
 
-pub ends-all : (known : Option Seen) (cells : List (List ℕ)) → Knows known cells → EndsAs known cells
-ends-all None cells known = subst (λ all. datatype_for all ≡ text) (append-nil cells) (known [])
-ends-all (Some seen) cells known = known.0
+-- a cell that is read
+pub knows-read : (old new : Seen) (cell : List ℕ) → must_be_text old ≡ false → ((cells : List (List ℕ)) → HasSeen old cells → HasSeen new (cells ++ cell ∷ [])) → HasMore old cell new
+knows-read old new cell open_still more = λ cells known.
+    let whole : cells ≡ known.first = known.parts ∙ ap (λ others. known.first ++ others) (known.passed open_still) ∙ append-nil known.first in
+    record {
+      first = cells ++ cell ∷ [];
+      others = [];
+      parts = sym (append-nil (cells ++ cell ∷ []));
+      read = more cells (subst (HasSeen old) (sym whole) known.read);
+      passed = λ _. refl;
+    }
+
+pub knows-early : (seen : Seen) (row : ℕ) (cells : List (List ℕ)) → must_be_text seen ≡ true → Knows seen (take row cells) → Knows seen cells
+knows-early seen row cells must known = subst (Knows seen) (take-append-drop row cells) (knows-past seen (take row cells) (drop row cells) must known)
 
 -- one row more
-pub know-more : (old new : Option Seen) (fields : List RawField) (cells : List (List ℕ)) (row col : ℕ) → HasMore old (content_at fields col) new
+pub know-more : (old new : Seen) (fields : List RawField) (cells : List (List ℕ)) (row col : ℕ) → HasMore old (content_at fields col) new
     → content_at fields col ≡ get_or cells row [] → row < length cells → Knows old (take row cells) → Knows new (take (row + 1) cells)
 know-more old new fields cells row col more says less known =
     subst (Knows new) (ap (λ cell. take row cells ++ cell ∷ []) says ∙ sym (take_more cells row [] less)) (more (take row cells) known)
 
 -- one column more
-pub read-next : (old items : List (Option Seen)) (fields left : List RawField) (col : ℕ) (was new : Option Seen) → col < length items → left ≡ drop col fields
-    → was ≡ get_or old col None → HasMore was (content_at left 0) new
-    → ((k : ℕ) → k < col → HasMore (get_or old k None) (content_at fields k) (get_or items k None))
-    → (k : ℕ) → k < col + 1 → HasMore (get_or old k None) (content_at fields k) (get_or (slice_set items col new) k None)
-read-next old items fields left col was new within passed is more before k less =
+pub read-next : (old items : List Seen) (fields left : List RawField) (col : ℕ) (was new : Seen) → col < length items → left ≡ drop col fields
+    → ((none : Seen) → was ≡ get_or old col none) → HasMore was (content_at left 0) new
+    → ((k : ℕ) (none : Seen) → k < col → HasMore (get_or old k none) (content_at fields k) (get_or items k none))
+    → (k : ℕ) (none : Seen) → k < col + 1 → HasMore (get_or old k none) (content_at fields k) (get_or (slice_set items col new) k none)
+read-next old items fields left col was new within passed is more before k none less =
     let start : col ≡ col + 0 = omega arith in
     let here : content_at left 0 ≡ content_at fields col =
     ap (λ fs. content_at fs 0) passed ∙ ap raw_content (get_or-drop col fields 0 no_field ∙ ap (λ n. get_or fields n no_field) (sym start)) in
     elim (cases_order k col) [
       | inl same ↦
-          let P : ℕ → Type 0 = λ n. HasMore (get_or old n None) (content_at fields n) (get_or (slice_set items col new) n None) in
+          let P : ℕ → Type 0 = λ n. HasMore (get_or old n none) (content_at fields n) (get_or (slice_set items col new) n none) in
           subst P (sym same)
-          (subst (HasMore (get_or old col None) (content_at fields col)) (sym (get_or-set_same items col new None within))
-          (subst (λ o. HasMore o (content_at fields col) new) is (subst (λ c. HasMore was c new) here more)))
+          (subst (HasMore (get_or old col none) (content_at fields col)) (sym (get_or-set_same items col new none within))
+          (subst (λ o. HasMore o (content_at fields col) new) (is none) (subst (λ c. HasMore was c new) here more)))
       | inr (inl earlier) ↦
-          subst (HasMore (get_or old k None) (content_at fields k)) (sym (get_or-set_other items col k new None (λ e. absurd (omega (arith, e, earlier))))) (before k earlier)
+          subst (HasMore (get_or old k none) (content_at fields k)) (sym (get_or-set_other items col k new none (λ e. absurd (omega (arith, e, earlier))))) (before k none earlier)
       | inr (inr later) ↦ absurd (omega (arith, less, later))
     ]

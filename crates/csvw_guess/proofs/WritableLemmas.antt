@@ -1,10 +1,10 @@
 -- The schemas of a draft are such that metadata can say.
-use Rattle.std.proofs.Common.{◌≡◌, ℕ, ◌+◌, ◌^◌, ◌<◌, ◌≤◌, ◌⊎◌, Bool, true, false, cond, List, [], ◌∷◌, ◌++◌, length, map, Option, None, Some, refl, ap, sym, subst, ◌∙◌, inl, inr, arith}
+use Rattle.std.proofs.Common.{◌≡◌, ℕ, ◌+◌, ◌^◌, ◌<◌, ◌≤◌, Bool, false, List, [], ◌∷◌, ◌++◌, length, map, Some, refl, sym, subst, inl, inr, arith}
 use Rattle.std.specs.Prelude.{⊤, codes, find, unwrap_or}
 use Rattle.std.specs.List.{All, list_any}
 use Rattle.std.specs.Str.{bytes_eq}
 use Rattle.std.proofs.lemmas.Bool.{cond_both}
-use Rattle.std.proofs.lemmas.List.Elements.{All-cons, All-head, All-nil, All-tail}
+use Rattle.std.proofs.lemmas.List.Elements.{All-cons, All-nil}
 use Rattle.csv_grammar.specs.Records.{Field, content}
 use Rattle.cell_types.specs.Column.{ColumnOf}
 use Rattle.cell_types.specs.Datatype.{DatatypeOf, text}
@@ -16,7 +16,7 @@ use Rattle.csvw_guess.specs.TextLaws.{AreFormatTexts, CanBeSaid, HasSaidDatatype
 use Rattle.table_store.specs.File.{FileOf}
 use Rattle.csvw_guess.specs.Draft.{HaveDrafts, IsDraft}
 use Rattle.csvw_guess.specs.Names.{names_after}
-use Rattle.csvw_guess.specs.Table.{texts_of_column, columns_from, draft_columns, draft_schema}
+use Rattle.csvw_guess.specs.Table.{texts_of_column, columns_from}
 use Rattle.column_types.specs.Types.{types, fits_cells, stay_texts, datatype_for}
 
 -- ---- datatypes

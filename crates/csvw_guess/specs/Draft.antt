@@ -1,15 +1,13 @@
 -- The draft of a folder: the schemas of its files that are tables which the profile serves (Metadata Vocabulary for Tabular Data, sections 5.3 and 5.4).
-use Rattle.std.specs.Prelude.{◌≡◌, ℕ, ◌+◌, ◌<◌, ◌≤◌, ◌⊎◌, Bool, false, true, List, [], ◌∷◌, ◌++◌, length, take, slice_get, slice_index_or, Some}
+use Rattle.std.specs.Prelude.{◌≡◌, ℕ, ◌<◌, ◌≤◌, ◌⊎◌, Bool, false, true, List, [], ◌∷◌, ◌++◌, length, take, slice_index_or}
 use Rattle.std.specs.List.{list_any}
 use Rattle.std.specs.Str.{bytes_eq}
 use Rattle.csv_grammar.specs.Records.{Field}
 use Rattle.csv_grammar.specs.Files.{IsTable, IsFileFault}
 use Rattle.csvw_meta.specs.Forms.{is_table_url}
 use Rattle.csvw_meta.specs.Limits.{LimitsOf}
-use Rattle.csvw_meta.specs.Schema.{SchemaOf, schema_view}
+use Rattle.csvw_meta.specs.Schema.{SchemaOf}
 use Rattle.table_store.specs.File.{FileOf}
-use Rattle.csvw_guess.specs.declared.draft.Outcome.{Outcome}
-use Rattle.csvw_guess.specs.declared.draft.Outcome.TheVariants.{Drafted, LeftOut}
 use Rattle.csvw_guess.specs.Fault.{DraftCause, file_too_large, bad_text, no_tables, too_many_tables}
 use Rattle.csvw_guess.specs.Table.{draft_schema}
 
@@ -63,15 +61,14 @@ IsBadFile limits number file cause = ⊥
 abbrev pub file_at : List FileOf → ℕ → FileOf
 file_at files number = slice_index_or files number (record { name = []; bytes = [] })
 
--- the schema that came of a file, or none where it was left out
-abbrev pub drafted_schemas : Outcome → List SchemaOf
-drafted_schemas (Drafted schema) = schema_view schema ∷ []
-drafted_schemas (LeftOut warning) = []
+-- the file of a number has a name that can be a url, and no file before it has the name
+pub record HasOwnUrl (files : List FileOf) (number : ℕ) : Type 0 where
+  pub url : is_table_url (file_at files number).name ≡ true
+  pub fresh : has_file_name (take number files) (file_at files number).name ≡ false
 
--- what came of a file after those
-abbrev pub IsOutcome : LimitsOf → List FileOf → FileOf → Outcome → Type 0
-IsOutcome limits earlier file (Drafted schema) = (has_file_name earlier file.name ≡ false) × IsDraft limits file (schema_view schema)
-IsOutcome limits earlier file (LeftOut warning) = IsLeftOut limits earlier file
+-- it has none: its name is no url, or an earlier file's
+abbrev pub HasNoOwnUrl : List FileOf → ℕ → Type 0
+HasNoOwnUrl files number = (is_table_url (file_at files number).name ≡ false) ⊎ (has_file_name (take number files) (file_at files number).name ≡ true)
 
 -- the file of a number, which is not left out for its name, has that cause
 pub record IsBadAt (limits : LimitsOf) (files : List FileOf) (number : ℕ) (cause : DraftCause) : Type 0 where

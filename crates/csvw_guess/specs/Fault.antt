@@ -1,5 +1,5 @@
 -- Why there is no draft of a folder.
-use Rattle.std.specs.Prelude.{ℕ, List, Option, None, Some, option_map}
+use Rattle.std.specs.Prelude.{ℕ, Option, None, Some, option_map}
 use Rattle.csv_grammar.specs.Files.{FileCause}
 use Rattle.csv_index.specs.Fault.{text_cause}
 use Rattle.csvw_guess.specs.declared.fault.DraftFault.{DraftFault}

@@ -6,6 +6,7 @@ pub mod TextLaws
 pub mod Rows
 pub mod Names
 pub mod Table
+pub mod FirstKey
 pub mod Fault
 pub mod Draft
 pub mod Laws

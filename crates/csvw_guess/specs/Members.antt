@@ -1,9 +1,10 @@
 -- The members of objects that are written (RFC 8259, section 4), of which some may be left out.
-use Rattle.std.specs.Prelude.{ℕ, Bool, List, [], ◌∷◌, map, flat_map, Option, None, Some, if◌then◌else◌}
+use Rattle.std.specs.Prelude.{◌≡◌, ℕ, Bool, false, List, [], ◌∷◌, ◌++◌, map, Option, None, Some, if◌then◌else◌}
 use Rattle.json.specs.Token.{Token, key}
 use Rattle.json.specs.Json.{Json, string, array, object, Members, no_members, member}
 use Rattle.json.specs.Tree.{json_tokens}
 use Rattle.json.specs.Value.{items_of}
+use Rattle.csvw_guess.specs.declared.members.Output.{Output}
 
 -- a member's name, and its value where it has one
 abbrev pub JsonMember : Type 0
@@ -29,11 +30,12 @@ array_of values = array (items_of values)
 abbrev pub texts_json : List (List ℕ) → Json
 texts_json texts = array_of (map string texts)
 
--- ---- for private clauses: the tokens of a member
+-- ---- for private clauses: the tokens of a member, and what a writer has
+
+-- where memory has not run out after the tokens, it had not before them, and they stand after those that were written
+pub record Writes (old : Output) (tokens : List Token) (new : Output) : Type 0 where
+  pub written : new.is_short ≡ false → (old.is_short ≡ false) × (new.pretty ≡ old.pretty ++ tokens)
 
 abbrev pub field_tokens : JsonMember → List Token
 field_tokens (name, None) = []
 field_tokens (name, Some value) = key name ∷ json_tokens value
-
-abbrev pub fields_tokens : List JsonMember → List Token
-fields_tokens fields = flat_map field_tokens fields

@@ -1,11 +1,11 @@
 -- The names of columns, from the cells of a header (Metadata Vocabulary for Tabular Data, section 5.6).
-use Rattle.std.specs.Prelude.{Vec, ◌≡◌, ℕ, ◌+◌, ◌-◌, Bool, not, List, [], ◌∷◌, ◌++◌, length, map, find, take, codes, slice_index, nat_lt, unwrap_or, if◌then◌else◌, ◌&&◌}
+use Rattle.std.specs.Prelude.{ℕ, ◌+◌, ◌-◌, Bool, not, List, [], ◌∷◌, ◌++◌, length, map, find, take, codes, slice_index, nat_lt, unwrap_or, if◌then◌else◌, ◌&&◌, string_bytes}
 use Rattle.std.specs.Char.{is_ascii_alphabetic}
 use Rattle.std.specs.Fmt.{decimal}
 use Rattle.std.specs.List.{list_any, range_with_len}
 use Rattle.std.specs.Str.{bytes_eq, chars}
-use Rattle.std.specs.declared.alloc.Global.{Global}
-use Rattle.csvw_meta.specs.Forms.{is_name_byte, is_column_name}
+use Rattle.cell_types.specs.declared.column.Column.{Column}
+use Rattle.csvw_meta.specs.Forms.{is_name_byte}
 use Rattle.csvw_guess.specs.declared.names.TheConstants.{MOST_NAME}
 
 -- a character that a name may have, and `_` in the place of any other
@@ -50,6 +50,6 @@ names_after taken (cell ∷ cells) = let name = name_after taken cell in name �
 abbrev pub titles_for : List ℕ → List ℕ → List (List ℕ)
 titles_for name cell = if bytes_eq name cell then [] else cell ∷ []
 
--- names as the code has them
-abbrev pub name_items : List (Vec ℕ Global) → List (List ℕ)
-name_items names = map (λ name. name.items) names
+-- the names of columns as the code has them
+abbrev pub names_in : List Column → List (List ℕ)
+names_in columns = map (λ column. string_bytes column.name) columns

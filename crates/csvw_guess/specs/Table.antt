@@ -1,5 +1,5 @@
 -- The schema that is drafted for a table: its columns and its key (Metadata Vocabulary for Tabular Data, section 5.5).
-use Rattle.std.specs.Prelude.{◌≡◌, ℕ, ◌+◌, Bool, true, false, ◌&&◌, ◌||◌, List, [], ◌∷◌, length, map, get_or, is_none, nat_le, if◌then◌else◌}
+use Rattle.std.specs.Prelude.{ℕ, ◌+◌, Bool, true, false, ◌&&◌, List, [], ◌∷◌, length, map, get_or, is_none, nat_le, if◌then◌else◌}
 use Rattle.std.specs.List.{list_all}
 use Rattle.csv_grammar.specs.Records.{Field, content}
 use Rattle.csv_grammar.specs.Raw.{RawTable, field_of, raw_content}

@@ -1,82 +1,70 @@
 //! Columns and their datatypes.
-ghost use Rattle.std.specs.Prelude.{◌≡◌, ◌==◌, ◌++◌, codes, length, map, IfOk, OnOk, string_bytes};
+ghost use Rattle.std.specs.Prelude.{◌≡◌, map, string_bytes};
 ghost use Rattle.json.specs.Tree.{json_tokens};
 ghost use Rattle.cell_types.specs.Column.{column_view};
 ghost use Rattle.cell_types.specs.Datatype.{boolean_view, datatype_view};
-ghost use Rattle.cell_types.specs.declared.datatype.Datatype.TheVariants.{Date};
-ghost use Rattle.csvw_guess.specs.ColumnText.{column_json, datatype_json, inherited_fields, is_empty_text_alone as is_empty_text_alone_of, with_format};
-ghost use Rattle.csvw_guess.specs.Members.{fields_tokens};
+ghost use Rattle.csvw_guess.specs.ColumnText.{column_json, date_json, datatype_json, is_empty_text_alone as is_empty_text_alone_of};
+ghost use Rattle.csvw_guess.specs.Members.{Writes};
 
-use crate::members::{write_text_unless, write_texts_unless, write_tokens, write_truth};
+use crate::members::Output;
 use cell_types::{BooleanForm, Column, Datatype, DateForm};
-use json::{Pretty, Token};
-use std::alloc::{AllocError, Global};
+use json::Token;
 
-/// A datatype with a format.
-fn write_format<'a>(out: &mut Pretty, base: &'a str, format: &'a str) -> Result<(), AllocError>
-    ensures { OnOk result (out.new ≡ out.old ++ json_tokens (with_format base.now format.now)) }
+/// Dates of a form, by their format where it is not that of a date that has none.
+fn write_date(out: &mut Output, form: DateForm)
+    ensures { Writes out.old (json_tokens (date_json form)) out.new }
 {
-    write_tokens(
-        out,
-        &[
-            Token::BeginObject,
-            Token::Key("base"),
-            Token::String(base),
-            Token::Key("format"),
-            Token::String(format),
-            Token::EndObject,
-        ],
-    )
+    let format = match form {
+        DateForm::YearMonthDay => return out.put_all(&[Token::String("date")]),
+        DateForm::Compact => "yyyyMMdd",
+        DateForm::DayMonthYear => "dd/MM/yyyy",
+        DateForm::MonthDayYear => "MM/dd/yyyy",
+        DateForm::Dotted => "dd.MM.yyyy",
+    };
+    out.put_all(&[
+        Token::BeginObject,
+        Token::Key("base"),
+        Token::String("date"),
+        Token::Key("format"),
+    ]);
+    out.put(Token::String(format));
+    out.put(Token::EndObject);
 }
 
-/// Dates of a form.
-fn write_date(out: &mut Pretty, form: DateForm) -> Result<(), AllocError>
-    ensures { OnOk result
-        (out.new ≡ out.old ++ json_tokens (datatype_json (datatype_view (Date form)))) }
+/// Booleans of a form: a format is the text of true, a bar, the text of false.
+fn write_boolean(out: &mut Output, form: &BooleanForm)
+    ensures { Writes out.old (json_tokens (datatype_json (boolean_view form.now))) out.new }
 {
-    match form {
-        DateForm::YearMonthDay => out.token(Token::String("date")),
-        DateForm::Compact => write_format(out, "date", "yyyyMMdd"),
-        DateForm::DayMonthYear => write_format(out, "date", "dd/MM/yyyy"),
-        DateForm::MonthDayYear => write_format(out, "date", "MM/dd/yyyy"),
-        DateForm::Dotted => write_format(out, "date", "dd.MM.yyyy"),
-    }
-}
-
-/// The format of booleans: the text of true, a bar, the text of false.
-fn boolean_format(alloc: Global, of_true: &str, of_false: &str) -> Result<String, AllocError>
-    ensures { IfOk result (λ format.
-        string_bytes format ≡ of_true.now ++ codes "|" ++ of_false.now) }
-{
-    format!(in alloc; "{of_true}|{of_false}")
-}
-
-/// Booleans of a form.
-fn write_boolean(alloc: Global, out: &mut Pretty, form: &BooleanForm) -> Result<(), AllocError>
-    ensures { OnOk result
-        (out.new ≡ out.old ++ json_tokens (datatype_json (boolean_view form.now))) }
-{
-    match form {
-        BooleanForm::Standard => out.token(Token::String("boolean")),
-        BooleanForm::Texts(of_true, of_false) => {
-            let format = boolean_format(alloc, of_true, of_false)?;
-            write_format(out, "boolean", &format)
+    let BooleanForm::Texts(of_true, of_false) = form else {
+        return out.put_all(&[Token::String("boolean")]);
+    };
+    match format!(in out.alloc; "{of_true}|{of_false}") {
+        Ok(format) => {
+            out.put_all(&[
+                Token::BeginObject,
+                Token::Key("base"),
+                Token::String("boolean"),
+                Token::Key("format"),
+            ]);
+            out.put(Token::String(&format));
+            out.put(Token::EndObject);
         }
+        Err(_) => out.is_short = true,
     }
 }
 
 /// A datatype by its name, or with its format.
-fn write_datatype(alloc: Global, out: &mut Pretty, datatype: &Datatype) -> Result<(), AllocError>
-    ensures { OnOk result
-        (out.new ≡ out.old ++ json_tokens (datatype_json (datatype_view datatype.now))) }
+fn write_datatype(out: &mut Output, datatype: &Datatype)
+    ensures { Writes out.old (json_tokens (datatype_json (datatype_view datatype.now))) out.new }
 {
-    match datatype {
-        Datatype::Integer => out.token(Token::String("integer")),
-        Datatype::Text => out.token(Token::String("string")),
-        Datatype::Boolean(form) => write_boolean(alloc, out, form),
-        Datatype::Date(form) => write_date(out, *form),
-        Datatype::Decimal => out.token(Token::String("decimal")),
-    }
+    let base = match datatype {
+        Datatype::Integer => "integer",
+        Datatype::Text => "string",
+        Datatype::Boolean(form) => return write_boolean(out, form),
+        Datatype::Date(form) => return write_date(out, *form),
+        Datatype::Decimal => "decimal",
+    };
+    out.put(Token::String(base));
 }
 
 /// Whether the empty text alone stands for null.
@@ -89,46 +77,25 @@ fn is_empty_text_alone(nulls: &[String]) -> bool
     }
 }
 
-/// Whether there is no text.
-fn is_none(texts: &[String]) -> bool
-    ensures { result ≡ (length (map string_bytes texts.now) == 0) }
-{
-    texts.is_empty()
-}
-
-/// What a column says of its cells.
-fn write_inherited(alloc: Global, out: &mut Pretty, column: &Column) -> Result<(), AllocError>
-    ensures { OnOk result
-        (out.new ≡ out.old ++ fields_tokens (inherited_fields (column_view column.now))) }
-{
-    let is_plain_null = is_empty_text_alone(&column.nulls);
-    out.token(Token::Key("datatype"))?;
-    write_datatype(alloc, out, &column.datatype)?;
-    write_texts_unless(out, is_plain_null, "null", &column.nulls)?;
-    write_text_unless(
-        out,
-        column.default.as_str().is_empty(),
-        "default",
-        &column.default,
-    )?;
-    write_truth(out, "required", column.required)
-}
-
 /// A column.
-pub(crate) fn write_column(
-    alloc: Global,
-    out: &mut Pretty,
-    column: &Column,
-) -> Result<(), AllocError>
-    ensures { OnOk result
-        (out.new ≡ out.old ++ json_tokens (column_json (column_view column.now))) }
+pub(crate) fn write_column(out: &mut Output, column: &Column)
+    ensures { Writes out.old (json_tokens (column_json (column_view column.now))) out.new }
 {
-    let name = column.name.as_str();
-    write_tokens(
-        out,
-        &[Token::BeginObject, Token::Key("name"), Token::String(name)],
-    )?;
-    write_texts_unless(out, is_none(&column.titles), "titles", &column.titles)?;
-    write_inherited(alloc, out, column)?;
-    out.token(Token::EndObject)
+    out.put_all(&[Token::BeginObject, Token::Key("name")]);
+    out.put(Token::String(&column.name));
+    let titles = column.titles.as_slice();
+    out.put_texts_unless(titles.is_empty(), "titles", titles);
+    out.put_all(&[Token::Key("datatype")]);
+    write_datatype(out, &column.datatype);
+    let nulls = column.nulls.as_slice();
+    out.put_texts_unless(is_empty_text_alone(nulls), "null", nulls);
+    let default = column.default.as_str();
+    if !default.is_empty() {
+        out.put_all(&[Token::Key("default")]);
+        out.put(Token::String(default));
+    }
+    if column.required {
+        out.put_all(&[Token::Key("required"), Token::Bool(true)]);
+    }
+    out.put(Token::EndObject);
 }

@@ -1,14 +1,13 @@
 //! The draft of the metadata of files.
-ghost use Rattle.std.specs.Prelude.{◌≡◌, ◌≤◌, ◌<◌, [], ◌++◌, None, IfOk, IfErr, IfSome, OnOk, length, string_bytes, take};
-ghost use Rattle.std.specs.List.{list_any};
-ghost use Rattle.std.specs.Str.{bytes_eq};
+ghost use Rattle.std.specs.Prelude.{◌≡◌, ◌≤◌, ◌<◌, ◌+◌, [], ◌∷◌, ◌++◌, None, IfOk, IfErr, IfSome, OnOk, MatchOption, length, take};
 ghost use Rattle.csv_index.specs.Index.{IsRawTable};
 ghost use Rattle.csvw_meta.specs.Limits.{limits_view};
 ghost use Rattle.table_store.specs.File.{file_view, files_view};
 ghost use Rattle.table_store.specs.Loading.{schema_views};
 ghost use Rattle.column_types.specs.Kinds.{AreCandidates};
-ghost use Rattle.csvw_guess.specs.Draft.{file_at, drafted_schemas, AreDrafts, HasNoDraft, HaveDrafts, IsBadAt, IsBadFile, IsOutcome};
+ghost use Rattle.csvw_guess.specs.Draft.{file_at, AreDrafts, HasNoDraft, HasNoOwnUrl, HasOwnUrl, HaveDrafts, IsBadFile};
 ghost use Rattle.csvw_guess.specs.Fault.{draft_cause};
+ghost use Rattle.csvw_guess.specs.Table.{file_schema};
 
 use crate::fault::{DraftFault, Warning};
 use crate::table::draft_table;
@@ -16,7 +15,7 @@ use crate::url::is_table_url;
 use column_types::Candidates;
 use csv_index::{IndexedText, TextFault};
 use csvw_meta::{Limits, Schema};
-use std::alloc::{AllocError, Global};
+use std::alloc::Global;
 use table_store::NamedFile;
 
 /// The draft of the metadata of files.
@@ -27,19 +26,22 @@ pub struct Draft {
     pub warnings: Vec<Warning>,
 }
 
-/// What comes of one file.
-#[derive(Drop)]
-enum Outcome {
-    Drafted(Schema),
-    LeftOut(Warning),
-}
-
-/// Whether one of the files has the name.
-fn has_name(files: &[NamedFile], name: &str) -> bool
-    ensures { result
-        ≡ list_any (λ file. bytes_eq (string_bytes file.name) name.now) files.now }
+/// Why the file of that number is left out for its name, where it is.
+fn name_warning(files: &[NamedFile], number: usize) -> Option<Warning>
+    requires { number < length files.now }
+    ensures { MatchOption result (HasOwnUrl (files_view files.now) number)
+        (λ _. HasNoOwnUrl (files_view files.now) number) }
 {
-    files.iter().any(|file| file.name.as_str() == name)
+    let file = &files[number];
+    if !is_table_url(file.name.as_str()) {
+        return Some(Warning::NotUrl { file: number });
+    }
+    for earlier in 0..number {
+        if files[earlier].name == file.name {
+            return Some(Warning::SameName { file: number });
+        }
+    }
+    None
 }
 
 /// The file of that number as a table.
@@ -71,81 +73,99 @@ fn read_file(
     }
 }
 
-/// What comes of the file of that number.
-fn draft_file(
-    limits: &Limits,
-    candidates: &Candidates,
-    files: &[NamedFile],
-    number: usize,
-    warnings: &mut Vec<Warning>,
-) -> Result<Outcome, DraftFault>
-    requires candidates { AreCandidates candidates.now }
-    requires number { number < length files.now }
-    ensures outcome { IfOk result (IsOutcome (limits_view limits.now)
-        (take number (files_view files.now)) (file_at (files_view files.now) number)) }
-    ensures fault { IfErr result (λ e. IfSome (draft_cause e)
-        (IsBadAt (limits_view limits.now) (files_view files.now) number)) }
-    ensures memory { IfErr result (λ e. draft_cause e ≡ None → e ≡ DraftFault.NoMemory) }
+/// Adds what there is to look at in a file that is left out.
+fn leave_out(draft: &mut Draft, warning: Warning) -> Result<(), DraftFault>
+    ensures schemas { draft.new.schemas ≡ draft.old.schemas }
+    ensures fault { IfErr result (λ e. e ≡ DraftFault.NoMemory) }
 {
-    csvw_meta::sizes();
-    let alloc = *warnings.allocator();
-    let file = &files[number];
-    let name = file.name.as_str();
-    if !is_table_url(name) {
-        return Ok(Outcome::LeftOut(Warning::NotUrl { file: number }));
-    }
-    let (earlier, _) = files.split_at(number);
-    if has_name(earlier, name) {
-        return Ok(Outcome::LeftOut(Warning::SameName { file: number }));
-    }
-    let table = read_file(alloc, limits, number, file)?;
-    let columns = table.width();
-    if columns > limits.columns as usize {
-        return Ok(Outcome::LeftOut(Warning::ManyColumns {
-            file: number,
-            columns,
-        }));
-    }
-    match draft_table(candidates, number, name, &table, warnings) {
-        Ok(schema) => Ok(Outcome::Drafted(schema)),
+    match draft.warnings.push(warning) {
+        Ok(()) => Ok(()),
         Err(_) => Err(DraftFault::NoMemory),
     }
 }
 
-/// Adds what came of one more file.
-fn add(draft: &mut Draft, outcome: Outcome) -> Result<(), AllocError>
-    ensures { OnOk result (schema_views draft.new.schemas.items
-        ≡ schema_views draft.old.schemas.items ++ drafted_schemas outcome) }
+/// Adds the schema of a file, and what there is to look at in it.
+fn add_table(
+    draft: &mut Draft,
+    candidates: &Candidates,
+    number: usize,
+    url: &str,
+    table: &IndexedText,
+) -> Result<(), DraftFault>
+    requires candidates { AreCandidates candidates.now }
+    requires width { 0 < length table.now.header }
+    requires few { length table.now.header ≤ 256 }
+    ensures schemas { OnOk result (schema_views draft.new.schemas.items
+        ≡ schema_views draft.old.schemas.items ++ file_schema url.now table.now ∷ []) }
+    ensures fault { IfErr result (λ e. e ≡ DraftFault.NoMemory) }
 {
-    match outcome {
-        Outcome::Drafted(schema) => draft.schemas.push(schema)?,
-        Outcome::LeftOut(warning) => draft.warnings.push(warning)?,
+    let Ok(schema) = draft_table(candidates, number, url, table, &mut draft.warnings) else {
+        return Err(DraftFault::NoMemory);
+    };
+    match draft.schemas.push(schema) {
+        Ok(()) => Ok(()),
+        Err(_) => Err(DraftFault::NoMemory),
     }
-    Ok(())
 }
 
-/// The schemas of files.
-fn draft_files(alloc: Global, limits: &Limits, files: &[NamedFile]) -> Result<Draft, DraftFault>
-    ensures drafts { IfOk result (λ draft. HaveDrafts (limits_view limits.now) []
-        (files_view files.now) (schema_views draft.schemas.items)) }
+/// Adds the schema of the file of that number, or what there is to look at where the file is left out.
+fn draft_file(
+    draft: &mut Draft,
+    limits: &Limits,
+    candidates: &Candidates,
+    files: &[NamedFile],
+    number: usize,
+) -> Result<(), DraftFault>
+    requires candidates { AreCandidates candidates.now }
+    requires number { number < length files.now }
+    requires drafts { HaveDrafts (limits_view limits.now) []
+        (take number (files_view files.now)) (schema_views draft.old.schemas.items) }
+    ensures drafts { OnOk result (HaveDrafts (limits_view limits.now) []
+        (take (number + 1) (files_view files.now)) (schema_views draft.new.schemas.items)) }
     ensures fault { IfErr result (λ e.
         IfSome (draft_cause e) (HasNoDraft (limits_view limits.now) (files_view files.now))) }
     ensures memory { IfErr result (λ e. draft_cause e ≡ None → e ≡ DraftFault.NoMemory) }
 {
-    let Ok(candidates) = Candidates::new(alloc) else {
-        return Err(DraftFault::NoMemory);
-    };
-    let mut draft = Draft {
-        schemas: Vec::new(alloc),
-        warnings: Vec::new(alloc),
-    };
-    for number in 0..files.len() {
-        let outcome = draft_file(limits, &candidates, files, number, &mut draft.warnings)?;
-        let Ok(()) = add(&mut draft, outcome) else {
-            return Err(DraftFault::NoMemory);
-        };
+    csvw_meta::sizes();
+    if let Some(warning) = name_warning(files, number) {
+        return leave_out(draft, warning);
     }
-    Ok(draft)
+    let file = &files[number];
+    let table = read_file(*draft.schemas.allocator(), limits, number, file)?;
+    let columns = table.width();
+    if columns > limits.columns as usize {
+        let file = number;
+        return leave_out(draft, Warning::ManyColumns { file, columns });
+    }
+    add_table(draft, candidates, number, file.name.as_str(), &table)
+}
+
+/// Adds the schemas of files to a draft that has none: those of the files that are tables which are served, in their order.
+fn draft_files(
+    draft: &mut Draft,
+    limits: &Limits,
+    candidates: &Candidates,
+    files: &[NamedFile],
+) -> Result<(), DraftFault>
+    requires candidates { AreCandidates candidates.now }
+    requires none { draft.old.schemas.items ≡ [] }
+    ensures drafts { OnOk result (AreDrafts (limits_view limits.now) (files_view files.now)
+        (schema_views draft.new.schemas.items)) }
+    ensures fault { IfErr result (λ e.
+        IfSome (draft_cause e) (HasNoDraft (limits_view limits.now) (files_view files.now))) }
+    ensures memory { IfErr result (λ e. draft_cause e ≡ None → e ≡ DraftFault.NoMemory) }
+{
+    for number in 0..files.len() {
+        draft_file(draft, limits, candidates, files, number)?;
+    }
+    let tables = draft.schemas.len();
+    if tables == 0 {
+        return Err(DraftFault::NoTables);
+    }
+    if tables > limits.tables as usize {
+        return Err(DraftFault::TooManyTables);
+    }
+    Ok(())
 }
 
 /// The draft of the metadata of files: the schemas of those that are tables with a name and a number of columns that are served, in their order; or
@@ -160,12 +180,13 @@ pub fn draft_of(alloc: Global, limits: &Limits, files: &[NamedFile]) -> Result<D
     // Only want of memory has no cause.
     ensures memory { IfErr result (λ e. draft_cause e ≡ None → e ≡ DraftFault.NoMemory) }
 {
-    let draft = draft_files(alloc, limits, files)?;
-    if draft.schemas.is_empty() {
-        return Err(DraftFault::NoTables);
-    }
-    if draft.schemas.len() > limits.tables as usize {
-        return Err(DraftFault::TooManyTables);
-    }
+    let Ok(candidates) = Candidates::new(alloc) else {
+        return Err(DraftFault::NoMemory);
+    };
+    let mut draft = Draft {
+        schemas: Vec::new(alloc),
+        warnings: Vec::new(alloc),
+    };
+    draft_files(&mut draft, limits, &candidates, files)?;
     Ok(draft)
 }

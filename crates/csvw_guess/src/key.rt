@@ -1,18 +1,21 @@
 //! The key of a table.
-ghost use Rattle.std.specs.Prelude.{◌≡◌, ◌≤◌, ◌<◌, [], ◌∷◌, Some, IfOk, drop, length, slice_get};
+ghost use Rattle.std.specs.Prelude.{◌≡◌, ◌≤◌, ◌<◌, ℕ, [], ◌∷◌, List, Some, IfOk, OnOk, drop, length, slice_get};
 ghost use Rattle.cell_types.specs.Column.{column_view, ColumnOf};
-ghost use Rattle.csvw_guess.specs.Table.{are_keys, are_whole, are_short as are_short_of, file_cells, may_be_keys as may_be_keys_of};
 ghost use Rattle.cell_types.specs.Value.{value_view};
+ghost use Rattle.csv_grammar.specs.Raw.{raw_content};
+ghost use Rattle.csvw_guess.specs.FirstKey.{cell_key, cell_keys, has_key_type as has_key_type_of, is_long_key as is_long_key_of};
+ghost use Rattle.csvw_guess.specs.Table.{are_keys, file_cells};
 ghost use Rattle.csvw_meta.specs.Schema.{schema_view};
 ghost use Rattle.raw_fields.specs.Raw.{raw_view};
-ghost use Rattle.raw_fields.specs.Values.{value_in, value_or_null as value_or_null_of};
+ghost use Rattle.row_keys.specs.Keys.{HasRead, TakesKey};
 
-use cell_types::{CellFault, Column, Datatype, Value};
+use cell_types::{CellFault, Column, Datatype, Value, read_text};
 use csv_index::{Fields, IndexedText};
 use csvw_meta::Schema;
-use raw_fields::{Raw, cell_value};
+use raw_fields::Raw;
 use row_keys::KeyReader;
 use std::alloc::{AllocError, Global};
+use std::slice::from_ref;
 
 /// The most bytes of a text in a key.
 const MOST_KEY: usize = 64;
@@ -33,64 +36,57 @@ fn first_field<'a>(fields: &mut Fields<'_, 'a>, width: usize) -> Raw<'a>
     raw
 }
 
-/// Whether each cell of the first column of a file has at most so many bytes as a text in a key.
-fn are_short(alloc: Global, file: &IndexedText) -> Result<bool, AllocError>
-    requires { 0 < length file.now.header }
-    ensures { IfOk result (λ short. short ≡ are_short_of (file_cells 0 file.now)) }
+/// Whether a key may have the datatype of a column.
+fn has_key_type(column: &Column) -> bool
+    ensures { result ≡ has_key_type_of (column_view column.now).datatype }
 {
-    let mut fields = file.fields(0);
-    for _row in 0..file.rows() {
-        let raw = first_field(&mut fields, file.width());
-        if raw.text(alloc)?.as_str().len() > MOST_KEY {
-            return Ok(false);
-        }
-    }
-    Ok(true)
+    matches!(column.datatype, Datatype::Integer | Datatype::Text)
 }
 
-/// Whether the cells of the first column are of a datatype that may be a key.
-fn may_be_keys(alloc: Global, column: &Column, file: &IndexedText) -> Result<bool, AllocError>
-    requires { 0 < length file.now.header }
-    ensures { IfOk result (λ may. may
-        ≡ may_be_keys_of (column_view column.now).datatype (file_cells 0 file.now)) }
+/// Whether a cell of a column is a text that is too long for a key.
+fn is_long_key(column: &Column, cell: &str) -> bool
+    ensures { result ≡ is_long_key_of (column_view column.now).datatype cell.now }
 {
-    match column.datatype {
-        Datatype::Integer => Ok(true),
-        Datatype::Text => are_short(alloc, file),
-        _ => Ok(false),
-    }
+    matches!(column.datatype, Datatype::Text) && cell.len() > MOST_KEY
 }
 
-/// The value of a field in a column, null where it has none.
-fn value_or_null<'a>(alloc: Global, column: &Column, raw: Raw<'a>) -> Result<Value<'a>, AllocError>
+/// The value of a field in a column as a key: null, where it has none or is too long for one.
+fn key_value<'a>(alloc: Global, column: &Column, raw: Raw<'a>) -> Result<Value<'a>, AllocError>
     ensures { IfOk result (λ value. value_view value
-        ≡ value_or_null_of (value_in (column_view column.now, raw_view raw.entry))) }
+        ≡ cell_key (column_view column.now) (raw_content (raw_view raw.entry))) }
 {
-    match cell_value(alloc, column, raw) {
+    let text = raw.text(alloc)?;
+    if is_long_key(column, text.as_str()) {
+        return Ok(Value::Null);
+    }
+    match read_text(alloc, column, text) {
         Ok(value) => Ok(value),
         Err(CellFault::NoMemory) => Err(AllocError),
         Err(_) => Ok(Value::Null),
     }
 }
 
-/// Whether no cell of the first column is null, and none has the value of an earlier one.
-fn are_distinct(alloc: Global, schema: &Schema, file: &IndexedText) -> Result<bool, AllocError>
+/// Reads the cells of the first column as the keys of their rows.
+fn read_keys(
+    alloc: Global,
+    column: &Column,
+    file: &IndexedText,
+    keys: &mut KeyReader,
+) -> Result<(), AllocError>
     requires width { 0 < length file.now.header }
-    requires columns { 0 < length (schema_view schema.now).columns }
-    requires key { (schema_view schema.now).key ≡ 0 ∷ [] }
-    ensures { IfOk result (λ distinct. (column : ColumnOf)
-        → slice_get (schema_view schema.now).columns 0 ≡ Some column
-        → distinct ≡ are_whole column (file_cells 0 file.now)) }
+    requires none { HasRead keys.old [] }
+    requires suits { (cell : List ℕ)
+        → TakesKey keys.old (cell_key (column_view column.now) cell ∷ []) }
+    ensures { OnOk result
+        (HasRead keys.new (cell_keys (column_view column.now) (file_cells 0 file.now))) }
 {
-    let column = &schema.columns[0];
-    let mut keys = KeyReader::new(alloc, schema, file.rows())?;
     let mut fields = file.fields(0);
     for row in 0..file.rows() {
         let raw = first_field(&mut fields, file.width());
-        let value = value_or_null(alloc, column, raw)?;
-        keys.read(alloc, &[0], row, &[value])?;
+        let value = key_value(alloc, column, raw)?;
+        keys.read(alloc, &[0], row, from_ref(&value))?;
     }
-    Ok(keys.finish(alloc)?.is_ok())
+    Ok(())
 }
 
 /// Whether the first column may be the key of a schema that has it for its key.
@@ -102,8 +98,12 @@ pub fn has_keys(alloc: Global, schema: &Schema, file: &IndexedText) -> Result<bo
         → slice_get (schema_view schema.now).columns 0 ≡ Some column
         → has ≡ are_keys column (file_cells 0 file.now)) }
 {
-    if !may_be_keys(alloc, &schema.columns[0], file)? {
+    let column = &schema.columns[0];
+    if !has_key_type(column) {
         return Ok(false);
     }
-    are_distinct(alloc, schema, file)
+    let mut keys = KeyReader::new(alloc, schema, file.rows())?;
+    let read = read_keys(alloc, column, file, &mut keys);
+    let found = keys.finish(alloc)?;
+    read.and(Ok(found.is_ok()))
 }

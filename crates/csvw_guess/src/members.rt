@@ -1,85 +1,56 @@
-//! Members of objects, and arrays of texts.
-ghost use Rattle.std.specs.Prelude.{◌≡◌, ◌++◌, map, not, true, OnOk, Some, string_bytes};
+//! The writer of a JSON text: tokens, members of objects, and arrays of texts.
+ghost use Rattle.std.specs.Prelude.{◌∷◌, [], map, string_bytes};
 ghost use Rattle.std.specs.List.{AllByRecursion};
-ghost use Rattle.json.specs.Json.{boolean, string};
 ghost use Rattle.json.specs.Print.{IsPrintable};
 ghost use Rattle.json.specs.Reads.{token_of};
-ghost use Rattle.json.specs.Tree.{json_tokens};
-ghost use Rattle.csvw_guess.specs.Members.{field_tokens, texts_json, unless};
+ghost use Rattle.csvw_guess.specs.Members.{field_tokens, texts_json, unless, Writes};
 
 use json::{Pretty, Token};
-use std::alloc::AllocError;
+use std::alloc::Global;
 
-/// Tokens, one after another.
-pub(crate) fn write_tokens(out: &mut Pretty, tokens: &[Token<'_>]) -> Result<(), AllocError>
-    requires { AllByRecursion (λ token. IsPrintable (token_of token)) tokens.now }
-    ensures { OnOk result (out.new ≡ out.old ++ map token_of tokens.now) }
-{
-    for next in tokens {
-        out.token(*next)?;
-    }
-    Ok(())
+/// The tokens of a JSON text, written one after another. Where memory runs out that is kept in it, so that a token has no failure of its own.
+#[derive(Drop)]
+pub(crate) struct Output {
+    pub(crate) alloc: Global,
+    pub(crate) pretty: Pretty,
+    pub(crate) is_short: bool,
 }
 
-/// A member that is a text.
-pub(crate) fn write_text(out: &mut Pretty, name: &str, text: &str) -> Result<(), AllocError>
-    ensures { OnOk result (out.new ≡ out.old ++ field_tokens (name.now, Some (string text.now))) }
-{
-    write_tokens(out, &[Token::Key(name), Token::String(text)])
-}
-
-/// A member that is a text, unless it goes without saying.
-pub(crate) fn write_text_unless(
-    out: &mut Pretty,
-    is_plain: bool,
-    name: &str,
-    text: &str,
-) -> Result<(), AllocError>
-    ensures { OnOk result
-        (out.new ≡ out.old ++ field_tokens (name.now, unless is_plain (string text.now))) }
-{
-    if is_plain {
-        return Ok(());
+impl Output {
+    /// A token.
+    pub(crate) fn put(&mut self, token: Token<'_>)
+        requires { IsPrintable (token_of token) }
+        ensures { Writes self.old (token_of token.entry ∷ []) self.new }
+    {
+        if self.pretty.token(token).is_err() {
+            self.is_short = true;
+        }
     }
-    write_text(out, name, text)
-}
 
-/// An array of texts.
-fn write_array(out: &mut Pretty, texts: &[String]) -> Result<(), AllocError>
-    ensures { OnOk result
-        (out.new ≡ out.old ++ json_tokens (texts_json (map string_bytes texts.now))) }
-{
-    out.token(Token::BeginArray)?;
-    for text in texts {
-        out.token(Token::String(text.as_str()))?;
+    /// Tokens, one after another.
+    pub(crate) fn put_all(&mut self, tokens: &[Token<'_>])
+        requires { AllByRecursion (λ token. IsPrintable (token_of token)) tokens.now }
+        ensures { Writes self.old (map token_of tokens.now) self.new }
+    {
+        for next in tokens {
+            self.put(*next);
+        }
     }
-    out.token(Token::EndArray)
-}
 
-/// A member that is an array of texts, unless it goes without saying.
-pub(crate) fn write_texts_unless(
-    out: &mut Pretty,
-    is_plain: bool,
-    name: &str,
-    texts: &[String],
-) -> Result<(), AllocError>
-    ensures { OnOk result (out.new ≡ out.old
-        ++ field_tokens (name.now, unless is_plain (texts_json (map string_bytes texts.now)))) }
-{
-    if is_plain {
-        return Ok(());
+    /// A member that is an array of texts, unless it goes without saying.
+    pub(crate) fn put_texts_unless(&mut self, is_plain: bool, name: &str, texts: &[String])
+        ensures { Writes self.old
+            (field_tokens (name.now, unless is_plain (texts_json (map string_bytes texts.now))))
+            self.new }
+    {
+        if is_plain {
+            return;
+        }
+        self.put(Token::Key(name));
+        self.put(Token::BeginArray);
+        for text in texts {
+            self.put(Token::String(text.as_str()));
+        }
+        self.put(Token::EndArray);
     }
-    out.token(Token::Key(name))?;
-    write_array(out, texts)
-}
-
-/// A member that is true, unless it is false.
-pub(crate) fn write_truth(out: &mut Pretty, name: &str, truth: bool) -> Result<(), AllocError>
-    ensures { OnOk result
-        (out.new ≡ out.old ++ field_tokens (name.now, unless (not truth) (boolean true))) }
-{
-    if !truth {
-        return Ok(());
-    }
-    write_tokens(out, &[Token::Key(name), Token::Bool(true)])
 }

@@ -1,25 +1,20 @@
 //! The form of a table's url.
 ghost use Rattle.std.specs.Prelude.{◌≡◌};
 ghost use Rattle.std.specs.List.{list_all};
-ghost use Rattle.csvw_meta.specs.Forms.{is_url_byte as is_url_byte_of, is_table_url as is_table_url_of, table_name as table_name_of};
+ghost use Rattle.csvw_meta.specs.Forms.{is_url_byte, is_table_url as is_table_url_of, table_name as table_name_of};
 
 use crate::names::begins_with_letter;
 
 /// The most bytes of a table's url.
 const MOST_URL: usize = 132;
 
-/// An ASCII letter, digit, low line or hyphen.
-fn is_url_byte(b: u8) -> bool
-    ensures { result ≡ is_url_byte_of b }
-{
-    b.is_ascii_alphanumeric() || b == b'_' || b == b'-'
-}
-
 /// Letters, digits, low lines and hyphens.
 fn are_url_bytes(bytes: &[u8]) -> bool
-    ensures { result ≡ list_all is_url_byte_of bytes.now }
+    ensures { result ≡ list_all is_url_byte bytes.now }
 {
-    bytes.iter().all(|b| is_url_byte(*b))
+    bytes
+        .iter()
+        .all(|b| b.is_ascii_alphanumeric() || *b == b'_' || *b == b'-')
 }
 
 /// A url without its `.csv`.

@@ -1,58 +1,38 @@
 //! What the publisher of a table should look at.
-ghost use Rattle.std.specs.Prelude.{◌<◌, length};
+ghost use Rattle.std.specs.Prelude.{◌≡◌, ◌<◌, length};
 
 use crate::fault::Warning;
 use cell_types::{CellFault, Column, Datatype, Value};
-use column_types::{Candidates, DAY_FIRST, DECIMAL, MONTH_FIRST};
+use column_types::{Candidates, DECIMAL, Seen};
 use csv_index::IndexedText;
-use csvw_meta::Schema;
 use raw_fields::{Raw, cell_value};
 use std::alloc::{AllocError, Global};
 
 /// The bytes that may part fields in the place of a comma.
 const SEPARATORS: [u8; 3] = [b';', b'\t', b'|'];
 
-/// What cells are to a column.
-#[derive(Clone, Copy)]
-enum Fit {
-    /// Each stands for null.
-    Nulls,
-    /// Each has a value, and one has one that is not null.
-    Values,
-    /// Each but those that are finer than six places has a value, and one is finer.
-    TooFine,
-    /// One has no value.
-    Others,
-}
-
-/// What the cells of a column are to that of a datatype.
-fn column_fit(
+/// Whether all cells of a column are numbers or null, and one is finer than six places.
+fn is_too_fine(
     alloc: Global,
     candidates: &Candidates,
-    place: usize,
     file: &IndexedText,
     col: usize,
-) -> Result<Fit, AllocError>
+) -> Result<bool, AllocError>
     requires { col < length file.now.header }
 {
-    let Some(column) = candidates.typed.get(place) else {
-        return Ok(Fit::Others);
+    let Some(column) = candidates.typed.get(DECIMAL) else {
+        return Ok(false);
     };
-    let mut fit = Fit::Nulls;
+    let mut is_finer = false;
     for row in 0..file.rows() {
         match cell_value(alloc, column, file.cell(row, col)) {
-            Ok(Value::Null) => {}
-            Ok(_) => {
-                if let Fit::Nulls = fit {
-                    fit = Fit::Values;
-                }
-            }
-            Err(CellFault::TooFine) => fit = Fit::TooFine,
+            Ok(_) => {}
+            Err(CellFault::TooFine) => is_finer = true,
             Err(CellFault::NoMemory) => return Err(AllocError),
-            Err(_) => return Ok(Fit::Others),
+            Err(_) => return Ok(false),
         }
     }
-    Ok(fit)
+    Ok(is_finer)
 }
 
 /// Whether a byte stands in the header cell and in each cell of the first column.
@@ -70,28 +50,7 @@ fn stands_in_each(file: &IndexedText, byte: u8) -> bool
     true
 }
 
-/// What there is to look at in a column of texts.
-fn text_warning(
-    alloc: Global,
-    candidates: &Candidates,
-    number: usize,
-    file: &IndexedText,
-    col: usize,
-) -> Result<Option<Warning>, AllocError>
-    requires { col < length file.now.header }
-{
-    if let Fit::Values = column_fit(alloc, candidates, DAY_FIRST, file, col)? {
-        if let Fit::Values = column_fit(alloc, candidates, MONTH_FIRST, file, col)? {
-            return Ok(Some(Warning::TwoDates { file: number, col }));
-        }
-    }
-    match column_fit(alloc, candidates, DECIMAL, file, col)? {
-        Fit::TooFine => Ok(Some(Warning::TooFine { file: number, col })),
-        _ => Ok(None),
-    }
-}
-
-/// Whether a header cell has a value of its column's datatype that is not null.
+/// Whether a header cell has a value of its column's datatype that is not null. In a column of texts that says nothing.
 fn is_data(
     alloc: Global,
     column: &Column,
@@ -100,43 +59,41 @@ fn is_data(
 ) -> Result<bool, AllocError>
     requires { col < length file.now.header }
 {
+    if matches!(column.datatype, Datatype::Text) {
+        return Ok(false);
+    }
     match cell_value(alloc, column, file.header(col)) {
-        Ok(Value::Null) => Ok(false),
-        Ok(_) => Ok(true),
         Err(CellFault::NoMemory) => Err(AllocError),
-        Err(_) => Ok(false),
+        value => Ok(!matches!(value, Ok(Value::Null) | Err(_))),
     }
 }
 
-/// Adds what there is to look at in the columns of the file of that number: in those of texts one by one, and whether a header cell has a value of
-/// another datatype.
+/// Adds what there is to look at in the columns of the file of that number, of whose cells this is known. Only columns of texts have some.
 pub fn column_warnings(
     candidates: &Candidates,
     number: usize,
     file: &IndexedText,
-    schema: &Schema,
+    known: &[Seen],
     warnings: &mut Vec<Warning>,
-) -> Result<(), AllocError> {
+) -> Result<(), AllocError>
+    requires { length known.now ≡ length file.now.header }
+{
     let alloc = *warnings.allocator();
-    let mut has_data = false;
-    for col in 0..file.width() {
-        let Some(column) = schema.columns.get(col) else {
-            break;
+    for (col, seen) in known.iter().enumerate() {
+        let warning = if seen.has_two_dates() && !seen.all_null {
+            Warning::TwoDates { file: number, col }
+        } else if seen.is_text() && is_too_fine(alloc, candidates, file, col)? {
+            Warning::TooFine { file: number, col }
+        } else {
+            continue;
         };
-        if !matches!(column.datatype, Datatype::Text) {
-            has_data = has_data || is_data(alloc, column, file, col)?;
-        } else if let Some(warning) = text_warning(alloc, candidates, number, file, col)? {
-            warnings.push(warning)?;
-        }
-    }
-    if has_data {
-        warnings.push(Warning::HeaderIsData { file: number })?;
+        warnings.push(warning)?;
     }
     Ok(())
 }
 
 /// Adds the byte that may part the fields of the file of that number, which has one column.
-pub fn separator_warning(
+fn separator_warning(
     number: usize,
     file: &IndexedText,
     warnings: &mut Vec<Warning>,
@@ -150,6 +107,30 @@ pub fn separator_warning(
                 byte: *byte,
             })?;
         }
+    }
+    Ok(())
+}
+
+/// Adds what there is to look at in the header of the file of that number: whether a cell of it has a value of its column's datatype, and of one column
+/// the byte that may part its fields.
+pub fn header_warnings(
+    number: usize,
+    file: &IndexedText,
+    columns: &[Column],
+    warnings: &mut Vec<Warning>,
+) -> Result<(), AllocError>
+    requires width { 0 < length file.now.header }
+    requires columns { length columns.now ≡ length file.now.header }
+{
+    let alloc = *warnings.allocator();
+    for (col, column) in columns.iter().enumerate() {
+        if is_data(alloc, column, file, col)? {
+            warnings.push(Warning::HeaderIsData { file: number })?;
+            break;
+        }
+    }
+    if columns.len() == 1 {
+        return separator_warning(number, file, warnings);
     }
     Ok(())
 }

@@ -1,9 +1,11 @@
 -- The range of a column, row by row.
-use Rattle.std.proofs.Common.{◌≡◌, ◌∙◌, ◌+◌, ℕ, List, [], ◌∷◌, get_or, take, Option, None, Some, option_and_then, slice_get, true, false, refl, ap, if◌then◌else◌}
+use Rattle.std.proofs.Common.{◌≡◌, ◌∙◌, ◌+◌, ℕ, List, [], ◌∷◌, get_or, take, Option, None, Some, option_and_then, slice_get, false, refl, sym, ap, ap₂, if◌then◌else◌}
 use Rattle.std.proofs.lemmas.List.{map-append, take_more}
 use Rattle.std.proofs.lemmas.List.Sums.{fold-append}
 use Rattle.std.proofs.lemmas.Option.{get_or_from_slice_get, slice_get_within}
-use Rattle.cell_types.specs.Value.{CellValue, null}
+use Rattle.cell_types.specs.declared.value.Value.{Value}
+use Rattle.cell_types.specs.declared.value.Value.TheVariants.{Null, Int, Text, Bool, Date, Decimal}
+use Rattle.cell_types.specs.Value.{CellValue, null, value_view}
 use Rattle.block_summary.specs.Ranges.{RangeOf, column_of, greater, is_null, lesser, no_range, range_of, widened}
 
 -- a cell is in a row
@@ -26,12 +28,25 @@ range-step rows row col v e =
     ∙ ap (widened (range_of (column_of (take row rows) col))) cell
 
 -- a null is counted
-pub null-widens : (range : RangeOf) (v : CellValue) → is_null v ≡ true → widened range v ≡ record range { null_count = range.null_count + 1 }
-null-widens range v e = ap (λ b. if b then record range { null_count = range.null_count + 1 }
-    else record range { least = Some (lesser range.least v); greatest = Some (greater range.greatest v) }) e
+pub null-widens : (range : RangeOf) (value : Value) → value ≡ Null → widened range (value_view value) ≡ record range { null_count = range.null_count + 1 }
+null-widens range value e = ap (λ (x : Value). widened range (value_view x)) e
 
--- another value moves the bounds
-pub value-widens : (range : RangeOf) (v : CellValue) → is_null v ≡ false
-    → widened range v ≡ record range { least = Some (lesser range.least v); greatest = Some (greater range.greatest v) }
-value-widens range v e = ap (λ b. if b then record range { null_count = range.null_count + 1 }
-    else record range { least = Some (lesser range.least v); greatest = Some (greater range.greatest v) }) e
+not_null : (value : Value) → ¬ (value ≡ Null) → is_null (value_view value) ≡ false
+not_null Null other = absurd (other refl)
+not_null (Int z) other = refl
+not_null (Text t) other = refl
+not_null (Bool b) other = refl
+not_null (Date d) other = refl
+not_null (Decimal z) other = refl
+
+-- another value, which was read twice, moves the bounds
+pub value-widens : (range : RangeOf) (value : Value) (o : Option CellValue) (least greatest : Option CellValue) (same : CellValue)
+    → ¬ (value ≡ Null) → o ≡ Some (value_view value) → o ≡ Some same
+    → least ≡ Some (lesser range.least (value_view value)) → greatest ≡ Some (greater range.greatest same)
+    → record { least = least; greatest = greatest; null_count = range.null_count } ≡ widened range (value_view value)
+value-widens range value o least greatest same other one two l g =
+    let v = value_view value in
+    let e : same ≡ v = cc in
+    ap₂ (λ (a b : Option CellValue). record { least = a; greatest = b; null_count = range.null_count }) l (g ∙ ap (λ (x : CellValue). Some (greater range.greatest x)) e)
+    ∙ sym (ap (λ b. if b then record range { null_count = range.null_count + 1 }
+    else record range { least = Some (lesser range.least v); greatest = Some (greater range.greatest v) }) (not_null value other))

@@ -1,2 +1,3 @@
 pub mod BoundLemmas
 pub mod ShowLemmas
+pub mod SheetLemmas

@@ -1,12 +1,12 @@
 -- The lines of columns and of tables, one after another.
-use Rattle.std.proofs.Common.{◌≡◌, ◌∙◌, ◌+◌, ◌++◌, ◌<◌, ◌≤◌, ℕ, zero, suc, Bool, List, [], ◌∷◌, length, get_or, map, take, drop, append_assoc, append-nil, add-one, drop-cons, sym, ap, ap₂, arith}
+use Rattle.std.proofs.Common.{◌≡◌, ◌∙◌, ◌+◌, ◌++◌, ◌<◌, ◌≤◌, ℕ, zero, suc, List, [], ◌∷◌, length, get_or, map, take, drop, append_assoc, append-nil, add-one, drop-cons, sym, ap, arith}
 use Rattle.std.proofs.Math.ListN.{get_or-map}
 use Rattle.std.proofs.Math.Seq.{drop-nil}
 use Rattle.std.proofs.lemmas.List.{length-map, take_more}
 use Rattle.std.proofs.lemmas.Grind.{flat_map-append}
 use Rattle.cell_types.specs.declared.column.Column.{Column}
 use Rattle.cell_types.specs.Column.{ColumnOf, column_view}
-use Rattle.block_summary.specs.Ranges.{RangeOf, column_of, range_of}
+use Rattle.block_summary.specs.Ranges.{column_of, range_of}
 use Rattle.table_store.specs.Table.{TableOf}
 use Rattle.folder_report.specs.Show.{column_line, column_lines, is_of_key, table_text, tables_text}
 
@@ -25,17 +25,16 @@ columns_at : (columns : List ColumnOf) (xs : List Column) (col : ℕ) (x : Colum
 columns_at columns xs col x same less at = rw (← same) (views_at xs col x less at)
 
 -- the line of one more column
-pub lines-step : (table : TableOf) (xs : List Column) (col : ℕ) (x : Column) (old new whole : List ℕ) (range : RangeOf) (is_key : Bool)
+pub lines-step : (table : TableOf) (xs : List Column) (col : ℕ) (x : Column) (old new whole : List ℕ)
     → map column_view xs ≡ table.schema.columns → col < length xs → x ≡ get_or xs col x
-    → range ≡ range_of (column_of table.rows col) → is_key ≡ is_of_key table.schema.key col
-    → new ≡ old ++ column_line (column_view x) range is_key
+    → new ≡ old ++ column_line (column_view x) (range_of (column_of table.rows col)) (is_of_key table.schema.key col)
     → old ++ column_lines table col (drop col table.schema.columns) ≡ whole
     → new ++ column_lines table (col + 1) (drop (col + 1) table.schema.columns) ≡ whole
-lines-step table xs col x old new whole range is_key same less at is key e before =
+lines-step table xs col x old new whole same less at e before =
     let rest : List ℕ = column_lines table (col + 1) (drop (col + 1) table.schema.columns) in
+    let line : List ℕ = column_line (column_view x) (range_of (column_of table.rows col)) (is_of_key table.schema.key col) in
     ap (λ (ns : List ℕ). ns ++ rest) e
-    ∙ append_assoc old (column_line (column_view x) range is_key) rest
-    ∙ ap₂ (λ (r : RangeOf) (b : Bool). old ++ (column_line (column_view x) r b ++ rest)) is key
+    ∙ append_assoc old line rest
     ∙ ap (λ (cs : List ColumnOf). old ++ column_lines table col cs) (sym (columns_at table.schema.columns xs col x same less at))
     ∙ before
 

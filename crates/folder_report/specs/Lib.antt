@@ -2,4 +2,5 @@ pub mod Text
 pub mod Value
 pub mod Bounds
 pub mod Show
+pub mod Sheet
 pub mod Refusal

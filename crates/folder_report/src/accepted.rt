@@ -35,7 +35,7 @@ pub fn accepted_metadata(fault: &MetaFault) -> &'static str {
 }
 
 /// What may stand in the place of members that are not served.
-const IN_PLACE: [(&str, &str); 16] = [
+const IN_PLACE: &[(&str, &str)] = &[
     ("name", "a column with a name"),
     ("tableSchema", "the schema itself, and no url of it"),
     ("virtual", "columns of the file alone"),
@@ -56,7 +56,7 @@ const IN_PLACE: [(&str, &str); 16] = [
 
 /// What may stand in the place of a member or a datatype that is not served.
 fn accepted_in_place(key: &str) -> &'static str {
-    for (name, accepted) in &IN_PLACE {
+    for (name, accepted) in IN_PLACE {
         if *name == key {
             return *accepted;
         }
@@ -64,26 +64,32 @@ fn accepted_in_place(key: &str) -> &'static str {
     "integer, decimal, boolean, date or string"
 }
 
-/// The place in a file that a fault names, or its begin; and what the file may have there.
-pub fn accepted_file(fault: TextFault) -> (usize, &'static str) {
+/// The place in a file that a fault names, or its begin.
+pub fn place_of(fault: TextFault) -> usize {
     match fault {
-        TextFault::NotUtf8 { at } => (at, "UTF-8"),
-        TextFault::BareCr { at } => (at, "a line feed after a carriage return"),
-        TextFault::StrayQuote { at } => (
-            at,
+        TextFault::NotUtf8 { at }
+        | TextFault::BareCr { at }
+        | TextFault::StrayQuote { at }
+        | TextFault::AfterQuote { at }
+        | TextFault::Unfinished { at } => at,
+        TextFault::NoHeader | TextFault::Width { .. } | TextFault::NoMemory => 0,
+    }
+}
+
+/// What a file may have there.
+pub fn accepted_file(fault: TextFault) -> &'static str {
+    match fault {
+        TextFault::NotUtf8 { .. } => "UTF-8",
+        TextFault::BareCr { .. } => "a line feed after a carriage return",
+        TextFault::StrayQuote { .. } =>
             "a double quote as the first of a field, and each one inside such a field twice",
-        ),
-        TextFault::AfterQuote { at } => (
-            at,
+        TextFault::AfterQuote { .. } =>
             "after a closing double quote a comma or the end of the line; a double quote inside stands twice",
-        ),
-        TextFault::Unfinished { at } => (
-            at,
+        TextFault::Unfinished { .. } =>
             "a closing double quote, and a line feed after a carriage return",
-        ),
-        TextFault::NoHeader => (0, "a header line"),
-        TextFault::Width { .. } => (0, "as many fields as the header has"),
-        TextFault::NoMemory => (0, "more memory"),
+        TextFault::NoHeader => "a header line",
+        TextFault::Width { .. } => "as many fields as the header has",
+        TextFault::NoMemory => "more memory",
     }
 }
 

@@ -1,6 +1,6 @@
 //! The least and the greatest value of a column of a table, and how many of its cells are null.
-ghost use Rattle.std.specs.Prelude.{◌≡◌, ◌+◌, ◌<◌, ◌≤◌, Some, IfOk, length, option_map};
-ghost use Rattle.block_summary.specs.Ranges.{column_of, greater, lesser, range_of, widened};
+ghost use Rattle.std.specs.Prelude.{◌≡◌, ◌<◌, Some, OnOk, length, option_map};
+ghost use Rattle.block_summary.specs.Ranges.{column_of, greater, lesser, no_range, range_of};
 ghost use Rattle.cell_types.specs.Value.{value_view};
 ghost use Rattle.folder_report.specs.Bounds.{bounds_view};
 
@@ -40,37 +40,27 @@ fn put_greatest<'t>(greatest: &mut Option<Value<'t>>, value: Value<'t>)
     }
 }
 
-/// Takes in one more value, which is passed twice, as each bound may keep it.
-fn widen<'t>(bounds: &mut Bounds<'t>, value: Value<'t>, same: Value<'t>)
-    requires nulls { bounds.old.nulls < usize.MAX }
-    requires same { value_view same ≡ value_view value }
-    ensures range { bounds_view bounds.new
-        ≡ widened (bounds_view bounds.old) (value_view value.entry) }
-    ensures nulls { bounds.new.nulls ≤ bounds.old.nulls + 1 }
+/// Takes in the cells of all rows in a column, counted from 0. The bounds are those of no cell before.
+pub fn take_column<'t>(
+    bounds: &mut Bounds<'t>,
+    alloc: Global,
+    table: &'t Table,
+    col: usize,
+) -> Result<(), AllocError>
+    requires none { bounds_view bounds.old ≡ no_range }
+    requires col { col < length table.now.schema.columns }
+    ensures { OnOk result
+        (bounds_view bounds.new ≡ range_of (column_of table.now.rows col)) }
 {
-    if matches!(value, Value::Null) {
-        bounds.nulls += 1;
-        return;
-    }
-    put_least(&mut bounds.least, value);
-    put_greatest(&mut bounds.greatest, same);
-}
-
-/// The bounds of a column, counted from 0, of all rows.
-pub fn bounds_of<'t>(alloc: Global, table: &'t Table, col: usize) -> Result<Bounds<'t>, AllocError>
-    requires { col < length table.now.schema.columns }
-    ensures { IfOk result
-        (λ bounds. bounds_view bounds ≡ range_of (column_of table.now.rows col)) }
-{
-    let mut bounds = Bounds {
-        nulls: 0,
-        least: None,
-        greatest: None,
-    };
     for row in 0..table.rows() {
-        let value = table.value(alloc, row, col)?;
-        let same = table.value(alloc, row, col)?;
-        widen(&mut bounds, value, same);
+        match table.value(alloc, row, col)? {
+            Value::Null => bounds.nulls += 1,
+            value => {
+                put_least(&mut bounds.least, value);
+                let same = table.value(alloc, row, col)?;
+                put_greatest(&mut bounds.greatest, same);
+            }
+        }
     }
-    Ok(bounds)
+    Ok(())
 }

@@ -11,6 +11,7 @@ mod place;
 mod probe;
 mod report;
 mod rows;
+mod sheet;
 mod show;
 mod table;
 mod text;

@@ -7,7 +7,6 @@ use crate::report::Report;
 use crate::text::cut;
 use csv_grammar::mark_len;
 use csvw_meta::{MOST_COLUMNS, MOST_TABLES, MetaFault};
-use message_text::escaped;
 use serde_json::Value;
 use table_store::LoadFault;
 
@@ -39,9 +38,8 @@ fn push_path(line: &mut Line, place: Place, key: &str) {
         line.push("]");
     }
     if !key.is_empty() {
-        let key = escaped(line.alloc, key);
         line.push(dot);
-        line.push_made(key);
+        line.push(key);
     } else if dot.is_empty() {
         line.push("all of it");
     }
@@ -50,9 +48,6 @@ fn push_path(line: &mut Line, place: Place, key: &str) {
 /// Refuses a member of what is looked at, or all of it where the key is empty.
 fn refuse(report: &mut Report, place: Place, fault: MetaFault, key: &str, value: &Value) {
     let alloc = report.alloc;
-    if let MetaFault::NoMemory = fault {
-        report.is_short = true;
-    }
     let accepted = accepted_metadata(&fault);
     let mut line = report.begin(LoadFault::Meta(fault));
     push_path(&mut line, place, key);
@@ -66,14 +61,13 @@ fn refuse(report: &mut Report, place: Place, fault: MetaFault, key: &str, value:
     report.put(line);
 }
 
-/// Refuses a level for a member that it lacks, or that it is no such thing itself.
-fn refuse_unserved(report: &mut Report, place: Place, key: &str, value: &Value) {
-    let key = report.owned(key);
-    refuse(report, place, MetaFault::Unsupported { key }, "", value);
+/// Refuses all of what is looked at.
+fn refuse_all(report: &mut Report, place: Place, fault: MetaFault, value: &Value) {
+    refuse(report, place, fault, "", value);
 }
 
 /// The members of a level, each by itself as one that stands there.
-fn members(report: &mut Report, place: Place, around: (&str, &str), value: &Value) {
+fn members(report: &mut Report, place: Place, around: &(&str, &str), value: &Value) {
     let Some(members) = value.as_object() else {
         return;
     };
@@ -87,17 +81,19 @@ fn members(report: &mut Report, place: Place, around: (&str, &str), value: &Valu
 /// A column after the earlier ones.
 fn column(report: &mut Report, place: Place, earlier: &[Value], value: &Value) {
     if !value.is_object() {
-        return refuse(report, place, MetaFault::NotObject, "", value);
+        return refuse_all(report, place, MetaFault::NotObject, value);
     }
-    let name = member(value, "name");
+    let key = "name";
+    let name = member(value, key);
     if name.is_none() {
-        refuse_unserved(report, place, "name", value);
+        let key = report.owned(key);
+        refuse_all(report, place, MetaFault::Unsupported { key }, value);
     }
     members(report, place, IN_COLUMN, value);
     if let Some(name) = name
-        && is_among(earlier, "name", name)
+        && is_among(earlier, key, name)
     {
-        refuse(report, place, MetaFault::DuplicateName, "name", name);
+        refuse(report, place, MetaFault::DuplicateName, key, name);
     }
 }
 
@@ -109,12 +105,13 @@ fn schema(report: &mut Report, table: Option<usize>, value: &Value) {
         column: None,
     };
     if value.is_string() {
-        return refuse_unserved(report, place, "tableSchema", value);
+        let key = report.owned("tableSchema");
+        return refuse_all(report, place, MetaFault::Unsupported { key }, value);
     }
     members(report, place, IN_SCHEMA, value);
     let columns = array_member(value, "columns");
     if columns.is_empty() {
-        return refuse(report, place, MetaFault::NoColumns, "", value);
+        return refuse_all(report, place, MetaFault::NoColumns, value);
     }
     if columns.len() > MOST_COLUMNS as usize {
         refuse(report, place, MetaFault::TooManyColumns, "columns", value);
@@ -134,7 +131,7 @@ fn schema(report: &mut Report, table: Option<usize>, value: &Value) {
     }
 }
 
-/// A table after the earlier ones of its group, which has a schema for those without one or not.
+/// A table after the earlier ones of its group, which has a schema for those without one or not; or one that stands alone.
 fn table(
     report: &mut Report,
     number: Option<usize>,
@@ -148,24 +145,25 @@ fn table(
         column: None,
     };
     if !value.is_object() {
-        return refuse(report, place, MetaFault::NotObject, "", value);
+        return refuse_all(report, place, MetaFault::NotObject, value);
     }
-    match member(value, "url") {
-        None => refuse(report, place, MetaFault::BadUrl, "", value),
-        Some(url) if is_among(earlier, "url", url) => refuse(
-            report,
-            place,
-            MetaFault::DuplicateUrl,
-            "url",
-            url,
-        ),
-        Some(_) => {}
+    let key = "url";
+    match member(value, key) {
+        Some(url) => {
+            if is_among(earlier, key, url) {
+                refuse(report, place, MetaFault::DuplicateUrl, key, url);
+            }
+        }
+        None => match number {
+            Some(_) => refuse_all(report, place, MetaFault::BadUrl, value),
+            None => return refuse_all(report, place, MetaFault::NoTables, value),
+        },
     }
     members(report, place, IN_TABLE, value);
     match member(value, "tableSchema") {
         Some(own) => schema(report, number, own),
         None if has_schema => {}
-        None => refuse(report, place, MetaFault::NoColumns, "", value),
+        None => refuse_all(report, place, MetaFault::NoColumns, value),
     }
 }
 
@@ -180,47 +178,46 @@ fn lack_schema(tables: &[Value]) -> bool {
 }
 
 /// A group of tables.
-fn group(report: &mut Report, place: Place, value: &Value) {
-    let tables = array_member(value, "tables");
-    if tables.is_empty() {
-        return refuse(report, place, MetaFault::NoTables, "tables", value);
-    }
-    if tables.len() > MOST_TABLES as usize {
-        refuse(report, place, MetaFault::TooManyTables, "tables", value);
-    }
-    members(report, place, IN_GROUP, value);
-    let shared = member(value, "tableSchema");
-    if let Some(shared) = shared
-        && lack_schema(tables)
-    {
-        schema(report, None, shared);
-    }
-    for (i, item) in tables.iter().enumerate() {
-        table(report, Some(i), shared.is_some(), &tables[..i], item);
-    }
-}
-
-/// Metadata.
-fn metadata(report: &mut Report, value: &Value) {
+fn group(report: &mut Report, value: &Value) {
     let place = Place {
         table: None,
         in_schema: false,
         column: None,
     };
-    if !value.is_object() {
-        return refuse(report, place, MetaFault::NotObject, "", value);
+    let key = "tables";
+    let tables = array_member(value, key);
+    if tables.is_empty() {
+        return refuse(report, place, MetaFault::NoTables, key, value);
     }
-    if member(value, "tables").is_some() {
-        return group(report, place, value);
+    if tables.len() > MOST_TABLES as usize {
+        refuse(report, place, MetaFault::TooManyTables, key, value);
     }
-    if member(value, "url").is_none() {
-        return refuse(report, place, MetaFault::NoTables, "", value);
+    members(report, place, IN_GROUP, value);
+    let mut has_schema = false;
+    if let Some(shared) = member(value, "tableSchema") {
+        has_schema = true;
+        if lack_schema(tables) {
+            schema(report, None, shared);
+        }
     }
-    table(report, None, false, &[], value);
+    for (i, item) in tables.iter().enumerate() {
+        table(report, Some(i), has_schema, &tables[..i], item);
+    }
 }
 
-/// Adds the refusal of a text that is no JSON text, with the place where it ends to be one.
+/// Metadata.
+fn metadata(report: &mut Report, value: &Value) {
+    match member(value, "tables") {
+        Some(_) => group(report, value),
+        None => table(report, None, false, &[], value),
+    }
+}
+
+/// Adds the refusal of a text that is no JSON text, with the place where it ends to be one; or memory ran out.
 fn refuse_no_json(report: &mut Report, error: &serde_json::Error) {
+    if error.is_memory() {
+        report.is_short = true;
+    }
     let mut line = report.begin(LoadFault::Meta(MetaFault::NotJson));
     line.push_place(error.line(), error.column());
     line.push("; accepted: ");
@@ -232,7 +229,6 @@ fn refuse_no_json(report: &mut Report, error: &serde_json::Error) {
 pub fn refuse_metadata(report: &mut Report, bytes: &[u8]) {
     match Value::from_slice(report.alloc, &bytes[mark_len(bytes)..]) {
         Ok(value) => metadata(report, &value),
-        Err(error) if error.is_memory() => report.is_short = true,
         Err(error) => refuse_no_json(report, &error),
     }
 }

@@ -46,9 +46,10 @@ impl Report {
         }
     }
 
-    /// A line that begins with a cause, and what is told of it after a colon.
+    /// A line that begins with a cause, and what is told of it after a colon. Where the cause is want of memory that is kept in it.
     pub fn begin(&self, fault: LoadFault) -> Line {
         let mut line = Line::new(self.alloc);
+        line.is_short = fault.is_memory();
         line.push_made(fault.text(self.alloc));
         line.push(": ");
         line
@@ -60,7 +61,7 @@ impl Report {
             ⊎ ((line.is_short ≡ false) × (self.new.is_short ≡ self.old.is_short)
             × (self.new.lines.items ≡ self.old.lines.items ++ line.text ∷ [])) }
     {
-        if line.is_short || self.lines.push(line.text).is_err() {
+        if self.lines.push(line.text).is_err() || line.is_short {
             self.is_short = true;
         }
     }
@@ -71,13 +72,12 @@ impl Report {
         ensures { IfOk result (λ lines.
             AreLinesOf (load_fault_text cause.now) (map string_bytes lines.items)) }
     {
-        if self.is_short {
-            return Err(AllocError);
-        }
         let cause = cause.text(self.alloc)?;
         let mut lines = self.lines;
         let first = take_first(&mut lines, cause);
-        lines.insert(0, first)?;
+        if lines.insert(0, first).is_err() || self.is_short {
+            return Err(AllocError);
+        }
         lines.truncate(MOST_REFUSALS);
         Ok(lines)
     }

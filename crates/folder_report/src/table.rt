@@ -1,9 +1,9 @@
 //! All that is refused of a table's file.
 ghost use Rattle.csv_index.specs.Index.{FitsFile};
 
-use crate::accepted::accepted_file;
+use crate::accepted::{accepted_file, place_of};
 use crate::line::Line;
-use crate::place::{Records, line_at};
+use crate::place::{Records, TableFile, line_after};
 use crate::report::Report;
 use crate::rows::{refuse_cells, refuse_keys};
 use cell_types::Column;
@@ -12,49 +12,35 @@ use csvw_meta::{MOST_FILE_BYTES, Schema};
 use std::str::from_utf8;
 use table_store::LoadFault;
 
-/// Adds the refusal of a row that has not the wanted number of fields, by the line in which it begins and its fields.
-fn refuse_width(
-    report: &mut Report,
-    url: &str,
-    row: usize,
-    (line, fields): (usize, usize),
-    wanted: usize,
-) {
-    let table = report.owned(url);
-    let fault = TextFault::Width { row };
-    let mut told = report.begin(LoadFault::Text { table, fault });
-    told.push_line(line);
-    told.push(": fields ");
-    told.push_number(fields);
-    told.push("; accepted: ");
-    told.push_number(wanted);
-    told.push(", as the header has");
-    if fields == wanted.saturating_add(1) {
-        told.push(
-            "; where each row has one more, the header lacks its first name: sed '1s/^/Row,/' gives it one",
-        );
-    }
-    report.put(told);
-}
-
-/// Adds the refusals of the first rows of another width than the header.
+/// Adds the refusals of the first rows of another width than the header, by the lines in which they begin and their fields.
 fn refuse_widths(report: &mut Report, url: &str, bytes: &[u8]) {
     let mut records = Records {
-        rest: bytes,
+        bytes,
+        at: 0,
         line: 1,
     };
-    let Some((_, wanted)) = records.next_record() else {
-        return;
-    };
+    let (_, wanted) = records.next_record();
     for row in 0..bytes.len() {
-        let Some(record) = records.next_record() else {
+        if records.at >= bytes.len() || report.is_full() {
             return;
-        };
-        if record.1 != wanted {
-            refuse_width(report, url, row, record, wanted);
         }
-        if report.is_full() {
-            return;
+        let (line, fields) = records.next_record();
+        if fields != wanted {
+            let table = report.owned(url);
+            let fault = TextFault::Width { row };
+            let mut told = report.begin(LoadFault::Text { table, fault });
+            told.push_line(line);
+            told.push(": fields ");
+            told.push_number(fields);
+            told.push("; accepted: ");
+            told.push_number(wanted);
+            told.push(", as the header has");
+            if fields == wanted.saturating_add(1) {
+                told.push(
+                    "; where each row has one more, the header lacks its first name: sed '1s/^/Row,/' gives it one",
+                );
+            }
+            report.put(told);
         }
     }
 }
@@ -64,13 +50,22 @@ pub fn refuse_text(report: &mut Report, url: &str, bytes: &[u8], fault: TextFaul
     if matches!(fault, TextFault::Width { .. }) {
         return refuse_widths(report, url, bytes);
     }
-    let (at, accepted) = accepted_file(fault);
     let table = report.owned(url);
     let mut line = report.begin(LoadFault::Text { table, fault });
-    line.push_line(line_at(bytes, at));
+    let before = place_of(fault).min(bytes.len());
+    line.push_line(line_after(1, &bytes[..before]));
     line.push("; accepted: ");
-    line.push(accepted);
+    line.push(accepted_file(fault));
     report.put(line);
+}
+
+/// Whether a column may have that header: its name, or one of its titles.
+fn is_called(column: &Column, cell: &str) -> bool {
+    let mut is_called = column.name.as_str() == cell;
+    for title in &column.titles {
+        is_called |= title.as_str() == cell;
+    }
+    is_called
 }
 
 /// Appends what a header cell may be: the name of its column or one of its titles, or nothing where there is no column.
@@ -85,28 +80,8 @@ fn push_accepted(line: &mut Line, column: Option<&Column>) {
     }
 }
 
-/// Whether there is a column and a cell, and that may be the column's header.
-fn is_called(column: Option<&Column>, cell: Option<&str>) -> bool {
-    let Some(column) = column else {
-        return false;
-    };
-    let Some(cell) = cell else {
-        return false;
-    };
-    for title in &column.titles {
-        if title.as_str() == cell {
-            return true;
-        }
-    }
-    column.name.as_str() == cell
-}
-
-/// Adds the refusal of what stands in the place of a column's header, a cell or none, where it is not that.
-fn refuse_header(report: &mut Report, schema: &Schema, cell: Option<&str>, col: usize) {
-    let column = schema.columns.get(col);
-    if is_called(column, cell) {
-        return;
-    }
+/// Adds the refusal of what stands in the place of a column's header, a cell or none.
+fn refuse_header(report: &mut Report, schema: &Schema, col: usize, cell: Option<&str>) {
     let table = report.owned(schema.url.as_str());
     let mut line = report.begin(LoadFault::Header { table, col });
     line.push_place(1, col.saturating_add(1));
@@ -116,73 +91,79 @@ fn refuse_header(report: &mut Report, schema: &Schema, cell: Option<&str>, col: 
         None => line.push("no cell"),
     }
     line.push("; accepted: ");
-    push_accepted(&mut line, column);
+    push_accepted(&mut line, schema.columns.get(col));
     report.put(line);
 }
 
 /// Adds the refusals of the header cells that do not match the columns.
-fn refuse_headers(report: &mut Report, schema: &Schema, text: &str, index: &Index)
-    requires { FitsFile index.now text.now }
+fn refuse_headers(report: &mut Report, file: &TableFile<'_>)
+    requires { FitsFile file.now.index.now file.now.text.now }
 {
-    for col in 0..index.width() {
-        match index.header(text, col).text(report.alloc) {
-            Ok(cell) => refuse_header(report, schema, Some(cell.as_str()), col),
+    let width = file.index.width();
+    for col in 0..width {
+        match file.index.header(file.text, col).text(report.alloc) {
+            Ok(cell) => match file.schema.columns.get(col) {
+                Some(column) if is_called(column, cell.as_str()) => {}
+                _ => refuse_header(report, file.schema, col, Some(cell.as_str())),
+            },
             Err(_) => report.is_short = true,
         }
     }
-    for col in index.width()..schema.columns.len() {
-        refuse_header(report, schema, None, col);
+    for col in width..file.schema.columns.len() {
+        refuse_header(report, file.schema, col, None);
     }
 }
 
 /// Adds what is refused of a file that is a table: of its header, else of its cells, else of its keys.
-fn refuse_indexed(report: &mut Report, schema: &Schema, text: &str, index: &Index)
-    requires { FitsFile index.now text.now }
+fn refuse_indexed(report: &mut Report, file: &TableFile<'_>)
+    requires { FitsFile file.now.index.now file.now.text.now }
 {
     let before = report.lines.len();
-    refuse_headers(report, schema, text, index);
+    refuse_headers(report, file);
     if report.lines.len() == before {
-        refuse_cells(report, schema, text, index);
+        refuse_cells(report, file);
     }
-    if report.lines.len() == before && !schema.key.is_empty() {
-        refuse_keys(report, schema, text, index);
+    if report.lines.len() == before && !file.schema.key.is_empty() {
+        refuse_keys(report, file);
     }
 }
 
-/// Adds all that is refused of the bytes of a file.
+/// Adds all that is refused of the bytes of a file. Those that have an index are a text.
 fn refuse_bytes(report: &mut Report, schema: &Schema, bytes: &[u8]) {
-    let url = schema.url.as_str();
-    let text = match from_utf8(bytes) {
-        Ok(text) => text,
-        Err(error) => {
-            let at = error.valid_up_to();
-            return refuse_text(report, url, bytes, TextFault::NotUtf8 { at });
+    match Index::build(report.alloc, bytes) {
+        Ok(index) => {
+            let text = from_utf8(bytes).unwrap_or("");
+            let index = &index;
+            let file = TableFile {
+                schema,
+                text,
+                index,
+            };
+            refuse_indexed(report, &file);
         }
-    };
-    match Index::of_text(report.alloc, text) {
-        Ok(index) => refuse_indexed(report, schema, text, &index),
-        Err(TextFault::NoMemory) => report.is_short = true,
-        Err(fault) => refuse_text(report, url, bytes, fault),
+        Err(fault) => refuse_text(report, schema.url.as_str(), bytes, fault),
     }
 }
 
 /// Adds all that is refused of the file of a schema, where there is one: nothing where it is its table.
 pub fn refuse_table(report: &mut Report, schema: &Schema, file: Option<&[u8]>) {
+    if let Some(bytes) = file
+        && bytes.len() <= MOST_FILE_BYTES as usize
+    {
+        return refuse_bytes(report, schema, bytes);
+    }
+    let table = report.owned(schema.url.as_str());
+    let mut line = report.begin(match file {
+        None => LoadFault::FileMissing { table },
+        Some(_) => LoadFault::FileTooLarge { table },
+    });
     match file {
-        None => {
-            let table = report.owned(schema.url.as_str());
-            let mut line = report.begin(LoadFault::FileMissing { table });
-            line.push("no file of the folder has this name");
-            report.put(line);
-        }
-        Some(bytes) if bytes.len() > MOST_FILE_BYTES as usize => {
-            let table = report.owned(schema.url.as_str());
-            let mut line = report.begin(LoadFault::FileTooLarge { table });
+        None => line.push("no file of the folder has this name"),
+        Some(_) => {
             line.push("accepted: ");
             line.push_number(MOST_FILE_BYTES as usize);
             line.push(" bytes at most");
-            report.put(line);
         }
-        Some(bytes) => refuse_bytes(report, schema, bytes),
     }
+    report.put(line);
 }

@@ -10,7 +10,7 @@ use reply_values::{push_bool, push_date, push_decimal, push_integer};
 use std::alloc::{AllocError, Global};
 
 /// Appends a text as a JSON text.
-fn push_quoted(alloc: Global, out: &mut Vec<u8>, text: &str) -> Result<(), AllocError>
+pub fn push_quoted(alloc: Global, out: &mut Vec<u8>, text: &str) -> Result<(), AllocError>
     ensures { OnOk result (out.new.items ≡ out.old.items ++ quoted_text text.now) }
 {
     let line = quoted(alloc, text)?;

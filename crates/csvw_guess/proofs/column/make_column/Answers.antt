@@ -1,20 +1,18 @@
 -- The parts of a column are those of its draft.
-use Rattle.std.proofs.Common.{◌≡◌, refl, rules, sym, ◌∙◌}
-use Rattle.csvw_guess.specs.Table.{file_cells}
-use Rattle.csvw_guess.proofs.RowsLemmas.{is-known}
-use Rattle.csvw_guess.proofs.PlaceLemmas.{column-parts, header-says}
+use Rattle.std.proofs.Common.{ap, sym, ◌∙◌, length}
+use Rattle.std.specs.Prelude.{string_bytes}
+use Rattle.std.proofs.lemmas.Result.{IfOk-weaker}
+use Rattle.cell_types.specs.Column.{column_view}
+use Rattle.csvw_guess.specs.Names.{names_in, titles_for}
+use Rattle.csvw_guess.proofs.PlaceLemmas.{column-drafted, header-says}
 use Rattle.csvw_guess.proofs.column.make_column.Goals as goal
-
-pub datatype_of-requires : goal.datatype_of-requires
-datatype_of-requires c = is-known c.args.known.now (file_cells c.args.col c.args.file.now) c.requires.known
-
-pub nulls_of-requires : goal.nulls_of-requires
-nulls_of-requires c = is-known c.args.known.now (file_cells c.args.col c.args.file.now) c.requires.known
 
 pub returns : goal.returns
 returns c =
-    let cells = file_cells c.args.col c.args.file.now in
-    let datatype = c.in_ok-datatype.ensures cells c.requires.known in
-    let nulls = c.in_ok-nulls.ensures cells c.requires.known datatype in
-    let says = header-says c.args.file.now c.args.col _ c.header.ensures in
-    column-parts _ _ _ _ _ (search rules) (search rules) datatype nulls (search rules) refl
+    let said = c.as_str.result.now in
+    let name = string_bytes c.in_ok-name.name in
+    let says = header-says c.args.file.now (length c.args.earlier.now) _ c.header.ensures ∙ sym (c.as_str.ensures.value ∙ c.in_ok-cell.ensures.content) in
+    let titled = c.in_ok-titles.ensures ∙ ap (λ n. titles_for n c.as_str-3.result.now) c.as_str-2.ensures.value ∙ ap (titles_for name) (c.as_str-3.ensures.value ∙ sym c.as_str.ensures.value) in
+    IfOk-weaker c.column.result _ _ (λ made e cells known.
+    column-drafted (column_view made) (names_in c.args.earlier.now) name _ said _ cells (e cells known) c.in_ok-name.ensures titled says)
+    c.column.ensures

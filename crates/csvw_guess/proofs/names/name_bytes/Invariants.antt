@@ -1,9 +1,0 @@
-use Rattle.std.proofs.Common.{◌≡◌, ◌++◌, IsUtf8, map}
-use Rattle.std.specs.Str.{chars}
-use Rattle.std.specs.Str.Iter.{chars_rest}
-use Rattle.csvw_guess.specs.Names.{name_char}
-use Rattle.csvw_guess.proofs.names.name_bytes.Given as goal
-
--- the characters so far, and those that are left
-abbrev pub invariant-loop-c : goal.invariant-loop-c
-invariant-loop-c l = IsUtf8 (chars_rest l.c-iterator) × (l.name.items ++ map name_char (chars (chars_rest l.c-iterator)) ≡ map name_char (chars l.fn.cell))

@@ -1,0 +1,16 @@
+-- What is added to a sheet, piece after piece.
+use Rattle.std.proofs.Common.{◌≡◌, ◌∙◌, ℕ, List, ◌++◌, Result, Ok, Err, OnOk, is_ok, true, false, append_assoc, ap}
+
+-- two texts one after the other
+added-both : (a b c s t : List ℕ) → b ≡ a ++ s → c ≡ b ++ t → c ≡ a ++ (s ++ t)
+added-both a b c s t first second = second ∙ ap (λ (bytes : List ℕ). bytes ++ t) first ∙ append_assoc a s t
+
+-- four of them
+pub added-four : (a b c d e s t u v : List ℕ) → b ≡ a ++ s → c ≡ b ++ t → d ≡ c ++ u → e ≡ d ++ v → e ≡ a ++ (s ++ t ++ u ++ v)
+added-four a b c d e s t u v first second third fourth =
+    added-both a d e (s ++ t ++ u) v (added-both a c d (s ++ t) u (added-both a b c s t first second) third) fourth
+
+-- what holds where a call succeeds
+pub on_success : {T E : Type 0} (result : Result T E) (P : Type 0) → is_ok result ≡ true → OnOk result P → P
+on_success (Ok value) P e holds = holds
+on_success (Err error) P e holds = absurd (let f : false ≡ true = e in cc)
