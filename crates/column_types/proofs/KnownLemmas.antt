@@ -1,13 +1,14 @@
 -- What is known of a column of which no more is read once it can only be one of texts.
-use Rattle.std.proofs.Common.{◌≡◌, Bool, true, false, List, [], ◌++◌, ℕ, length, refl, ap, sym, ◌∙◌, append-nil}
+use Rattle.std.proofs.Common.{◌≡◌, Bool, true, false, ◌||◌, List, [], ◌++◌, ℕ, length, refl, ap, sym, ◌∙◌, append-nil}
 use Rattle.std.specs.Prelude.{nat_eq}
+use Rattle.std.specs.List.{list_all}
 use Rattle.std.proofs.lemmas.Bool.{eqb-true}
 use Rattle.std.proofs.lemmas.List.{nil_from_length}
 use Rattle.cell_types.specs.Datatype.{text}
 use Rattle.column_types.proofs.ListLaws.{or_second}
 use Rattle.column_types.specs.declared.seen.Seen.{Seen}
 use Rattle.column_types.specs.Seen.{must_be_text, HasSeen, Knows}
-use Rattle.column_types.specs.Types.{datatype_for, nulls_under}
+use Rattle.column_types.specs.Types.{are_versions, datatype_for, have_two_dates, nulls_under, stands_for_null, stay_texts}
 use Rattle.column_types.proofs.OpenLemmas.{none-left}
 use Rattle.column_types.proofs.SeenLemmas.{padded_datatype}
 
@@ -39,3 +40,10 @@ known-nulls seen cells known =
     let is : datatype_for cells ≡ text = ap datatype_for known.parts ∙ must-be-text seen known.first known.others known.read must in
     ap (λ d. nulls_under d known.first) is ∙ sym (ap (λ d. nulls_under d cells) is))
     (λ all. ap (nulls_under (datatype_for cells)) (sym (append-nil known.first) ∙ ap (λ others. known.first ++ others) (sym (known.passed all)) ∙ sym known.parts))
+
+-- whether cells are left as texts, one test after another
+pub stays-are : (seen : Seen) (cells : List (List ℕ)) (first second : Bool) → HasSeen seen cells → first ≡ (seen.all_null || seen.form.padded)
+    → second ≡ (first || are_versions cells) → (second || have_two_dates cells) ≡ stay_texts cells
+stays-are seen cells first second has e f =
+    ap (λ b. b || have_two_dates cells)
+    (f ∙ ap (λ b. b || are_versions cells) (e ∙ ap (λ b. b || seen.form.padded) has.nulls ∙ ap (λ b. list_all stands_for_null cells || b) has.form.padded))

@@ -281,3 +281,11 @@ place-reads candidates left next place column cell reading are places less at th
     is
     ∙ ap (λ c. reading_of (value_of c cell)) (typed-at candidates place column are (subst IsDatatypePlace (sym here) (places next 0 less)) there)
     ∙ ap (λ k. reading_under (datatype_at k) cell) here
+
+-- a place that is left is one of a column
+pub place-within : (candidates : Candidates) (left : List ℕ) (next place : ℕ) → AreCandidates candidates → All IsDatatypePlace left → next < length left
+    → place ≡ get_or left next place → place < candidates.typed.len
+place-within candidates left next place are places less at =
+    let here = at ∙ get_or_default left next place 0 less in
+    let there = places next 0 less in
+    omega (arith, here, there, typed-count candidates are, candidates.typed.ok.0)

@@ -10,6 +10,13 @@ pub added-four : (a b c d e s t u v : List ℕ) → b ≡ a ++ s → c ≡ b ++ 
 added-four a b c d e s t u v first second third fourth =
     added-both a d e (s ++ t ++ u) v (added-both a c d (s ++ t) u (added-both a b c s t first second) third) fourth
 
+-- six of them
+pub added-six : (a b c d e f g s t u v w x : List ℕ) → b ≡ a ++ s → c ≡ b ++ t → d ≡ c ++ u → e ≡ d ++ v → f ≡ e ++ w → g ≡ f ++ x
+    → g ≡ a ++ (s ++ t ++ u ++ v ++ w ++ x)
+added-six a b c d e f g s t u v w x first second third fourth fifth sixth =
+    let before = added-both a e f (s ++ t ++ u ++ v) w (added-four a b c d e s t u v first second third fourth) fifth in
+    added-both a f g (s ++ t ++ u ++ v ++ w) x before sixth
+
 -- what holds where a call succeeds
 pub on_success : {T E : Type 0} (result : Result T E) (P : Type 0) → is_ok result ≡ true → OnOk result P → P
 on_success (Ok value) P e holds = holds

@@ -8,14 +8,14 @@ use Rattle.column_types.specs.Types.{stands_for_null}
 use Rattle.column_types.proofs.ListLaws.{list_all-from}
 use Rattle.column_types.proofs.OpenLemmas.{all-left, filter-without, null-all, places-without, reading-none, reading-null, reading-value}
 use Rattle.column_types.proofs.ReadingLemmas.{has_value_by, value-read}
-use Rattle.column_types.proofs.SeenLemmas.{place-reads}
+use Rattle.column_types.proofs.SeenLemmas.{place-reads, place-within}
 use Rattle.column_types.proofs.reading.is_null_under.Goals as goal
 
 pub returns-in-IsNull-clause-null : goal.returns-in-IsNull-clause-null
 returns-in-IsNull-clause-null c =
     let left = c.loop-next.left.items in
     let next = c.loop-next.next in
-    let within : next < length left = omega (arith, c.loop-next-test.true, c.len.ensures, c.loop-next.left.ok.0) in
+    let within : next < length left = subst (λ n. next < n) (c.len.ensures ∙ c.loop-next.left.ok.0) c.loop-next-test.true in
     let reads = place-reads c.args.candidates.now left next _ _ c.args.cell.now _ c.requires.candidates c.loop-next.invariant.places within c.index.ensures c.index-in-loop-next.ensures c.in_ok-reading_in.ensures in
     sym (reading-null (get_or left next 0) c.args.cell.now (c.loop-next.invariant.places next 0 within) (sym reads ∙ c.in-IsNull.is))
 
@@ -23,7 +23,7 @@ pub returns-in-IsNull-clause-left : goal.returns-in-IsNull-clause-left
 returns-in-IsNull-clause-left c =
     let left = c.loop-next.left.items in
     let next = c.loop-next.next in
-    let within : next < length left = omega (arith, c.loop-next-test.true, c.len.ensures, c.loop-next.left.ok.0) in
+    let within : next < length left = subst (λ n. next < n) (c.len.ensures ∙ c.loop-next.left.ok.0) c.loop-next-test.true in
     let reads = place-reads c.args.candidates.now left next _ _ c.args.cell.now _ c.requires.candidates c.loop-next.invariant.places within c.index.ensures c.index-in-loop-next.ensures c.in_ok-reading_in.ensures in
     let null = reading-null (get_or left next 0) c.args.cell.now (c.loop-next.invariant.places next 0 within) (sym reads ∙ c.in-IsNull.is) in
     all-left (has_value_at c.args.cell.now) c.args.left.now.items left c.loop-next.invariant.same (null-all left c.args.cell.now c.loop-next.invariant.places null)
@@ -32,7 +32,7 @@ pub loop-next-preserved-in-HasValue : goal.loop-next-preserved-in-HasValue
 loop-next-preserved-in-HasValue c =
     let left = c.loop-next.left.items in
     let next = c.loop-next.next in
-    let within : next < length left = omega (arith, c.loop-next-test.true, c.len.ensures, c.loop-next.left.ok.0) in
+    let within : next < length left = subst (λ n. next < n) (c.len.ensures ∙ c.loop-next.left.ok.0) c.loop-next-test.true in
     let reads = place-reads c.args.candidates.now left next _ _ c.args.cell.now _ c.requires.candidates c.loop-next.invariant.places within c.index.ensures c.index-in-loop-next.ensures c.in_ok-reading_in.ensures in
     let value = reading-value (get_or left next 0) c.args.cell.now (c.loop-next.invariant.places next 0 within) (sym reads ∙ c.in-HasValue.is) in
     record {
@@ -47,7 +47,7 @@ loop-next-preserved c =
     let cell = c.args.cell.now in
     let left = c.loop-next.left.items in
     let next = c.loop-next.next in
-    let within : next < length left = omega (arith, c.loop-next-test.true, c.len.ensures, c.loop-next.left.ok.0) in
+    let within : next < length left = subst (λ n. next < n) (c.len.ensures ∙ c.loop-next.left.ok.0) c.loop-next-test.true in
     let reads = place-reads c.args.candidates.now left next _ _ cell _ c.requires.candidates c.loop-next.invariant.places within c.index.ensures c.index-in-loop-next.ensures c.in_ok-reading_in.ensures in
     let read : reading_under (datatype_at (get_or left next 0)) cell ≡ _ = sym reads ∙ c.in-HasNone.is in
     let none : has_value_at cell (get_or left next 0) ≡ false = value-read _ ∙ ap has_value_by read in
@@ -81,3 +81,9 @@ returns-clause-null c =
     sym (false_from_ne_true (stands_for_null c.args.cell.now) (λ null.
     let first = c.loop-next.invariant.first null in
     absurd (omega (arith, first.0, first.1, c.loop-next-test.false, c.len.ensures, c.loop-next.left.ok.0))))
+
+pub index-requires-in-loop-next : goal.index-requires-in-loop-next
+index-requires-in-loop-next c =
+    let left = c.loop-next.left.items in
+    let within : c.loop-next.next < length left = subst (λ n. c.loop-next.next < n) (c.len.ensures ∙ c.loop-next.left.ok.0) c.loop-next-test.true in
+    place-within c.args.candidates.now left c.loop-next.next _ c.requires.candidates c.loop-next.invariant.places within c.index.ensures

@@ -1,6 +1,7 @@
 use Rattle.std.proofs.Common.{true, false, [], ◌∷◌, ◌++◌, get_or, map, arith, refl, ap, sym, append-nil, ◌∙◌}
 use Rattle.std.specs.Prelude.{string_bytes}
-use Rattle.std.proofs.lemmas.List.{get_or_default, map-append}
+use Rattle.std.proofs.lemmas.List.{get_or_default, map-append, take_all}
+use Rattle.column_types.specs.Seen.{flagged}
 use Rattle.column_types.specs.Types.{null_words}
 use Rattle.column_types.proofs.FlagLemmas.{flagged-push}
 use Rattle.column_types.proofs.seen.flagged_words.Goals as goal
@@ -23,3 +24,6 @@ loop-place-preserved c =
           ∙ flagged-push words flags place false (get_or null_words place []) c.loop-place-test.true (omega (arith, c.requires, c.loop-place-test.true)) c.loop-place.invariant
           (sym w.if-flag.false ∙ get_or_default flags place _ _ c.loop-place-test.true) refl
     ]
+
+pub returns : goal.returns
+returns c = c.loop-place.invariant ∙ ap (λ flags. [] ∷ flagged flags null_words) (take_all c.loop-place.place c.args.flags.now c.loop-place-test.false)

@@ -2,7 +2,7 @@ use Rattle.std.proofs.Common.{◌≡◌, true, false, [], get_or, length, arith,
 use Rattle.std.proofs.lemmas.Bool.{eqb-true}
 use Rattle.std.proofs.lemmas.List.{nil_from_length}
 use Rattle.column_types.specs.Types.{is_null_in, null_words, stands_for}
-use Rattle.column_types.proofs.FlagLemmas.{kept-done, marked-done, set-left}
+use Rattle.column_types.proofs.FlagLemmas.{flag-within, kept-done, marked-done, set-left}
 use Rattle.column_types.proofs.ReadingLemmas.{is_null_by, not_null, null-read}
 use Rattle.column_types.proofs.SeenLemmas.{empty-words, null-at, nulls-count}
 use Rattle.column_types.proofs.seen.mark_words.Goals as goal
@@ -20,7 +20,6 @@ loop-place-preserved c =
     let first = c.args.words.now in
     let place = c.loop-place.place in
     let candidates = c.args.candidates.now in
-    let count = nulls-count candidates c.requires.candidates in
     let own = ap (λ cs. length cs) c.deref-column-items.ensures.value in
     let column : c.column-item.result ≡ get_or candidates.nulls.items place c.column-item.result =
     c.column-item.is ∙ ap (λ cs. get_or cs place c.column-item.result) c.deref-column-items.ensures.value in
@@ -32,7 +31,8 @@ loop-place-preserved c =
         done = λ k less.
             ap (λ ws. get_or ws k false) w.words-is
             ∙ marked-done (λ k. stands_for (get_or null_words k []) cell) first c.loop-place.words place
-            (omega (arith, c.loop-place-test.true, own, count, c.requires.count, c.loop-place.auto.words))
+            (flag-within candidates c.deref-column-items.result.now c.loop-place.words place c.requires.candidates c.deref-column-items.ensures.value
+            (c.loop-place.auto.words ∙ c.requires.count) c.loop-place-test.true)
             c.loop-place.invariant.done (said ∙ ap is_null_by w.in-IsNull.is) k less;
         left = λ k less. ap (λ ws. get_or ws k false) w.words-is ∙ set-left first c.loop-place.words place true c.loop-place.invariant.left k less;
       }
@@ -47,3 +47,8 @@ loop-place-preserved c =
 
 pub returns : goal.returns
 returns c = λ k less. c.loop-place.invariant.done k (omega (arith, less, c.loop-place-test.false, nulls-count c.args.candidates.now c.requires.candidates, ap (λ cs. length cs) c.deref-column-items.ensures.value))
+
+pub bounds-words-place : goal.bounds-words-place
+bounds-words-place c =
+    flag-within c.args.candidates.now c.deref-column-items.result.now c.loop-place.words c.loop-place.place c.requires.candidates c.deref-column-items.ensures.value
+    (c.loop-place.auto.words ∙ c.requires.count) c.loop-place-test.true
