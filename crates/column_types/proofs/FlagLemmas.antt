@@ -15,7 +15,7 @@ use Rattle.column_types.specs.Seen.{flagged}
 use Rattle.column_types.specs.Types.{candidate, null_column, null_words, types}
 use Rattle.column_types.proofs.SeenLemmas.{flagged-more, nulls-count}
 
--- behind a flag that is set the others are as they were
+-- after a flag that is set the others are as they were
 pub set-left : (first flags : List Bool) (place : ℕ) (v : Bool) → ((k : ℕ) → place ≤ k → get_or flags k false ≡ get_or first k false)
     → (k : ℕ) → place + 1 ≤ k → get_or (slice_set flags place v) k false ≡ get_or first k false
 set-left first flags place v left k less = get_or-set_other flags place k v false (λ e. absurd (omega (arith, e, less))) ∙ left k (omega (arith, less))

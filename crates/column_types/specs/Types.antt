@@ -82,7 +82,7 @@ nulls_in cells = [] ∷ filter (λ word. list_any (stands_for word) cells) null_
 abbrev pub is_padded : List ℕ → Bool
 is_padded cell = nat_lt 1 (length cell) && (slice_index cell 0 == 48) && list_all is_ascii_digit cell
 
--- what stands behind the first point
+-- what stands after the first point
 abbrev pub places : List ℕ → List ℕ
 places cell = after_first is_point cell
 
@@ -90,11 +90,11 @@ places cell = after_first is_point cell
 abbrev pub has_point : List ℕ → Bool
 has_point cell = are_digits (before_first is_point cell) && are_digits (places cell)
 
--- one place behind the point, as in 4.9
+-- one place after the point, as in 4.9
 abbrev pub has_one_place : List ℕ → Bool
 has_one_place cell = length (places cell) == 1
 
--- two places or more behind the point, the last of them 0, as in 4.10
+-- two places or more after the point, the last of them 0, as in 4.10
 abbrev pub ends_in_zero : List ℕ → Bool
 ends_in_zero cell = nat_lt 1 (length (places cell)) && (slice_index (places cell) (length (places cell) - 1) == 48)
 

@@ -26,7 +26,7 @@ pub fn is_padded(cell: &str) -> bool
     cell.len() > 1 && cell.starts_with('0') && are_ascii_digits(cell)
 }
 
-/// What stands before the first point, and what stands behind it.
+/// What stands before the first point, and what stands after it.
 pub fn parts(cell: &str) -> (&str, &str)
     ensures whole { result.0.now ≡ before_first is_point cell.now }
     ensures places { result.1.now ≡ places_of cell.now }

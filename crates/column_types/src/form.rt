@@ -12,7 +12,7 @@ pub struct Form {
     pub padded: bool,
     /// Whether all cells have one point between digits.
     pub points: bool,
-    /// Where they have: whether some cell has one place behind the point.
+    /// Where they have: whether some cell has one place after the point.
     pub one_place: bool,
     /// Where they have: whether some cell has more, and the last is 0.
     pub zero: bool,

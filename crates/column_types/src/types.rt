@@ -115,8 +115,9 @@ fn null_columns(alloc: Global) -> Result<Vec<Column>, AllocError>
 {
     let mut columns = Vec::new(alloc);
     for place in 0..WORD_COUNT {
+        let word = String::from_str(alloc, null_word(place))?;
         let mut nulls = Vec::new(alloc);
-        nulls.push(String::from_str(alloc, null_word(place))?)?;
+        nulls.push(word)?;
         columns.push(typed_column(alloc, Datatype::Integer, nulls))?;
     }
     Ok(columns)

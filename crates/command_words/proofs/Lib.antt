@@ -1,1 +1,3 @@
+mod CommandLemmas
+mod FaultLemmas
 mod Numbers

@@ -1,5 +1,5 @@
 -- Arguments of a command line, as `clap` describes them, and the numbers that they have.
-use Rattle.std.specs.Prelude.{◌≡◌, ◌<◌, ◌^◌, ℕ, List, Option, Some, None, codes, map, pos, true}
+use Rattle.std.specs.Prelude.{◌≡◌, ◌<◌, ◌^◌, ℕ, Bool, List, Option, Some, None, codes, false, map, pos, true}
 use Rattle.std.specs.Borrow.{Bor}
 use Rattle.std.specs.Str.Parse.{IsNumeral, digits_value, without_leading_plus}
 use Rattle.clap.specs.Words.{Rule, Text, new_rule}
@@ -27,3 +27,8 @@ IsNumberOfBits bits (Some t) n =
 abbrev pub ReadsNumberOfBits : ℕ → Option Text → Option ℕ → Type 0
 ReadsNumberOfBits bits t (Some n) = IsNumberOfBits bits t n
 ReadsNumberOfBits bits t None = (n : ℕ) → IsNumberOfBits bits t n → ⊥
+
+-- whether an option without a value is there: `clap` reads `true` for it
+abbrev pub HasFlag : Option Text → Bool → Type 0
+HasFlag None flag = flag ≡ false
+HasFlag (Some text) flag = (text ≡ codes "true" → flag ≡ true) × (text ≡ codes "false" → flag ≡ false)

@@ -1,6 +1,14 @@
-//! What the command lines of the programs over folders share: arguments, as `clap` reads them, and the words that the system hands over.
+//! What the command lines of the programs over folders share: the arguments of their commands, as `clap` reads them, the words that the system hands over, and why
+//! words are no command.
 #![tactic(auto)]
 
+mod command;
+mod fault;
 mod words;
 
-pub use words::{line_of, number, port, port_option, required, system_words, text};
+pub use command::{
+    FOLDER_HELP, add_flag, add_folder, add_folder_command, add_number, add_port, add_text,
+    matches_of, top_command,
+};
+pub use fault::WordsFault;
+pub use words::{flag, line_of, number, port, port_option, required, system_words, text};

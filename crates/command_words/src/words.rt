@@ -1,7 +1,7 @@
 //! Arguments of a command line and the words that the system hands over, for the programs over folders. What is read is `clap`'s reading.
 ghost use Rattle.std.specs.Prelude.{◌≡◌, IfOk, codes, false, map, option_map, string_bytes};
 ghost use Rattle.clap.specs.Words.{first_of, found_of, one_of, rows_of, rule_of};
-ghost use Rattle.command_words.specs.Words.{ReadsNumberOfBits, port_rule, required_rule, texts};
+ghost use Rattle.command_words.specs.Words.{HasFlag, ReadsNumberOfBits, port_rule, required_rule, texts};
 
 use clap::{Arg, ArgMatches, value_parser};
 use std::alloc::{AllocError, Global};
@@ -44,6 +44,13 @@ pub fn number<'a>(matches: &ArgMatches<'a>, id: &str) -> Option<u32>
     ensures { ReadsNumberOfBits 32 (one_of id.now (rows_of (found_of matches.now))) result }
 {
     matches.get_one::<u32>(id)
+}
+
+/// Whether an option without a value is there.
+pub fn flag<'a>(matches: &ArgMatches<'a>, id: &str) -> bool
+    ensures { HasFlag (one_of id.now (rows_of (found_of matches.now))) result }
+{
+    matches.get_flag(id)
 }
 
 /// The words that the system hands over, the first of which is the program's own name. Which these are no clause says.

@@ -2,8 +2,8 @@
 use crate::draft::draft_folder;
 use crate::explain::tell_folder;
 use crate::status::{DONE, MEMORY, USAGE, status_of};
-use crate::words::{USAGE_LINE, Words, WordsFault, read_words};
-use command_words::{line_of, system_words};
+use crate::words::{USAGE_LINE, Words, read_words};
+use command_words::{WordsFault, line_of, system_words};
 use std::io::{self, ErrorKind, IsTerminal};
 
 /// Tells how the program is called, and gives the exit status.

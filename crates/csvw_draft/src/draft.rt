@@ -1,13 +1,11 @@
 //! The draft of a folder.
 use crate::folder::{path_in, push_files};
-use crate::status::{DONE, MEMORY, REFUSED, status_of};
+use crate::status::{DONE, MEMORY, status_of};
 use crate::told::{print_text, refuse, refuse_for, status_after};
 use crate::warning::warn_of;
-use csv_index::TextFault;
 use csvw_guess::{Draft, DraftFault, draft_of, write_schemas};
-use csvw_meta::{Limits, MOST_FILE_BYTES};
-use folder_report::{Report, refuse_text};
-use message_text::escaped;
+use csvw_meta::Limits;
+use folder_report::{Report, refuse_file};
 use served_folders::METADATA;
 use std::fs::File;
 use std::io::{self, ErrorKind, Write};
@@ -23,36 +21,6 @@ const NO_TABLES: &str = "no file of the folder is a table that is served";
 /// What is said where more are drafted than are served.
 const TOO_MANY_TABLES: &str = "accepted: 256 files at most";
 
-/// Tells that a file is above the limit, and gives the exit status.
-fn refuse_large(rt: &HostRuntime, table: &str) -> u8 {
-    status_after(
-        eprintln!(rt; "refused: {table}: FileTooLarge: accepted: {MOST_FILE_BYTES} bytes at most"),
-        REFUSED,
-    )
-}
-
-/// Tells why a file is no table, and gives the exit status.
-fn refuse_bytes(rt: &HostRuntime, table: &str, bytes: &[u8], fault: TextFault) -> u8 {
-    let mut report = Report::new(rt.alloc());
-    refuse_text(&mut report, table, bytes, fault);
-    if report.is_short {
-        MEMORY
-    } else {
-        refuse(rt, report.lines.as_slice())
-    }
-}
-
-/// Tells why a file has no draft, for that fault or else that it is above the limit, and gives the exit status.
-fn refuse_file(rt: &HostRuntime, file: &NamedFile, fault: Option<TextFault>) -> u8 {
-    match escaped(rt.alloc(), file.name.as_str()) {
-        Ok(table) => match fault {
-            Some(fault) => refuse_bytes(rt, table.as_str(), file.bytes.as_slice(), fault),
-            None => refuse_large(rt, table.as_str()),
-        },
-        Err(_) => MEMORY,
-    }
-}
-
 /// Tells why files have no draft, and gives the exit status.
 fn refuse_files(rt: &HostRuntime, files: &[NamedFile], fault: DraftFault) -> u8 {
     let (file, fault) = match fault {
@@ -62,9 +30,14 @@ fn refuse_files(rt: &HostRuntime, files: &[NamedFile], fault: DraftFault) -> u8 
         DraftFault::TooManyTables => return refuse_for(rt, TOO_MANY_TABLES),
         DraftFault::NoMemory => return MEMORY,
     };
-    match files.get(file) {
-        Some(file) => refuse_file(rt, file, fault),
-        None => REFUSED,
+    let mut report = Report::new(rt.alloc());
+    if let Some(file) = files.get(file) {
+        refuse_file(&mut report, file, fault);
+    }
+    if report.is_short {
+        MEMORY
+    } else {
+        refuse(rt, report.lines.as_slice())
     }
 }
 

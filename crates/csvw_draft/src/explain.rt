@@ -42,8 +42,8 @@ fn refuse_folder(rt: &HostRuntime, folder: &str, report: &mut Report) -> io::Res
     let metadata = file_in(rt, folder, METADATA, false)?;
     match Schemas::read(rt.alloc(), metadata.as_slice(), &Limits::greatest()) {
         Ok(schemas) => refuse_schemas(rt, folder, schemas.tables.as_slice(), report),
-        Err(MetaFault::NoMemory) => Err(io::Error::from(ErrorKind::OutOfMemory)),
-        Err(_) => {
+        Err(fault) => {
+            report.is_short |= matches!(fault, MetaFault::NoMemory);
             refuse_metadata(report, metadata.as_slice());
             Ok(())
         }

@@ -1,10 +1,9 @@
 //! The CSV files of a folder on a disk.
-use crate::told::tell;
-use csvw_meta::MOST_FILE_BYTES;
-use folder_report::{Line, cut};
+use folder_report::cut;
+use served_folders::read_plain;
 use std::alloc::{AllocError, Global};
-use std::fs::{self, File, OpenFile};
-use std::io::{self, ErrorKind, Read};
+use std::fs;
+use std::io::{self, ErrorKind};
 use std::rt::Files;
 use table_store::NamedFile;
 
@@ -51,67 +50,31 @@ pub fn path_in(alloc: Global, folder: &str, name: &str) -> Result<String, AllocE
     format!(in alloc; "{folder}/{name}")
 }
 
-/// The bytes of a file, or one more than the limit.
-fn read_front(rt: &HostRuntime, file: &File) -> io::Result<Vec<u8>> {
-    let mut bytes = Vec::new(rt.alloc());
-    file.take(u64::from(MOST_FILE_BYTES) + 1)
-        .read_to_end(&mut bytes)?;
-    Ok(bytes)
-}
-
-/// The bytes of a plain file, or one more than the limit.
-fn read_plain(rt: &HostRuntime, path: &str) -> io::Result<Vec<u8>> {
-    let file = File::open(rt, path)?;
-    // what was opened may be another than what was looked at
-    match file.metadata() {
-        Ok(found) => {
-            if found.is_file() {
-                read_front(rt, &file)
-            } else {
-                Err(io::Error::from(ErrorKind::InvalidInput))
-            }
-        }
-        Err(error) => Err(error),
+/// Tells that the file at that path is read where it is long, as far as that can be told.
+fn tell_long(rt: &HostRuntime, path: &str, name: &str) {
+    if let Ok(found) = rt.metadata(path)
+        && found.is_file()
+        && found.len() > LONG
+        && let Ok(name) = cut(rt.alloc(), name)
+    {
+        let _ = eprintln!(rt; "reading {name}, {} MB", found.len() / 1_000_000);
     }
-}
-
-/// Tells that so many bytes are read, as far as that can be told.
-fn tell_long(rt: &HostRuntime, name: &str, bytes: u64) {
-    let mut line = Line::new(rt.alloc());
-    line.push("reading ");
-    line.push_made(cut(rt.alloc(), name));
-    line.push(", ");
-    line.push_number((bytes / 1_000_000) as usize);
-    line.push(" MB\n");
-    let _ = tell(rt, &line);
 }
 
 /// Tells that a name is that of no plain file.
 fn warn_other(rt: &HostRuntime, name: &str) -> io::Result<()> {
-    let mut line = Line::new(rt.alloc());
-    line.push("warning: ");
-    line.push_made(cut(rt.alloc(), name));
-    line.push(": left out: no plain file\n");
-    tell(rt, &line)
+    let name = cut(rt.alloc(), name)?;
+    eprintln!(rt; "warning: {name}: left out: no plain file")
 }
 
 /// The bytes of the plain file of a name in a folder; of a file above the limit its front alone. Where someone looks on, it tells of a long one. What is no plain file is
 /// an invalid input.
 pub fn file_in(rt: &HostRuntime, folder: &str, name: &str, tells: bool) -> io::Result<Vec<u8>> {
     let path = path_in(rt.alloc(), folder, name)?;
-    match rt.metadata(path.as_str()) {
-        Ok(found) => {
-            if found.is_file() {
-                if tells && found.len() > LONG {
-                    tell_long(rt, name, found.len());
-                }
-                read_plain(rt, path.as_str())
-            } else {
-                Err(io::Error::from(ErrorKind::InvalidInput))
-            }
-        }
-        Err(error) => Err(error),
+    if tells {
+        tell_long(rt, path.as_str(), name);
     }
+    read_plain(rt.alloc(), rt, path.as_str(), true)
 }
 
 /// Adds the CSV files of a folder, in the order of their names. What is no plain file is told, and left out.

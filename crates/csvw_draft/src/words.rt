@@ -1,14 +1,15 @@
 //! The words of the command line, read by `clap` as one command. What is read is `clap`'s reading of that command; and `clap` has the texts of `--help` and `--version`.
-ghost use Rattle.std.specs.Prelude.{◌≡◌, None, Ok, Some, IfErr, IfOk, false};
-ghost use Rattle.clap.specs.Words.{App, FailsBy, HasMatchesOf, app_of, fault_of, found_of, kind_of, rows_of, subcommand_rows_of, with_rule, with_subcommand};
-ghost use Rattle.clap.specs.declared.Command.TheViews.{out-Command};
+ghost use Rattle.std.specs.Prelude.{◌≡◌, None, Some, IfErr, IfOk};
+ghost use Rattle.clap.specs.Words.{found_of, rows_of, subcommand_rows_of};
+ghost use Rattle.command_words.specs.Fault.{IsReadingOf, IsRefusal};
 ghost use Rattle.command_words.specs.Words.{texts};
-ghost use Rattle.csvw_draft.specs.Words.{LineAsksFor, AsksNot, AsksSo, IsFaultBy, IsWordsFault, MakesCommand, folder_rule, over_folder, switch_rule, whole_command};
+ghost use Rattle.csvw_draft.specs.Words.{LineAsksFor, AsksNot, AsksSo, IsWordsFault, whole_command};
 
-use clap::error::ErrorKind;
-use clap::{Arg, ArgAction, ArgMatches, Command, Error};
-use command_words::text;
-use std::alloc::{AllocError, Global};
+use clap::ArgMatches;
+use command_words::{
+    WordsFault, add_flag, add_folder, add_folder_command, flag, matches_of, text, top_command,
+};
+use std::alloc::Global;
 
 /// What is said of words that are no command.
 pub const USAGE_LINE: &str =
@@ -51,97 +52,18 @@ pub enum Words<'a> {
     },
 }
 
-/// Why there is nothing to do.
-#[derive(Drop)]
-pub enum WordsFault {
-    /// The words ask for help or the version, which is the error's text.
-    Shows(Error),
-    /// They are no command of the program.
-    Usage,
-    /// Memory ran out.
-    NoMemory,
-}
-
-/// The command with the folder as its argument, which it may need.
-fn add_folder<'a>(
-    alloc: Global,
-    command: Command<'a>,
-    needed: bool,
-    help: &'a str,
-) -> Result<Command<'a>, AllocError>
-    ensures app { IfOk result (λ c. app_of c
-        ≡ with_rule (app_of command.entry) (folder_rule needed)) }
-    ensures local { (out-Command command.entry).has_globals ≡ false
-        → IfOk result (λ c. (out-Command c).has_globals ≡ false) }
+/// What `clap` reads of the words by the whole command, of which `help` is no word.
+fn line_matches<'a>(alloc: Global, words: &'a [&'a str]) -> Result<ArgMatches<'a>, WordsFault>
+    ensures matches { IfOk result (IsReadingOf whole_command (texts words.now)) }
+    ensures fault { IfErr result (IsRefusal whole_command (texts words.now)) }
 {
-    let folder = Arg::new(alloc, "folder").value_name("FOLDER");
-    command.arg(folder.required(needed).help(help))
-}
-
-/// The command with one more option without a value.
-fn add_flag<'a>(
-    alloc: Global,
-    command: Result<Command<'a>, AllocError>,
-    id: &'a str,
-    help: &'a str,
-) -> Result<Command<'a>, AllocError>
-    ensures app { (app : App) → MakesCommand command.entry app
-        → MakesCommand result (with_rule app (switch_rule id.entry.now)) }
-{
-    match command {
-        Ok(command) => command.arg(
-            Arg::new(alloc, id)
-                .long(id)
-                .action(ArgAction::SetTrue)
-                .help(help),
-        ),
-        Err(error) => Err(error),
-    }
-}
-
-/// Two things that were made.
-fn both<T: Drop, U: Drop>(
-    first: Result<T, AllocError>,
-    second: Result<U, AllocError>,
-) -> Result<(T, U), AllocError>
-    ensures { IfOk result (λ made. (first ≡ Ok made.0) × (second ≡ Ok made.1)) }
-{
-    Ok((first?, second?))
-}
-
-/// The command with one more subcommand over a folder.
-fn add_folder_command<'a>(
-    alloc: Global,
-    command: Result<Command<'a>, AllocError>,
-    name: &'a str,
-    about: &'a str,
-) -> Result<Command<'a>, AllocError>
-    ensures app { (app : App) → MakesCommand command.entry app
-        → MakesCommand result (with_subcommand app (over_folder name.entry.now).top) }
-{
-    let help = "The folder, with csv-metadata.json and the files that it names";
-    let inner = add_folder(alloc, Command::new(alloc, name).about(about), true, help);
-    match both(command, inner) {
-        Ok((command, inner)) => command.subcommand(inner),
-        Err(error) => Err(error),
-    }
-}
-
-/// What `clap` reads of the words by the whole command.
-fn line_matches<'a>(alloc: Global, words: &'a [&'a str]) -> Result<ArgMatches<'a>, Error>
-    ensures matches { IfOk result (HasMatchesOf whole_command (texts words.now)) }
-    ensures kinds { FailsBy (fault_of whole_command (texts words.now)) result }
-{
-    let top = Command::new(alloc, "csvw_draft")
-        .about(ABOUT)
-        .version(VERSION)
-        .disable_help_subcommand(true);
+    let top = top_command(alloc, "csvw_draft", ABOUT, VERSION, true);
     let one = add_folder(alloc, top, false, "The folder with the CSV files");
     let two = add_flag(alloc, one, "write", WRITE);
     let three = add_flag(alloc, two, "no-key", "Leaves out the keys");
     let four = add_folder_command(alloc, three, "show", SHOW);
-    let whole = add_folder_command(alloc, four, "explain", EXPLAIN)?;
-    whole.try_get_matches_from(words)
+    let whole = add_folder_command(alloc, four, "explain", EXPLAIN);
+    matches_of(whole, words)
 }
 
 /// What the words without a subcommand ask for.
@@ -153,8 +75,8 @@ fn draft_words<'a>(matches: &ArgMatches<'a>) -> Result<Words<'a>, WordsFault>
     match text(matches, "folder") {
         Some(folder) => Ok(Words::Draft {
             folder,
-            write: matches.get_flag("write"),
-            keys: !matches.get_flag("no-key"),
+            write: flag(matches, "write"),
+            keys: !flag(matches, "no-key"),
         }),
         None => Err(WordsFault::Usage),
     }
@@ -198,17 +120,6 @@ fn matches_words<'a>(matches: &ArgMatches<'a>) -> Result<Words<'a>, WordsFault>
     }
 }
 
-/// Why there is nothing to do, where `clap` fails.
-fn fault_by(error: Error) -> WordsFault
-    ensures { IsFaultBy (kind_of error) result }
-{
-    match error.kind() {
-        ErrorKind::OutOfMemory => WordsFault::NoMemory,
-        ErrorKind::DisplayHelp | ErrorKind::DisplayVersion => WordsFault::Shows(error),
-        _ => WordsFault::Usage,
-    }
-}
-
 /// What the words of the command line ask for, of which the first is the program's own name. They are `Usage` only where `clap` finds a mistake in them, or they
 /// ask for nothing.
 pub fn read_words<'a>(alloc: Global, words: &'a [&'a str]) -> Result<Words<'a>, WordsFault>
@@ -217,6 +128,6 @@ pub fn read_words<'a>(alloc: Global, words: &'a [&'a str]) -> Result<Words<'a>, 
 {
     match line_matches(alloc, words) {
         Ok(matches) => matches_words(&matches),
-        Err(error) => Err(fault_by(error)),
+        Err(fault) => Err(fault),
     }
 }

@@ -174,6 +174,11 @@ IsFrom taken name number =
     find (λ other. not (is_taken taken other)) (map (with_number name) (range_with_len number (length taken + 3 - number)))
     ≡ find (λ other. not (is_taken taken other)) (map (with_number name) (range_with_len 2 (length taken + 1)))
 
+pub from-two : (taken : List (List ℕ)) (name : List ℕ) → IsFrom taken name 2
+from-two taken name =
+    let count : length taken + 3 - 2 ≡ length taken + 1 = omega arith in
+    ap (λ n. find (λ other. not (is_taken taken other)) (map (with_number name) (range_with_len 2 n))) count
+
 pub free-here : (taken : List (List ℕ)) (name : List ℕ) (number : ℕ) → number < length taken + 3 → IsFrom taken name number → is_taken taken (with_number name number) ≡ false
     → with_number name number ≡ free_number taken name
 unfolding free_number from_number

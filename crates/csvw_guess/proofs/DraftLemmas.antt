@@ -1,19 +1,24 @@
 -- The drafts of files, one file after another.
 use Rattle.std.proofs.Common.{◌≡◌, ℕ, ◌+◌, ◌<◌, ◌≤◌, Bool, true, false, Result, Ok, Err, List, [], ◌∷◌, ◌++◌, length, map, take, get_or, inl, inr, refl, ap, sym, subst, ◌∙◌, append_assoc, arith}
-use Rattle.std.specs.Prelude.{OnOk, string_bytes}
+use Rattle.std.specs.Prelude.{IfErr, IfSome, OnOk, string_bytes}
+use Rattle.std.specs.Result.{result_or}
 use Rattle.std.specs.Str.{bytes_eq}
 use Rattle.std.proofs.lemmas.List.{get_or-map, length-map}
 use Rattle.csv_grammar.specs.Raw.{RawTable, field_of}
 use Rattle.csv_index.specs.Index.{IsRawTable}
 use Rattle.csvw_meta.specs.Forms.{is_table_url}
 use Rattle.table_store.specs.declared.file.NamedFile.{NamedFile}
-use Rattle.csvw_guess.specs.Fault.{DraftCause, bad_text, file_too_large, no_tables, too_many_tables}
+use Rattle.csvw_guess.specs.declared.fault.DraftFault.{DraftFault}
+use Rattle.csvw_guess.specs.declared.fault.DraftFault.TheVariants.{NoMemory}
+use Rattle.csvw_guess.specs.Fault.{DraftCause, draft_cause, bad_text, file_too_large, no_tables, too_many_tables}
 use Rattle.csvw_guess.specs.Table.{file_schema}
-use Rattle.std.proofs.lemmas.List.{append-nil, get_or-take, length-take-le, take_all, take_more}
+use Rattle.std.proofs.lemmas.List.{append-nil, get_or-take, length-take-le, map-append, take_all, take_more}
 use Rattle.std.proofs.lemmas.List.Folds.{list_any_at, list_any_more}
 use Rattle.std.proofs.lemmas.Bool.{or_from}
 use Rattle.csvw_meta.specs.Limits.{LimitsOf}
-use Rattle.csvw_meta.specs.Schema.{SchemaOf}
+use Rattle.csvw_meta.specs.Schema.{SchemaOf, schema_view}
+use Rattle.csvw_meta.specs.declared.schema.Schema.{Schema}
+use Rattle.table_store.specs.Loading.{schema_views}
 use Rattle.table_store.specs.File.{FileOf, file_view, files_view}
 use Rattle.csvw_guess.specs.Draft.{HasNoDraft, HaveDrafts, IsBadAt, IsBadFile, IsDraft, IsFirstBad, IsLeftOut, HasNoOwnUrl, HasOwnUrl, file_at, has_file_name}
 
@@ -166,6 +171,24 @@ no-draft limits files number (file_too_large n) schemas less have bad = first_ba
 no-draft limits files number (bad_text n fault) schemas less have bad = first_bad limits files number n (bad_text n fault) schemas bad.bad.0 less have bad
 no-draft limits files number no_tables schemas less have bad = absurd bad.bad
 no-draft limits files number too_many_tables schemas less have bad = absurd bad.bad
+
+-- ---- what is told in the place of another error
+pub or-ok : {T E D : Type 0} (P : Type 0) (r : Result T E) (e : D) (made : Result T D) → made ≡ result_or r (Err e) → OnOk r P → OnOk made P
+or-ok P (Ok x) e made is p = subst (λ m. OnOk m P) (sym is) p
+or-ok P (Err y) e made is p = subst (λ m. OnOk m P) (sym is) tt
+
+pub or-err : {T E D : Type 0} (P : D → Type 0) (r : Result T E) (e : D) (made : Result T D) → made ≡ result_or r (Err e) → P e → IfErr made P
+or-err P (Ok x) e made is p = subst (λ m. IfErr m P) (sym is) tt
+or-err P (Err y) e made is p = subst (λ m. IfErr m P) (sym is) p
+
+-- want of memory is no cause
+pub no-cause : {T : Type 0} (P : DraftCause → Type 0) (r : Result T DraftFault) → IfErr r (λ e. e ≡ NoMemory) → IfErr r (λ e. IfSome (draft_cause e) P)
+no-cause P (Ok x) none = tt
+no-cause P (Err e) none = subst (λ (fault : DraftFault). IfSome (draft_cause fault) P) (sym none) tt
+
+-- a schema is added
+pub schema-more : (old new : List Schema) (last : Schema) (made : SchemaOf) → new ≡ old ++ last ∷ [] → schema_view last ≡ made → schema_views new ≡ schema_views old ++ made ∷ []
+schema-more old new last made is same = ap schema_views is ∙ map-append schema_view old (last ∷ []) ∙ ap (λ view. schema_views old ++ view ∷ []) same
 
 -- ---- when all files are read
 pub all-drafts : (limits : LimitsOf) (files : List FileOf) (number : ℕ) (schemas : List SchemaOf) → length files ≤ number → HaveDrafts limits [] (take number files) schemas

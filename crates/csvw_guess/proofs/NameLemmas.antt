@@ -231,3 +231,14 @@ names_after-named taken (cell ∷ cells) small =
 -- ---- the names of columns
 pub taken-is : (earlier : List Column) (name : List ℕ) → list_any (λ column. bytes_eq name (string_bytes column.name)) earlier ≡ is_taken (names_in earlier) name
 taken-is earlier name = sym (list_any-map (bytes_eq name) (λ column. string_bytes column.name) earlier)
+
+-- the name of a column, where none has that of its header cell, and where one has it
+pub name-free : (taken : List (List ℕ)) (cell name : List ℕ) → name ≡ base_name cell → is_taken taken name ≡ false → name ≡ name_after taken cell
+name-free taken cell name is e =
+    let base = base_name cell in
+    is ∙ ap (λ b. cond b (free_number taken base) base) (sym (ap (is_taken taken) (sym is) ∙ e))
+
+pub name-taken : (taken : List (List ℕ)) (cell name : List ℕ) → name ≡ base_name cell → is_taken taken name ≡ true → free_number taken name ≡ name_after taken cell
+name-taken taken cell name is e =
+    let base = base_name cell in
+    ap (free_number taken) is ∙ ap (λ b. cond b (free_number taken base) base) (sym (ap (is_taken taken) (sym is) ∙ e))

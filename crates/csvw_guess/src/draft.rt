@@ -10,12 +10,14 @@ ghost use Rattle.csvw_guess.specs.Fault.{draft_cause};
 ghost use Rattle.csvw_guess.specs.Table.{file_schema};
 
 use crate::fault::{DraftFault, Warning};
-use crate::table::draft_table;
+use crate::rows::read_columns;
+use crate::table::make_schema;
 use crate::url::is_table_url;
+use crate::warnings::{column_warnings, header_warnings};
 use column_types::Candidates;
 use csv_index::{IndexedText, TextFault};
 use csvw_meta::{Limits, Schema};
-use std::alloc::Global;
+use std::alloc::{AllocError, Global};
 use table_store::NamedFile;
 
 /// The draft of the metadata of files.
@@ -78,34 +80,31 @@ fn leave_out(draft: &mut Draft, warning: Warning) -> Result<(), DraftFault>
     ensures schemas { draft.new.schemas ≡ draft.old.schemas }
     ensures fault { IfErr result (λ e. e ≡ DraftFault.NoMemory) }
 {
-    match draft.warnings.push(warning) {
-        Ok(()) => Ok(()),
-        Err(_) => Err(DraftFault::NoMemory),
-    }
+    draft.warnings.push(warning).or(Err(DraftFault::NoMemory))
 }
 
-/// Adds the schema of a file, and what there is to look at in it.
+/// Adds the schema of the file of that number, and what there is to look at in it.
 fn add_table(
     draft: &mut Draft,
     candidates: &Candidates,
     number: usize,
     url: &str,
     table: &IndexedText,
-) -> Result<(), DraftFault>
+) -> Result<(), AllocError>
     requires candidates { AreCandidates candidates.now }
     requires width { 0 < length table.now.header }
-    requires few { length table.now.header ≤ 256 }
-    ensures schemas { OnOk result (schema_views draft.new.schemas.items
+    ensures { OnOk result (schema_views draft.new.schemas.items
         ≡ schema_views draft.old.schemas.items ++ file_schema url.now table.now ∷ []) }
-    ensures fault { IfErr result (λ e. e ≡ DraftFault.NoMemory) }
 {
-    let Ok(schema) = draft_table(candidates, number, url, table, &mut draft.warnings) else {
-        return Err(DraftFault::NoMemory);
-    };
-    match draft.schemas.push(schema) {
-        Ok(()) => Ok(()),
-        Err(_) => Err(DraftFault::NoMemory),
-    }
+    let alloc = *draft.schemas.allocator();
+    let known = read_columns(alloc, candidates, table)?;
+    let seen = known.as_slice();
+    column_warnings(candidates, number, table, seen, &mut draft.warnings)?;
+    let schema = make_schema(alloc, seen, url, table)?;
+    let columns = schema.columns.as_slice();
+    header_warnings(number, table, columns, &mut draft.warnings)?;
+    draft.schemas.push(schema)?;
+    Ok(())
 }
 
 /// Adds the schema of the file of that number, or what there is to look at where the file is left out.
@@ -126,7 +125,6 @@ fn draft_file(
         IfSome (draft_cause e) (HasNoDraft (limits_view limits.now) (files_view files.now))) }
     ensures memory { IfErr result (λ e. draft_cause e ≡ None → e ≡ DraftFault.NoMemory) }
 {
-    csvw_meta::sizes();
     if let Some(warning) = name_warning(files, number) {
         return leave_out(draft, warning);
     }
@@ -137,7 +135,7 @@ fn draft_file(
         let file = number;
         return leave_out(draft, Warning::ManyColumns { file, columns });
     }
-    add_table(draft, candidates, number, file.name.as_str(), &table)
+    add_table(draft, candidates, number, file.name.as_str(), &table).or(Err(DraftFault::NoMemory))
 }
 
 /// Adds the schemas of files to a draft that has none: those of the files that are tables which are served, in their order.

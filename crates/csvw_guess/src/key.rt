@@ -51,7 +51,7 @@ fn is_long_key(column: &Column, cell: &str) -> bool
 }
 
 /// The value of a field in a column as a key: null, where it has none or is too long for one.
-fn key_value<'a>(alloc: Global, column: &Column, raw: Raw<'a>) -> Result<Value<'a>, AllocError>
+pub fn key_value<'a>(alloc: Global, column: &Column, raw: Raw<'a>) -> Result<Value<'a>, AllocError>
     ensures { IfOk result (λ value. value_view value
         ≡ cell_key (column_view column.now) (raw_content (raw_view raw.entry))) }
 {
@@ -103,6 +103,7 @@ pub fn has_keys(alloc: Global, schema: &Schema, file: &IndexedText) -> Result<bo
         return Ok(false);
     }
     let mut keys = KeyReader::new(alloc, schema, file.rows())?;
+    // Want of memory of the keys is told when their reader has ended.
     let read = read_keys(alloc, column, file, &mut keys);
     let found = keys.finish(alloc)?;
     read.and(Ok(found.is_ok()))

@@ -2,7 +2,7 @@
 ghost use Rattle.std.specs.Prelude.{◌≡◌, [], IfOk, codes, if◌then◌else◌, map, string_bytes};
 ghost use Rattle.std.specs.List.{list_any};
 ghost use Rattle.std.specs.Str.{bytes_eq, chars, IsAscii};
-ghost use Rattle.csvw_guess.specs.Names.{base_name as base_name_of, begins_with_letter as begins_with_letter_of, free_number, is_taken as is_taken_of, name_after as name_after_of, name_char as name_char_of, with_number as numbered_of, titles_for, names_in};
+ghost use Rattle.csvw_guess.specs.Names.{base_name as base_name_of, begins_with_letter as begins_with_letter_of, name_after as name_after_of, name_char as name_char_of, with_number as numbered_of, titles_for, names_in};
 
 use cell_types::Column;
 use std::alloc::{AllocError, Global};
@@ -68,15 +68,23 @@ fn is_taken(earlier: &[Column], name: &str) -> bool
     ensures { result
         ≡ list_any (λ column. bytes_eq name.now (string_bytes column.name)) earlier.now }
 {
-    earlier.iter().any(|column| name == column.name.as_str())
+    for column in earlier {
+        if name == column.name.as_str() {
+            return true;
+        }
+    }
+    false
 }
 
-/// The name with the least number from 2 on that no column has.
-fn free_name(alloc: Global, earlier: &[Column], name: String) -> Result<String, AllocError>
-    requires { IsAscii (string_bytes name) }
+/// The name of the column after some: that of its header cell, and where one of them has it the name with the least number from 2 on that none has.
+pub fn next_name(alloc: Global, earlier: &[Column], cell: &str) -> Result<String, AllocError>
     ensures { IfOk result
-        (λ free. string_bytes free ≡ free_number (names_in earlier.now) (string_bytes name)) }
+        (λ name. string_bytes name ≡ name_after_of (names_in earlier.now) cell.now) }
 {
+    let name = base_name(alloc, cell)?;
+    if !is_taken(earlier, name.as_str()) {
+        return Ok(name);
+    }
     for number in 2..earlier.len() + 3 {
         let other = numbered(alloc, name.as_str(), number)?;
         if !is_taken(earlier, other.as_str()) {
@@ -84,19 +92,6 @@ fn free_name(alloc: Global, earlier: &[Column], name: String) -> Result<String, 
         }
     }
     Ok(name)
-}
-
-/// The name of the column after some.
-pub fn next_name(alloc: Global, earlier: &[Column], cell: &str) -> Result<String, AllocError>
-    ensures { IfOk result
-        (λ name. string_bytes name ≡ name_after_of (names_in earlier.now) cell.now) }
-{
-    let name = base_name(alloc, cell)?;
-    if is_taken(earlier, name.as_str()) {
-        free_name(alloc, earlier, name)
-    } else {
-        Ok(name)
-    }
 }
 
 /// The title of a column: its header cell, where that is not its name.

@@ -2,6 +2,7 @@
 ghost use Rattle.std.specs.Prelude.{◌≡◌, ◌<◌, length};
 
 use crate::fault::Warning;
+use crate::key::key_value;
 use cell_types::{CellFault, Column, Datatype, Value};
 use column_types::{Candidates, DECIMAL, Seen};
 use csv_index::IndexedText;
@@ -62,10 +63,8 @@ fn is_data(
     if matches!(column.datatype, Datatype::Text) {
         return Ok(false);
     }
-    match cell_value(alloc, column, file.header(col)) {
-        Err(CellFault::NoMemory) => Err(AllocError),
-        value => Ok(!matches!(value, Ok(Value::Null) | Err(_))),
-    }
+    let value = key_value(alloc, column, file.header(col))?;
+    Ok(!matches!(value, Value::Null))
 }
 
 /// Adds what there is to look at in the columns of the file of that number, of whose cells this is known. Only columns of texts have some.

@@ -6,6 +6,7 @@ ghost use Rattle.folder_report.specs.Bounds.{bounds_view};
 
 use cell_types::Value;
 use std::alloc::{AllocError, Global};
+use std::cmp::Ordering;
 use table_store::Table;
 
 /// What is known of the cells of a column.
@@ -16,27 +17,17 @@ pub struct Bounds<'t> {
     pub greatest: Option<Value<'t>>,
 }
 
-/// Puts a value in the place of the least, where it is less.
-fn put_least<'t>(least: &mut Option<Value<'t>>, value: Value<'t>)
-    ensures { option_map value_view least.new
-        ≡ Some (lesser (option_map value_view least.old) (value_view value.entry)) }
+/// Puts a value in the place of a bound that has that order to it, or of none: of one that is greater for the least, of one that is less for the greatest.
+fn put_bound<'t>(bound: &mut Option<Value<'t>>, value: Value<'t>, order: Ordering)
+    ensures least { order ≡ Ordering.Greater → option_map value_view bound.new
+        ≡ Some (lesser (option_map value_view bound.old) (value_view value.entry)) }
+    ensures greatest { order ≡ Ordering.Less → option_map value_view bound.new
+        ≡ Some (greater (option_map value_view bound.old) (value_view value.entry)) }
 {
     cell_types::values_compare_as_their_views();
-    match least {
-        Some(old) if *old <= value => {}
-        _ => *least = Some(value),
-    }
-}
-
-/// Puts a value in the place of the greatest, where it is greater.
-fn put_greatest<'t>(greatest: &mut Option<Value<'t>>, value: Value<'t>)
-    ensures { option_map value_view greatest.new
-        ≡ Some (greater (option_map value_view greatest.old) (value_view value.entry)) }
-{
-    cell_types::values_compare_as_their_views();
-    match greatest {
-        Some(old) if *old >= value => {}
-        _ => *greatest = Some(value),
+    match bound {
+        Some(old) if (*old).cmp(&value) != order => {}
+        _ => *bound = Some(value),
     }
 }
 
@@ -56,9 +47,9 @@ pub fn take_column<'t>(
         match table.value(alloc, row, col)? {
             Value::Null => bounds.nulls += 1,
             value => {
-                put_least(&mut bounds.least, value);
+                put_bound(&mut bounds.least, value, Ordering::Greater);
                 let same = table.value(alloc, row, col)?;
-                put_greatest(&mut bounds.greatest, same);
+                put_bound(&mut bounds.greatest, same, Ordering::Less);
             }
         }
     }

@@ -21,5 +21,5 @@ pub use line::Line;
 pub use metadata::refuse_metadata;
 pub use report::{MOST_REFUSALS, Report};
 pub use show::catalog_text;
-pub use table::{refuse_table, refuse_text};
+pub use table::{refuse_file, refuse_table};
 pub use text::cut;

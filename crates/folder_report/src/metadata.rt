@@ -20,28 +20,25 @@ struct Place {
 
 /// Appends the path of a member, or of what is looked at where the key is empty.
 fn push_path(line: &mut Line, place: Place, key: &str) {
-    let mut dot = "";
+    if place.table.is_none() && !place.in_schema {
+        return line.push(if key.is_empty() { "all of it" } else { key });
+    }
     if let Some(i) = place.table {
         line.push("tables[");
         line.push_number(i);
-        line.push("]");
-        dot = ".";
+        line.push("].");
     }
     if place.in_schema {
-        line.push(dot);
-        line.push("tableSchema");
-        dot = ".";
+        line.push("tableSchema.");
     }
     if let Some(i) = place.column {
-        line.push(".columns[");
+        line.push("columns[");
         line.push_number(i);
-        line.push("]");
+        line.push("].");
     }
-    if !key.is_empty() {
-        line.push(dot);
-        line.push(key);
-    } else if dot.is_empty() {
-        line.push("all of it");
+    line.push(key);
+    if key.is_empty() {
+        line.text.pop(); // the point before no key
     }
 }
 
@@ -72,8 +69,9 @@ fn members(report: &mut Report, place: Place, around: &(&str, &str), value: &Val
         return;
     };
     for (key, member) in members {
-        if let Some(fault) = member_fault(report.alloc, around, key.as_str(), member) {
-            refuse(report, place, fault, key.as_str(), member);
+        let key = key.as_str();
+        if let Some(fault) = member_fault(report.alloc, around, key, member) {
+            refuse(report, place, fault, key, member);
         }
     }
 }
@@ -193,13 +191,13 @@ fn group(report: &mut Report, value: &Value) {
         refuse(report, place, MetaFault::TooManyTables, key, value);
     }
     members(report, place, IN_GROUP, value);
-    let mut has_schema = false;
-    if let Some(shared) = member(value, "tableSchema") {
-        has_schema = true;
-        if lack_schema(tables) {
-            schema(report, None, shared);
-        }
+    let shared = member(value, "tableSchema");
+    if let Some(shared) = shared
+        && lack_schema(tables)
+    {
+        schema(report, None, shared);
     }
+    let has_schema = shared.is_some();
     for (i, item) in tables.iter().enumerate() {
         table(report, Some(i), has_schema, &tables[..i], item);
     }

@@ -11,7 +11,6 @@ use cell_types::{CellFault, Column, Value};
 use csv_index::Raw;
 use raw_fields::cell_value;
 use reply_values::push_json_value;
-use std::alloc::{AllocError, Global};
 use std::collections::BTreeMap;
 use table_store::LoadFault;
 
@@ -32,13 +31,14 @@ fn push_cell(line: &mut Line, column: &Column, field: Raw<'_>, fault: CellFault)
 pub fn refuse_cells(report: &mut Report, file: &TableFile<'_>)
     requires { FitsFile file.now.index.now file.now.text.now }
 {
-    let mut fields = file.index.fields(file.text, 0);
+    let width = file.index.width();
     let mut number = file.line_of(0);
     for row in 0..file.index.rows() {
         for (col, column) in file.schema.columns.iter().enumerate() {
-            let Some(field) = fields.next_field() else {
+            if col >= width {
                 return;
-            };
+            }
+            let field = file.index.cell(file.text, row, col);
             if let Some(fault) = cell_value(report.alloc, column, field).err() {
                 let table = report.owned(file.schema.url.as_str());
                 let mut line = report.begin(LoadFault::Cell {
@@ -71,17 +71,15 @@ enum KeyPart {
     WholeValues,
 }
 
-/// The text of a value of a key.
-fn value_text(alloc: Global, value: &Value<'_>, part: KeyPart) -> Result<String, AllocError> {
-    let mut text = Vec::new(alloc);
+/// Appends a value of a key.
+fn push_key_value(line: &mut Line, value: Value<'_>, part: KeyPart) {
+    let mut text = Vec::new(line.alloc);
     let pushed = match part {
-        KeyPart::WholeValues => push_json_value(&mut text, value),
-        _ => push_value(alloc, &mut text, value),
+        KeyPart::WholeValues => push_json_value(&mut text, &value),
+        _ => push_value(line.alloc, &mut text, &value),
     };
-    match pushed {
-        Ok(()) => String::from_utf8_lossy(alloc, text.as_slice()),
-        Err(error) => Err(error),
-    }
+    line.is_short |= pushed.is_err();
+    line.push_made(String::from_utf8_lossy(line.alloc, text.as_slice()));
 }
 
 /// Appends what is told of the key in one of its columns. Whether that is a null.
@@ -95,24 +93,19 @@ fn push_key_column(
     requires bytes { FitsFile file.now.index.now file.now.text.now }
     requires row { row < file.now.index.now.rows }
 {
-    let Some(column) = file.schema.columns.get(col) else {
-        return true;
+    let column = match file.schema.columns.get(col) {
+        Some(column) if col < file.index.width() => column,
+        _ => return true,
     };
     if matches!(part, KeyPart::Names) {
         line.push(column.name.as_str());
         return false;
     }
-    if col >= file.index.width() {
-        return true;
-    }
     match cell_value(line.alloc, column, file.index.cell(file.text, row, col)) {
-        Ok(Value::Null) => {
-            line.push("null");
-            true
-        }
         Ok(value) => {
-            line.push_made(value_text(line.alloc, &value, part));
-            false
+            let is_null = matches!(value, Value::Null);
+            push_key_value(line, value, part);
+            is_null
         }
         Err(_) => {
             line.is_short = true;

@@ -10,7 +10,7 @@ use cell_types::Column;
 use csv_index::{Index, TextFault};
 use csvw_meta::{MOST_FILE_BYTES, Schema};
 use std::str::from_utf8;
-use table_store::LoadFault;
+use table_store::{LoadFault, NamedFile};
 
 /// Adds the refusals of the first rows of another width than the header, by the lines in which they begin and their fields.
 fn refuse_widths(report: &mut Report, url: &str, bytes: &[u8]) {
@@ -46,7 +46,7 @@ fn refuse_widths(report: &mut Report, url: &str, bytes: &[u8]) {
 }
 
 /// Adds the refusal of a file that is no table for that fault.
-pub fn refuse_text(report: &mut Report, url: &str, bytes: &[u8], fault: TextFault) {
+fn refuse_text(report: &mut Report, url: &str, bytes: &[u8], fault: TextFault) {
     if matches!(fault, TextFault::Width { .. }) {
         return refuse_widths(report, url, bytes);
     }
@@ -80,8 +80,15 @@ fn push_accepted(line: &mut Line, column: Option<&Column>) {
     }
 }
 
-/// Adds the refusal of what stands in the place of a column's header, a cell or none.
+/// Adds the refusal of what stands in the place of a column's header, a cell or none, where the column may not have that header.
 fn refuse_header(report: &mut Report, schema: &Schema, col: usize, cell: Option<&str>) {
+    let column = schema.columns.get(col);
+    if let Some(column) = column
+        && let Some(cell) = cell
+        && is_called(column, cell)
+    {
+        return;
+    }
     let table = report.owned(schema.url.as_str());
     let mut line = report.begin(LoadFault::Header { table, col });
     line.push_place(1, col.saturating_add(1));
@@ -91,7 +98,7 @@ fn refuse_header(report: &mut Report, schema: &Schema, col: usize, cell: Option<
         None => line.push("no cell"),
     }
     line.push("; accepted: ");
-    push_accepted(&mut line, schema.columns.get(col));
+    push_accepted(&mut line, column);
     report.put(line);
 }
 
@@ -102,10 +109,7 @@ fn refuse_headers(report: &mut Report, file: &TableFile<'_>)
     let width = file.index.width();
     for col in 0..width {
         match file.index.header(file.text, col).text(report.alloc) {
-            Ok(cell) => match file.schema.columns.get(col) {
-                Some(column) if is_called(column, cell.as_str()) => {}
-                _ => refuse_header(report, file.schema, col, Some(cell.as_str())),
-            },
+            Ok(cell) => refuse_header(report, file.schema, col, Some(cell.as_str())),
             Err(_) => report.is_short = true,
         }
     }
@@ -145,25 +149,39 @@ fn refuse_bytes(report: &mut Report, schema: &Schema, bytes: &[u8]) {
     }
 }
 
+/// Adds the refusal of a file that is above the limit.
+fn refuse_large(report: &mut Report, url: &str) {
+    let table = report.owned(url);
+    let mut line = report.begin(LoadFault::FileTooLarge { table });
+    line.push("accepted: ");
+    line.push_number(MOST_FILE_BYTES as usize);
+    line.push(" bytes at most");
+    report.put(line);
+}
+
+/// Adds the refusal of a file that is missing.
+fn refuse_missing(report: &mut Report, url: &str) {
+    let table = report.owned(url);
+    let mut line = report.begin(LoadFault::FileMissing { table });
+    line.push("no file of the folder has this name");
+    report.put(line);
+}
+
+/// Adds the refusal of a file: that it is no table for that fault, or else that it is above the limit.
+pub fn refuse_file(report: &mut Report, file: &NamedFile, fault: Option<TextFault>) {
+    let url = file.name.as_str();
+    match fault {
+        Some(fault) => refuse_text(report, url, file.bytes.as_slice(), fault),
+        None => refuse_large(report, url),
+    }
+}
+
 /// Adds all that is refused of the file of a schema, where there is one: nothing where it is its table.
 pub fn refuse_table(report: &mut Report, schema: &Schema, file: Option<&[u8]>) {
-    if let Some(bytes) = file
-        && bytes.len() <= MOST_FILE_BYTES as usize
-    {
-        return refuse_bytes(report, schema, bytes);
-    }
-    let table = report.owned(schema.url.as_str());
-    let mut line = report.begin(match file {
-        None => LoadFault::FileMissing { table },
-        Some(_) => LoadFault::FileTooLarge { table },
-    });
+    let url = schema.url.as_str();
     match file {
-        None => line.push("no file of the folder has this name"),
-        Some(_) => {
-            line.push("accepted: ");
-            line.push_number(MOST_FILE_BYTES as usize);
-            line.push(" bytes at most");
-        }
+        None => refuse_missing(report, url),
+        Some(bytes) if bytes.len() > MOST_FILE_BYTES as usize => refuse_large(report, url),
+        Some(bytes) => refuse_bytes(report, schema, bytes),
     }
-    report.put(line);
 }

@@ -42,6 +42,6 @@ pub fn quoted(alloc: Global, text: &str) -> Result<String, AllocError>
     ensures { IfOk result (λ line. string_bytes line ≡ quoted_text text.now) }
 {
     let front = front(alloc, text)?;
-    let json = Value::String(front).to_string(alloc)?;
-    marked(alloc, json.as_str(), text)
+    let json = Value::String(front).to_string(alloc);
+    marked(alloc, json?.as_str(), text)
 }

@@ -1,3 +1,4 @@
+mod LingeringLemmas
 mod PlaceLemmas
 mod ServerLemmas
 mod SocketLemmas

@@ -1,4 +1,5 @@
 pub mod Peer
+pub mod Lingering
 pub mod Slow
 pub mod Sockets
 pub mod Server

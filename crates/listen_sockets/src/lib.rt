@@ -11,6 +11,7 @@ mod slow;
 mod sockets;
 mod told;
 
+pub use lingering::{Lingering, LingeringPeer};
 pub use peer::Peer;
 pub use poller::Poller;
 pub use server::Server;

@@ -37,7 +37,7 @@ pub struct Server {
     pub hub: Hub,
     pub slots: Vec<Slot>,
     pub sockets: Sockets,
-    lingering: Lingering,
+    pub lingering: Lingering,
     room: Vec<u8>,
     waste: Vec<u8>,
     ghost some_room: { 0 < length room.items },
@@ -45,19 +45,22 @@ pub struct Server {
 }
 
 impl Server {
-    ghost use Rattle.std.specs.Prelude.{IfOk, OnErr};
+    ghost use Rattle.std.specs.Prelude.{IfOk, None, OnErr, replicate};
     ghost use Rattle.std.specs.List.{list_any};
     ghost use Rattle.odata_rounds.specs.Rounds.{Rounds, is_working, sight};
     ghost use Rattle.odata_hub.specs.Connections.{Done, Opened, call_answer};
     ghost use Rattle.odata_hub.specs.Schedules.{Drop, HubOf, Open, conn_at};
     ghost use Rattle.odata_hub.specs.Stands.{IsHubStep, Models};
+    ghost use Rattle.listen_sockets.specs.Lingering.{MayHold, TendsAt};
     ghost use Rattle.listen_sockets.specs.Server.{AreFree, EndsHopeless, EndsIfHopeless, IsDueAt, TellsHopelessOf, has_waiting, state_at};
-    ghost use Rattle.listen_sockets.specs.Sockets.{EndsStream, IsPut, TakesPeer, wire_at};
+    ghost use Rattle.listen_sockets.specs.Sockets.{EndsStream, IsPut, TakesPeer, peer_at, wire_at};
 
     /// So many places, all of them free, over these tables.
     pub fn new(alloc: Global, catalog: Rc<Catalog>, places: u32) -> Result<Server, AllocError>
-        ensures { IfOk result (λ server. AreFree catalog.value places
+        ensures free { IfOk result (λ server. AreFree catalog.value places
             server.hub server.slots.items server.sockets.wires.items) }
+        ensures lingering { IfOk result (λ server.
+            server.lingering.held.items ≡ replicate places None) }
     {
         let mut slots = Vec::with_capacity(alloc, places as usize)?;
         for _place in 0..places {
@@ -81,6 +84,7 @@ impl Server {
             (sight self.old.hub self.old.slots.items (wire_at self.old.sockets.wires.items))
             (sight self.new.hub self.new.slots.items (wire_at self.new.sockets.wires.items)) }
         ensures worked { result ≡ list_any is_working self.new.slots.items }
+        ensures lingering { self.new.lingering ≡ self.old.lingering }
     {
         round(
             &mut self.hub,
@@ -101,6 +105,7 @@ impl Server {
         ensures sockets { OnErr result (self.new.sockets ≡ self.old.sockets) }
         ensures peer { IfOk result (λ conn.
             IsPut conn.0 peer self.old.sockets.wires.items self.new.sockets.wires.items) }
+        ensures lingering { self.new.lingering ≡ self.old.lingering }
     {
         let conn = self.hub.open()?;
         clear_slot(&mut self.slots, conn.0);
@@ -117,6 +122,7 @@ impl Server {
             self.old.sockets.wires.items self.new.sockets.wires.items }
         ensures streams { EndsStream place
             self.old.sockets.wires.items self.new.sockets.wires.items }
+        ensures lingering { self.new.lingering ≡ self.old.lingering }
     {
         clear_slot(&mut self.slots, place);
         let _closed = self.sockets.close(place, &mut self.waste);
@@ -128,6 +134,8 @@ impl Server {
         ensures hub { self.new.hub ≡ self.old.hub }
         ensures slots { self.new.slots.items ≡ self.old.slots.items }
         ensures sockets { self.new.sockets ≡ self.old.sockets }
+        ensures lingering { MayHold closed self.old.lingering.held.items
+            self.new.lingering.held.items }
     {
         if let Some(mut peer) = closed {
             if peer.deregister(poll) {
@@ -145,6 +153,8 @@ impl Server {
             self.old.sockets.wires.items self.new.sockets.wires.items }
         ensures streams { EndsStream place
             self.old.sockets.wires.items self.new.sockets.wires.items }
+        ensures lingering { MayHold (peer_at self.old.sockets.wires.items place)
+            self.old.lingering.held.items self.new.lingering.held.items }
     {
         clear_slot(&mut self.slots, place);
         let closed = self.sockets.close(place, &mut self.waste);
@@ -157,6 +167,8 @@ impl Server {
         ensures hub { self.new.hub ≡ self.old.hub }
         ensures slots { self.new.slots.items ≡ self.old.slots.items }
         ensures sockets { self.new.sockets ≡ self.old.sockets }
+        ensures lingering { TendsAt at 1 self.old.lingering.held.items
+            self.new.lingering.held.items }
     {
         self.lingering.tend(at as usize, 1, &mut self.waste);
     }
@@ -207,6 +219,7 @@ impl Server {
             self.old.sockets.wires.items self.new.sockets.wires.items }
         ensures ends { EndsHopeless place self.old.hub
             self.old.sockets.wires.items self.new.sockets.wires.items }
+        ensures lingering { self.new.lingering ≡ self.old.lingering }
     {
         if self.is_hopeless(place) {
             self.sockets.end_stream(place, now);

@@ -12,6 +12,11 @@ use Rattle.served_folders.specs.Names.{file_names}
 abbrev pub IsFrontOfFile : Option (List ℕ) → List ℕ → Type 0
 IsFrontOfFile told bytes = IfSome told (λ all. bytes ≡ take (MOST_FILE_BYTES + 1) all)
 
+-- the bytes are such a front of some file of this kind
+pub record IsFrontOfSome {F : Type 0} (told : F → Option (List ℕ)) (bytes : List ℕ) : Type 0 where
+  pub file : F
+  pub front : IsFrontOfFile (told file) bytes
+
 -- the file of a schema, at most one byte above the limit of a file
 pub record IsFileOf (schema : SchemaOf) (file : FileOf) : Type 0 where
   pub name : file.name ≡ schema.url

@@ -2,19 +2,19 @@
 //! no plain file in the place of one is a device that fails.
 ghost use Rattle.std.specs.Prelude.{◌≡◌, ◌≢◌, ◌≤◌, ◌+◌, None, IfOk, IfSome, map, string_bytes, vec_len};
 ghost use Rattle.std.specs.IoError.{error_kind};
+ghost use Rattle.csvw_meta.specs.declared.limits.TheConstants.{MOST_FILE_BYTES};
 ghost use Rattle.csvw_meta.specs.Document.{schemas_of};
 ghost use Rattle.csvw_meta.specs.Schema.{schema_view};
 ghost use Rattle.table_store.specs.File.{file_view};
-ghost use Rattle.served_folders.specs.Disk.{AreFilesIn, AreFilesOf, AreFileNames, AreTaken, IsFrontOfFile};
+ghost use Rattle.served_folders.specs.Disk.{AreFilesIn, AreFilesOf, AreFileNames, AreTaken};
 ghost use Rattle.served_folders.specs.Folders.{greatest_limits, unasked};
 
 use crate::folders::{FolderFault, Folders};
 use crate::names::{METADATA, is_memory, names_of};
-use crate::plain::open_plain;
-use csvw_meta::{Limits, MOST_FILE_BYTES, Schema, Schemas};
+use crate::plain::read_plain;
+use csvw_meta::{Limits, Schema, Schemas};
 use std::alloc::{AllocError, Global};
-use std::fs::OpenFile;
-use std::io::{self, ErrorKind, Read};
+use std::io::{self, ErrorKind};
 use std::rt::Files;
 use table_store::{Catalog, NamedFile};
 
@@ -96,28 +96,6 @@ fn device_fault(error: &io::Error) -> TakeFault
     }
 }
 
-/// All bytes of a file, or one more than the limit. Room is taken once by the file's length, where the system tells it.
-fn read_file<F: OpenFile + Read + Drop>(alloc: Global, file: F) -> Result<Vec<u8>, TakeFault>
-    ensures most { IfOk result (λ bytes. vec_len bytes ≤ MOST_FILE_BYTES + 1) }
-    // Where the file tells what it has.
-    ensures bytes { IfOk result (λ bytes. IsFrontOfFile (F.remaining file) bytes.items) }
-{
-    let most = u64::from(MOST_FILE_BYTES) + 1;
-    let room = match file.metadata() {
-        Ok(metadata) => metadata.len().saturating_add(1).min(most),
-        Err(_) => 0,
-    };
-    let mut bytes = Vec::with_capacity(alloc, room as usize)?;
-    match file.take(most).read_to_end(&mut bytes) {
-        Ok(_) => {
-            // no byte goes by this: of bytes that a reader does not tell, std does not say that `take` keeps the limit
-            bytes.truncate(most as usize);
-            Ok(bytes)
-        }
-        Err(error) => Err(device_fault(&error)),
-    }
-}
-
 /// The bytes of a plain file of a folder, where there is anything of that name.
 fn take_file<R: Files>(
     alloc: Global,
@@ -129,8 +107,8 @@ fn take_file<R: Files>(
     ensures { IfOk result (λ file. IfSome file (λ bytes. vec_len bytes ≤ MOST_FILE_BYTES + 1)) }
 {
     let path = format!(in alloc; "{folder}/{name}")?;
-    match open_plain(files, path.as_str(), follows) {
-        Ok(file) => Ok(Some(read_file(alloc, file)?)),
+    match read_plain(alloc, files, path.as_str(), follows) {
+        Ok(bytes) => Ok(Some(bytes)),
         Err(error) if error.kind() == ErrorKind::NotFound => Ok(None),
         Err(error) => Err(device_fault(&error)),
     }

@@ -11,4 +11,4 @@ pub use folders::{
     BuiltIn, FolderFault, Folders, NOTES, NOTES_BYTES, NOTES_FILE, NOTES_METADATA, notes,
 };
 pub use names::{METADATA, names_of};
-pub use plain::look;
+pub use plain::{look, read_plain};

@@ -1,10 +1,13 @@
 //! Plain files alone are opened: the end of a FIFO, a socket or a device never comes, and a folder has no bytes.
-ghost use Rattle.std.specs.Prelude.{◌≡◌, ◌↔◌, IfErr, IfOk, IsOk};
+ghost use Rattle.std.specs.Prelude.{◌≡◌, ◌≤◌, ◌+◌, ◌↔◌, IfErr, IfOk, IsOk, vec_len};
 ghost use Rattle.std.specs.Fs.{IsFile, file_type};
 ghost use Rattle.std.specs.IoError.{error_kind};
+ghost use Rattle.served_folders.specs.Disk.{IsFrontOfFile, IsFrontOfSome};
 
+use csvw_meta::MOST_FILE_BYTES;
+use std::alloc::Global;
 use std::fs::{self, Metadata, OpenFile};
-use std::io::{self, ErrorKind};
+use std::io::{self, ErrorKind, Read};
 use std::os::unix::fs::MetadataExt;
 use std::rt::Files;
 
@@ -35,14 +38,38 @@ fn is_same(one: &Metadata, other: &Metadata) -> bool {
     one.dev() == other.dev() && one.ino() == other.ino()
 }
 
-/// Opens the plain file at a path, which is no link where these are not followed. It is looked at before it is opened, since opening a FIFO waits for who
-/// writes into it; and what was opened is looked at too, since another file may stand there by then.
-pub(crate) fn open_plain<R: Files>(files: &R, path: &str, follows: bool) -> io::Result<R::File> {
+/// The bytes that a file has left, or one more than the limit. Room is taken once, by the length that the system tells.
+fn read_front<F: Read + Drop>(alloc: Global, file: F, length: u64) -> io::Result<Vec<u8>>
+    ensures most { IfOk result (λ bytes. vec_len bytes ≤ MOST_FILE_BYTES + 1) }
+    // Where the file tells what it has.
+    ensures bytes { IfOk result (λ bytes. IsFrontOfFile (F.remaining file) bytes.items) }
+{
+    let most = u64::from(MOST_FILE_BYTES) + 1;
+    let room = length.saturating_add(1).min(most);
+    let mut bytes = Vec::with_capacity(alloc, room as usize)?;
+    file.take(most).read_to_end(&mut bytes)?;
+    // no byte goes by this: of bytes that a reader does not tell, std does not say that `take` keeps the limit
+    bytes.truncate(most as usize);
+    Ok(bytes)
+}
+
+/// The bytes of the plain file at a path, or one more than the limit. A link there is followed, or is no plain file. What is none is an invalid input: it is looked at
+/// before it is opened, since opening a FIFO waits for who writes into it; and what was opened is looked at too, since another file may stand there by then.
+pub fn read_plain<R: Files>(
+    alloc: Global,
+    files: &R,
+    path: &str,
+    follows: bool,
+) -> io::Result<Vec<u8>>
+    ensures most { IfOk result (λ bytes. vec_len bytes ≤ MOST_FILE_BYTES + 1) }
+    // Where files tell what they have.
+    ensures bytes { IfOk result (λ bytes. IsFrontOfSome R.File.remaining bytes.items) }
+{
     let found = plain(look(files, path, follows)?)?;
     let file = fs::open(files, path)?;
     let opened = plain(file.metadata()?)?;
     if follows || is_same(&found, &opened) {
-        Ok(file)
+        read_front(alloc, file, opened.len())
     } else {
         Err(io::Error::from(ErrorKind::InvalidInput))
     }

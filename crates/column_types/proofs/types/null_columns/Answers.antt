@@ -13,7 +13,7 @@ loop-place-preserved c =
     ∙ map-append column_view c.loop-place.columns.items (c.typed_column.result ∷ [])
     ∙ null_columns-more (map column_view c.loop-place.columns.items) (column_view c.typed_column.result) c.null_word.result.now c.loop-place.place (omega arith)
     c.loop-place.invariant
-    (c.typed_column.ensures ∙ ap (column_with [] [] integer) (ap (map string_bytes) (c.in_ok-push.ensures.items ∙ ap (λ first. first ++ c.in_ok-from_str.field-0 ∷ []) c.new-nulls.ensures.items) ∙ ap (λ word. word ∷ []) c.in_ok-from_str.ensures.ok))
+    (c.typed_column.ensures ∙ ap (column_with [] [] integer) (ap (map string_bytes) (c.in_ok-push.ensures.items ∙ ap (λ first. first ++ c.in_ok-word.word ∷ []) c.new-nulls.ensures.items) ∙ ap (λ word. word ∷ []) c.in_ok-word.ensures.ok))
     c.null_word.ensures
 
 pub returns : goal.returns

@@ -1,8 +1,14 @@
-use Rattle.clap.specs.Words.{kind_of}
+use Rattle.std.proofs.Common.{inl}
 use Rattle.command_words.specs.Words.{texts}
-use Rattle.csvw_draft.proofs.WordLemmas.{fault_for}
+use Rattle.csvw_draft.proofs.WordLemmas.{line_asks, line_asks_not}
 use Rattle.csvw_draft.proofs.words.read_words.Goals as goal
 
+pub returns-in-Ok : goal.returns-in-Ok
+returns-in-Ok c =
+    let line = texts c.args.words.now in record {
+      words = line_asks line c.in-Ok.matches c.matches_words.result c.in-Ok.ensures.matches c.matches_words.ensures.words;
+      fault = line_asks_not line c.in-Ok.matches c.matches_words.result c.in-Ok.ensures.matches c.matches_words.ensures.fault;
+    }
+
 pub returns-in-Err-clause-fault : goal.returns-in-Err-clause-fault
-returns-in-Err-clause-fault c =
-    fault_for (kind_of c.in-Err.error) c.fault_by.result (texts c.args.words.now) c.in-Err.ensures.kinds c.fault_by.ensures
+returns-in-Err-clause-fault c = inl c.in-Err.ensures.fault

@@ -1,18 +1,19 @@
-use Rattle.std.proofs.Common.{◌≡◌, ◌≤◌, ◌<◌, ◌+◌, true, [], length, take, arith, ap, sym, subst, ◌∙◌}
-use Rattle.std.specs.Prelude.{string_bytes}
+use Rattle.std.proofs.Common.{◌≡◌, ◌≤◌, ◌<◌, ◌+◌, None, true, [], length, take, arith, ap, sym, subst, refl, ◌∙◌}
+use Rattle.std.specs.Prelude.{IfSome, string_bytes}
 use Rattle.std.proofs.lemmas.List.{length-map}
 use Rattle.std.proofs.lemmas.Option.{IfSome_then}
-use Rattle.std.proofs.lemmas.Result.{err_from_is_err_and, on_ok_weaker}
+use Rattle.std.proofs.lemmas.Result.{err_from_is_err_and, IfErr-weaker, on_ok_weaker}
 use Rattle.csv_grammar.specs.Raw.{field_of}
 use Rattle.csvw_meta.specs.Forms.{is_table_url}
 use Rattle.csvw_meta.specs.Limits.{limits_view}
 use Rattle.csvw_meta.specs.Schema.{SchemaOf}
 use Rattle.table_store.specs.File.{FileOf, file_view, files_view}
 use Rattle.table_store.specs.Loading.{schema_views}
-use Rattle.csvw_guess.specs.Draft.{HasOwnUrl, HaveDrafts, IsDraft, IsLeftOut, file_at}
+use Rattle.csvw_guess.specs.declared.fault.DraftFault.TheVariants.{NoMemory}
+use Rattle.csvw_guess.specs.Draft.{HasNoDraft, HasOwnUrl, HaveDrafts, IsDraft, IsLeftOut, file_at}
 use Rattle.csvw_guess.specs.Fault.{draft_cause}
 use Rattle.csvw_guess.specs.Table.{file_schema}
-use Rattle.csvw_guess.proofs.DraftLemmas.{bad-at, draft-next, file-there, is-draft, is-wide, no-draft, on-ok, out-for-name, out-next}
+use Rattle.csvw_guess.proofs.DraftLemmas.{bad-at, draft-next, file-there, is-draft, is-wide, no-cause, no-draft, on-ok, or-err, or-ok, out-for-name, out-next}
 use Rattle.csvw_guess.proofs.FolderLemmas.{some_header}
 use Rattle.csvw_guess.proofs.draft.draft_file.Goals as goal
 
@@ -25,6 +26,20 @@ returns-in-Some-clause-drafts c =
     on-ok c.leave_out.result
     (subst (λ schemas. HaveDrafts limits [] (take (number + 1) files) (schema_views schemas.items)) (sym c.leave_out.ensures.schemas)
     (out-next limits files number _ within c.requires.drafts (out-for-name limits files number c.in-Some.ensures)))
+
+pub returns-in-Some-clause-fault : goal.returns-in-Some-clause-fault
+returns-in-Some-clause-fault c = no-cause (HasNoDraft (limits_view c.args.limits.now) (files_view c.args.files.now)) c.leave_out.result c.leave_out.ensures.fault
+
+pub returns-in-Some-clause-memory : goal.returns-in-Some-clause-memory
+returns-in-Some-clause-memory c = IfErr-weaker c.leave_out.result _ _ (λ e same none. same) c.leave_out.ensures.fault
+
+pub returns-in_err-table-clause-drafts : goal.returns-in_err-table-clause-drafts
+returns-in_err-table-clause-drafts c = let p = err_from_is_err_and c.from_residual.result c.from_residual.ensures.1 in rw p.1 tt
+
+pub returns-in_err-table-clause-memory : goal.returns-in_err-table-clause-memory
+returns-in_err-table-clause-memory c =
+    let p = err_from_is_err_and c.from_residual.result c.from_residual.ensures.1 in
+    rw (p.1, p.2) c.in_err-table.ensures.memory
 
 pub returns-in_err-table-clause-fault : goal.returns-in_err-table-clause-fault
 returns-in_err-table-clause-fault c =
@@ -54,6 +69,16 @@ returns-then-columns-limits-clause-drafts c =
     (subst (λ schemas. HaveDrafts limits [] (take (number + 1) files) (schema_views schemas.items)) (sym c.leave_out-then-columns-limits.ensures.schemas)
     (out-next limits files number _ within c.requires.drafts out))
 
+pub returns-then-columns-limits-clause-fault : goal.returns-then-columns-limits-clause-fault
+returns-then-columns-limits-clause-fault c =
+    no-cause (HasNoDraft (limits_view c.args.limits.now) (files_view c.args.files.now)) c.leave_out-then-columns-limits.result c.leave_out-then-columns-limits.ensures.fault
+
+pub returns-then-columns-limits-clause-memory : goal.returns-then-columns-limits-clause-memory
+returns-then-columns-limits-clause-memory c = IfErr-weaker c.leave_out-then-columns-limits.result _ _ (λ e same none. same) c.leave_out-then-columns-limits.ensures.fault
+
+pub add_table-requires-clause-candidates : goal.add_table-requires-clause-candidates
+add_table-requires-clause-candidates c = c.requires.candidates
+
 pub add_table-requires-clause-width : goal.add_table-requires-clause-width
 add_table-requires-clause-width c =
     omega (arith, some_header _ _ _ c.in_ok-table.ensures.table.is, length-map c.in_ok-table.table.header field_of)
@@ -74,6 +99,14 @@ returns-clause-drafts c =
     let is : IsDraft limits (file_at files number) schema =
     subst (λ (f : FileOf). IsDraft limits f schema) (sym there)
     (is-draft limits (file_view file) table schema url c.in_ok-table.ensures.size c.in_ok-table.ensures.table width (ap (λ u. file_schema u table) c.as_str.ensures.value)) in
-    on_ok_weaker c.add_table.result
+    or-ok _ c.add_table.result NoMemory c.or.result c.or.ensures
+    (on_ok_weaker c.add_table.result
     (λ same. subst (HaveDrafts limits [] (take (number + 1) files)) (sym same) (draft-next limits files number _ schema within c.requires.drafts own.fresh is))
-    c.add_table.ensures.schemas
+    c.add_table.ensures)
+
+pub returns-clause-fault : goal.returns-clause-fault
+returns-clause-fault c =
+    or-err (λ e. IfSome (draft_cause e) (HasNoDraft (limits_view c.args.limits.now) (files_view c.args.files.now))) c.add_table.result NoMemory c.or.result c.or.ensures tt
+
+pub returns-clause-memory : goal.returns-clause-memory
+returns-clause-memory c = or-err (λ e. draft_cause e ≡ None → e ≡ NoMemory) c.add_table.result NoMemory c.or.result c.or.ensures (λ none. refl)

@@ -1,6 +1,7 @@
-use Rattle.std.proofs.Common.{◌≡◌, ◌<◌, Some, length, map, arith, ap, sym, ◌∙◌}
-use Rattle.std.specs.Prelude.{slice_get}
+use Rattle.std.proofs.Common.{◌≡◌, ◌<◌, ℕ, [], Some, length, map, arith, ap, subst, sym, ◌∙◌}
+use Rattle.std.specs.Prelude.{All, slice_get}
 use Rattle.std.proofs.lemmas.List.{length-map}
+use Rattle.std.proofs.lemmas.List.Elements.{All-cons, All-nil}
 use Rattle.std.proofs.lemmas.Result.{IfErr-weaker, IfOk-weaker}
 use Rattle.cell_types.specs.Column.{ColumnOf, column_view}
 use Rattle.csvw_guess.specs.FirstKey.{cell_keys}
@@ -19,6 +20,18 @@ returns-then-not-has_key_type c = λ column e.
     let same : first ≡ column = cc in
     may-not-be first (file_cells 0 c.args.file.now) (sym c.has_key_type.ensures ∙ c.if-not-has_key_type.true)
     ∙ ap (λ column. are_keys column (file_cells 0 c.args.file.now)) same
+
+pub new-requires : goal.new-requires
+new-requires c =
+    let columns = map column_view c.args.schema.now.columns.items in
+    let within = λ (place : ℕ). place < length columns in
+    subst (All within) (sym c.requires.key) (All-cons within 0 [] c.requires.columns (All-nil within))
+
+pub read_keys-read-requires-clause-width : goal.read_keys-read-requires-clause-width
+read_keys-read-requires-clause-width c = c.requires.width
+
+pub read_keys-read-requires-clause-none : goal.read_keys-read-requires-clause-none
+read_keys-read-requires-clause-none c = c.in_ok-keys.ensures.read
 
 pub read_keys-read-requires-clause-suits : goal.read_keys-read-requires-clause-suits
 read_keys-read-requires-clause-suits c =

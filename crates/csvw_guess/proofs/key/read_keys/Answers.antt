@@ -13,6 +13,16 @@ use Rattle.csvw_guess.proofs.PlaceLemmas.{length-cells}
 use Rattle.csvw_guess.proofs.RowsLemmas.{first-says, row-at}
 use Rattle.csvw_guess.proofs.key.read_keys.Goals as goal
 
+pub loop-row-init : goal.loop-row-init
+loop-row-init c = record {
+  passed = c.fields-fields.ensures;
+  keys = c.requires.none;
+  suits = c.requires.suits;
+}
+
+pub first_field-raw-requires-clause-some : goal.first_field-raw-requires-clause-some
+first_field-raw-requires-clause-some c = omega (arith, c.width.ensures.header, c.requires.width)
+
 pub first_field-raw-requires-clause-enough : goal.first_field-raw-requires-clause-enough
 first_field-raw-requires-clause-enough c =
     (row-at c.args.file.now c.width.result c.loop-row.fields c.loop-row.row (omega arith) c.width.ensures.rows c.loop-row.invariant.passed).enough

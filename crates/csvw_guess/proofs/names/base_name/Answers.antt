@@ -1,10 +1,16 @@
 use Rattle.std.proofs.Common.{◌≡◌, ◌++◌, ◌<◌, [], ◌∷◌, map, arith, ap, sym, subst, ◌∙◌, append-nil}
 use Rattle.std.specs.Prelude.{string_bytes}
-use Rattle.std.specs.Str.{chars}
+use Rattle.std.specs.Str.{chars, IsUtf8}
+use Rattle.std.specs.Str.Iter.{chars_rest}
 use Rattle.std.proofs.lemmas.Str.{IsUtf8-past_char, chars-nil, chars_past_char}
 use Rattle.csvw_guess.specs.Names.{name_char}
 use Rattle.csvw_guess.proofs.NameLemmas.{ascii-split, base_name-parts, char-more, name_char-ascii, no-length, whole-ascii}
 use Rattle.csvw_guess.proofs.names.base_name.Goals as goal
+
+pub loop-c-init : goal.loop-c-init
+loop-c-init c =
+    let rest : chars_rest c.into_iter-c-iterator.result ≡ c.args.cell.now = ap chars_rest c.into_iter-c-iterator.ensures.into_iter_gives ∙ c.chars-c-items.ensures.rest in
+    (subst IsUtf8 (sym rest) c.utf8.cell, ap (λ bytes. string_bytes c.in_ok-name.name ++ map name_char (chars bytes)) rest)
 
 pub loop-c-preserved : goal.loop-c-preserved
 loop-c-preserved c =

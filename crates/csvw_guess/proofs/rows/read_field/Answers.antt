@@ -1,18 +1,41 @@
 -- A field that is read says one more cell of its column.
-use Rattle.std.proofs.Common.{[], ◌∷◌, ap, subst, sym, ◌∙◌}
-use Rattle.std.proofs.lemmas.Result.{on_ok_weaker}
+use Rattle.std.proofs.Common.{[], ◌∷◌, ap, drop, subst, sym, ◌∙◌}
+use Rattle.std.proofs.lemmas.Result.{err_from_is_err_and, on_ok_weaker}
 use Rattle.column_types.specs.Seen.{HasMore}
 use Rattle.csvw_guess.specs.Rows.{content_at}
-use Rattle.csvw_guess.proofs.RowsLemmas.{knows-past, knows-read}
+use Rattle.csvw_guess.proofs.DraftLemmas.{on-ok}
+use Rattle.csvw_guess.proofs.RowsLemmas.{knows-past, knows-read, some-left}
 use Rattle.csvw_guess.proofs.rows.read_field.Goals as goal
 
 -- a cell that is passed
+pub returns-then-is_text-clause-passed : goal.returns-then-is_text-clause-passed
+returns-then-is_text-clause-passed c = c.pass.ensures
+
 pub returns-then-is_text-clause-read : goal.returns-then-is_text-clause-read
 returns-then-is_text-clause-read c =
     let cell = content_at c.args.fields.now 0 in
     λ cells known. knows-past c.args.seen.now cells (cell ∷ []) (sym c.is_text.ensures.must ∙ c.if-is_text.true) known
 
 -- a cell that is read
+pub read-requires-clause-candidates : goal.read-requires-clause-candidates
+read-requires-clause-candidates c = c.requires.candidates
+
+pub read-requires-clause-live : goal.read-requires-clause-live
+read-requires-clause-live c = record {
+  some = some-left c.args.seen.now (sym c.is_text.ensures.must ∙ c.if-is_text.false);
+  places = c.requires.places.places;
+  count = c.requires.places.count;
+}
+
+pub returns-in_err-text-clause-passed : goal.returns-in_err-text-clause-passed
+returns-in_err-text-clause-passed c = let p = err_from_is_err_and c.from_residual.result c.from_residual.ensures.1 in rw p.1 tt
+
+pub returns-in_err-text-clause-read : goal.returns-in_err-text-clause-read
+returns-in_err-text-clause-read c = let p = err_from_is_err_and c.from_residual.result c.from_residual.ensures.1 in rw p.1 tt
+
+pub returns-clause-passed : goal.returns-clause-passed
+returns-clause-passed c = on-ok c.read.result (sym (ap (drop 1) c.in-Some.ensures))
+
 pub returns-clause-read : goal.returns-clause-read
 returns-clause-read c =
     let old = c.args.seen.now in

@@ -1,9 +1,17 @@
-use Rattle.std.proofs.Common.{◌≡◌, ◌<◌, List, drop, length, ap, subst, sym, ◌∙◌, arith}
+use Rattle.std.proofs.Common.{◌≡◌, ◌<◌, List, drop, length, ap, refl, subst, sym, ◌∙◌, arith}
 use Rattle.std.proofs.lemmas.List.{drop-drop, get_or_read, get_or-set_other, length-drop, length-set}
 use Rattle.column_types.specs.declared.seen.Seen.{Seen}
 use Rattle.column_types.specs.Seen.{HasPlaces}
 use Rattle.csvw_guess.proofs.RowsLemmas.{read-next}
 use Rattle.csvw_guess.proofs.rows.read_row.Goals as goal
+
+pub loop-col-init : goal.loop-col-init
+loop-col-init c = record {
+  passed = refl;
+  count = refl;
+  read = λ k none less. absurd (omega (arith, less));
+  left = λ k none past. refl;
+}
 
 pub index_mut-requires : goal.index_mut-requires
 index_mut-requires c = omega (arith, c.loop-col.invariant.count, c.len-col-end.ensures, c.loop-col-test.true, c.loop-col.columns.ok.0)

@@ -1,5 +1,5 @@
 -- The range of the rows so far is widened by one more cell.
-use Rattle.std.proofs.Common.{◌≡◌, ◌∙◌, ◌+◌, ◌≤◌, ap, arith, sym}
+use Rattle.std.proofs.Common.{◌≡◌, ◌∙◌, ◌+◌, ◌≤◌, ap, arith, refl, sym}
 use Rattle.block_summary.specs.Ranges.{RangeOf, widened}
 use Rattle.cell_types.specs.Value.{value_view}
 use Rattle.folder_report.specs.declared.bounds.Bounds.{Bounds}
@@ -19,7 +19,7 @@ loop-row-preserved c =
       | in_default+in_ok-same-in_default w ↦ (
         ap bounds_view w.bounds-is
             ∙ value-widens (bounds_view old) value _ _ _ (value_view w.in_ok-same-in_default.same) w.in_default.not-Null c.in_ok-value.ensures
-            w.in_ok-same-in_default.ensures w.put_least.ensures w.put_greatest.ensures,
+            w.in_ok-same-in_default.ensures (w.put_bound.ensures.least refl) (w.put_bound-in_default.ensures.greatest refl),
         omega (arith, ap (λ (b : Bounds). b.nulls) w.bounds-is),
       )
     ] in (

@@ -11,4 +11,4 @@ returns c whole =
     let second = c.push-2.ensures third.0 in
     let first = c.push.ensures second.0 in
     let all = added-six _ _ _ _ _ _ _ c.name.result.now _ _ _ _ _ first.1 second.1 third.1 fourth.1 fifth.1 sixth.1 in
-    (first.0, cc all)
+    (first.0, rw (← c.name.ensures, ← c.rows.ensures, ← c.width.ensures.columns) all)

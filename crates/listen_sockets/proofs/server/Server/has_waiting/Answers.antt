@@ -1,5 +1,5 @@
 use Rattle.std.proofs.Common.{ap, ◌∙◌}
-use Rattle.std.specs.Prelude.{Bool, not}
+use Rattle.std.specs.Prelude.{not}
 use Rattle.odata_hub.specs.Schedules.{conn_at}
 use Rattle.listen_sockets.proofs.ServerLemmas.{lent_waits, none_lent}
 use Rattle.listen_sockets.proofs.server.Server.has_waiting.Goals as goal

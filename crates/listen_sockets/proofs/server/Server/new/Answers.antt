@@ -2,8 +2,8 @@ use Rattle.std.proofs.Common.{◌≡◌, replicate, arith, ap, ◌∙◌}
 use Rattle.odata_rounds.specs.Lives.{free_slot}
 use Rattle.listen_sockets.proofs.server.Server.new.Goals as goal
 
-pub returns : goal.returns
-returns c =
+pub returns-clause-free : goal.returns-clause-free
+returns-clause-free c =
     let end : c.loop-place._place ≡ c.args.places = omega (arith, c.loop-place-test.false) in
     record {
       stands = c.in_ok-new.ensures;

@@ -1,0 +1,28 @@
+//! Why a program has nothing to do.
+ghost use Rattle.clap.specs.Words.{kind_of};
+ghost use Rattle.command_words.specs.Fault.{IsFaultBy};
+
+use clap::Error;
+use clap::error::ErrorKind;
+
+/// Why there is nothing to do.
+#[derive(Drop)]
+pub enum WordsFault {
+    /// The words ask for help or the version, which is the error's text.
+    Shows(Error),
+    /// They are no command of the program.
+    Usage,
+    /// Memory ran out.
+    NoMemory,
+}
+
+/// Why there is nothing to do, where `clap` fails.
+pub(crate) fn fault_by(error: Error) -> WordsFault
+    ensures { IsFaultBy (kind_of error) result }
+{
+    match error.kind() {
+        ErrorKind::OutOfMemory => WordsFault::NoMemory,
+        ErrorKind::DisplayHelp | ErrorKind::DisplayVersion => WordsFault::Shows(error),
+        _ => WordsFault::Usage,
+    }
+}
