@@ -7,7 +7,7 @@ use Rattle.std.specs.List.{All, AllByRecursion, IsDistinct, find, list_all, rang
 use Rattle.std.specs.Str.{bytes_eq, chars}
 use Rattle.std.proofs.lemmas.Bool.{cond_both, and_from, or_left, false_from_ne_true}
 use Rattle.std.proofs.lemmas.Fmt.{length-decimal-le_wide}
-use Rattle.std.proofs.lemmas.List.{length-map, length-take}
+use Rattle.std.proofs.lemmas.List.{length-map, length-take, take-append-drop}
 use Rattle.std.specs.Cmp.Lexicographic.{same_text}
 use Rattle.std.proofs.lemmas.List.Elements.{All-cons, All-head, All-nil, All-tail}
 use Rattle.std.proofs.lemmas.List.Folds.{list_any-append}
@@ -28,7 +28,6 @@ use Rattle.csvw_guess.proofs.NameLemmas.{are_name_bytes, base_name-named, number
 use Rattle.csvw_guess.proofs.DistinctLemmas.{names_after-distinct}
 use Rattle.csvw_guess.proofs.FolderLemmas.{some_header}
 use Rattle.csvw_guess.proofs.MatchLemmas.{bytes_eq-same}
-use Rattle.csvw_guess.proofs.UrlLemmas.{url-ends}
 
 -- ---- the form of a name
 column_name : (name : List ℕ) → length name ≤ 128 → begins_with_letter name ≡ true → are_name_bytes name ≡ true → is_column_name name ≡ true
@@ -142,6 +141,12 @@ key-places (column ∷ columns) records =
     (λ _. (λ k d h. absurd (omega (arith, h)), tt))
 
 -- ---- the url
+-- a url that ends with `.csv` is a front and `.csv`
+url-ends : (url : List ℕ) → has_url_end url ≡ true → url ≡ take (length url - length url_end) url ++ url_end
+url-ends url h =
+    let ends = same_text url_end _ (sym h) in
+    sym (ap (λ end. take (length url - length url_end) url ++ end) ends ∙ take-append-drop (length url - length url_end) url)
+
 url-name : (url : List ℕ) → is_table_url url ≡ true → url ≡ table_name url ++ url_end
 url-name url h =
     let ends : has_url_end url ≡ true = and_second _ (has_url_end url) (and_first _ (is_word_of is_url_byte (table_name url)) h) in

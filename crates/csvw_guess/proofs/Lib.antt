@@ -9,7 +9,6 @@ pub mod ColumnLemmas
 pub mod TableLemmas
 pub mod GroupLemmas
 pub mod TextLemmas
-pub mod UrlLemmas
 pub mod MatchLemmas
 pub mod RowLemmas
 pub mod KeyLemmas

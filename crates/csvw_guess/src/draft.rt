@@ -12,11 +12,10 @@ ghost use Rattle.csvw_guess.specs.Table.{file_schema};
 use crate::fault::{DraftFault, Warning};
 use crate::rows::read_columns;
 use crate::table::make_schema;
-use crate::url::is_table_url;
 use crate::warnings::{column_warnings, header_warnings};
 use column_types::Candidates;
 use csv_index::{IndexedText, TextFault};
-use csvw_meta::{Limits, Schema};
+use csvw_meta::{Limits, Schema, is_table_url};
 use std::alloc::{AllocError, Global};
 use table_store::NamedFile;
 

@@ -16,7 +16,6 @@ mod rows;
 mod table;
 mod table_text;
 mod text;
-mod url;
 mod warnings;
 
 pub use draft::{Draft, draft_of};

@@ -18,7 +18,7 @@ fn name_char(c: char) -> char
 }
 
 /// Whether a letter comes first.
-pub fn begins_with_letter(name: &[u8]) -> bool
+fn begins_with_letter(name: &[u8]) -> bool
     ensures { result ≡ begins_with_letter_of name.now }
 {
     match name.first() {

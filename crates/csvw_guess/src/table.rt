@@ -6,10 +6,9 @@ ghost use Rattle.csvw_meta.specs.Schema.{schema_view};
 
 use crate::column::make_columns;
 use crate::key::has_keys;
-use crate::url::table_name;
 use column_types::Seen;
 use csv_index::IndexedText;
-use csvw_meta::Schema;
+use csvw_meta::{Schema, table_name};
 use std::alloc::{AllocError, Global};
 
 /// The schema of a file with that name, of whose cells this is known.

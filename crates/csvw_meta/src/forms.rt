@@ -56,8 +56,8 @@ pub(crate) fn is_column_name(name: &str) -> bool
     bytes.len() <= MOST_NAME_BYTES && begins_with_letter(bytes) && are_name_bytes(&bytes[1..])
 }
 
-/// The form of a table's url.
-pub(crate) fn is_table_url(url: &str) -> bool
+/// Whether a text has the form of a table's url: at most 132 bytes, an ASCII letter, then letters, digits, low lines and hyphens, then `.csv`.
+pub fn is_table_url(url: &str) -> bool
     ensures { result ≡ is_table_url_of url.now }
 {
     let bytes = url.as_bytes();
@@ -68,8 +68,8 @@ pub(crate) fn is_table_url(url: &str) -> bool
     begins_with_letter(name) && are_url_bytes(&name[1..])
 }
 
-/// A url without its `.csv`.
-pub(crate) fn table_name(url: &str) -> &str
+/// A url without its `.csv`, which is the name of its table.
+pub fn table_name(url: &str) -> &str
     ensures { result.now ≡ table_name_of url.now }
 {
     match url.strip_suffix(".csv") {

@@ -21,6 +21,7 @@ mod texts;
 
 pub use document::Schemas;
 pub use fault::MetaFault;
+pub use forms::{is_table_url, table_name};
 pub use laws::{
     accepted_schemas, defaults_are_short, levels_are_of_form, mark_is_dropped, nearest_level,
     schemas_or_cause, sizes, texts_tell_faults_apart,
