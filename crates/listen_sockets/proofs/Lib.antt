@@ -1,3 +1,4 @@
+mod EventLemmas
 mod LingeringLemmas
 mod PlaceLemmas
 mod ServerLemmas

@@ -1,9 +1,12 @@
 -- What the system's sockets tell and count.
-use Rattle.std.specs.Prelude.{◌≡◌, ◌≢◌, ℕ, ◌-◌, ◌^◌, Bool, true, false, List, map, Option, None, Some, MatchOption, is_none, option_map, slice_get, slice_set}
+use Rattle.std.specs.Prelude.{◌≡◌, ◌≢◌, ℕ, ◌-◌, ◌^◌, Bool, true, false, not, List, [], ◌∷◌, map, nat_lt, Option, None, Some, MatchOption, is_none, option_map, slice_get, slice_set}
+use Rattle.std.specs.List.{list_any}
+use Rattle.mio.specs.Event.{event_token}
+use Rattle.mio.specs.declared.event.event.Event.{Event}
 use Rattle.listen_sockets.specs.declared.peer.Peer.{Peer}
 use Rattle.listen_sockets.specs.declared.slow.Times.{Times}
 use Rattle.listen_sockets.specs.declared.sockets.Wire.{Wire}
-use Rattle.listen_sockets.specs.Peer.{but_for_events}
+use Rattle.listen_sockets.specs.Peer.{after_event, but_for_events}
 use Rattle.odata_rounds.specs.Peers.{WireOf}
 
 -- a socket that tells no bytes, and counts
@@ -66,6 +69,19 @@ pub record KeepsAt (known : Peer → Peer) (place : ℕ) (old new : List Wire) :
 -- system may have said something of them.
 abbrev pub KeepsSockets : List Wire → List Wire → Type 0
 KeepsSockets old new = map (with_peer but_for_events) new ≡ map (with_peer but_for_events) old
+
+-- The system reported these events, one after another: what each says is added to what is known of the socket at the place of its number, where there is one.
+abbrev pub AreMarked : List Event → List Wire → List Wire → Type 0
+AreMarked [] old new = new ≡ old
+AreMarked (event ∷ events) old new = (mid : List Wire) × ChangesPeer (event_token event).0 (after_event event) old mid × AreMarked events mid new
+
+-- an event whose number is that of no place is the listener's
+abbrev pub is_of_listener : ℕ → Event → Bool
+is_of_listener places event = not (nat_lt (event_token event).0 places)
+
+-- whether the system reported something of the listener
+abbrev pub tells_listener : ℕ → List Event → Bool
+tells_listener places events = list_any (is_of_listener places) events
 
 -- the times of the connection at a place, where there is one
 abbrev pub peer_times : Option Peer → Option Times

@@ -1,5 +1,7 @@
 //! The system's part of the service, over `mio`: where connections come from, and what the system says of them.
-ghost use Rattle.listen_sockets.specs.Sockets.{KeepsSockets, KeepsStreams};
+ghost use Rattle.std.specs.Prelude.{◌≡◌, ◌==◌, ◌||◌, IfOk, length, not, true};
+ghost use Rattle.mio.specs.Events.{items as events_of};
+ghost use Rattle.listen_sockets.specs.Sockets.{AreMarked, KeepsSockets, KeepsStreams, tells_listener};
 
 use crate::sockets::Sockets;
 use mio::net::TcpListener;
@@ -20,6 +22,10 @@ const LISTENER: Token = Token(0xffff_ffff);
 
 /// Sets what the system says of each socket. Whether it says something of the listener.
 fn mark(sockets: &mut Sockets, events: &Events) -> bool
+    ensures listener { result
+        ≡ tells_listener (length sockets.old.wires.items) (events_of events.now) }
+    ensures marks { AreMarked (events_of events.now)
+        sockets.old.wires.items sockets.new.wires.items }
     ensures sockets { KeepsSockets sockets.old.wires.items sockets.new.wires.items }
     ensures streams { KeepsStreams sockets.old.wires.items sockets.new.wires.items }
 {
@@ -39,18 +45,22 @@ pub struct Poller {
     pub listener: TcpListener,
     /// A connection may wait.
     pub accepts: bool,
-    events: Events,
+    /// What the system said last.
+    pub events: Events,
     start: Instant,
     /// The second of the last look at the folder.
-    looked: u64,
+    pub looked: u64,
 }
 
 impl Poller {
-    /// Over a listener.
+    /// Over a listener. A connection may wait from the start.
     pub fn new<R: Net + Clock + AllocGlobal>(
         rt: &R,
         mut listener: TcpListener,
-    ) -> io::Result<Poller> {
+    ) -> io::Result<Poller>
+        ensures accepts { IfOk result (λ poller. poller.accepts ≡ true) }
+        ensures looked { IfOk result (λ poller. poller.looked ≡ 0) }
+    {
         let start = Instant::now(rt)?;
         let poll = Poll::new(rt)?;
         let events = Events::with_capacity(rt.alloc(), EVENTS)?;
@@ -66,8 +76,15 @@ impl Poller {
         })
     }
 
-    /// Waits for events, and gives the second that it is then. No stream ends by that, and each socket stays at its place.
+    /// Waits for events, and gives the second that it is then. No stream ends by that, and each socket stays at its place. A connection may wait where
+    /// one did, and where the system says something of the listener.
     pub fn wait<R: Clock>(&mut self, rt: &R, sockets: &mut Sockets, busy: bool) -> io::Result<u64>
+        ensures accepts { self.new.accepts
+            ≡ (tells_listener (length sockets.old.wires.items) (events_of self.new.events)
+            || self.old.accepts) }
+        ensures marks { AreMarked (events_of self.new.events)
+            sockets.old.wires.items sockets.new.wires.items }
+        ensures looked { self.new.looked ≡ self.old.looked }
         ensures sockets { KeepsSockets sockets.old.wires.items sockets.new.wires.items }
         ensures streams { KeepsStreams sockets.old.wires.items sockets.new.wires.items }
     {
@@ -78,7 +95,10 @@ impl Poller {
     }
 
     /// Whether a second began since this was last asked.
-    pub fn is_new_second(&mut self, now: u64) -> bool {
+    pub fn is_new_second(&mut self, now: u64) -> bool
+        ensures new { result ≡ not (now == self.old.looked) }
+        ensures looked { self.new ≡ record self.old { looked = now } }
+    {
         let is_new = now != self.looked;
         self.looked = now;
         is_new

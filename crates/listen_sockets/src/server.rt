@@ -41,6 +41,7 @@ pub struct Server {
     room: Vec<u8>,
     waste: Vec<u8>,
     ghost some_room: { 0 < length room.items },
+    ghost some_waste: { 0 < length waste.items },
     ghost few_slots: { length slots.items < 2 ^ 32 },
 }
 

@@ -19,7 +19,7 @@ pub struct Wire {
 }
 
 impl Wire {
-    ghost use Rattle.std.specs.Prelude.{option_map};
+    ghost use Rattle.std.specs.Prelude.{is_some, option_map};
     ghost use Rattle.odata_rounds.specs.Peers.{CountsFault, IsRead, IsWrite};
     ghost use Rattle.listen_sockets.specs.Peer.{after_end, after_event, after_visit, before_try, but_for_reads, but_for_writes};
     ghost use Rattle.listen_sockets.specs.Sockets.{is_ended_peer, is_lost_peer, peer_times, untold_wire, with_peer};
@@ -73,9 +73,10 @@ impl Wire {
         }
     }
 
-    /// Has the system report the socket under a number.
+    /// Has the system report the socket under a number. Where there is none, it reports nothing.
     pub(crate) fn register(&mut self, poll: &Poll, place: u32) -> bool
-        ensures { self.new ≡ self.old }
+        ensures wire { self.new ≡ self.old }
+        ensures reported { result ≡ true → is_some self.old.peer ≡ true }
     {
         match &mut self.peer {
             Some(peer) => peer.register(poll, place),

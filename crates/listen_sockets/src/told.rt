@@ -1,5 +1,5 @@
 //! What the system is asked and says of the sockets of the places. No stream ends by that, and each socket stays at its place.
-ghost use Rattle.std.specs.Prelude.{◌≡◌, map};
+ghost use Rattle.std.specs.Prelude.{◌≡◌, is_some, length, map, nat_lt, true};
 ghost use Rattle.mio.specs.Event.{event_token};
 
 use crate::sockets::Sockets;
@@ -8,10 +8,11 @@ use mio::event::Event;
 
 impl Sockets {
     ghost use Rattle.listen_sockets.specs.Peer.{after_event, before_try};
-    ghost use Rattle.listen_sockets.specs.Sockets.{ChangesPeer, KeepsStreams, with_peer};
+    ghost use Rattle.listen_sockets.specs.Sockets.{ChangesPeer, KeepsStreams, peer_at, with_peer};
 
-    /// Has the system report the socket at a place under its number.
+    /// Has the system report the socket at a place under its number. Where there is none, it reports nothing.
     pub fn register(&mut self, poll: &Poll, place: u32) -> bool
+        ensures reported { result ≡ true → is_some (peer_at self.old.wires.items place) ≡ true }
         ensures sockets { self.new.wires.items ≡ self.old.wires.items }
         ensures streams { KeepsStreams self.old.wires.items self.new.wires.items }
     {
@@ -24,6 +25,7 @@ impl Sockets {
 
     /// Sets what the system says of the socket of an event. Whether there is such a place.
     pub(crate) fn mark(&mut self, event: &Event) -> bool
+        ensures place { result ≡ nat_lt (event_token event.now).0 (length self.old.wires.items) }
         ensures sockets { ChangesPeer (event_token event.now).0 (after_event event.now)
             self.old.wires.items self.new.wires.items }
         ensures streams { KeepsStreams self.old.wires.items self.new.wires.items }
