@@ -7,13 +7,10 @@ use Rattle.std.proofs.lemmas.Bool.{cases_order}
 use Rattle.std.proofs.lemmas.List.{get_or-map, length-map, take_more}
 use Rattle.cell_types.specs.Column.{ColumnOf}
 use Rattle.cell_types.specs.Datatype.{DatatypeOf, text}
-use Rattle.cell_types.specs.declared.column.Column.{Column}
 use Rattle.column_types.proofs.ListLaws.{or_from_false}
-use Rattle.column_types.specs.declared.types.Candidates.{Candidates}
-use Rattle.column_types.specs.Kinds.{AreCandidates}
 use Rattle.column_types.specs.Seen.{flagged}
 use Rattle.column_types.specs.Types.{candidate, null_column, null_words, types}
-use Rattle.column_types.proofs.SeenLemmas.{flagged-more, nulls-count}
+use Rattle.column_types.proofs.SeenLemmas.{flagged-more}
 
 -- after a flag that is set the others are as they were
 pub set-left : (first flags : List Bool) (place : ℕ) (v : Bool) → ((k : ℕ) → place ≤ k → get_or flags k false ≡ get_or first k false)
@@ -44,11 +41,6 @@ kept-done h first flags place done left is k less =
       | inr (inl before) ↦ done k before
       | inr (inr after) ↦ absurd (omega (arith, less, after))
     ]
-
--- there is a flag for each column of a word
-pub flag-within : (candidates : Candidates) (columns : List Column) (flags : List Bool) (place : ℕ) → AreCandidates candidates → columns ≡ candidates.nulls.items
-    → length flags ≡ length null_words → place < length columns → place < length flags
-flag-within candidates columns flags place are same count less = omega (arith, less, count, nulls-count candidates are, ap (λ cs. length cs) same)
 
 -- one word more, where its flag is set
 pub flagged-push : (words : List (List ℕ)) (flags : List Bool) (place : ℕ) (flag : Bool) (word : List ℕ) → place < length flags → place < length null_words

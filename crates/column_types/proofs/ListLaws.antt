@@ -19,6 +19,10 @@ pub and_second : (a b : Bool) → (a && b) ≡ true → b ≡ true
 and_second true b e = e
 and_second false b e = cc
 
+pub and_false : (a b : Bool) → b ≡ false → (a && b) ≡ false
+and_false true b e = e
+and_false false b e = refl
+
 pub false_from_true : (a : Bool) → (a ≡ true → false ≡ true) → a ≡ false
 false_from_true true f = sym (f refl)
 false_from_true false f = refl

@@ -106,7 +106,7 @@ has-is : (datatype : DatatypeOf) (cell : List ℕ) → is_text datatype ≡ fals
 has-is datatype cell other =
     has_value-is [] [] ([] ∷ null_words) datatype cell other ∙ ap (λ b. b || reads datatype cell) (sym (is_null-is cell))
 
-place-other : (place : ℕ) → IsDatatypePlace place → is_text (datatype_at place) ≡ false
+pub place-other : (place : ℕ) → IsDatatypePlace place → is_text (datatype_at place) ≡ false
 place-other place less = not-true (is_text (datatype_at place)) (list_all-at (λ datatype. not (is_text datatype)) types text refl place less)
 
 null-by : (b has : Bool) → reading_by b has ≡ IsNull → b ≡ true

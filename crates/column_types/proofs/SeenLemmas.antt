@@ -1,5 +1,5 @@
 -- What is known of a column when one more cell is read, and what its datatype is.
-use Rattle.std.proofs.Common.{◌≡◌, ◌≢◌, ℕ, zero, suc, ◌+◌, ◌<◌, Bool, true, false, cond, ◌&&◌, ◌||◌, eqb, List, [], ◌∷◌, ◌++◌, length, take, get_or, None, refl, ap, sym, subst, ◌∙◌, arith, add-one}
+use Rattle.std.proofs.Common.{◌≡◌, ℕ, zero, suc, ◌+◌, ◌<◌, Bool, true, false, cond, ◌&&◌, ◌||◌, eqb, List, [], ◌∷◌, ◌++◌, length, take, get_or, None, refl, ap, sym, subst, ◌∙◌, arith, add-one}
 use Rattle.std.specs.Prelude.{All, filter, unwrap_or}
 use Rattle.std.specs.List.{find, list_all, list_any}
 use Rattle.std.specs.Str.{bytes_eq}
@@ -7,14 +7,11 @@ use Rattle.std.proofs.lemmas.Bool.{cond_both}
 use Rattle.std.proofs.lemmas.List.{get_or-map, get_or_default, length-map}
 use Rattle.std.proofs.lemmas.List.Folds.{list_all-append, list_any-append}
 use Rattle.cell_types.specs.Cell.{value_of}
-use Rattle.cell_types.specs.Datatype.{datatype_view, text}
-use Rattle.cell_types.specs.declared.datatype.Datatype.{Datatype}
-use Rattle.cell_types.specs.declared.datatype.Datatype.TheVariants.{Integer, Text, Boolean, Date, Decimal}
-use Rattle.cell_types.specs.declared.datatype.BooleanForm.TheVariants.{Standard, Texts}
+use Rattle.cell_types.specs.Datatype.{text}
 use Rattle.cell_types.specs.WhiteSpace.{normal_text, words}
 use Rattle.cell_types.specs.Column.{column_view}
 use Rattle.cell_types.specs.declared.column.Column.{Column}
-use Rattle.column_types.proofs.ListLaws.{and_first}
+use Rattle.column_types.proofs.ListLaws.{and_false, and_first}
 use Rattle.column_types.specs.declared.form.Form.{Form}
 use Rattle.column_types.specs.declared.reading.Reading.{Reading}
 use Rattle.column_types.specs.declared.seen.Seen.{Seen}
@@ -22,7 +19,7 @@ use Rattle.column_types.specs.declared.types.Candidates.{Candidates}
 use Rattle.column_types.specs.Kinds.{AreCandidates}
 use Rattle.column_types.specs.Reading.{fits_at, has_value_at, datatype_at, reading_of, reading_under, IsDatatypePlace}
 use Rattle.column_types.specs.Seen.{places, HasForm, HasSeen, HaveWords, flagged}
-use Rattle.column_types.specs.Types.{are_versions, candidate, datatype_for, ends_in_zero, fits_cells, has_one_place, has_point, have_two_dates, stands_for_null, is_padded, null_column, null_words, nulls_in, nulls_under, stands_for, stay_texts, types}
+use Rattle.column_types.specs.Types.{are_versions, candidate, datatype_for, ends_in_zero, fits_cells, has_one_place, has_point, have_two_dates, stands_for_null, is_padded, null_column, null_words, nulls_in, stands_for, stay_texts, types}
 use Rattle.column_types.proofs.OpenLemmas.{left-at, open-more}
 use Rattle.column_types.proofs.ReadingLemmas.{is_among, is_null-is, stands_for-is}
 
@@ -88,6 +85,15 @@ looks-past old new cell past padded same =
       one_place = λ e. let both : true ≡ false = sym e ∙ none in cc;
       zero = λ e. let both : true ≡ false = sym e ∙ none in cc;
     }
+
+-- nor where this one has none
+pub looks-no-more : (old new : Form) (cell : List ℕ) → has_point cell ≡ false → new.padded ≡ (old.padded || is_padded cell) → new.points ≡ false → LooksOn old cell new
+looks-no-more old new cell none padded past = record {
+  padded = padded;
+  points = past ∙ sym (and_false old.points (has_point cell) none);
+  one_place = λ e. let both : true ≡ false = sym e ∙ past in cc;
+  zero = λ e. let both : true ≡ false = sym e ∙ past in cc;
+}
 
 versions-by : (p o z a b c : Bool) → p ≡ a → (p ≡ true → o ≡ b) → (p ≡ true → z ≡ c) → ((p && o) && z) ≡ ((a && b) && c)
 versions-by true o z a b c e f g = let first : o ≡ b = f refl in let second : z ≡ c = g refl in cc
@@ -198,14 +204,6 @@ flagged-filter p (flag ∷ flags) (word ∷ words) e f =
 pub flagged-nulls : (seen : Seen) (cells : List (List ℕ)) → HasSeen seen cells → ([] ∷ flagged seen.words.items null_words) ≡ nulls_in cells
 flagged-nulls seen cells has =
     ap (λ words. [] ∷ words) (flagged-filter (λ word. list_any (stands_for word) cells) seen.words.items null_words has.count has.words)
-
-pub other-nulls : (datatype : Datatype) (cells : List (List ℕ)) → datatype ≢ Text → nulls_in cells ≡ nulls_under (datatype_view datatype) cells
-other-nulls Integer cells other = refl
-other-nulls Text cells other = absurd (other refl)
-other-nulls (Boolean Standard) cells other = refl
-other-nulls (Boolean (Texts of_true of_false)) cells other = refl
-other-nulls (Date form) cells other = refl
-other-nulls Decimal cells other = refl
 
 -- one flag more
 flagged-step : (flag : Bool) (flags : List Bool) (word : List ℕ) (words more : List (List ℕ)) (others : List Bool)

@@ -1,11 +1,11 @@
 -- What is known of a column when some of its cells are read.
-use Rattle.std.specs.Prelude.{◌≡◌, ℕ, ◌<◌, Bool, true, false, ◌&&◌, ◌||◌, ◌==◌, List, [], ◌∷◌, ◌++◌, filter, length, slice_index_or, All}
+use Rattle.std.specs.Prelude.{◌≡◌, ℕ, ◌<◌, Bool, true, false, ◌||◌, ◌==◌, List, [], ◌∷◌, ◌++◌, filter, length, slice_index_or, All}
 use Rattle.std.specs.List.{list_all, list_any, range_with_len}
 use Rattle.cell_types.specs.Column.{ColumnOf}
 use Rattle.cell_types.specs.Datatype.{DatatypeOf, text}
 use Rattle.column_types.specs.declared.form.Form.{Form}
 use Rattle.column_types.specs.declared.seen.Seen.{Seen}
-use Rattle.column_types.specs.Reading.{fits_at, has_value_at, datatype_at, IsDatatypePlace}
+use Rattle.column_types.specs.Reading.{fits_at, datatype_at, IsDatatypePlace}
 use Rattle.column_types.specs.Types.{column_with, datatype_for, nulls_under, types, null_words, stands_for, stands_for_null, is_padded, has_point, has_one_place, ends_in_zero}
 
 -- so look the cells that were read
@@ -32,14 +32,6 @@ pub record IsOpen (seen : Seen) : Type 0 where
   pub some : 0 < length seen.left.items
   pub places : All IsDatatypePlace seen.left.items
   pub count : length seen.words.items ≡ length null_words
-
--- the value of one more cell was read
-pub record HasReadCells (old : Seen) (cell : List ℕ) (new : Seen) : Type 0 where
-  pub left : new.left.items ≡ filter (has_value_at cell) old.left.items
-  pub count : length new.words.items ≡ length old.words.items
-  pub words : (k : ℕ) → k < length null_words
-      → slice_index_or new.words.items k false ≡ (slice_index_or old.words.items k false || stands_for (slice_index_or null_words k []) cell)
-  pub nulls : new.all_null ≡ (old.all_null && stands_for_null cell)
 
 -- the first datatype that is left
 abbrev pub first_type : List ℕ → DatatypeOf

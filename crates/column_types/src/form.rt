@@ -1,9 +1,9 @@
 //! How the texts of a column's cells look: as codes, or as versions.
-ghost use Rattle.std.specs.Prelude.{◌≡◌, ℕ, List, [], ◌∷◌, ◌++◌, ◌||◌, true};
+ghost use Rattle.std.specs.Prelude.{◌≡◌, ℕ, List, [], ◌∷◌, ◌++◌};
 ghost use Rattle.column_types.specs.Seen.{HasForm};
-ghost use Rattle.column_types.specs.Types.{are_versions, ends_in_zero as ends_in_zero_of, has_one_place as has_one_place_of, has_point as has_point_of};
+ghost use Rattle.column_types.specs.Types.{are_versions};
 
-use crate::cells::{are_digits, is_padded, last_is_zero, parts};
+use crate::cells::{are_digits, is_padded, last_is_zero};
 
 /// How the texts of some cells look.
 #[derive(Drop)]
@@ -31,19 +31,6 @@ impl Form {
         }
     }
 
-    /// Looks at the point of one more cell.
-    fn read_point(&mut self, cell: &str)
-        ensures padded { self.new.padded ≡ self.old.padded }
-        ensures points { self.new.points ≡ has_point_of cell.now }
-        ensures one_place { self.new.one_place ≡ (self.old.one_place || has_one_place_of cell.now) }
-        ensures zero { self.new.zero ≡ (self.old.zero || ends_in_zero_of cell.now) }
-    {
-        let (whole, places) = parts(cell);
-        self.points = are_digits(whole) && are_digits(places);
-        self.one_place |= places.len() == 1;
-        self.zero |= last_is_zero(places);
-    }
-
     /// Looks at one more cell. Where one has no point between digits, the others' don't matter.
     pub fn read(&mut self, cell: &str)
         ensures { (cells : List (List ℕ)) → HasForm self.old cells
@@ -53,7 +40,13 @@ impl Form {
         if !self.points {
             return;
         }
-        self.read_point(cell);
+        let Some((whole, places)) = cell.split_once('.') else {
+            self.points = false;
+            return;
+        };
+        self.points = are_digits(whole) && are_digits(places);
+        self.one_place |= places.len() == 1;
+        self.zero |= last_is_zero(places);
     }
 
     /// Whether the cells are versions.

@@ -1,8 +1,7 @@
 //! What a cell is under the datatypes that are left for its column.
-ghost use Rattle.std.specs.Prelude.{◌≡◌, ◌<◌, true, Ok, IfOk, OnOk, All, filter, length};
+ghost use Rattle.std.specs.Prelude.{◌≡◌, ◌<◌, true, IfOk, OnOk, All, filter, length};
 ghost use Rattle.cell_types.specs.Cell.{value_of};
 ghost use Rattle.cell_types.specs.Column.{column_view};
-ghost use Rattle.cell_types.specs.Value.{value_view};
 ghost use Rattle.column_types.specs.Kinds.{AreCandidates};
 ghost use Rattle.column_types.specs.Reading.{has_value_at, reading_of, IsDatatypePlace};
 ghost use Rattle.column_types.specs.Types.{stands_for_null};
@@ -39,16 +38,6 @@ fn is_plain(column: &Column, cell: &str) -> bool
     }
 }
 
-/// What a value is.
-fn value_reading(value: &Value) -> Reading
-    ensures { result ≡ reading_of (Ok (value_view value.now)) }
-{
-    match value {
-        Value::Null => Reading::IsNull,
-        _ => Reading::HasValue,
-    }
-}
-
 /// What a cell is in a column.
 pub fn reading_in(alloc: Global, column: &Column, cell: &str) -> Result<Reading, AllocError>
     ensures { IfOk result
@@ -58,7 +47,10 @@ pub fn reading_in(alloc: Global, column: &Column, cell: &str) -> Result<Reading,
         return Ok(Reading::HasValue);
     }
     match read_cell(alloc, column, cell) {
-        Ok(value) => Ok(value_reading(&value)),
+        Ok(value) => Ok(match value {
+            Value::Null => Reading::IsNull,
+            _ => Reading::HasValue,
+        }),
         Err(CellFault::NoMemory) => Err(AllocError),
         Err(_) => Ok(Reading::HasNone),
     }
@@ -79,12 +71,13 @@ pub fn is_null_under(
 {
     let mut next = 0;
     while next < left.len() {
-        match reading_in(alloc, &candidates.typed[left[next]], cell)? {
-            Reading::IsNull => return Ok(true),
-            Reading::HasValue => next += 1,
-            Reading::HasNone => {
+        match reading_in(alloc, &candidates.typed[left[next]], cell) {
+            Ok(Reading::IsNull) => return Ok(true),
+            Ok(Reading::HasValue) => next += 1,
+            Ok(Reading::HasNone) => {
                 left.remove(next);
             }
+            Err(error) => return Err(error),
         }
     }
     Ok(false)

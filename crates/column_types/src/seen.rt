@@ -5,7 +5,7 @@ ghost use Rattle.cell_types.specs.Column.{column_view};
 ghost use Rattle.cell_types.specs.Datatype.{datatype_view, text};
 ghost use Rattle.column_types.specs.Kinds.{AreCandidates};
 ghost use Rattle.column_types.specs.Reading.{IsDatatypePlace};
-ghost use Rattle.column_types.specs.Seen.{flagged, first_type, must_be_text, HasPlaces, HasSeen, HaveWords, SpeaksFor, IsOpen, Knows};
+ghost use Rattle.column_types.specs.Seen.{flagged, must_be_text, HasPlaces, HasSeen, HaveWords, SpeaksFor, IsOpen, Knows};
 ghost use Rattle.column_types.specs.Types.{datatype_for, have_two_dates, null_words, nulls_under, stay_texts};
 
 use crate::form::Form;
@@ -42,8 +42,8 @@ fn mark_words(
     if cell.is_empty() {
         return Ok(());
     }
-    for (place, column) in candidates.nulls.iter().enumerate() {
-        if let Reading::IsNull = reading_in(alloc, column, cell)? {
+    for place in 0..WORD_COUNT {
+        if let Reading::IsNull = reading_in(alloc, &candidates.nulls[place], cell)? {
             words[place] = true;
         }
     }
@@ -60,17 +60,11 @@ pub(crate) fn flagged_words(alloc: Global, flags: &[bool]) -> Result<Vec<String>
     words.push(String::new(alloc))?;
     for (place, flag) in flags.iter().enumerate() {
         if *flag {
-            words.push(String::from_str(alloc, null_word(place))?)?;
+            let word = String::from_str(alloc, null_word(place))?;
+            words.push(word)?;
         }
     }
     Ok(words)
-}
-
-/// Whether a place is one of those.
-fn is_among(places: &[usize], place: usize) -> bool
-    ensures { result ≡ list_any (λ other. other == place) places.now }
-{
-    places.contains(&place)
 }
 
 impl Seen {
@@ -79,9 +73,11 @@ impl Seen {
         ensures seen { IfOk result (λ seen. HasSeen seen []) }
         ensures some { IfOk result (λ seen. 0 < length seen.left.items) }
     {
+        let left = Vec::from_slice(alloc, &PLACES)?;
+        let words = vec![in alloc; false; WORD_COUNT]?;
         Ok(Seen {
-            left: Vec::from_slice(alloc, &PLACES)?,
-            words: vec![in alloc; false; WORD_COUNT]?,
+            left,
+            words,
             all_null: true,
             form: Form::new(),
         })
@@ -100,11 +96,14 @@ impl Seen {
             → HasSeen self.new (cells ++ cell.now ∷ [])) }
     {
         self.form.read(cell);
-        if is_null_under(alloc, candidates, &mut self.left, cell)? {
-            return mark_words(alloc, candidates, &mut self.words, cell);
+        match is_null_under(alloc, candidates, &mut self.left, cell) {
+            Ok(true) => mark_words(alloc, candidates, &mut self.words, cell),
+            Ok(false) => {
+                self.all_null = false;
+                Ok(())
+            }
+            Err(error) => Err(error),
         }
-        self.all_null = false;
-        Ok(())
     }
 
     /// Whether the column is one of texts, whatever its other cells are.
@@ -121,7 +120,7 @@ impl Seen {
         ensures { (cells : List (List ℕ)) → HasSeen self.now cells → result ≡ have_two_dates cells }
     {
         let left = self.left.as_slice();
-        is_among(left, DAY_FIRST) && is_among(left, MONTH_FIRST)
+        left.contains(&DAY_FIRST) && left.contains(&MONTH_FIRST)
     }
 
     /// Whether the column is left as one of texts, though a datatype may fit.
@@ -131,18 +130,7 @@ impl Seen {
         self.all_null || self.form.padded || self.form.are_versions() || self.has_two_dates()
     }
 
-    /// The first datatype that is left.
-    fn first_open(&self, alloc: Global) -> Result<Datatype, AllocError>
-        requires { All IsDatatypePlace self.now.left.items }
-        ensures { IfOk result (λ made. datatype_view made ≡ first_type self.now.left.items) }
-    {
-        match self.left.first() {
-            Some(place) => datatype_at(alloc, *place),
-            None => Ok(Datatype::Text),
-        }
-    }
-
-    /// The datatype of the column of whose cells this is known.
+    /// The datatype of the column: the first that is left, where its cells are not left as texts.
     fn datatype(&self, alloc: Global) -> Result<Datatype, AllocError>
         requires { All IsDatatypePlace self.now.left.items }
         ensures { IfOk result (λ made. (cells : List (List ℕ)) → Knows self.now cells
@@ -151,19 +139,22 @@ impl Seen {
         if self.stays_text() {
             return Ok(Datatype::Text);
         }
-        self.first_open(alloc)
+        match self.left.first() {
+            Some(place) => datatype_at(alloc, *place),
+            None => Ok(Datatype::Text),
+        }
     }
 
-    /// The texts that stand for null in a column of the datatype.
-    fn nulls(&self, alloc: Global, datatype: &Datatype) -> Result<Vec<String>, AllocError>
-        requires { length self.now.words.items ≡ length null_words }
-        ensures { IfOk result (λ nulls. (cells : List (List ℕ)) → HasSeen self.now cells
-            → map string_bytes nulls.items ≡ nulls_under (datatype_view datatype.now) cells) }
+    /// The texts that stand for null in the column.
+    fn nulls(&self, alloc: Global) -> Result<Vec<String>, AllocError>
+        requires { HasPlaces self.now }
+        ensures { IfOk result (λ nulls. (cells : List (List ℕ)) → Knows self.now cells
+            → map string_bytes nulls.items ≡ nulls_under (datatype_for cells) cells) }
     {
-        match datatype {
-            Datatype::Text => flagged_words(alloc, &[]),
-            _ => flagged_words(alloc, self.words.as_slice()),
+        if self.left.is_empty() || self.stays_text() {
+            return flagged_words(alloc, &[]);
         }
+        flagged_words(alloc, self.words.as_slice())
     }
 
     /// The column of whose cells this is known, with that name and those titles.
@@ -177,8 +168,8 @@ impl Seen {
         ensures { IfOk result (λ made. SpeaksFor self.now (string_bytes name)
             (map string_bytes titles.items) (column_view made)) }
     {
+        let nulls = self.nulls(alloc)?;
         let datatype = self.datatype(alloc)?;
-        let nulls = self.nulls(alloc, &datatype)?;
         Ok(Column {
             name,
             titles,

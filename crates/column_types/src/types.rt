@@ -71,7 +71,10 @@ pub fn datatype_at(alloc: Global, place: usize) -> Result<Datatype, AllocError>
     match place {
         0 => Ok(Datatype::Integer),
         1 => Ok(Datatype::Boolean(BooleanForm::Standard)),
-        2..=10 => boolean_of(alloc, TRUE_WORDS[place - 2], FALSE_WORDS[place - 2]),
+        2..=10 => {
+            let place = place - 2;
+            boolean_of(alloc, TRUE_WORDS[place], FALSE_WORDS[place])
+        }
         11 => Ok(Datatype::Decimal),
         12 => Ok(Datatype::Date(DateForm::YearMonthDay)),
         13 => Ok(Datatype::Date(DateForm::Compact)),
@@ -127,9 +130,8 @@ impl Candidates {
     pub fn new(alloc: Global) -> Result<Candidates, AllocError>
         ensures { IfOk result AreCandidates }
     {
-        Ok(Candidates {
-            typed: typed_columns(alloc)?,
-            nulls: null_columns(alloc)?,
-        })
+        let typed = typed_columns(alloc)?;
+        let nulls = null_columns(alloc)?;
+        Ok(Candidates { typed, nulls })
     }
 }

@@ -1,6 +1,6 @@
 -- The drafts of files, one file after another.
 use Rattle.std.proofs.Common.{◌≡◌, ℕ, ◌+◌, ◌<◌, ◌≤◌, Bool, true, false, Result, Ok, Err, List, [], ◌∷◌, ◌++◌, length, map, take, get_or, inl, inr, refl, ap, sym, subst, ◌∙◌, append_assoc, arith}
-use Rattle.std.specs.Prelude.{IfErr, IfSome, OnOk, string_bytes}
+use Rattle.std.specs.Prelude.{IfErr, OnOk, string_bytes}
 use Rattle.std.specs.Result.{result_or}
 use Rattle.std.specs.Str.{bytes_eq}
 use Rattle.std.proofs.lemmas.List.{get_or-map, length-map}
@@ -8,9 +8,7 @@ use Rattle.csv_grammar.specs.Raw.{RawTable, field_of}
 use Rattle.csv_index.specs.Index.{IsRawTable}
 use Rattle.csvw_meta.specs.Forms.{is_table_url}
 use Rattle.table_store.specs.declared.file.NamedFile.{NamedFile}
-use Rattle.csvw_guess.specs.declared.fault.DraftFault.{DraftFault}
-use Rattle.csvw_guess.specs.declared.fault.DraftFault.TheVariants.{NoMemory}
-use Rattle.csvw_guess.specs.Fault.{DraftCause, draft_cause, bad_text, file_too_large, no_tables, too_many_tables}
+use Rattle.csvw_guess.specs.Fault.{DraftCause, bad_text, file_too_large, no_tables, too_many_tables}
 use Rattle.csvw_guess.specs.Table.{file_schema}
 use Rattle.std.proofs.lemmas.List.{append-nil, get_or-take, length-take-le, map-append, take_all, take_more}
 use Rattle.std.proofs.lemmas.List.Folds.{list_any_at, list_any_more}
@@ -180,11 +178,6 @@ or-ok P (Err y) e made is p = subst (λ m. OnOk m P) (sym is) tt
 pub or-err : {T E D : Type 0} (P : D → Type 0) (r : Result T E) (e : D) (made : Result T D) → made ≡ result_or r (Err e) → P e → IfErr made P
 or-err P (Ok x) e made is p = subst (λ m. IfErr m P) (sym is) tt
 or-err P (Err y) e made is p = subst (λ m. IfErr m P) (sym is) p
-
--- want of memory is no cause
-pub no-cause : {T : Type 0} (P : DraftCause → Type 0) (r : Result T DraftFault) → IfErr r (λ e. e ≡ NoMemory) → IfErr r (λ e. IfSome (draft_cause e) P)
-no-cause P (Ok x) none = tt
-no-cause P (Err e) none = subst (λ (fault : DraftFault). IfSome (draft_cause fault) P) (sym none) tt
 
 -- a schema is added
 pub schema-more : (old new : List Schema) (last : Schema) (made : SchemaOf) → new ≡ old ++ last ∷ [] → schema_view last ≡ made → schema_views new ≡ schema_views old ++ made ∷ []

@@ -1,7 +1,6 @@
 -- The cells of a first column as the keys of their rows: each of them is taken, and they are whole where the column may be the key.
 use Rattle.std.proofs.Common.{◌≡◌, ℕ, suc, ◌+◌, ◌<◌, Bool, true, false, not, cond, ◌&&◌, ◌||◌, List, [], ◌∷◌, ◌++◌, length, map, take, get_or, Option, Some, None, Result, Ok, Err, refl, ap, sym, subst, ◌∙◌, arith, inl, inr, one-add}
-use Rattle.std.specs.Result.{result_and}
-use Rattle.std.specs.Prelude.{IfErr, IfOk, OnOk, is_none, is_ok, nat_le, nat_lt, slice_get}
+use Rattle.std.specs.Prelude.{IfErr, IfOk, is_none, is_ok, nat_le, nat_lt, slice_get}
 use Rattle.std.specs.List.{list_any, position_or_len}
 use Rattle.std.proofs.lemmas.Bool.{and_cases, and_from, and_parts, and_right, cases_Bool, cond_both, or_right}
 use Rattle.std.proofs.Math.Dec.{leb-suc-suc}
@@ -146,12 +145,6 @@ pub may-be : (found : Result Keys KeyFault) (column : ColumnOf) (cells : List (L
     → IfOk found (λ keys. AreKeysOf keys (cell_keys column cells)) → IfErr found (λ fault. HasKeyFault (cell_keys column cells) fault)
     → is_ok found ≡ are_keys column cells
 may-be found column cells typed are fault = whole_is found (cell_keys column cells) are fault ∙ whole_keys column cells typed
-
--- what is said of all keys holds where all were read
-pub and-ok : {T E : Type 0} {R : Type 0} (P : Bool → Type 0) (read : Result T E) (found : Bool) (result : Result Bool E) → result ≡ result_and read (Ok found)
-    → OnOk read R → (R → P found) → IfOk result P
-and-ok P (Ok x) found result e all so = subst (λ r. IfOk r P) (sym e) (so all)
-and-ok P (Err x) found result e all so = subst (λ r. IfOk r P) (sym e) tt
 
 -- no column of another datatype may be
 untyped : (d : DatatypeOf) (cells : List (List ℕ)) → has_key_type d ≡ false → may_be_keys d cells ≡ false

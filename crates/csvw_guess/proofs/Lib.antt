@@ -12,6 +12,7 @@ pub mod TextLemmas
 pub mod MatchLemmas
 pub mod RowLemmas
 pub mod KeyLemmas
+pub mod EndLemmas
 pub mod FirstKeyLemmas
 pub mod FolderLemmas
 pub mod DraftLemmas

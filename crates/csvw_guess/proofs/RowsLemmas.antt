@@ -119,7 +119,19 @@ pub know-more : (old new : Seen) (fields : List RawField) (cells : List (List �
 know-more old new fields cells row col more says less known =
     subst (Knows new) (ap (λ cell. take row cells ++ cell ∷ []) says ∙ sym (take_more cells row [] less)) (more (take row cells) known)
 
--- one column more
+-- one column more, which is one of texts unless it is told
+pub texts-next : (items : List Seen) (col : ℕ) (new : Seen) (is_open read : Bool) → col < length items → (read ≡ false → must_be_text new ≡ true)
+    → (is_open ≡ false → (k : ℕ) (none : Seen) → k < col → must_be_text (get_or items k none) ≡ true)
+    → (is_open || read) ≡ false → (k : ℕ) (none : Seen) → k < col + 1 → must_be_text (get_or (slice_set items col new) k none) ≡ true
+texts-next items col new true read within text before closed k none less = cc
+texts-next items col new false read within text before closed k none less =
+    elim (cases_order k col) [
+      | inl same ↦ ap (λ n. must_be_text (get_or (slice_set items col new) n none)) same ∙ ap must_be_text (get_or-set_same items col new none within) ∙ text closed
+      | inr (inl earlier) ↦ ap must_be_text (get_or-set_other items col k new none (λ e. absurd (omega (arith, e, earlier)))) ∙ before refl k none earlier
+      | inr (inr later) ↦ absurd (omega (arith, less, later))
+    ]
+
+-- the same, with one cell more
 pub read-next : (old items : List Seen) (fields left : List RawField) (col : ℕ) (was new : Seen) → col < length items → left ≡ drop col fields
     → ((none : Seen) → was ≡ get_or old col none) → HasMore was (content_at left 0) new
     → ((k : ℕ) (none : Seen) → k < col → HasMore (get_or old k none) (content_at fields k) (get_or items k none))

@@ -2,7 +2,7 @@
 use Rattle.std.specs.Prelude.{◌≡◌, ℕ, ◌<◌, List, [], false, length, slice_index_or}
 use Rattle.csv_grammar.specs.Raw.{RawField, RawTable, raw_content}
 use Rattle.column_types.specs.declared.seen.Seen.{Seen}
-use Rattle.column_types.specs.Seen.{HasMore, Knows}
+use Rattle.column_types.specs.Seen.{Knows}
 use Rattle.cell_types.specs.Column.{ColumnOf}
 use Rattle.cell_types.specs.declared.column.Column.{Column}
 use Rattle.csvw_guess.specs.Names.{name_after, names_in}
@@ -11,10 +11,6 @@ use Rattle.csvw_guess.specs.Table.{draft_column, file_cells, header_cells}
 -- what the field of a place says, counted from 0
 abbrev pub content_at : List RawField → ℕ → List ℕ
 content_at fields k = raw_content (slice_index_or fields k (record { bytes = []; quoted = false }))
-
--- of each column one more cell was read
-abbrev pub HaveMore : List Seen → List RawField → List Seen → Type 0
-HaveMore old fields new = (col : ℕ) (none : Seen) → col < length old → HasMore (slice_index_or old col none) (content_at fields col) (slice_index_or new col none)
 
 -- of each column of a file all cells are known
 pub record HaveCells (known : List Seen) (file : RawTable) : Type 0 where

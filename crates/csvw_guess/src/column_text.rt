@@ -27,7 +27,7 @@ fn write_date(out: &mut Output, form: DateForm)
         Token::String("date"),
         Token::Key("format"),
     ]);
-    out.put(Token::String(format));
+    out.put_text(format);
     out.put(Token::EndObject);
 }
 
@@ -46,7 +46,7 @@ fn write_boolean(out: &mut Output, form: &BooleanForm)
                 Token::String("boolean"),
                 Token::Key("format"),
             ]);
-            out.put(Token::String(&format));
+            out.put_text(&format);
             out.put(Token::EndObject);
         }
         Err(_) => out.is_short = true,
@@ -64,7 +64,7 @@ fn write_datatype(out: &mut Output, datatype: &Datatype)
         Datatype::Date(form) => return write_date(out, *form),
         Datatype::Decimal => "decimal",
     };
-    out.put(Token::String(base));
+    out.put_text(base);
 }
 
 /// Whether the empty text alone stands for null.
@@ -82,7 +82,7 @@ pub(crate) fn write_column(out: &mut Output, column: &Column)
     ensures { Writes out.old (json_tokens (column_json (column_view column.now))) out.new }
 {
     out.put_all(&[Token::BeginObject, Token::Key("name")]);
-    out.put(Token::String(&column.name));
+    out.put_text(&column.name);
     let titles = column.titles.as_slice();
     out.put_texts_unless(titles.is_empty(), "titles", titles);
     out.put_all(&[Token::Key("datatype")]);
@@ -92,7 +92,7 @@ pub(crate) fn write_column(out: &mut Output, column: &Column)
     let default = column.default.as_str();
     if !default.is_empty() {
         out.put_all(&[Token::Key("default")]);
-        out.put(Token::String(default));
+        out.put_text(default);
     }
     if column.required {
         out.put_all(&[Token::Key("required"), Token::Bool(true)]);

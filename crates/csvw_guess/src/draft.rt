@@ -9,10 +9,10 @@ ghost use Rattle.csvw_guess.specs.Draft.{file_at, AreDrafts, HasNoDraft, HasNoOw
 ghost use Rattle.csvw_guess.specs.Fault.{draft_cause};
 ghost use Rattle.csvw_guess.specs.Table.{file_schema};
 
+use crate::column::read_table;
 use crate::fault::{DraftFault, Warning};
-use crate::rows::read_columns;
 use crate::table::make_schema;
-use crate::warnings::{column_warnings, header_warnings};
+use crate::warnings::{Warnings, header_warnings};
 use column_types::Candidates;
 use csv_index::{IndexedText, TextFault};
 use csvw_meta::{Limits, Schema, is_table_url};
@@ -25,6 +25,13 @@ pub struct Draft {
     /// The schemas of the files that are served, in the order of the files.
     pub schemas: Vec<Schema>,
     pub warnings: Vec<Warning>,
+}
+
+/// The draft of the files so far.
+#[derive(Drop)]
+struct Outline {
+    schemas: Vec<Schema>,
+    warnings: Warnings,
 }
 
 /// Why the file of that number is left out for its name, where it is.
@@ -74,17 +81,9 @@ fn read_file(
     }
 }
 
-/// Adds what there is to look at in a file that is left out.
-fn leave_out(draft: &mut Draft, warning: Warning) -> Result<(), DraftFault>
-    ensures schemas { draft.new.schemas ≡ draft.old.schemas }
-    ensures fault { IfErr result (λ e. e ≡ DraftFault.NoMemory) }
-{
-    draft.warnings.push(warning).or(Err(DraftFault::NoMemory))
-}
-
 /// Adds the schema of the file of that number, and what there is to look at in it.
 fn add_table(
-    draft: &mut Draft,
+    draft: &mut Outline,
     candidates: &Candidates,
     number: usize,
     url: &str,
@@ -95,20 +94,15 @@ fn add_table(
     ensures { OnOk result (schema_views draft.new.schemas.items
         ≡ schema_views draft.old.schemas.items ++ file_schema url.now table.now ∷ []) }
 {
-    let alloc = *draft.schemas.allocator();
-    let known = read_columns(alloc, candidates, table)?;
-    let seen = known.as_slice();
-    column_warnings(candidates, number, table, seen, &mut draft.warnings)?;
-    let schema = make_schema(alloc, seen, url, table)?;
-    let columns = schema.columns.as_slice();
-    header_warnings(number, table, columns, &mut draft.warnings)?;
-    draft.schemas.push(schema)?;
-    Ok(())
+    let columns = read_table(&mut draft.warnings, candidates, number, table)?;
+    header_warnings(&mut draft.warnings, number, table, columns.as_slice());
+    let schema = make_schema(draft.warnings.alloc, url, columns, table)?;
+    draft.schemas.push(schema).or(Err(AllocError))
 }
 
 /// Adds the schema of the file of that number, or what there is to look at where the file is left out.
 fn draft_file(
-    draft: &mut Draft,
+    draft: &mut Outline,
     limits: &Limits,
     candidates: &Candidates,
     files: &[NamedFile],
@@ -125,21 +119,25 @@ fn draft_file(
     ensures memory { IfErr result (λ e. draft_cause e ≡ None → e ≡ DraftFault.NoMemory) }
 {
     if let Some(warning) = name_warning(files, number) {
-        return leave_out(draft, warning);
+        draft.warnings.put(warning);
+        return Ok(());
     }
     let file = &files[number];
-    let table = read_file(*draft.schemas.allocator(), limits, number, file)?;
+    let table = read_file(draft.warnings.alloc, limits, number, file)?;
     let columns = table.width();
-    if columns > limits.columns as usize {
+    let drafted = if columns > limits.columns as usize {
         let file = number;
-        return leave_out(draft, Warning::ManyColumns { file, columns });
-    }
-    add_table(draft, candidates, number, file.name.as_str(), &table).or(Err(DraftFault::NoMemory))
+        draft.warnings.put(Warning::ManyColumns { file, columns });
+        Ok(())
+    } else {
+        add_table(draft, candidates, number, file.name.as_str(), &table)
+    };
+    drafted.or(Err(DraftFault::NoMemory))
 }
 
 /// Adds the schemas of files to a draft that has none: those of the files that are tables which are served, in their order.
 fn draft_files(
-    draft: &mut Draft,
+    draft: &mut Outline,
     limits: &Limits,
     candidates: &Candidates,
     files: &[NamedFile],
@@ -154,6 +152,9 @@ fn draft_files(
 {
     for number in 0..files.len() {
         draft_file(draft, limits, candidates, files, number)?;
+    }
+    if draft.warnings.is_short {
+        return Err(DraftFault::NoMemory);
     }
     let tables = draft.schemas.len();
     if tables == 0 {
@@ -180,10 +181,17 @@ pub fn draft_of(alloc: Global, limits: &Limits, files: &[NamedFile]) -> Result<D
     let Ok(candidates) = Candidates::new(alloc) else {
         return Err(DraftFault::NoMemory);
     };
-    let mut draft = Draft {
+    let mut draft = Outline {
         schemas: Vec::new(alloc),
-        warnings: Vec::new(alloc),
+        warnings: Warnings {
+            alloc,
+            list: Vec::new(alloc),
+            is_short: false,
+        },
     };
-    draft_files(&mut draft, limits, &candidates, files)?;
-    Ok(draft)
+    let drafted = draft_files(&mut draft, limits, &candidates, files);
+    drafted.and(Ok(Draft {
+        schemas: draft.schemas,
+        warnings: draft.warnings.list,
+    }))
 }

@@ -84,7 +84,9 @@ fn read_keys(
     for row in 0..file.rows() {
         let raw = first_field(&mut fields, file.width());
         let value = key_value(alloc, column, raw)?;
-        keys.read(alloc, &[0], row, from_ref(&value))?;
+        let read = keys.read(alloc, &[0], row, from_ref(&value));
+        drop(value);
+        read?;
     }
     Ok(())
 }
@@ -105,6 +107,8 @@ pub fn has_keys(alloc: Global, schema: &Schema, file: &IndexedText) -> Result<bo
     let mut keys = KeyReader::new(alloc, schema, file.rows())?;
     // Want of memory of the keys is told when their reader has ended.
     let read = read_keys(alloc, column, file, &mut keys);
-    let found = keys.finish(alloc)?;
-    read.and(Ok(found.is_ok()))
+    match keys.finish(alloc) {
+        Ok(found) => read.and(Ok(found.is_ok())),
+        Err(fault) => Err(fault),
+    }
 }

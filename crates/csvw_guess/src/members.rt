@@ -3,6 +3,7 @@ ghost use Rattle.std.specs.Prelude.{◌∷◌, [], map, string_bytes};
 ghost use Rattle.std.specs.List.{AllByRecursion};
 ghost use Rattle.json.specs.Print.{IsPrintable};
 ghost use Rattle.json.specs.Reads.{token_of};
+ghost use Rattle.json.specs.Token.{string};
 ghost use Rattle.csvw_guess.specs.Members.{field_tokens, texts_json, unless, Writes};
 
 use json::{Pretty, Token};
@@ -27,6 +28,13 @@ impl Output {
         }
     }
 
+    /// A text.
+    pub(crate) fn put_text(&mut self, text: &str)
+        ensures { Writes self.old (string text.now ∷ []) self.new }
+    {
+        self.put(Token::String(text));
+    }
+
     /// Tokens, one after another.
     pub(crate) fn put_all(&mut self, tokens: &[Token<'_>])
         requires { AllByRecursion (λ token. IsPrintable (token_of token)) tokens.now }
@@ -49,7 +57,7 @@ impl Output {
         self.put(Token::Key(name));
         self.put(Token::BeginArray);
         for text in texts {
-            self.put(Token::String(text.as_str()));
+            self.put_text(text.as_str());
         }
         self.put(Token::EndArray);
     }

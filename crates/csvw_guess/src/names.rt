@@ -2,7 +2,7 @@
 ghost use Rattle.std.specs.Prelude.{◌≡◌, [], IfOk, codes, if◌then◌else◌, map, string_bytes};
 ghost use Rattle.std.specs.List.{list_any};
 ghost use Rattle.std.specs.Str.{bytes_eq, chars, IsAscii};
-ghost use Rattle.csvw_guess.specs.Names.{base_name as base_name_of, begins_with_letter as begins_with_letter_of, name_after as name_after_of, name_char as name_char_of, with_number as numbered_of, titles_for, names_in};
+ghost use Rattle.csvw_guess.specs.Names.{base_name as base_name_of, begins_with_letter, name_after as name_after_of, name_char as name_char_of, with_number as numbered_of, titles_for, names_in};
 
 use cell_types::Column;
 use std::alloc::{AllocError, Global};
@@ -17,25 +17,14 @@ fn name_char(c: char) -> char
     if c.is_ascii_alphanumeric() { c } else { '_' }
 }
 
-/// Whether a letter comes first.
-fn begins_with_letter(name: &[u8]) -> bool
-    ensures { result ≡ begins_with_letter_of name.now }
-{
-    match name.first() {
-        Some(first) => first.is_ascii_alphabetic(),
-        None => false,
-    }
-}
-
 /// What stands before the characters of a cell in its name.
 fn prefix(cell: &str) -> &'static str
     ensures { result.now
-        ≡ (if begins_with_letter_of (map name_char_of (chars cell.now)) then [] else codes "c_") }
+        ≡ (if begins_with_letter (map name_char_of (chars cell.now)) then [] else codes "c_") }
 {
-    if begins_with_letter(cell.as_bytes()) {
-        ""
-    } else {
-        "c_"
+    match cell.as_bytes().first() {
+        Some(first) if first.is_ascii_alphabetic() => "",
+        _ => "c_",
     }
 }
 
@@ -57,10 +46,10 @@ fn numbered(alloc: Global, name: &str, number: usize) -> Result<String, AllocErr
     requires { IsAscii name.now }
     ensures { IfOk result (λ made. string_bytes made ≡ numbered_of name.now number) }
 {
-    let suffix = format!(in alloc; "_{number}")?;
-    let room = MOST_NAME.saturating_sub(suffix.len());
+    let mut made = format!(in alloc; "_{number}")?;
+    let room = MOST_NAME.saturating_sub(made.len());
     let (kept, _) = name.split_at(room.min(name.len()));
-    format!(in alloc; "{kept}{suffix}")
+    made.insert_str(0, kept).and(Ok(made))
 }
 
 /// Whether a column has the name.
@@ -95,12 +84,14 @@ pub fn next_name(alloc: Global, earlier: &[Column], cell: &str) -> Result<String
 }
 
 /// The title of a column: its header cell, where that is not its name.
-pub fn titles(alloc: Global, name: &str, cell: &str) -> Result<Vec<String>, AllocError>
-    ensures { IfOk result (λ titles. map string_bytes titles.items ≡ titles_for name.now cell.now) }
+pub fn titles(alloc: Global, name: &str, cell: String) -> Result<Vec<String>, AllocError>
+    ensures { IfOk result
+        (λ titles. map string_bytes titles.items ≡ titles_for name.now (string_bytes cell)) }
 {
     let mut titles = Vec::new(alloc);
-    if name != cell {
-        titles.push(String::from_str(alloc, cell)?)?;
+    if name == cell.as_str() {
+        return Ok(titles);
     }
+    titles.push(cell)?;
     Ok(titles)
 }

@@ -32,7 +32,7 @@ fn write_key(out: &mut Output, columns: &[Column], places: &[usize])
     }
     out.put_all(&[Token::Key("primaryKey"), Token::BeginArray]);
     for place in places {
-        out.put(Token::String(name_at(columns, *place)));
+        out.put_text(name_at(columns, *place));
     }
     out.put(Token::EndArray);
 }
@@ -43,7 +43,7 @@ pub(crate) fn write_table(out: &mut Output, schema: &Schema)
 {
     let columns = schema.columns.as_slice();
     out.put_all(&[Token::BeginObject, Token::Key("url")]);
-    out.put(Token::String(&schema.url));
+    out.put_text(&schema.url);
     out.put_all(&[
         Token::Key("tableSchema"),
         Token::BeginObject,

@@ -30,8 +30,10 @@ pub fn write_schemas(alloc: Global, schemas: &[Schema]) -> Result<Vec<u8>, Alloc
         write_table(&mut out, schema);
     }
     out.put_all(&[Token::EndArray, Token::EndObject]);
-    if out.is_short {
+    let is_short = out.is_short;
+    let text = out.pretty.into_inner();
+    if is_short {
         return Err(AllocError);
     }
-    Ok(out.pretty.into_inner())
+    Ok(text)
 }

@@ -1,5 +1,6 @@
 //! What the publisher of a table should look at.
 ghost use Rattle.std.specs.Prelude.{◌≡◌, ◌<◌, length};
+ghost use Rattle.column_types.specs.Kinds.{AreCandidates};
 
 use crate::fault::Warning;
 use crate::key::key_value;
@@ -7,33 +8,51 @@ use cell_types::{CellFault, Column, Datatype, Value};
 use column_types::{Candidates, DECIMAL, Seen};
 use csv_index::IndexedText;
 use raw_fields::{Raw, cell_value};
-use std::alloc::{AllocError, Global};
+use std::alloc::Global;
 
 /// The bytes that may part fields in the place of a comma.
 const SEPARATORS: [u8; 3] = [b';', b'\t', b'|'];
 
+/// What there is to look at so far. Where memory runs out that is kept in it, so that a warning has no failure of its own.
+#[derive(Drop)]
+pub struct Warnings {
+    pub alloc: Global,
+    pub list: Vec<Warning>,
+    pub is_short: bool,
+}
+
+impl Warnings {
+    /// One more.
+    pub fn put(&mut self, warning: Warning) {
+        if self.list.push(warning).is_err() {
+            self.is_short = true;
+        }
+    }
+}
+
 /// Whether all cells of a column are numbers or null, and one is finer than six places.
 fn is_too_fine(
-    alloc: Global,
+    warnings: &mut Warnings,
     candidates: &Candidates,
     file: &IndexedText,
     col: usize,
-) -> Result<bool, AllocError>
-    requires { col < length file.now.header }
+) -> bool
+    requires candidates { AreCandidates candidates.now }
+    requires col { col < length file.now.header }
 {
-    let Some(column) = candidates.typed.get(DECIMAL) else {
-        return Ok(false);
-    };
+    let column = &candidates.typed[DECIMAL];
     let mut is_finer = false;
     for row in 0..file.rows() {
-        match cell_value(alloc, column, file.cell(row, col)) {
-            Ok(_) => {}
-            Err(CellFault::TooFine) => is_finer = true,
-            Err(CellFault::NoMemory) => return Err(AllocError),
-            Err(_) => return Ok(false),
+        match cell_value(warnings.alloc, column, file.cell(row, col)).err() {
+            None => {}
+            Some(CellFault::TooFine) => is_finer = true,
+            Some(fault) => {
+                warnings.is_short |= matches!(fault, CellFault::NoMemory);
+                return false;
+            }
         }
     }
-    Ok(is_finer)
+    is_finer
 }
 
 /// Whether a byte stands in the header cell and in each cell of the first column.
@@ -52,84 +71,65 @@ fn stands_in_each(file: &IndexedText, byte: u8) -> bool
 }
 
 /// Whether a header cell has a value of its column's datatype that is not null. In a column of texts that says nothing.
-fn is_data(
-    alloc: Global,
-    column: &Column,
-    file: &IndexedText,
-    col: usize,
-) -> Result<bool, AllocError>
-    requires { col < length file.now.header }
-{
+fn is_data(warnings: &mut Warnings, column: &Column, cell: Raw<'_>) -> bool {
     if matches!(column.datatype, Datatype::Text) {
-        return Ok(false);
+        return false;
     }
-    let value = key_value(alloc, column, file.header(col))?;
-    Ok(!matches!(value, Value::Null))
+    match key_value(warnings.alloc, column, cell) {
+        Ok(value) => !matches!(value, Value::Null),
+        Err(_) => {
+            warnings.is_short = true;
+            false
+        }
+    }
 }
 
 /// Adds what there is to look at in the columns of the file of that number, of whose cells this is known. Only columns of texts have some.
 pub fn column_warnings(
+    warnings: &mut Warnings,
     candidates: &Candidates,
     number: usize,
     file: &IndexedText,
     known: &[Seen],
-    warnings: &mut Vec<Warning>,
-) -> Result<(), AllocError>
-    requires { length known.now ≡ length file.now.header }
+)
+    requires candidates { AreCandidates candidates.now }
+    requires known { length known.now ≡ length file.now.header }
 {
-    let alloc = *warnings.allocator();
     for (col, seen) in known.iter().enumerate() {
-        let warning = if seen.has_two_dates() && !seen.all_null {
-            Warning::TwoDates { file: number, col }
-        } else if seen.is_text() && is_too_fine(alloc, candidates, file, col)? {
-            Warning::TooFine { file: number, col }
-        } else {
-            continue;
-        };
-        warnings.push(warning)?;
-    }
-    Ok(())
-}
-
-/// Adds the byte that may part the fields of the file of that number, which has one column.
-fn separator_warning(
-    number: usize,
-    file: &IndexedText,
-    warnings: &mut Vec<Warning>,
-) -> Result<(), AllocError>
-    requires { 0 < length file.now.header }
-{
-    for byte in &SEPARATORS {
-        if stands_in_each(file, *byte) {
-            warnings.push(Warning::OtherSeparator {
-                file: number,
-                byte: *byte,
-            })?;
+        if seen.has_two_dates() && !seen.all_null {
+            warnings.put(Warning::TwoDates { file: number, col });
+        } else if seen.is_text() && is_too_fine(warnings, candidates, file, col) {
+            warnings.put(Warning::TooFine { file: number, col });
         }
     }
-    Ok(())
 }
 
 /// Adds what there is to look at in the header of the file of that number: whether a cell of it has a value of its column's datatype, and of one column
-/// the byte that may part its fields.
+/// the bytes that may part its fields.
 pub fn header_warnings(
+    warnings: &mut Warnings,
     number: usize,
     file: &IndexedText,
     columns: &[Column],
-    warnings: &mut Vec<Warning>,
-) -> Result<(), AllocError>
+)
     requires width { 0 < length file.now.header }
     requires columns { length columns.now ≡ length file.now.header }
 {
-    let alloc = *warnings.allocator();
     for (col, column) in columns.iter().enumerate() {
-        if is_data(alloc, column, file, col)? {
-            warnings.push(Warning::HeaderIsData { file: number })?;
+        if is_data(warnings, column, file.header(col)) {
+            warnings.put(Warning::HeaderIsData { file: number });
             break;
         }
     }
-    if columns.len() == 1 {
-        return separator_warning(number, file, warnings);
+    if columns.len() != 1 {
+        return;
     }
-    Ok(())
+    for byte in &SEPARATORS {
+        if stands_in_each(file, *byte) {
+            warnings.put(Warning::OtherSeparator {
+                file: number,
+                byte: *byte,
+            });
+        }
+    }
 }

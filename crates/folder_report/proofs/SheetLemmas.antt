@@ -2,7 +2,7 @@
 use Rattle.std.proofs.Common.{◌≡◌, ◌∙◌, ℕ, List, ◌++◌, Result, Ok, Err, OnOk, is_ok, true, false, append_assoc, ap}
 
 -- two texts one after the other
-added-both : (a b c s t : List ℕ) → b ≡ a ++ s → c ≡ b ++ t → c ≡ a ++ (s ++ t)
+pub added-both : (a b c s t : List ℕ) → b ≡ a ++ s → c ≡ b ++ t → c ≡ a ++ (s ++ t)
 added-both a b c s t first second = second ∙ ap (λ (bytes : List ℕ). bytes ++ t) first ∙ append_assoc a s t
 
 -- four of them

@@ -21,7 +21,9 @@ pub fn array_member<'v>(value: &'v Value, name: &str) -> &'v [Value] {
 /// Whether it is a text that one of the objects has as a member.
 pub fn is_among(objects: &[Value], name: &str, text: &Value) -> bool {
     for object in objects {
-        if object.get(name) == Some(text) {
+        if let Some(found) = object.get(name)
+            && *found == *text
+        {
             return text.is_string();
         }
     }

@@ -38,17 +38,22 @@ impl Line {
         }
     }
 
-    /// Appends the number of a line of a file.
-    pub fn push_line(&mut self, number: usize) {
-        self.push("line ");
+    /// Appends a text and a number after it.
+    pub(crate) fn push_with(&mut self, text: &str, number: usize) {
+        self.push(text);
         self.push_number(number);
     }
 
-    /// Appends the number of a line and that of a column.
-    pub fn push_place(&mut self, number: usize, column: usize) {
-        self.push_line(number);
-        self.push(", column ");
-        self.push_number(column);
+    /// Appends the number of a line of a file and that of a column.
+    pub(crate) fn push_place(&mut self, line: usize, column: usize) {
+        self.push_with("line ", line);
+        self.push_with(", column ", column);
+    }
+
+    /// Appends what would be accepted, after what is refused.
+    pub(crate) fn push_accepted(&mut self, accepted: &str) {
+        self.push("; accepted: ");
+        self.push(accepted);
     }
 
     /// Appends a text that was made for it.

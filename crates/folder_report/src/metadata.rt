@@ -18,24 +18,29 @@ struct Place {
     column: Option<usize>,
 }
 
-/// Appends the path of a member, or of what is looked at where the key is empty.
-fn push_path(line: &mut Line, place: Place, key: &str) {
-    if place.table.is_none() && !place.in_schema {
-        return line.push(if key.is_empty() { "all of it" } else { key });
-    }
-    if let Some(i) = place.table {
-        line.push("tables[");
-        line.push_number(i);
+/// Appends what stands in a path before the members of an item of an array, where it is one.
+fn push_item(line: &mut Line, array: &str, number: Option<usize>) {
+    if let Some(i) = number {
+        line.push_with(array, i);
         line.push("].");
     }
+}
+
+/// Appends the path of a member, or of what is looked at where the key is empty.
+fn push_path(line: &mut Line, place: Place, key: &str) {
+    let key = match place {
+        Place {
+            table: None,
+            in_schema: false,
+            ..
+        } if key.is_empty() => "all of it",
+        _ => key,
+    };
+    push_item(line, "tables[", place.table);
     if place.in_schema {
         line.push("tableSchema.");
     }
-    if let Some(i) = place.column {
-        line.push("columns[");
-        line.push_number(i);
-        line.push("].");
-    }
+    push_item(line, "columns[", place.column);
     line.push(key);
     if key.is_empty() {
         line.text.pop(); // the point before no key
@@ -53,9 +58,7 @@ fn refuse(report: &mut Report, place: Place, fault: MetaFault, key: &str, value:
         Ok(json) => line.push_made(cut(alloc, json.as_str())),
         Err(_) => line.is_short = true,
     }
-    line.push("; accepted: ");
-    line.push(accepted);
-    report.put(line);
+    report.put_accepted(line, accepted);
 }
 
 /// Refuses all of what is looked at.
@@ -82,15 +85,13 @@ fn column(report: &mut Report, place: Place, earlier: &[Value], value: &Value) {
         return refuse_all(report, place, MetaFault::NotObject, value);
     }
     let key = "name";
-    let name = member(value, key);
-    if name.is_none() {
+    let Some(name) = member(value, key) else {
         let key = report.owned(key);
         refuse_all(report, place, MetaFault::Unsupported { key }, value);
-    }
+        return members(report, place, IN_COLUMN, value);
+    };
     members(report, place, IN_COLUMN, value);
-    if let Some(name) = name
-        && is_among(earlier, key, name)
-    {
+    if is_among(earlier, key, name) {
         refuse(report, place, MetaFault::DuplicateName, key, name);
     }
 }
@@ -129,11 +130,11 @@ fn schema(report: &mut Report, table: Option<usize>, value: &Value) {
     }
 }
 
-/// A table after the earlier ones of its group, which has a schema for those without one or not; or one that stands alone.
+/// A table after the earlier ones of its group, with the schema of the group where that has one; or one that stands alone.
 fn table(
     report: &mut Report,
     number: Option<usize>,
-    has_schema: bool,
+    shared: Option<&Value>,
     earlier: &[Value],
     value: &Value,
 ) {
@@ -160,15 +161,19 @@ fn table(
     members(report, place, IN_TABLE, value);
     match member(value, "tableSchema") {
         Some(own) => schema(report, number, own),
-        None if has_schema => {}
-        None => refuse_all(report, place, MetaFault::NoColumns, value),
+        None => match shared {
+            Some(_) => {}
+            None => refuse_all(report, place, MetaFault::NoColumns, value),
+        },
     }
 }
 
 /// Whether some of the tables have no schema of their own.
 fn lack_schema(tables: &[Value]) -> bool {
     for table in tables {
-        if table.is_object() && member(table, "tableSchema").is_none() {
+        if table.is_object()
+            && let None = member(table, "tableSchema")
+        {
             return true;
         }
     }
@@ -197,9 +202,8 @@ fn group(report: &mut Report, value: &Value) {
     {
         schema(report, None, shared);
     }
-    let has_schema = shared.is_some();
     for (i, item) in tables.iter().enumerate() {
-        table(report, Some(i), has_schema, &tables[..i], item);
+        table(report, Some(i), shared, &tables[..i], item);
     }
 }
 
@@ -207,7 +211,7 @@ fn group(report: &mut Report, value: &Value) {
 fn metadata(report: &mut Report, value: &Value) {
     match member(value, "tables") {
         Some(_) => group(report, value),
-        None => table(report, None, false, &[], value),
+        None => table(report, None, None, &[], value),
     }
 }
 
@@ -218,9 +222,7 @@ fn refuse_no_json(report: &mut Report, error: &serde_json::Error) {
     }
     let mut line = report.begin(LoadFault::Meta(MetaFault::NotJson));
     line.push_place(error.line(), error.column());
-    line.push("; accepted: ");
-    line.push(accepted_metadata(&MetaFault::NotJson));
-    report.put(line);
+    report.put_accepted(line, accepted_metadata(&MetaFault::NotJson));
 }
 
 /// Adds all that is refused of a metadata text, each with its path there, what stands at it, and what would be accepted.

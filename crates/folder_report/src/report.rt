@@ -66,6 +66,13 @@ impl Report {
         }
     }
 
+    /// Adds a line, with what would be accepted after what it tells.
+    pub(crate) fn put_accepted(&mut self, line: Line, accepted: &str) {
+        let mut line = line;
+        line.push_accepted(accepted);
+        self.put(line);
+    }
+
     /// The lines of a folder that is refused for that cause, at most [`MOST_REFUSALS`]: the first begins with the cause, as the service tells it, and the others follow
     /// in their order.
     pub fn end(self, cause: &LoadFault) -> Result<Vec<String>, AllocError>

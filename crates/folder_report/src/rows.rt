@@ -31,13 +31,12 @@ fn push_cell(line: &mut Line, column: &Column, field: Raw<'_>, fault: CellFault)
 pub fn refuse_cells(report: &mut Report, file: &TableFile<'_>)
     requires { FitsFile file.now.index.now file.now.text.now }
 {
-    let width = file.index.width();
+    let columns = file.schema.columns.as_slice();
+    let width = file.index.width().min(columns.len());
     let mut number = file.line_of(0);
     for row in 0..file.index.rows() {
-        for (col, column) in file.schema.columns.iter().enumerate() {
-            if col >= width {
-                return;
-            }
+        for col in 0..width {
+            let column = &columns[col];
             let field = file.index.cell(file.text, row, col);
             if let Some(fault) = cell_value(report.alloc, column, field).err() {
                 let table = report.owned(file.schema.url.as_str());
@@ -54,7 +53,7 @@ pub fn refuse_cells(report: &mut Report, file: &TableFile<'_>)
             number = line_after(number, field.bytes.as_bytes());
         }
         if report.is_full() {
-            return;
+            break;
         }
         number = number.saturating_add(1);
     }
@@ -93,10 +92,11 @@ fn push_key_column(
     requires bytes { FitsFile file.now.index.now file.now.text.now }
     requires row { row < file.now.index.now.rows }
 {
-    let column = match file.schema.columns.get(col) {
-        Some(column) if col < file.index.width() => column,
-        _ => return true,
-    };
+    let columns = file.schema.columns.as_slice();
+    if col >= file.index.width().min(columns.len()) {
+        return true;
+    }
+    let column = &columns[col];
     if matches!(part, KeyPart::Names) {
         line.push(column.name.as_str());
         return false;
@@ -114,17 +114,17 @@ fn push_key_column(
     }
 }
 
-/// Appends what is told of the key of a row. Whether it has a null.
-fn push_key(line: &mut Line, file: &TableFile<'_>, row: usize, part: KeyPart) -> bool
+/// Appends what is told of the key of a row, after a text. Whether it has a null.
+fn push_key(line: &mut Line, before: &str, file: &TableFile<'_>, row: usize, part: KeyPart) -> bool
     requires bytes { FitsFile file.now.index.now file.now.text.now }
     requires row { row < file.now.index.now.rows }
 {
     let mut has_null = false;
-    let mut comma = "";
+    let mut before = before;
     for place in &file.schema.key {
-        line.push(comma);
+        line.push(before);
         has_null |= push_key_column(line, file, row, part, *place);
-        comma = ", ";
+        before = ", ";
     }
     has_null
 }
@@ -139,18 +139,14 @@ fn refuse_key(report: &mut Report, file: &TableFile<'_>, row: usize, earlier: Op
         None => LoadFault::KeyNull { table, row },
         Some(_) => LoadFault::KeyTwice { table, row },
     });
-    line.push_line(file.line_of(row));
-    line.push(", key ");
-    push_key(&mut line, file, row, KeyPart::Names);
-    line.push(": ");
-    push_key(&mut line, file, row, KeyPart::Values);
+    line.push_with("line ", file.line_of(row));
+    push_key(&mut line, ", key ", file, row, KeyPart::Names);
+    push_key(&mut line, ": ", file, row, KeyPart::Values);
     match earlier {
         None => line.push("; accepted: a value in each column of the key"),
         Some(earlier) => {
-            line.push(" is the key of row ");
-            line.push_number(earlier);
-            line.push(", ");
-            line.push_line(file.line_of(earlier));
+            line.push_with(" is the key of row ", earlier);
+            line.push_with(", line ", file.line_of(earlier));
             line.push(", too; accepted: a key that no other row has");
         }
     }
@@ -164,20 +160,15 @@ pub fn refuse_keys(report: &mut Report, file: &TableFile<'_>)
     let mut firsts = BTreeMap::new(report.alloc);
     for row in 0..file.index.rows() {
         let mut key = Line::new(report.alloc);
-        let has_null = push_key(&mut key, file, row, KeyPart::WholeValues);
+        let has_null = push_key(&mut key, "", file, row, KeyPart::WholeValues);
+        let first = firsts.get(&key.text).copied().unwrap_or(row);
         report.is_short |= key.is_short;
-        let Ok(entry) = firsts.entry(key.text) else {
-            report.is_short = true;
+        report.is_short |= firsts.insert(key.text, first).is_err();
+        if has_null || first != row && !report.is_full() {
+            refuse_key(report, file, row, (!has_null).then_some(first));
+        }
+        if has_null && report.is_full() {
             break;
-        };
-        let first = *entry.or_insert(row);
-        if has_null {
-            refuse_key(report, file, row, None);
-            if report.is_full() {
-                break;
-            }
-        } else if first != row && !report.is_full() {
-            refuse_key(report, file, row, Some(first));
         }
     }
 }

@@ -22,18 +22,16 @@ fn refuse_widths(report: &mut Report, url: &str, bytes: &[u8]) {
     let (_, wanted) = records.next_record();
     for row in 0..bytes.len() {
         if records.at >= bytes.len() || report.is_full() {
-            return;
+            break;
         }
         let (line, fields) = records.next_record();
         if fields != wanted {
             let table = report.owned(url);
             let fault = TextFault::Width { row };
             let mut told = report.begin(LoadFault::Text { table, fault });
-            told.push_line(line);
-            told.push(": fields ");
-            told.push_number(fields);
-            told.push("; accepted: ");
-            told.push_number(wanted);
+            told.push_with("line ", line);
+            told.push_with(": fields ", fields);
+            told.push_with("; accepted: ", wanted);
             told.push(", as the header has");
             if fields == wanted.saturating_add(1) {
                 told.push(
@@ -53,10 +51,8 @@ fn refuse_text(report: &mut Report, url: &str, bytes: &[u8], fault: TextFault) {
     let table = report.owned(url);
     let mut line = report.begin(LoadFault::Text { table, fault });
     let before = place_of(fault).min(bytes.len());
-    line.push_line(line_after(1, &bytes[..before]));
-    line.push("; accepted: ");
-    line.push(accepted_file(fault));
-    report.put(line);
+    line.push_with("line ", line_after(1, &bytes[..before]));
+    report.put_accepted(line, accepted_file(fault));
 }
 
 /// Whether a column may have that header: its name, or one of its titles.
@@ -153,8 +149,7 @@ fn refuse_bytes(report: &mut Report, schema: &Schema, bytes: &[u8]) {
 fn refuse_large(report: &mut Report, url: &str) {
     let table = report.owned(url);
     let mut line = report.begin(LoadFault::FileTooLarge { table });
-    line.push("accepted: ");
-    line.push_number(MOST_FILE_BYTES as usize);
+    line.push_with("accepted: ", MOST_FILE_BYTES as usize);
     line.push(" bytes at most");
     report.put(line);
 }

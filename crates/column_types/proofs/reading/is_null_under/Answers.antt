@@ -11,30 +11,30 @@ use Rattle.column_types.proofs.ReadingLemmas.{has_value_by, value-read}
 use Rattle.column_types.proofs.SeenLemmas.{place-reads, place-within}
 use Rattle.column_types.proofs.reading.is_null_under.Goals as goal
 
-pub returns-in-IsNull-clause-null : goal.returns-in-IsNull-clause-null
-returns-in-IsNull-clause-null c =
+pub returns-in-Ok-IsNull-clause-null : goal.returns-in-Ok-IsNull-clause-null
+returns-in-Ok-IsNull-clause-null c =
     let left = c.loop-next.left.items in
     let next = c.loop-next.next in
     let within : next < length left = subst (λ n. next < n) (c.len.ensures ∙ c.loop-next.left.ok.0) c.loop-next-test.true in
-    let reads = place-reads c.args.candidates.now left next _ _ c.args.cell.now _ c.requires.candidates c.loop-next.invariant.places within c.index.ensures c.index-in-loop-next.ensures c.in_ok-reading_in.ensures in
-    sym (reading-null (get_or left next 0) c.args.cell.now (c.loop-next.invariant.places next 0 within) (sym reads ∙ c.in-IsNull.is))
+    let reads = place-reads c.args.candidates.now left next _ _ c.args.cell.now _ c.requires.candidates c.loop-next.invariant.places within c.index.ensures c.index-in-loop-next.ensures c.in-Ok-IsNull.ensures in
+    sym (reading-null (get_or left next 0) c.args.cell.now (c.loop-next.invariant.places next 0 within) (sym reads ∙ c.in-Ok-IsNull.field-0-is))
 
-pub returns-in-IsNull-clause-left : goal.returns-in-IsNull-clause-left
-returns-in-IsNull-clause-left c =
+pub returns-in-Ok-IsNull-clause-left : goal.returns-in-Ok-IsNull-clause-left
+returns-in-Ok-IsNull-clause-left c =
     let left = c.loop-next.left.items in
     let next = c.loop-next.next in
     let within : next < length left = subst (λ n. next < n) (c.len.ensures ∙ c.loop-next.left.ok.0) c.loop-next-test.true in
-    let reads = place-reads c.args.candidates.now left next _ _ c.args.cell.now _ c.requires.candidates c.loop-next.invariant.places within c.index.ensures c.index-in-loop-next.ensures c.in_ok-reading_in.ensures in
-    let null = reading-null (get_or left next 0) c.args.cell.now (c.loop-next.invariant.places next 0 within) (sym reads ∙ c.in-IsNull.is) in
+    let reads = place-reads c.args.candidates.now left next _ _ c.args.cell.now _ c.requires.candidates c.loop-next.invariant.places within c.index.ensures c.index-in-loop-next.ensures c.in-Ok-IsNull.ensures in
+    let null = reading-null (get_or left next 0) c.args.cell.now (c.loop-next.invariant.places next 0 within) (sym reads ∙ c.in-Ok-IsNull.field-0-is) in
     all-left (has_value_at c.args.cell.now) c.args.left.now.items left c.loop-next.invariant.same (null-all left c.args.cell.now c.loop-next.invariant.places null)
 
-pub loop-next-preserved-in-HasValue : goal.loop-next-preserved-in-HasValue
-loop-next-preserved-in-HasValue c =
+pub loop-next-preserved-in-Ok-HasValue : goal.loop-next-preserved-in-Ok-HasValue
+loop-next-preserved-in-Ok-HasValue c =
     let left = c.loop-next.left.items in
     let next = c.loop-next.next in
     let within : next < length left = subst (λ n. next < n) (c.len.ensures ∙ c.loop-next.left.ok.0) c.loop-next-test.true in
-    let reads = place-reads c.args.candidates.now left next _ _ c.args.cell.now _ c.requires.candidates c.loop-next.invariant.places within c.index.ensures c.index-in-loop-next.ensures c.in_ok-reading_in.ensures in
-    let value = reading-value (get_or left next 0) c.args.cell.now (c.loop-next.invariant.places next 0 within) (sym reads ∙ c.in-HasValue.is) in
+    let reads = place-reads c.args.candidates.now left next _ _ c.args.cell.now _ c.requires.candidates c.loop-next.invariant.places within c.index.ensures c.index-in-loop-next.ensures c.in-Ok-HasValue.ensures in
+    let value = reading-value (get_or left next 0) c.args.cell.now (c.loop-next.invariant.places next 0 within) (sym reads ∙ c.in-Ok-HasValue.field-0-is) in
     record {
       same = c.loop-next.invariant.same;
       places = c.loop-next.invariant.places;
@@ -48,8 +48,8 @@ loop-next-preserved c =
     let left = c.loop-next.left.items in
     let next = c.loop-next.next in
     let within : next < length left = subst (λ n. next < n) (c.len.ensures ∙ c.loop-next.left.ok.0) c.loop-next-test.true in
-    let reads = place-reads c.args.candidates.now left next _ _ cell _ c.requires.candidates c.loop-next.invariant.places within c.index.ensures c.index-in-loop-next.ensures c.in_ok-reading_in.ensures in
-    let read : reading_under (datatype_at (get_or left next 0)) cell ≡ _ = sym reads ∙ c.in-HasNone.is in
+    let reads = place-reads c.args.candidates.now left next _ _ cell _ c.requires.candidates c.loop-next.invariant.places within c.index.ensures c.index-in-loop-next.ensures c.in-Ok-HasNone.ensures in
+    let read : reading_under (datatype_at (get_or left next 0)) cell ≡ _ = sym reads ∙ c.in-Ok-HasNone.field-0-is in
     let none : has_value_at cell (get_or left next 0) ≡ false = value-read _ ∙ ap has_value_by read in
     record {
       same = ap (filter (has_value_at cell)) c.remove.ensures.items ∙ filter-without (has_value_at cell) left next within none ∙ c.loop-next.invariant.same;

@@ -5,7 +5,7 @@ use Rattle.column_types.specs.Seen.{flagged}
 use Rattle.column_types.specs.Types.{null_words}
 use Rattle.column_types.proofs.FlagLemmas.{flagged-push}
 use Rattle.column_types.proofs.seen.flagged_words.Goals as goal
-use Rattle.column_types.proofs.seen.flagged_words.Goals.{then-flag+in_ok-from_str+in_ok-push-2, else-flag}
+use Rattle.column_types.proofs.seen.flagged_words.Goals.{then-flag+in_ok-word+in_ok-push-2, else-flag}
 
 pub loop-place-preserved : goal.loop-place-preserved
 loop-place-preserved c =
@@ -13,10 +13,10 @@ loop-place-preserved c =
     let flags = c.args.flags.now in
     let place = c.loop-place.place in
     elim c.if-flag.branch [
-      | then-flag+in_ok-from_str+in_ok-push-2 w ↦
+      | then-flag+in_ok-word+in_ok-push-2 w ↦
           ap (λ ws. map string_bytes ws.items) w.words-is ∙ ap (map string_bytes) w.in_ok-push-2.ensures.items
-          ∙ map-append string_bytes c.loop-place.words.items (w.in_ok-from_str.field-0 ∷ [])
-          ∙ ap (λ word. words ++ word ∷ []) w.in_ok-from_str.ensures.ok
+          ∙ map-append string_bytes c.loop-place.words.items (w.in_ok-word.word ∷ [])
+          ∙ ap (λ word. words ++ word ∷ []) w.in_ok-word.ensures.ok
           ∙ flagged-push words flags place true _ c.loop-place-test.true (omega (arith, c.requires, c.loop-place-test.true)) c.loop-place.invariant
           (sym w.if-flag.true ∙ get_or_default flags place _ _ c.loop-place-test.true) w.null_word.ensures
       | else-flag w ↦

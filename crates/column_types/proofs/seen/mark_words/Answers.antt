@@ -2,7 +2,7 @@ use Rattle.std.proofs.Common.{◌≡◌, true, false, [], get_or, length, arith,
 use Rattle.std.proofs.lemmas.Bool.{eqb-true}
 use Rattle.std.proofs.lemmas.List.{nil_from_length}
 use Rattle.column_types.specs.Types.{is_null_in, null_words, stands_for}
-use Rattle.column_types.proofs.FlagLemmas.{flag-within, kept-done, marked-done, set-left}
+use Rattle.column_types.proofs.FlagLemmas.{kept-done, marked-done, set-left}
 use Rattle.column_types.proofs.ReadingLemmas.{is_null_by, not_null, null-read}
 use Rattle.column_types.proofs.SeenLemmas.{empty-words, null-at, nulls-count}
 use Rattle.column_types.proofs.seen.mark_words.Goals as goal
@@ -20,19 +20,15 @@ loop-place-preserved c =
     let first = c.args.words.now in
     let place = c.loop-place.place in
     let candidates = c.args.candidates.now in
-    let own = ap (λ cs. length cs) c.deref-column-items.ensures.value in
-    let column : c.column-item.result ≡ get_or candidates.nulls.items place c.column-item.result =
-    c.column-item.is ∙ ap (λ cs. get_or cs place c.column-item.result) c.deref-column-items.ensures.value in
     let said : stands_for (get_or null_words place []) cell ≡ is_null_by c.in_ok-reading_in.field-0 =
-    ap (λ column. is_null_in column cell) (sym (null-at candidates place c.column-item.result c.requires.candidates (omega (arith, c.loop-place-test.true, own)) column))
+    ap (λ column. is_null_in column cell) (sym (null-at candidates place _ c.requires.candidates (omega (arith, c.loop-place-test.true, nulls-count candidates c.requires.candidates)) c.index.ensures))
     ∙ null-read _ ∙ ap is_null_by (sym c.in_ok-reading_in.ensures) in
     elim c.match-branch-2.branch [
       | in-IsNull w ↦ record {
         done = λ k less.
             ap (λ ws. get_or ws k false) w.words-is
             ∙ marked-done (λ k. stands_for (get_or null_words k []) cell) first c.loop-place.words place
-            (flag-within candidates c.deref-column-items.result.now c.loop-place.words place c.requires.candidates c.deref-column-items.ensures.value
-            (c.loop-place.auto.words ∙ c.requires.count) c.loop-place-test.true)
+            (omega (arith, c.loop-place-test.true, c.loop-place.auto.words, c.requires.count))
             c.loop-place.invariant.done (said ∙ ap is_null_by w.in-IsNull.is) k less;
         left = λ k less. ap (λ ws. get_or ws k false) w.words-is ∙ set-left first c.loop-place.words place true c.loop-place.invariant.left k less;
       }
@@ -46,9 +42,10 @@ loop-place-preserved c =
     ]
 
 pub returns : goal.returns
-returns c = λ k less. c.loop-place.invariant.done k (omega (arith, less, c.loop-place-test.false, nulls-count c.args.candidates.now c.requires.candidates, ap (λ cs. length cs) c.deref-column-items.ensures.value))
+returns c = λ k less. c.loop-place.invariant.done k (omega (arith, less, c.loop-place-test.false))
+
+pub index-requires : goal.index-requires
+index-requires c = omega (arith, c.loop-place-test.true, nulls-count c.args.candidates.now c.requires.candidates, c.args.candidates.now.nulls.ok.0)
 
 pub bounds-words-place : goal.bounds-words-place
-bounds-words-place c =
-    flag-within c.args.candidates.now c.deref-column-items.result.now c.loop-place.words c.loop-place.place c.requires.candidates c.deref-column-items.ensures.value
-    (c.loop-place.auto.words ∙ c.requires.count) c.loop-place-test.true
+bounds-words-place c = omega (arith, c.loop-place-test.true, c.loop-place.auto.words, c.requires.count)

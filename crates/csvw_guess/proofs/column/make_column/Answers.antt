@@ -3,16 +3,18 @@ use Rattle.std.proofs.Common.{ap, sym, ◌∙◌, length}
 use Rattle.std.specs.Prelude.{string_bytes}
 use Rattle.std.proofs.lemmas.Result.{IfOk-weaker}
 use Rattle.cell_types.specs.Column.{column_view}
-use Rattle.csvw_guess.specs.Names.{names_in, titles_for}
+use Rattle.csvw_guess.specs.Names.{name_after, names_in, titles_for}
 use Rattle.csvw_guess.proofs.PlaceLemmas.{column-drafted, header-says}
 use Rattle.csvw_guess.proofs.column.make_column.Goals as goal
 
 pub returns : goal.returns
 returns c =
-    let said = c.as_str.result.now in
+    let said = string_bytes c.in_ok-cell.cell in
     let name = string_bytes c.in_ok-name.name in
-    let says = header-says c.args.file.now (length c.args.earlier.now) _ c.header.ensures ∙ sym (c.as_str.ensures.value ∙ c.in_ok-cell.ensures.content) in
-    let titled = c.in_ok-titles.ensures ∙ ap (λ n. titles_for n c.as_str-3.result.now) c.as_str-2.ensures.value ∙ ap (titles_for name) (c.as_str-3.ensures.value ∙ sym c.as_str.ensures.value) in
+    let names = names_in c.args.earlier.now in
+    let says = header-says c.args.file.now (length c.args.earlier.now) _ c.header.ensures ∙ sym (c.in_ok-cell.ensures.ok ∙ c.in_ok-text.ensures.content) in
+    let named = c.in_ok-name.ensures ∙ ap (name_after names) c.as_str.ensures.value in
+    let titled = c.in_ok-titles.ensures ∙ ap (λ n. titles_for n said) c.as_str-2.ensures.value in
     IfOk-weaker c.column.result _ _ (λ made e cells known.
-    column-drafted (column_view made) (names_in c.args.earlier.now) name _ said _ cells (e cells known) c.in_ok-name.ensures titled says)
+    column-drafted (column_view made) names name _ said _ cells (e cells known) named titled says)
     c.column.ensures

@@ -24,11 +24,11 @@ loop-seen-preserved c =
     let col = c.loop-seen.seen-index in
     let cells = file_cells col file in
     let columns : List Column = c.loop-seen.columns.items in
-    let made = c.in_ok-make_column.field-0 in
+    let made = c.in_ok-column.column in
     let less : col < length file.header = omega (arith, c.requires.count, c.loop-seen-test.true) in
     let known = subst (λ (seen : Seen). Knows seen cells) (sym c.seen-item.is) (c.requires.cells col c.seen-item.result less) in
     let at : ℕ → List ℕ = λ n. get_or (header_cells file) n [] in
-    let is = c.in_ok-make_column.ensures cells known
+    let is = c.in_ok-column.ensures cells known
     ∙ ap (λ (earlier : List Column). draft_column (name_after (names_in earlier) (at (length earlier))) (at (length earlier)) cells) c.as_slice.ensures.value
     ∙ ap (λ n. draft_column (name_after (names_in columns) (at n)) (at n) cells) c.loop-seen.invariant.count in
     record {

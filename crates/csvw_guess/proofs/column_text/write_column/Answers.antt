@@ -16,7 +16,7 @@ returns c =
     let none = c.is_empty.ensures ∙ ap (λ n. n == 0) (sym (length-map c.as_slice-titles.result.now string_bytes)) ∙ ap (λ texts. length (map string_bytes texts) == 0) c.as_slice-titles.ensures.value in
     let no_nulls = c.is_empty_text_alone.ensures ∙ ap (λ texts. is_empty_text_alone (map string_bytes texts)) c.as_slice-nulls.ensures.value in
     let no_default = c.is_empty-2.ensures ∙ ap (λ (text : List ℕ). length text == 0) c.as_str-default.ensures.value in
-    let name = writes-more c.put_all.ensures (writes-same (ap (λ text. token.string text ∷ []) c.deref.ensures) c.put.ensures) in
+    let name = writes-more c.put_all.ensures (writes-same (ap (λ text. token.string text ∷ []) c.deref.ensures) c.put_text.ensures) in
     let titles = field-same (codes "titles") none (ap (λ texts. texts_json (map string_bytes texts)) c.as_slice-titles.ensures.value) c.put_texts_unless.ensures in
     let nulls = field-same (codes "null") no_nulls (ap (λ texts. texts_json (map string_bytes texts)) c.as_slice-nulls.ensures.value) c.put_texts_unless-2.ensures in
     let default : Writes c.put_texts_unless-2.new.self (field_tokens (codes "default", unless (length column.default == 0) (string column.default))) c.if-not-is_empty.out =
@@ -24,7 +24,7 @@ returns c =
       | then-not-is_empty w ↦
           said (codes "default") (string column.default) (sym no_default ∙ w.if-not-is_empty.true) w.out-is
           (writes-more w.put_all-then-not-is_empty.ensures
-          (writes-same (ap (λ text. token.string text ∷ []) c.as_str-default.ensures.value) w.put-then-not-is_empty.ensures))
+          (writes-same (ap (λ text. token.string text ∷ []) c.as_str-default.ensures.value) w.put_text-then-not-is_empty.ensures))
       | else-not-is_empty w ↦ left-out (codes "default") (string column.default) (sym no_default ∙ w.if-not-is_empty.false) w.out-is
     ] in
     let required : Writes c.if-not-is_empty.out (field_tokens (codes "required", unless (not column.required) (boolean true))) c.if-column.out =
@@ -33,4 +33,4 @@ returns c =
       | else-column w ↦ left-out (codes "required") (boolean true) (ap not w.if-column.false) w.out-is
     ] in
     let cells = writes-more c.put_all-2.ensures (writes-more c.write_datatype.ensures (writes-more nulls (writes-more default (writes-more required (writes-nothing _))))) in
-    object-end [] (column_fields column) (writes-more name (writes-more titles cells)) c.put-2.ensures
+    object-end [] (column_fields column) (writes-more name (writes-more titles cells)) c.put.ensures

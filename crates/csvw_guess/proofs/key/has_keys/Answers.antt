@@ -6,7 +6,8 @@ use Rattle.std.proofs.lemmas.Result.{IfErr-weaker, IfOk-weaker}
 use Rattle.cell_types.specs.Column.{ColumnOf, column_view}
 use Rattle.csvw_guess.specs.FirstKey.{cell_keys}
 use Rattle.csvw_guess.specs.Table.{are_keys, file_cells}
-use Rattle.csvw_guess.proofs.FirstKeyLemmas.{and-ok, may-be, may-not-be, takes-keys}
+use Rattle.csvw_guess.proofs.EndLemmas.{and-ok}
+use Rattle.csvw_guess.proofs.FirstKeyLemmas.{may-be, may-not-be, takes-keys}
 use Rattle.csvw_guess.proofs.PlaceLemmas.{first-column}
 use Rattle.csvw_guess.proofs.key.has_keys.Goals as goal
 
@@ -40,8 +41,8 @@ read_keys-read-requires-clause-suits c =
     takes-keys c.in_ok-keys.keys _ (map column_view items) (column_view c.index-column.result.now) c.requires.key
     (first-column items c.index-column.result.now some c.index-column.ensures) c.in_ok-keys.ensures.suits
 
-pub returns : goal.returns
-returns c =
+pub returns-in-Ok : goal.returns-in-Ok
+returns-in-Ok c =
     let items = c.args.schema.now.columns.items in
     let cells = file_cells 0 c.args.file.now in
     let first = column_view c.index-column.result.now in
@@ -53,7 +54,7 @@ returns c =
     let both = sym at_column ∙ e in
     let same : first ≡ column = cc in
     c.is_ok.ensures.value
-    ∙ may-be c.in_ok-found.found first cells (sym c.has_key_type.ensures ∙ c.if-not-has_key_type.false)
-    (IfOk-weaker c.in_ok-found.found _ _ (λ k f. f keys read) c.in_ok-found.ensures.keys)
-    (IfErr-weaker c.in_ok-found.found _ _ (λ fault f. f keys read) c.in_ok-found.ensures.fault)
+    ∙ may-be c.in-Ok.found first cells (sym c.has_key_type.ensures ∙ c.if-not-has_key_type.false)
+    (IfOk-weaker c.in-Ok.found _ _ (λ k f. f keys read) c.in-Ok.ensures.keys)
+    (IfErr-weaker c.in-Ok.found _ _ (λ fault f. f keys read) c.in-Ok.ensures.fault)
     ∙ ap (λ column. are_keys column cells) same)

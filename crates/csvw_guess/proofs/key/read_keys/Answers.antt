@@ -27,8 +27,8 @@ pub first_field-raw-requires-clause-enough : goal.first_field-raw-requires-claus
 first_field-raw-requires-clause-enough c =
     (row-at c.args.file.now c.width.result c.loop-row.fields c.loop-row.row (omega arith) c.width.ensures.rows c.loop-row.invariant.passed).enough
 
-pub read-requires-clause-suits : goal.read-requires-clause-suits
-read-requires-clause-suits c =
+pub read-read-requires-clause-suits : goal.read-read-requires-clause-suits
+read-read-requires-clause-suits c =
     subst (λ values. TakesKey c.loop-row.keys (row_key (0 ∷ []) (map value_view values))) (sym c.from_ref.ensures.value)
     (subst (λ v. TakesKey c.loop-row.keys (v ∷ [])) (sym c.in_ok-value.ensures)
     (c.loop-row.invariant.suits (raw_content (raw_view c.first_field-raw.result))))
@@ -43,11 +43,11 @@ loop-row-preserved c =
     let says = first-says file c.width.result c.loop-row.fields row (raw_view c.first_field-raw.result) (omega (arith, c.width.ensures.header, c.requires.width)) at c.first_field-raw.ensures.first in
     record {
       passed = c.first_field-raw.ensures.passed ∙ at.behind;
-      keys = read-more c.loop-row.keys c.read.new.self (column_view c.args.column.now) cells row (raw_content (raw_view c.first_field-raw.result)) (value_view c.in_ok-value.value) within says
+      keys = read-more c.loop-row.keys c.read-read.new.self (column_view c.args.column.now) cells row (raw_content (raw_view c.first_field-raw.result)) (value_view c.in_ok-value.value) within says
           c.in_ok-value.ensures c.loop-row.invariant.keys
-          (λ rows count has. subst (λ values. HasRead c.read.new.self (row_keys (0 ∷ []) (rows ++ map value_view values ∷ []))) c.from_ref.ensures.value
+          (λ rows count has. subst (λ values. HasRead c.read-read.new.self (row_keys (0 ∷ []) (rows ++ map value_view values ∷ []))) c.from_ref.ensures.value
           (c.in_ok-read.ensures.read rows count has));
-      suits = λ cell. c.read.ensures.suits _ (c.loop-row.invariant.suits cell);
+      suits = λ cell. c.read-read.ensures.suits _ (c.loop-row.invariant.suits cell);
     }
 
 pub returns : goal.returns

@@ -14,7 +14,7 @@ loop-place-preserved c =
     let at = c.loop-place.place-index in
     array-more string (name_at (map column_view c.args.columns.now)) places at (get_or places at 0) (key (codes "primaryKey") ∷ begin_array ∷ [])
     c.loop-place-test.true (sym (get_or_default_zero places at (get_or places at 0) c.loop-place-test.true)) c.loop-place.invariant
-    (writes-same (ap (λ text. token.string text ∷ []) c.name_at.ensures) c.put.ensures)
+    (writes-same (ap (λ text. token.string text ∷ []) c.name_at.ensures) c.put_text.ensures)
 
 pub returns-then-is_empty : goal.returns-then-is_empty
 returns-then-is_empty c = rw (sym c.is_empty.ensures ∙ c.if-is_empty.true) (writes-nothing c.args.out.now)
@@ -23,4 +23,4 @@ pub returns : goal.returns
 returns c =
     rw (sym c.is_empty.ensures ∙ c.if-is_empty.false)
     (array-end string (name_at (map column_view c.args.columns.now)) c.args.places.now c.loop-place.place-index (key (codes "primaryKey") ∷ begin_array ∷ [])
-    c.loop-place-test.false c.loop-place.invariant c.put-2.ensures)
+    c.loop-place-test.false c.loop-place.invariant c.put.ensures)

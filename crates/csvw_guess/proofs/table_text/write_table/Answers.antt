@@ -18,7 +18,7 @@ abbrev begun : List ℕ → List Token
 begun url = begin_object ∷ key (codes "url") ∷ string url ∷ key (codes "tableSchema") ∷ begin_object ∷ key (codes "columns") ∷ begin_array ∷ []
 
 pub loop-column-init : goal.loop-column-init
-loop-column-init c = writes-more (writes-more c.put_all.ensures (writes-same (ap (λ text. string text ∷ []) c.deref.ensures) c.put.ensures)) c.put_all-2.ensures
+loop-column-init c = writes-more (writes-more c.put_all.ensures (writes-same (ap (λ text. string text ∷ []) c.deref.ensures) c.put_text.ensures)) c.put_all-2.ensures
 
 pub loop-column-preserved : goal.loop-column-preserved
 loop-column-preserved c =
@@ -30,7 +30,7 @@ returns c =
     let items = c.as_slice-columns.result.now in
     let schema = c.args.schema.now in
     let at : List Column → SchemaOf = λ columns. record { url = string_bytes schema.url; name = string_bytes schema.name; columns = map column_view columns; key = schema.key.items } in
-    let columns = array-end column_json column_view items c.loop-column.column-index (begun (at items).url) c.loop-column-test.false c.loop-column.invariant c.put-2.ensures in
+    let columns = array-end column_json column_view items c.loop-column.column-index (begun (at items).url) c.loop-column-test.false c.loop-column.invariant c.put.ensures in
     let key = writes-same (ap (λ places. field_tokens (key_field (at items).columns places)) c.deref-2.ensures.value) c.write_key.ensures in
     let members = writes-more columns (writes-more key (writes-nothing _)) in
     writes-same (ap (λ columns. json_tokens (table_json (at columns))) c.as_slice-columns.ensures.value)

@@ -26,4 +26,4 @@ returns-clause-text c =
     writes-same
     (array-inside table_json schema_view schemas c.loop-schema.schema-index front c.loop-schema-test.false ∙ object-ended [] (group_fields (map schema_view schemas)))
     (writes-more c.put_all.ensures (writes-more c.loop-schema.invariant c.put_all-2.ensures)) in
-    c.into_inner.ensures.layout ∙ ap pretty ((all.written c.if-out.false).1 ∙ ap (λ tokens. tokens ++ json_tokens (group_json (map schema_view schemas))) c.new.ensures)
+    c.into_inner-text.ensures.layout ∙ ap pretty ((all.written c.if-is_short.false).1 ∙ ap (λ tokens. tokens ++ json_tokens (group_json (map schema_view schemas))) c.new.ensures)

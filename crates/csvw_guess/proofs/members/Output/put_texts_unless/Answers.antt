@@ -12,7 +12,7 @@ pub loop-text-preserved : goal.loop-text-preserved
 loop-text-preserved c =
     array-more string string_bytes c.args.texts.now c.loop-text.text-index c.text-item.result (key c.args.name.now ∷ begin_array ∷ [])
     c.loop-text-test.true c.text-item.is c.loop-text.invariant
-    (writes-same (ap (λ text. token.string text ∷ []) c.as_str.ensures.value) c.put-in-loop-text.ensures)
+    (writes-same (ap (λ text. token.string text ∷ []) c.as_str.ensures.value) c.put_text.ensures)
 
 pub returns-then-is_plain : goal.returns-then-is_plain
 returns-then-is_plain c = rw c.if-is_plain.true (writes-nothing c.args.self.now)
