@@ -1,5 +1,5 @@
 //! The draft of the metadata of files.
-ghost use Rattle.std.specs.Prelude.{◌≡◌, ◌≤◌, ◌<◌, ◌+◌, [], ◌∷◌, ◌++◌, None, IfOk, IfErr, IfSome, OnOk, MatchOption, length, take};
+ghost use Rattle.std.specs.Prelude.{◌≡◌, ◌≤◌, ◌<◌, ◌+◌, [], ◌∷◌, ◌++◌, false, None, IfOk, IfErr, IfSome, OnOk, MatchOption, length, take};
 ghost use Rattle.csv_index.specs.Index.{IsRawTable};
 ghost use Rattle.csvw_meta.specs.Limits.{limits_view};
 ghost use Rattle.table_store.specs.File.{file_view, files_view};
@@ -146,6 +146,7 @@ fn draft_files(
     requires none { draft.old.schemas.items ≡ [] }
     ensures drafts { OnOk result (AreDrafts (limits_view limits.now) (files_view files.now)
         (schema_views draft.new.schemas.items)) }
+    ensures whole { OnOk result (draft.new.warnings.is_short ≡ false) }
     ensures fault { IfErr result (λ e.
         IfSome (draft_cause e) (HasNoDraft (limits_view limits.now) (files_view files.now))) }
     ensures memory { IfErr result (λ e. draft_cause e ≡ None → e ≡ DraftFault.NoMemory) }

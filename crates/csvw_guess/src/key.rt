@@ -85,6 +85,7 @@ fn read_keys(
         let raw = first_field(&mut fields, file.width());
         let value = key_value(alloc, column, raw)?;
         let read = keys.read(alloc, &[0], row, from_ref(&value));
+        // the value goes in one place, whether its key was read or not
         drop(value);
         read?;
     }

@@ -1,5 +1,5 @@
 //! What the publisher of a table should look at.
-ghost use Rattle.std.specs.Prelude.{◌≡◌, ◌<◌, length};
+ghost use Rattle.std.specs.Prelude.{◌≡◌, ◌<◌, ◌++◌, ◌∷◌, ◌⊎◌, [], length, true};
 ghost use Rattle.column_types.specs.Kinds.{AreCandidates};
 
 use crate::fault::Warning;
@@ -22,8 +22,12 @@ pub struct Warnings {
 }
 
 impl Warnings {
-    /// One more.
-    pub fn put(&mut self, warning: Warning) {
+    /// One more, or memory runs out.
+    pub fn put(&mut self, warning: Warning)
+        ensures { (self.new.is_short ≡ true)
+            ⊎ ((self.new.is_short ≡ self.old.is_short)
+            × (self.new.list.items ≡ self.old.list.items ++ warning ∷ [])) }
+    {
         if self.list.push(warning).is_err() {
             self.is_short = true;
         }
