@@ -9,4 +9,5 @@ pub mod Decimal
 pub mod Fault
 pub mod Cell
 pub mod Laws
+pub mod Worked
 pub mod Rows

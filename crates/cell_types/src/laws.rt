@@ -3,6 +3,7 @@ ghost use Rattle.std.specs.Prelude.{◌≡◌};
 ghost use Rattle.cell_types.specs.declared.value.Value.{Value};
 ghost use Rattle.cell_types.specs.Laws.{DatesReadBack, DecimalsReadBack, IntegersReadBack, MemoryIsNoCause, NormalTexts, StringsHaveValues, TextsAreInOrder, ValuesAreOrdered, ValuesFitColumns};
 ghost use Rattle.cell_types.specs.Value.{value_cmp, value_eq, value_view};
+ghost use Rattle.cell_types.specs.Worked.{WorkedCells};
 
 use crate::value::Value as CellValue;
 use std::hash::Hash;
@@ -40,6 +41,11 @@ pub fn dates_read_back()
 /// The text of a decimal reads as that decimal.
 pub fn decimals_read_back()
     ensures { DecimalsReadBack }
+{}
+
+/// States texts of cells with their values and faults, worked out by hand.
+pub fn worked_cells()
+    ensures { WorkedCells }
 {}
 
 /// Values are in one order, with null first.

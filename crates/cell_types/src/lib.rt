@@ -22,7 +22,7 @@ pub use fault::CellFault;
 pub use laws::{
     dates_read_back, decimals_read_back, integers_read_back, memory_is_no_cause, normal_texts,
     strings_have_values, texts_are_in_order, values_are_ordered, values_compare_as_their_views,
-    values_fit_columns,
+    values_fit_columns, worked_cells,
 };
 pub use plain::{read_plain_boolean, read_plain_date, read_plain_decimal};
 pub use value::Value;

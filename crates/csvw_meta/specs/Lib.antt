@@ -13,4 +13,5 @@ pub mod Table
 pub mod Group
 pub mod Document
 pub mod Laws
+pub mod Worked
 pub use Rattle.cell_types.specs.Column as CellColumn

@@ -1,5 +1,6 @@
 //! The laws of the definitions that [`crate::Schemas::read`] cites: each is a theorem, and does nothing.
 ghost use Rattle.csvw_meta.specs.Laws.{AcceptedSchemas, DefaultsAreShort, LevelsAreOfForm, MarkIsDropped, NearestLevel, SchemasOrCause, ProfileSizes, TextsTellFaultsApart};
+ghost use Rattle.csvw_meta.specs.Worked.{WorkedMetadata};
 
 use message_text::{escaped_texts_are_one_line, plain_texts_are_one_line, texts_stay_apart};
 
@@ -49,4 +50,9 @@ pub fn defaults_are_short()
 /// be; and how long a name and a url.
 pub fn sizes()
     ensures { ProfileSizes }
+{}
+
+/// States metadata texts with what they say, and with the first cause against them, worked out by hand.
+pub fn worked_metadata()
+    ensures { WorkedMetadata }
 {}

@@ -24,7 +24,7 @@ pub use fault::MetaFault;
 pub use forms::{is_table_url, table_name};
 pub use laws::{
     accepted_schemas, defaults_are_short, levels_are_of_form, mark_is_dropped, nearest_level,
-    schemas_or_cause, sizes, texts_tell_faults_apart,
+    schemas_or_cause, sizes, texts_tell_faults_apart, worked_metadata,
 };
 pub use limits::{Limits, MOST_COLUMNS, MOST_FILE_BYTES, MOST_TABLES, MOST_TRANSFORMATIONS};
 pub use schema::Schema;

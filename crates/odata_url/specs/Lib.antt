@@ -4,3 +4,4 @@ pub mod OptionName
 pub mod Cuts
 pub mod Target
 pub mod Laws
+pub mod Worked

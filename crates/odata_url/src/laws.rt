@@ -1,5 +1,6 @@
 //! The laws of the definitions that contracts cite: each function here is a theorem, and does nothing.
 ghost use Rattle.odata_url.specs.Laws.{StandsForOctets, PlainStandsForItself, EscapingIsUndone, NamesAnOption, ReadsBack, ReadsTargets, ReadingOrFault};
+ghost use Rattle.odata_url.specs.Worked.{WorkedTargets};
 
 /// A text stands for the octets that it is a percent-encoding of (RFC 3986, section 2.1), and for no others.
 pub fn stands_for_octets()
@@ -35,4 +36,9 @@ pub fn reads_targets()
 /// A target says something or has a first fault, and that is no want of memory: only a call that was refused memory tells it.
 pub fn reading_or_fault()
     ensures { ReadingOrFault }
+{}
+
+/// States names of options and targets with what they say, worked out by hand.
+pub fn worked_targets()
+    ensures { WorkedTargets }
 {}

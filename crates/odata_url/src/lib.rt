@@ -12,7 +12,7 @@ mod target;
 pub use fault::UrlFault;
 pub use laws::{
     escaping_is_undone, names_an_option, plain_stands_for_itself, reading_or_fault, reads_back,
-    reads_targets, stands_for_octets,
+    reads_targets, stands_for_octets, worked_targets,
 };
 pub use option_name::OptionName;
 pub use target::Target;

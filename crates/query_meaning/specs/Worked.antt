@@ -80,6 +80,9 @@ people = typed.number_column numbers.Integer 2
 abbrev pub pop : TypedExprOf
 pop = typed.integer people COLUMN_SIZE
 
+abbrev pub number_of_city : TypedExprOf
+number_of_city = typed.integer ids COLUMN_SIZE
+
 -- an aggregate and its name in the result
 abbrev pub named : List ℕ → Aggregate → NamedAggregateOf
 named alias aggregate = record { alias = alias; aggregate = aggregate }
@@ -134,6 +137,22 @@ pub record WorkedQueries : Type 0 where
   pub faulty : query_meaning schema (record every { filter = Some divided; top = Some 0 }) cities ≡ None
   -- `$skip=1&$select=Id`
   pub skipped : MeansRows (record every { skip = 1; select = Some (0 ∷ []) }) (codes "Id" ∷ []) ((integer (pos 2) ∷ []) ∷ (integer (pos 3) ∷ []) ∷ []) None
+  -- `$skip=1&$top=1&$select=Id`: the first row is left out, and then one is taken
+  pub piece : MeansRows (record every { skip = 1; top = Some 1; select = Some (0 ∷ []) }) (codes "Id" ∷ []) ((integer (pos 2) ∷ []) ∷ []) None
+  -- `$orderby=Id desc&$top=1&$select=Id`: rows are put in order before a piece is taken
+  pub last : MeansRows (record every { order = (number_of_city, true) ∷ []; top = Some 1; select = Some (0 ∷ []) }) (codes "Id" ∷ []) ((integer (pos 3) ∷ []) ∷ []) None
+  -- `$orderby=Pop gt 5 desc,Id desc&$select=Id`: Oslo first; the second item decides between the two others alone
+  pub two_items : MeansRows (record every { order = (typed.truth populous, true) ∷ (number_of_city, true) ∷ []; select = Some (0 ∷ []) }) (codes "Id" ∷ [])
+      ((integer (pos 1) ∷ []) ∷ (integer (pos 3) ∷ []) ∷ (integer (pos 2) ∷ []) ∷ []) None
+  -- `$filter=Pop gt 5&$count=true&$select=Id`, and `/$count?$filter=Pop gt 5`: the rows that pass are counted
+  pub filtered_count : MeansRows (record every { filter = Some populous; count = true; select = Some (0 ∷ []) }) (codes "Id" ∷ []) ((integer (pos 1) ∷ []) ∷ []) (Some 1)
+  pub filtered_number : query_meaning schema (record every { counting = true; filter = Some populous }) cities ≡ Some (number 1)
+  -- `$apply=groupby((Id),aggregate(Pop with sum as S))&$filter=S gt 5&$select=S`: both name columns of what `$apply` gives
+  pub after_apply : MeansRows (record every {
+    apply = group_rows (0 ∷ []) (named (codes "S") (SumOfIntegers 2) ∷ []) ∷ [];
+    filter = Some (typed.compare_numbers GreaterThan (typed.number_column numbers.Integer 1) (typed.number_literal (pos 5)));
+    select = Some (1 ∷ []);
+  }) (codes "S" ∷ []) ((integer (pos 700_000) ∷ []) ∷ []) None
   -- `$count=true&$top=0`
   pub counted : MeansRows (record every { count = true; top = Some 0 }) (codes "Id" ∷ codes "Name" ∷ codes "Pop" ∷ codes "Open" ∷ codes "Since" ∷ []) [] (Some 3)
   -- `$apply=filter(Id gt 9)/aggregate(Pop with max as M,$count as N)`

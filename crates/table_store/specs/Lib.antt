@@ -11,6 +11,7 @@ pub mod Parts
 pub mod Stretches
 pub mod Catalog
 pub mod Laws
+pub mod Worked
 pub use Rattle.csv_grammar.specs.Files
 pub use Rattle.cell_types.specs.Value
 pub use Rattle.cell_types.specs.Column

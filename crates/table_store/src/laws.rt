@@ -1,5 +1,6 @@
 //! The laws of the definitions of tables: each function is a theorem, and does nothing.
 ghost use Rattle.table_store.specs.Laws.{FirstBadCellIsFirst, FirstMismatchIsFirst, KeysOfTables, OneMeaning, SchemasOfTables};
+ghost use Rattle.table_store.specs.Worked.{WorkedTables};
 
 /// A header matches the columns where each cell of it is called as its column is; else the place that is told is the first at which they differ.
 pub fn first_mismatch_is_first()
@@ -31,3 +32,8 @@ pub fn keys_of_tables()
 {
     row_keys::keys_find_rows();
 }
+
+/// States headers, rows, keys and files with what is found in them, worked out by hand.
+pub fn worked_tables()
+    ensures { WorkedTables }
+{}

@@ -26,6 +26,6 @@ pub use fault::LoadFault;
 pub use file::NamedFile;
 pub use laws::{
     first_bad_cell_is_first, first_mismatch_is_first, keys_of_tables, one_meaning,
-    schemas_of_tables,
+    schemas_of_tables, worked_tables,
 };
 pub use table::Table;
