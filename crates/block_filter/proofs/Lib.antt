@@ -1,5 +1,6 @@
 pub mod ConditionLemmas
 pub mod LaneLemmas
 pub mod PassingLemmas
-pub mod InTurnLemmas
+pub mod NarrowLemmas
+pub mod RowLemmas
 pub mod FirstLemmas

@@ -1,86 +1,14 @@
--- Rows that are marked, and those that pass a step.
-use Rattle.std.proofs.Common.{◌≡◌, inl, inr, ℕ, zero, suc, ◌+◌, ◌-◌, ◌<◌, ◌≤◌, Bool, true, false, ◌&&◌, cond, Some, List, [], ◌∷◌, ◌++◌, length, map, take, drop, replicate, get_or, refl, sym, ap, ◌∙◌, subst, arith}
-use Rattle.std.specs.Prelude.{Box, count_by, filter, option_and_then}
+-- Rows that are marked.
+use Rattle.std.proofs.Common.{◌≡◌, inl, inr, ℕ, zero, suc, ◌+◌, ◌-◌, ◌<◌, ◌≤◌, Bool, true, false, cond, List, [], ◌∷◌, ◌++◌, length, take, replicate, get_or, refl, sym, ap, ◌∙◌, subst, arith}
+use Rattle.std.specs.Prelude.{count_by, filter}
 use Rattle.std.specs.List.{All}
 use Rattle.std.proofs.lemmas.Bool.{cases_lt}
-use Rattle.std.proofs.lemmas.List.{append-nil, drop_more, map_push, nil_from_length}
+use Rattle.std.proofs.lemmas.List.{append-nil, map_push}
 use Rattle.std.proofs.lemmas.List.Elements.{All-push}
 use Rattle.std.proofs.lemmas.List.Sums.{length-filter}
-use Rattle.cell_types.specs.Column.{ColumnOf}
-use Rattle.cell_types.specs.Rows.{IsTableRow}
 use Rattle.cell_types.specs.Value.{CellValue}
-use Rattle.typed_trees.specs.declared.tree.TruthExpr.{TruthExpr}
-use Rattle.typed_trees.specs.TypedTree.{boxed_truth, TruthExprOf}
-use Rattle.row_eval.specs.declared.truth.Truth.{Truth}
-use Rattle.row_eval.specs.declared.truth.Truth.TheVariants.{False, Null, True}
-use Rattle.row_eval.specs.Outcome.{both, truth_outcome}
-use Rattle.block_eval.specs.declared.columns.Column.{Column}
-use Rattle.block_eval.specs.Lanes.{truth_lane, AreOutcomesWithin}
-use Rattle.block_summary.specs.Ranges.{RangeOf, AreRangesOf}
-use Rattle.query_meaning.specs.Filter.{passing}
-use Rattle.query_meaning.specs.Laws.{TrueRowsPass}
-use Rattle.block_filter.specs.Lanes.{AreColumnsOf}
 use Rattle.row_columns.specs.Picked.{numbered}
-use Rattle.block_filter.specs.Conditions.{passing_all}
-use Rattle.block_filter.specs.Marks.{is_marked, keeps_row, marked, IsFirstMarked}
-use Rattle.block_filter.proofs.ConditionLemmas.{none_pass}
-
--- ---- a filter on the rows that are marked
-
-one_row : (e : TruthExprOf) (row : List CellValue) (truth : Truth) → truth_outcome e row ≡ Some truth → passing e (row ∷ []) ≡ Some (cond (keeps_row truth) (row ∷ []) [])
-one_row e row True is = rw is refl
-one_row e row False is = rw is refl
-one_row e row Null is = rw is refl
-
--- a row is marked anew just where it was marked and the condition is true on it
-pub record IsNarrowed (e : TruthExprOf) (row : List CellValue) (was now : Bool) : Type 0 where
-  pub out : was ≡ false → now ≡ false
-  pub stays : was ≡ true → (truth : Truth) × (truth_outcome e row ≡ Some truth) × (now ≡ keeps_row truth)
-
-head_passes : (e : TruthExprOf) (row : List CellValue) (was now : Bool) → IsNarrowed e row was now
-    → passing e (cond was (row ∷ []) []) ≡ Some (cond now (row ∷ []) [])
-head_passes e row true now is = let h = is.stays refl in one_row e row h.0 h.1 ∙ ap (λ b. Some (cond b (row ∷ []) [])) (sym h.2)
-head_passes e row false now is = ap (λ b. Some (cond b (row ∷ []) [])) (sym (is.out refl))
-
-marked_head : {X : Type 0} (mark : Bool) (marks : List Bool) (x : X) (xs : List X) → marked (mark ∷ marks) (x ∷ xs) ≡ cond mark (x ∷ []) [] ++ marked marks xs
-marked_head true marks x xs = refl
-marked_head false marks x xs = refl
-
-pub passing_marked : TrueRowsPass → (e : TruthExprOf) (rows : List (List CellValue)) (was now : List Bool) → length was ≡ length rows → length now ≡ length rows
-    → ((row : ℕ) → row < length rows → IsNarrowed e (get_or rows row []) (get_or was row false) (get_or now row false)) → passing e (marked was rows) ≡ Some (marked now rows)
-passing_marked law e [] [] [] h g each = refl
-passing_marked law e [] [] (n ∷ now) h g each = absurd (omega arith)
-passing_marked law e [] (w ∷ was) now h g each = absurd (omega arith)
-passing_marked law e (row ∷ rows) [] now h g each = absurd (omega arith)
-passing_marked law e (row ∷ rows) (w ∷ was) [] h g each = absurd (omega arith)
-passing_marked law e (row ∷ rows) (w ∷ was) (n ∷ now) h g each =
-    ap (passing e) (marked_head w was row rows)
-    ∙ law.parts e (cond w (row ∷ []) []) (marked was rows)
-    ∙ ap (λ front. both (λ xs ys. xs ++ ys) front (passing e (marked was rows))) (head_passes e row w n (each 0 (omega arith)))
-    ∙ ap (both (λ xs ys. xs ++ ys) (Some (cond n (row ∷ []) []))) (passing_marked law e rows was now (omega arith) (omega arith) (λ k i. each (suc k) (omega arith)))
-    ∙ ap (λ xs. Some xs) (sym (marked_head n now row rows))
-
--- what the truths of a block leave of the rows that were wanted
-pub narrowed_by : (e : TruthExprOf) (schema : List ColumnOf) (rows : List (List CellValue)) (ranges : List RangeOf) (columns : List Column) (was now : List Bool) (truths : List Truth) → AreColumnsOf rows columns
-    → All (IsTableRow schema) rows → AreRangesOf ranges rows → AreOutcomesWithin e ranges columns was truths → length was ≡ length rows → ((row : ℕ) → row < length was → get_or now row false ≡ (get_or was row false && keeps_row (truth_lane truths row)))
-    → (row : ℕ) → row < length rows → IsNarrowed e (get_or rows row []) (get_or was row false) (get_or now row false)
-narrowed_by e schema rows ranges columns was now truths are fit within outcomes long each row h =
-    let inside : row < length was = omega arith in
-    let is = each row inside in
-    record {
-      out = λ unmarked. is ∙ ap (λ b. b && keeps_row (truth_lane truths row)) unmarked;
-      stays = λ marked_is. (
-        truth_lane truths row,
-        outcomes.each row (get_or rows row []) marked_is (are row h) (record { rows = rows; row = row; are_ranges = within; within = h; cells_are = refl; columns = schema; fits = fit row [] h }),
-        is ∙ ap (λ b. b && keeps_row (truth_lane truths row)) marked_is,
-      );
-    }
-
-pub filter_narrows : TrueRowsPass → (e : TruthExprOf) (schema : List ColumnOf) (rows : List (List CellValue)) (ranges : List RangeOf) (columns : List Column) (was now : List Bool) (truths : List Truth) → AreColumnsOf rows columns
-    → All (IsTableRow schema) rows → AreRangesOf ranges rows → AreOutcomesWithin e ranges columns was truths → length was ≡ length rows → length now ≡ length was
-    → ((row : ℕ) → row < length was → get_or now row false ≡ (get_or was row false && keeps_row (truth_lane truths row))) → passing e (marked was rows) ≡ Some (marked now rows)
-filter_narrows law e schema rows ranges columns was now truths are fit within outcomes long same each =
-    passing_marked law e rows was now long (same ∙ long) (narrowed_by e schema rows ranges columns was now truths are fit within outcomes long each)
+use Rattle.block_filter.specs.Marks.{is_marked, marked, IsFirstMarked}
 
 -- ---- all rows, and rows by their numbers
 
@@ -180,19 +108,3 @@ marked_filtered (false ∷ marks) (x ∷ xs) h = marked_filtered marks xs (omega
 
 pub marked_count : {X : Type 0} (marks : List Bool) (xs : List X) → length marks ≡ length xs → length (marked marks xs) ≡ count_by is_marked marks
 marked_count marks xs h = marked_filtered marks xs h ∙ length-filter is_marked marks
-
--- ---- conditions in turn
-
--- where no row is wanted, conditions leave as many
-pub none_wanted : (es : List TruthExprOf) (wanted : List Bool) (rows : List (List CellValue)) → length wanted ≡ length rows → count_by is_marked wanted ≡ 0
-    → passing_all es (marked wanted rows) ≡ Some (marked wanted rows)
-none_wanted es wanted rows long none =
-    let empty : marked wanted rows ≡ [] = nil_from_length (marked wanted rows) (marked_count wanted rows long ∙ none) in
-    ap (passing_all es) empty ∙ none_pass es ∙ ap (λ xs. Some xs) (sym empty)
-
-pub next_condition : {A : Type 0} (conditions : List (Box TruthExpr A)) (i : ℕ) (condition : Box TruthExpr A) (rows : List (List CellValue)) (was now : List Bool)
-    → i < length conditions → condition ≡ get_or conditions i condition → passing (boxed_truth condition) (marked was rows) ≡ Some (marked now rows)
-    → passing_all (map boxed_truth (drop i conditions)) (marked was rows) ≡ passing_all (map boxed_truth (drop (i + 1) conditions)) (marked now rows)
-next_condition conditions i condition rows was now h at is =
-    ap (λ cs. passing_all (map boxed_truth cs) (marked was rows)) (drop_more conditions i condition h ∙ ap (λ c. c ∷ drop (i + 1) conditions) (sym at))
-    ∙ ap (option_and_then (passing_all (map boxed_truth (drop (i + 1) conditions)))) is

@@ -1,22 +1,15 @@
 -- The rows of a block that pass conditions (OData 4.01 URL Conventions, section 5.1.2).
-use Rattle.std.specs.Prelude.{◌≡◌, ◌<◌, ◌∷◌, [], ℕ, Bool, Option, Some, None, List, count_by, if◌then◌else◌, length, option_map, take}
-use Rattle.std.specs.List.{All}
+use Rattle.std.specs.Prelude.{◌≡◌, ◌<◌, ◌&&◌, [], ℕ, Bool, false, Option, Some, None, List, count_by, if◌then◌else◌, length, option_map, slice_index_or}
+use Rattle.std.specs.List.{All, list_any}
 use Rattle.cell_types.specs.Value.{CellValue}
 use Rattle.typed_trees.specs.TypedTree.{TruthExprOf}
 use Rattle.row_columns.specs.Picked.{numbered}
 use Rattle.query_meaning.specs.Meaning.{first_rows}
-use Rattle.query_meaning.specs.Filter.{passes_each}
+use Rattle.query_meaning.specs.Filter.{faults, passes, passes_each}
 use Rattle.block_filter.specs.declared.block.Passed.{Passed}
-use Rattle.block_filter.specs.declared.in_turn.InTurn.{InTurn}
-use Rattle.block_filter.specs.declared.in_turn.Fate.{Fate}
-use Rattle.block_filter.specs.declared.in_turn.Fate.TheVariants.{Kept, Dropped, Faulted}
+use Rattle.block_filter.specs.declared.passing.Narrowed.{Narrowed}
 use Rattle.block_filter.specs.Conditions.{passing_all}
-
--- what is left of a row
-abbrev pub fate_rows : Fate → List CellValue → Option (List (List CellValue))
-fate_rows Kept row = Some (row ∷ [])
-fate_rows Dropped row = Some []
-fate_rows Faulted row = None
+use Rattle.block_filter.specs.Marks.{marked}
 
 -- rows, unless a condition divided by zero
 abbrev pub unless_faulted : Bool → List (List CellValue) → Option (List (List CellValue))
@@ -31,14 +24,13 @@ pub record ArePassing (es : List TruthExprOf) (most : Option ℕ) (rows : List (
 
 -- ---- inside
 
--- the numbers of all of these rows
-pub record AreAllPassing (es : List TruthExprOf) (rows : List (List CellValue)) (found : InTurn) : Type 0 where
-  pub passed : passing_all es rows ≡ unless_faulted found.faulted (numbered found.numbers.items rows)
-  pub within : All (λ n. n < length rows) found.numbers.items
-  pub count : length found.numbers.items ≡ count_by (passes_each es) rows
+-- of the rows that were wanted those are wanted on which a condition is true; it divides by zero on one of them, or on none
+pub record Narrows (e : TruthExprOf) (rows : List (List CellValue)) (was now : List Bool) (faulted : Bool) : Type 0 where
+  pub each : (row : ℕ) → row < length rows → slice_index_or now row false ≡ (slice_index_or was row false && passes e (slice_index_or rows row []))
+  pub faulted_is : faulted ≡ list_any (faults e) (marked was rows)
 
--- the first of them, and how many there are
-pub record AreFirstOf (all : InTurn) (most : ℕ) (found : Passed) : Type 0 where
-  pub numbers_are : found.numbers.items ≡ take most all.numbers.items
-  pub count_is : found.count ≡ length all.numbers.items
-  pub faulted_is : found.faulted ≡ all.faulted
+-- the rows on which all conditions are true are wanted, and they are as many as pass each; one of the conditions divides by zero in turn, or none
+pub record IsNarrowedBy (es : List TruthExprOf) (rows : List (List CellValue)) (left : Narrowed) : Type 0 where
+  pub long : length left.wanted.items ≡ length rows
+  pub passed : passing_all es rows ≡ unless_faulted left.faulted (marked left.wanted.items rows)
+  pub count : count_by (passes_each es) rows ≡ length (marked left.wanted.items rows)

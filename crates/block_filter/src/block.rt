@@ -5,12 +5,10 @@ ghost use Rattle.cell_types.specs.Value.{CellValue};
 ghost use Rattle.typed_trees.specs.TypedTree.{boxed_truth};
 ghost use Rattle.query_meaning.specs.Meaning.{first_rows};
 ghost use Rattle.block_filter.specs.Conditions.{ConditionsFit};
-ghost use Rattle.block_filter.specs.Passing.{AreFirstOf, ArePassing};
+ghost use Rattle.block_filter.specs.Passing.{ArePassing};
 
-use crate::in_turn::{InTurn, passing_in_turn};
 use crate::lanes::Lanes;
-use crate::passing::{count_of, numbers_of, passing_rows};
-use block_eval::Fallback;
+use crate::passing::{Narrowed, count_of, numbers_of, passing_rows};
 use std::alloc::{AllocError, Global};
 use table_store::Block;
 use typed_trees::TruthExpr;
@@ -37,24 +35,8 @@ fn limit_of(most: Option<u64>, rows: usize) -> usize
     }
 }
 
-/// The first rows of those that were found.
-fn first_of(found: InTurn, most: usize) -> Passed
-    ensures { AreFirstOf found most result }
-{
-    let InTurn { numbers, faulted } = found;
-    let mut numbers = numbers;
-    let count = numbers.len();
-    numbers.truncate(most);
-    Passed {
-        numbers,
-        count,
-        faulted,
-    }
-}
-
-/// What conditions make of the rows of a block, of which the first ones that pass are kept, so many where that is limited: a column at a
-/// time where that goes, and else one row after another: so it is where columns do not hold what a condition computes, and never for want of
-/// memory, which is the answer wherever a growth is refused.
+/// Returns what conditions make of the rows of a block, with the numbers of the first `most` rows that pass, or of all if `most` is `None`. Each condition is
+/// evaluated column by column if possible, else one by one on the rows that the conditions before it left.
 pub fn filter_block(
     alloc: Global,
     conditions: &[Box<TruthExpr>],
@@ -67,20 +49,12 @@ pub fn filter_block(
 {
     let limit = limit_of(most, block.rows());
     let all = Vec::from_elem(alloc, true, block.rows())?;
-    match passing_rows(alloc, conditions, block, lanes, all) {
-        Ok(wanted) => {
-            let numbers = numbers_of(alloc, &wanted, limit)?;
-            let count = count_of(&wanted);
-            Ok(Passed {
-                numbers,
-                count,
-                faulted: false,
-            })
-        }
-        Err(Fallback::NoMemory) => Err(AllocError),
-        Err(Fallback::Rows) => {
-            let found = passing_in_turn(alloc, conditions, block)?;
-            Ok(first_of(found, limit))
-        }
-    }
+    let Narrowed { wanted, faulted } = passing_rows(alloc, conditions, block, lanes, all)?;
+    let numbers = numbers_of(alloc, &wanted, limit)?;
+    let count = count_of(&wanted);
+    Ok(Passed {
+        numbers,
+        count,
+        faulted,
+    })
 }

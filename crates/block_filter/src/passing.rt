@@ -1,23 +1,33 @@
 //! The rows of a block that pass the conditions of a plan, found a column at a time.
-ghost use Rattle.std.specs.Prelude.{◌≡◌, ◌+◌, ◌<◌, ◌≤◌, ◌&&◌, ℕ, List, Some, OnOk, IfOk, IsTrue, length, map, replicate, slice_index_or, take, false, true};
+ghost use Rattle.std.specs.Prelude.{◌≡◌, ◌+◌, ◌<◌, ◌≤◌, ◌&&◌, ℕ, List, OnOk, IfOk, IsTrue, length, map, replicate, slice_index_or, take, false, true};
 ghost use Rattle.std.specs.List.{All, count_by};
 ghost use Rattle.cell_types.specs.Value.{CellValue};
 ghost use Rattle.block_eval.specs.Lanes.{truth_lane};
 ghost use Rattle.typed_trees.specs.TypedTree.{boxed_truth, truth_view};
-ghost use Rattle.query_meaning.specs.Filter.{passing};
 ghost use Rattle.row_columns.specs.Picked.{numbered};
-ghost use Rattle.block_filter.specs.Conditions.{passing_all};
+ghost use Rattle.row_eval.specs.Bounds.{TruthFits};
+ghost use Rattle.block_filter.specs.Conditions.{ConditionsFit};
 ghost use Rattle.block_filter.specs.Lanes.{AreColumnsOf, AreLanesOf};
-ghost use Rattle.block_filter.specs.Marks.{is_marked, keeps_row, marked, IsFirstMarked};
+ghost use Rattle.block_filter.specs.Marks.{is_marked, keeps_row, marked, HoldsOnMarked, IsFirstMarked};
+ghost use Rattle.block_filter.specs.Passing.{IsNarrowedBy, Narrows};
 
 use crate::lanes::{Lanes, block_numbers, block_texts};
 use crate::named::mark_truth;
+use crate::rows::narrow_by_rows;
 use block_eval::{Column, Fallback, eval_block};
-use query_meaning::true_rows_pass;
 use row_eval::Truth;
 use std::alloc::{AllocError, Global};
 use table_store::Block;
 use typed_trees::TruthExpr;
+
+/// The rows of a block that conditions leave.
+#[derive(Drop)]
+pub(crate) struct Narrowed {
+    /// A mark for each row: true if all of the conditions are true on it.
+    pub(crate) wanted: Vec<bool>,
+    /// True if one of the conditions, in turn, divides by zero on a row.
+    pub(crate) faulted: bool,
+}
 
 /// Leaves those rows wanted whose truth is true.
 fn keep_true(truths: &[Truth], wanted: &mut [bool])
@@ -45,24 +55,30 @@ fn read_named(
     lanes.read(alloc, block, named.as_slice())
 }
 
-/// Leaves those rows of a block wanted on which a condition is true.
+/// Leaves those rows of a block wanted on which a condition is true: column by column if possible, else one wanted row after another. Returns whether the
+/// condition divides by zero on a wanted row.
 fn narrow_by(
     alloc: Global,
     condition: &TruthExpr,
     block: &Block<'_>,
     columns: &[Column<'_>],
     wanted: &mut [bool],
-) -> Result<(), Fallback>
+) -> Result<bool, AllocError>
     requires columns { AreColumnsOf block.now.rows columns.now }
     requires long { length wanted.old ≡ length block.now.rows }
-    ensures { OnOk result (passing (truth_view condition.now) (marked wanted.old block.now.rows)
-        ≡ Some (marked wanted.new block.now.rows)) }
+    requires fits { HoldsOnMarked (TruthFits (truth_view condition.now)) wanted.old block.now.rows }
+    ensures { IfOk result
+        (Narrows (truth_view condition.now) block.now.rows wanted.old wanted.new) }
 {
-    true_rows_pass();
     block.values_fit();
-    let truths = eval_block(alloc, condition, columns, block.summary(), wanted)?;
-    keep_true(truths.as_slice(), wanted);
-    Ok(())
+    match eval_block(alloc, condition, columns, block.summary(), wanted) {
+        Ok(truths) => {
+            keep_true(truths.as_slice(), wanted);
+            Ok(false)
+        }
+        Err(Fallback::Rows) => narrow_by_rows(alloc, condition, block, wanted),
+        Err(Fallback::NoMemory) => Err(AllocError),
+    }
 }
 
 /// How many rows are looked at together.
@@ -148,33 +164,34 @@ pub(crate) fn count_of(wanted: &[bool]) -> usize
     count
 }
 
-/// Which rows of a block pass conditions, in turn, of all that are marked. Numbers are read once, and none for a condition that comes to no row; texts are looked at
-/// where they stand. Without conditions no room is made. Where it falls back to rows, these are to be taken one by one: so it is where a condition divides by zero.
+/// Narrows the rows of a block, all of which are wanted, by conditions in turn. Numbers are read once, and none for a condition that comes to no row; texts are
+/// looked at where they are. Without conditions no room is made.
 pub(crate) fn passing_rows(
     alloc: Global,
     conditions: &[Box<TruthExpr>],
     block: &Block<'_>,
     lanes: &mut Lanes,
     mut wanted: Vec<bool>,
-) -> Result<Vec<bool>, Fallback>
-    requires { wanted.items ≡ replicate (length block.now.rows) true }
-    ensures rows { IfOk result (λ wanted. passing_all (map boxed_truth conditions.now) block.now.rows
-        ≡ Some (marked wanted.items block.now.rows)) }
-    ensures long { IfOk result (λ wanted. length wanted.items ≡ length block.now.rows) }
+) -> Result<Narrowed, AllocError>
+    requires wanted { wanted.items ≡ replicate (length block.now.rows) true }
+    requires fits { All (ConditionsFit (map boxed_truth conditions.now)) block.now.rows }
+    ensures { IfOk result (IsNarrowedBy (map boxed_truth conditions.now) block.now.rows) }
 {
     lanes.forget();
+    let mut faulted = false;
     if conditions.is_empty() {
-        return Ok(wanted);
+        return Ok(Narrowed { wanted, faulted });
     }
     let packed = block_numbers(alloc, block)?;
     let texts = block_texts(alloc, block)?;
     for condition in conditions {
         if count_of(&wanted) == 0 {
-            return Ok(wanted);
+            return Ok(Narrowed { wanted, faulted });
         }
         read_named(alloc, condition, block, lanes)?;
         let columns = lanes.columns(alloc, packed.as_slice(), texts.as_slice())?;
-        narrow_by(alloc, condition, block, &columns, wanted.as_mut_slice())?;
+        let faults = narrow_by(alloc, condition, block, &columns, wanted.as_mut_slice())?;
+        faulted = faulted | faults;
     }
-    Ok(wanted)
+    Ok(Narrowed { wanted, faulted })
 }

@@ -1,9 +1,11 @@
 -- Aggregates of rows, or of groups of them.
-use Rattle.std.proofs.Common.{◌≡◌, ℕ, ◌<◌, ◌^◌, Option, Some, None, List, [], ◌∷◌, ◌++◌, length, map, refl, sym, ap, ◌∙◌, subst}
+use Rattle.std.proofs.Common.{◌≡◌, ℕ, ◌<◌, ◌≤◌, ◌^◌, Option, Some, None, List, [], ◌∷◌, ◌++◌, append-nil, length, map, take, refl, sym, ap, ◌∙◌, subst, arith}
 use Rattle.std.specs.Prelude.{IfSome, option_and_then}
 use Rattle.std.specs.Borrow.{Bor}
 use Rattle.std.specs.List.{All}
-use Rattle.std.proofs.lemmas.List.{length-append, length-map}
+use Rattle.std.proofs.lemmas.List.{get_or_default, length-append, length-map}
+use Rattle.std.proofs.lemmas.List.Elements.{recursion_from_All}
+use Rattle.block_summary.specs.declared.block.TheConstants.{BLOCK_ROWS}
 use Rattle.cell_types.specs.Value.{CellValue}
 use Rattle.odata_query.specs.declared.aggregate.Aggregate.{Aggregate}
 use Rattle.odata_query.specs.declared.aggregate.Aggregate.TheVariants.{Count, SumOfIntegers, SumOfDecimals, Min, Max, CountDistinct}
@@ -25,9 +27,10 @@ use Rattle.query_exec.specs.declared.sink.Sink.TheVariants as sink
 use Rattle.query_exec.specs.Intermediate.{aggregate_node, intermediate_view, without_count, AreAllNumbers, IsIntermediate, Makes}
 use Rattle.query_exec.specs.Kept.{kept_names, kept_places, HasKept, HasSameColumns}
 use Rattle.query_exec.specs.Picked.{selected_rows}
-use Rattle.query_exec.specs.Sink.{MayPush, PushesOn, SinkMakes}
+use Rattle.query_exec.specs.Sink.{HasGathered, MayPush, PushesOn, SinkMakes}
+use Rattle.query_exec.proofs.CountLemmas.{selected_long, selected_numbered}
 use Rattle.query_exec.proofs.KeptLemmas.{as_many}
-use Rattle.query_exec.proofs.StepLemmas.{all_numbered}
+use Rattle.query_exec.proofs.StepLemmas.{all_numbered, first_numbers}
 
 -- ---- the step
 
@@ -97,11 +100,26 @@ may_join places aggregates g before more names width gathers long few fit = reco
   fits = aggregates_fit (without_count names (before ++ more)) width long places aggregates few fit;
 }
 
+-- those of a block of which none was found are none
+selected_none : (places : Option (List ℕ)) → selected_rows places [] ≡ []
+selected_none None = refl
+selected_none (Some places) = refl
+
+pub none_pushed : (s : AggregateSink) (rows : List (List CellValue)) (found : Passed) → found.numbers.items ≡ [] → PushesOn (sink.Aggregate s) (sink.Aggregate s) rows found
+none_pushed s rows found none = record {
+  nodes = refl;
+  columns = record { places = refl; names = refl; kinds = refl };
+  pushed = λ before passing are has.
+      let empty : passing ≡ [] = sym are.first ∙ ap (λ ns. numbered ns rows) none in
+      let more : [] ≡ selected_rows (kept_places s.kept) passing = sym (selected_none (kept_places s.kept)) ∙ ap (selected_rows (kept_places s.kept)) (sym empty) in
+      subst (HasGathered s) (sym (append-nil before) ∙ ap (λ rs. before ++ rs) more) has;
+}
+
 -- the rows of a block join them, and none is kept
-pub aggregate_pushed : (old new : AggregateSink) (rows more : List (List CellValue)) (found : Passed) → new.places ≡ old.places → new.aggregates ≡ old.aggregates
-    → HasSameColumns old.kept new.kept → new.kept.columns.rows ≡ [] → AreAllNumbers new.all.items (length new.all.items)
+pub aggregate_pushed : (old new : AggregateSink) (rows more : List (List CellValue)) (found : Passed) → new.places ≡ old.places → new.aggregates ≡ old.aggregates → new.all ≡ old.all
+    → HasSameColumns old.kept new.kept → new.kept.columns.rows ≡ []
     → more ≡ selected_rows (kept_places old.kept) (numbered found.numbers.items rows) → Adjoins old.gathering new.gathering more → PushesOn (sink.Aggregate old) (sink.Aggregate new) rows found
-aggregate_pushed old new rows more found places aggregates columns none all_are more_is joins =
+aggregate_pushed old new rows more found places aggregates all_is columns none more_is joins =
     let node_is : aggregate_node (optional_numbers new.places) (aggregates_view new.aggregates) ≡ aggregate_node (optional_numbers old.places) (aggregates_view old.aggregates) =
     ap (λ (ps : _). aggregate_node (optional_numbers ps) (aggregates_view new.aggregates)) places ∙ ap (λ (as_many : _). aggregate_node (optional_numbers old.places) (aggregates_view as_many)) aggregates in
     record {
@@ -116,24 +134,43 @@ aggregate_pushed old new rows more found places aggregates columns none all_are 
                 (subst (Gathers new.gathering (optional_numbers old.places) (aggregates_view old.aggregates)) all
                 (joins (optional_numbers old.places) (aggregates_view old.aggregates) before has.gathers)));
             none = none;
-            all = all_are;
+            all = subst (λ (ns : _). AreAllNumbers ns.items BLOCK_ROWS) (sym all_is) has.all;
           };
     }
 
 -- ---- the rows of a block, and the end
 
-module _ (old : AggregateSink) (kept : Kept) (block : TableOf) (found : Passed) (numbers : List ℕ) (may : MayPush (sink.Aggregate old) block found)
-    (has : HasKept old.kept kept (selected_rows (kept_places old.kept) (numbered found.numbers.items block.rows))) (all : AreAllNumbers numbers (length kept.columns.rows)) where
-  -- no other row was kept
-  pub block_rows : numbered numbers kept.columns.rows ≡ selected_rows (kept_places old.kept) (numbered found.numbers.items block.rows)
-  block_rows =
-      all_numbered numbers kept.columns.rows all ∙ has.rows
-      ∙ ap (λ rs. rs ++ selected_rows (kept_places old.kept) (numbered found.numbers.items block.rows)) may.pushed.none
+-- so many numbers are there for a block
+pub block_numbers : (numbers : List ℕ) (len : ℕ) → AreAllNumbers numbers BLOCK_ROWS → len ≤ BLOCK_ROWS → AreAllNumbers (take len numbers) len
+block_numbers numbers len all few = first_numbers numbers len (subst (AreAllNumbers numbers) (sym all.count) all) (omega (arith, few, all.count))
 
-  pub block_may_join : MayJoin old.gathering (length kept.columns.kinds) (numbered numbers kept.columns.rows)
+pub numbers_within : (numbers : List ℕ) (len : ℕ) → AreAllNumbers numbers len → All (λ n. n < len) numbers
+numbers_within numbers len all = λ k d h.
+    let inside : k < len = omega (arith, h, all.count) in
+    subst (λ n. n < len) (sym (get_or_default numbers k d 0 h ∙ all.each k inside)) inside
+
+module _ (old : AggregateSink) (kept : Kept) (block : TableOf) (found : Passed) (numbers : List ℕ) (may : MayPush (sink.Aggregate old) block found)
+    (has : HasKept old.kept kept (selected_rows (kept_places old.kept) (numbered numbers block.rows))) (all : AreAllNumbers numbers (length block.rows)) where
+  -- the rows of the block are kept, all of them and no others
+  kept_rows : kept.columns.rows ≡ selected_rows (kept_places old.kept) block.rows
+  kept_rows =
+      has.rows ∙ ap (λ rs. rs ++ selected_rows (kept_places old.kept) (numbered numbers block.rows)) may.pushed.none
+      ∙ ap (selected_rows (kept_places old.kept)) (all_numbered numbers block.rows all)
+
+  pub found_within : All (λ n. n < length kept.columns.rows) found.numbers.items
+  found_within =
+      subst (λ k. All (λ n. n < k) found.numbers.items) (sym (ap length kept_rows ∙ selected_long (kept_places old.kept) block.rows)) may.are_found.within
+
+  pub block_rows : numbered found.numbers.items kept.columns.rows ≡ selected_rows (kept_places old.kept) (numbered found.numbers.items block.rows)
+  block_rows =
+      ap (numbered found.numbers.items) kept_rows
+      ∙ selected_numbered (kept_places old.kept) block.rows found.numbers.items
+      (recursion_from_All (λ n. n < length block.rows) found.numbers.items may.are_found.within)
+
+  pub block_may_join : MayJoin old.gathering (length kept.columns.kinds) (numbered found.numbers.items kept.columns.rows)
   block_may_join =
       let more = selected_rows (kept_places old.kept) may.passing in
-      let rows_are : numbered numbers kept.columns.rows ≡ more = block_rows ∙ ap (selected_rows (kept_places old.kept)) may.are_found.first in
+      let rows_are : numbered found.numbers.items kept.columns.rows ≡ more = block_rows ∙ ap (selected_rows (kept_places old.kept)) may.are_found.first in
       subst (MayJoin old.gathering (length kept.columns.kinds)) (sym rows_are)
       (may_join (optional_numbers old.places) (aggregates_view old.aggregates) old.gathering may.before more (kept_names old.kept) (length kept.columns.kinds) may.pushed.gathers
       (sym (as_many old.kept block.schema may.columns) ∙ sym (ap length has.same.kinds)) may.few may.fits.0)

@@ -1,14 +1,14 @@
 -- How many rows pass the conditions of a plan.
-use Rattle.std.proofs.Common.{◌≡◌, ℕ, ◌+◌, ◌≤◌, Bool, true, false, ◌&&◌, cond, Option, None, Some, List, [], ◌∷◌, length, refl, sym, ap, ◌∙◌, arith}
+use Rattle.std.proofs.Common.{◌≡◌, ℕ, ◌+◌, ◌<◌, ◌≤◌, Bool, true, false, ◌&&◌, cond, Option, None, Some, List, [], ◌∷◌, get_or, length, map, refl, sym, ap, ◌∙◌, arith}
 use Rattle.std.specs.Prelude.{count_by, filter, option_and_then, option_map}
-use Rattle.std.specs.List.{list_any}
-use Rattle.std.proofs.lemmas.List.{length-map, take-map}
+use Rattle.std.specs.List.{AllByRecursion, list_any}
+use Rattle.std.proofs.lemmas.List.{get_or-map, length-map, take-map}
 use Rattle.std.proofs.lemmas.List.Sums.{count_by-le-length, sum_by-cons}
 use Rattle.cell_types.specs.Value.{CellValue}
 use Rattle.typed_trees.specs.TypedTree.{TruthExprOf}
 use Rattle.query_meaning.specs.Filter.{faults, passes, passes_each}
 use Rattle.query_meaning.specs.Meaning.{first_rows}
-use Rattle.row_columns.specs.Picked.{values_at}
+use Rattle.row_columns.specs.Picked.{numbered, values_at}
 use Rattle.block_filter.specs.Conditions.{passing_all}
 use Rattle.query_exec.specs.Picked.{selected_rows}
 use Rattle.query_exec.proofs.ConditionLemmas.{some_selected}
@@ -62,3 +62,12 @@ pub first_selected : (places : Option (List ℕ)) (most : Option ℕ) (rows : Li
 first_selected None most rows = refl
 first_selected (Some places) None rows = refl
 first_selected (Some places) (Some n) rows = sym (take-map (values_at places) n rows)
+
+-- rows by their numbers, in the columns that are picked
+pub selected_numbered : (places : Option (List ℕ)) (rows : List (List CellValue)) (numbers : List ℕ) → AllByRecursion (λ n. n < length rows) numbers
+    → numbered numbers (selected_rows places rows) ≡ selected_rows places (numbered numbers rows)
+selected_numbered None rows numbers within = refl
+selected_numbered (Some places) rows [] within = refl
+selected_numbered (Some places) rows (n ∷ numbers) within =
+    ap (λ v. v ∷ numbered numbers (map (values_at places) rows)) (get_or-map (values_at places) rows n [] [] within.0)
+    ∙ ap (λ vs. values_at places (get_or rows n []) ∷ vs) (selected_numbered (Some places) rows numbers within.1)

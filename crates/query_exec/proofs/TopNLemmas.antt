@@ -38,7 +38,7 @@ use Rattle.query_exec.specs.declared.kept.Kept.{Kept}
 use Rattle.query_exec.specs.Picked.{selected_rows}
 use Rattle.query_exec.specs.Sink.{sink_items, MayPush, PushesOn, SinkMakes}
 use Rattle.query_exec.specs.TopN.{AreBestOf, AreTimely, HasCutRows, IsSourceOf}
-use Rattle.query_exec.proofs.CountLemmas.{selected_long}
+use Rattle.query_exec.proofs.CountLemmas.{selected_long, selected_numbered}
 use Rattle.query_exec.proofs.StepLemmas.{all_numbered}
 
 -- ---- items that are columns alone
@@ -153,15 +153,6 @@ kept_keys (Some places) place col type key rows is have n inside =
     value_at [] p c row e = absurd (cc)
     value_at (q ∷ ps) ℕ.zero c row e = let same : q ≡ c = cc in ap (λ k. get_or row k null) same
     value_at (q ∷ ps) (suc p) c row e = value_at ps p c row e
-
--- rows by their numbers, in the columns that are picked
-selected_numbered : (places : Option (List ℕ)) (rows : List (List CellValue)) (numbers : List ℕ) → AllByRecursion (λ n. n < length rows) numbers
-    → numbered numbers (selected_rows places rows) ≡ selected_rows places (numbered numbers rows)
-selected_numbered None rows numbers within = refl
-selected_numbered (Some places) rows [] within = refl
-selected_numbered (Some places) rows (n ∷ numbers) within =
-    ap (λ v. v ∷ numbered numbers (map (values_at places) rows)) (get_or-map (values_at places) rows n [] [] within.0)
-    ∙ ap (λ vs. values_at places (get_or rows n []) ∷ vs) (selected_numbered (Some places) rows numbers within.1)
 
 -- ---- rows of a block
 

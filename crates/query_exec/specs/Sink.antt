@@ -2,6 +2,7 @@
 -- makes of all of them.
 use Rattle.std.specs.Prelude.{◌≡◌, ◌<◌, ◌-◌, ◌^◌, ◌++◌, ⊤, ℕ, true, false, List, [], ◌∷◌, Option, Some, None, drop, length, map}
 use Rattle.std.specs.List.{All}
+use Rattle.block_summary.specs.declared.block.TheConstants.{BLOCK_ROWS}
 use Rattle.cell_types.specs.Value.{CellValue}
 use Rattle.odata_query.specs.Aggregate.{aggregates_view}
 use Rattle.odata_query.specs.Query.{optional_numbers, order_view}
@@ -58,11 +59,11 @@ pub record HasBest (sink : TopNSink) (rows : List (List CellValue)) : Type 0 whe
   pub fit : ItemsFit (sink_items sink) sink.kept.columns.rows
   pub first : best_rows (sink_items sink) sink.most sink.kept.columns.rows ≡ best_rows (sink_items sink) sink.most rows
 
--- for aggregates none is kept
+-- for aggregates none is kept, and the numbers of the rows of a block are there
 pub record HasGathered (sink : AggregateSink) (rows : List (List CellValue)) : Type 0 where
   pub gathers : Gathers sink.gathering (optional_numbers sink.places) (aggregates_view sink.aggregates) rows
   pub none : sink.kept.columns.rows ≡ []
-  pub all : AreAllNumbers sink.all.items (length sink.all.items)
+  pub all : AreAllNumbers sink.all.items BLOCK_ROWS
 
 abbrev pub HasPushed : Sink → List (List CellValue) → Type 0
 HasPushed (Collect kept) rows = kept.columns.rows ≡ rows

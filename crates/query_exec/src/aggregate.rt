@@ -1,15 +1,15 @@
 //! A sink of aggregates of all rows, or of groups of them: none of the rows is kept.
-ghost use Rattle.std.specs.Prelude.{◌≡◌, ◌≤◌, [], IfOk, OnOk, length, map};
+ghost use Rattle.std.specs.Prelude.{◌≡◌, [], IfOk, OnOk};
 ghost use Rattle.odata_query.specs.Aggregate.{aggregates_view};
 ghost use Rattle.odata_query.specs.Query.{optional_numbers};
 ghost use Rattle.query_exec.specs.declared.sink.Sink.TheVariants as sink;
-ghost use Rattle.query_exec.specs.Intermediate.{AreAllNumbers};
 ghost use Rattle.query_exec.specs.Sink.{HasPushed, SinkMakes, MayFinish, MayPush, PushesOn};
 
 use crate::intermediate::{Intermediate, all_numbers};
 use crate::kept::Kept;
 use crate::names::aggregate_names;
 use block_filter::Passed;
+use block_summary::BLOCK_ROWS;
 use odata_query::NamedAggregate;
 use row_groups::Gathering;
 use std::alloc::{AllocError, Global};
@@ -18,25 +18,13 @@ use table_store::Block;
 /// What all rows come to, or the groups of those with the same values in some columns.
 #[derive(Drop)]
 pub(crate) struct AggregateSink {
-    /// Without rows, but while those of a block join.
+    /// Without rows, except while those of a block join.
     pub(crate) kept: Kept,
     pub(crate) places: Option<Vec<usize>>,
     pub(crate) aggregates: Vec<NamedAggregate>,
     pub(crate) gathering: Gathering,
-    /// The numbers of so many rows, for those of the blocks that come.
+    /// The numbers of the rows of a block with as many rows as a block can have.
     pub(crate) all: Vec<usize>,
-}
-
-/// Makes the numbers of so many rows, where fewer are there.
-fn reach(alloc: Global, all: &mut Vec<usize>, len: usize) -> Result<(), AllocError>
-    requires { AreAllNumbers all.old.items (length all.old.items) }
-    ensures all { OnOk result (AreAllNumbers all.new.items (length all.new.items)) }
-    ensures long { OnOk result (len ≤ length all.new.items) }
-{
-    if all.len() < len {
-        *all = all_numbers(alloc, len)?;
-    }
-    Ok(())
 }
 
 impl AggregateSink {
@@ -53,17 +41,18 @@ impl AggregateSink {
         ensures aggregates { IfOk result (λ made. made.aggregates ≡ aggregates) }
         ensures none { IfOk result (λ made. HasPushed (sink.Aggregate made) []) }
     {
+        let all = all_numbers(alloc, BLOCK_ROWS)?;
         let gathering = Gathering::new(alloc, places.as_deref(), aggregates.as_slice())?;
         Ok(AggregateSink {
             kept,
             places,
             aggregates,
             gathering,
-            all: Vec::new(alloc),
+            all,
         })
     }
 
-    /// The rows of a block that were found join those before them.
+    /// Gathers the rows of a block that were found, after those before them. The whole block is kept while they join, and is then let go.
     pub(crate) fn push(
         &mut self,
         alloc: Global,
@@ -74,12 +63,14 @@ impl AggregateSink {
         ensures { OnOk result
             (PushesOn (sink.Aggregate self.old) (sink.Aggregate self.new) block.now.rows found) }
     {
-        self.kept.take(alloc, block, found.numbers.as_slice())?;
-        let len = self.kept.columns.len();
-        reach(alloc, &mut self.all, len)?;
-        self.gathering
-            .join(alloc, &self.kept.columns, &self.all[..len])?;
-        self.kept.reduce(alloc, &[])?;
+        if found.numbers.is_empty() {
+            return Ok(());
+        }
+        block.rows_are_few();
+        self.kept.take(alloc, block, &self.all[..block.rows()])?;
+        let numbers = found.numbers.as_slice();
+        self.gathering.join(alloc, &self.kept.columns, numbers)?;
+        self.kept.columns.clear();
         Ok(())
     }
 

@@ -1,35 +1,33 @@
-use Rattle.std.proofs.Common.{◌≤◌, ap, arith, length, refl, subst, sym, take}
+use Rattle.std.proofs.Common.{◌≤◌, ◌∙◌, arith, length, refl, subst, sym, take}
+use Rattle.block_summary.specs.declared.block.TheConstants.{BLOCK_ROWS}
 use Rattle.row_columns.specs.Picked.{numbered}
+use Rattle.row_groups.specs.Gathered.{Adjoins, MayJoin}
 use Rattle.query_exec.specs.Intermediate.{AreAllNumbers}
-use Rattle.query_exec.specs.Kept.{kept_places, HasKept}
-use Rattle.query_exec.specs.Picked.{selected_rows}
-use Rattle.query_exec.proofs.AggregateLemmas.{aggregate_pushed, block_may_join, block_rows}
-use Rattle.query_exec.proofs.KeptLemmas.{same_then}
-use Rattle.query_exec.proofs.StepLemmas.{first_numbers}
+use Rattle.query_exec.proofs.AggregateLemmas.{aggregate_pushed, block_may_join, block_numbers, block_rows}
 use Rattle.query_exec.proofs.aggregate.AggregateSink.push.Goals as goal
 
 pub join-requires-clause-joins : goal.join-requires-clause-joins
 join-requires-clause-joins c =
     let old = c.args.self.now in
-    let numbers = take c.len-len.result c.deref.result.now in
-    let all : AreAllNumbers c.deref.result.now (length c.deref.result.now) = subst (λ ns. AreAllNumbers ns (length ns)) (sym c.deref.ensures.value) c.in_ok-reach.ensures.all in
-    let few : c.len-len.result ≤ length c.deref.result.now = omega (arith, c.in_ok-reach.ensures.long, ap length c.deref.ensures.value) in
-    let front : AreAllNumbers numbers (length c.take.new.self.columns.rows) =
-    subst (AreAllNumbers numbers) c.len-len.ensures (first_numbers c.deref.result.now c.len-len.result all few) in
-    let has : HasKept old.kept c.take.new.self (selected_rows (kept_places old.kept) (numbered c.args.found.numbers.items c.args.block.now.rows)) =
-    subst (λ ns. HasKept old.kept c.take.new.self (selected_rows (kept_places old.kept) (numbered ns c.args.block.now.rows))) c.as_slice.ensures.value c.in_ok-take.ensures in
-    block_may_join old c.take.new.self c.args.block.now c.args.found numbers c.requires has front
+    let kept = c.take.new.self in
+    let numbers = take c.rows.result c.deref.result.now in
+    let few : c.rows.result ≤ BLOCK_ROWS = omega (arith, c.rows.ensures, c.rows_are_few.ensures) in
+    let all : AreAllNumbers c.deref.result.now BLOCK_ROWS = subst (λ ns. AreAllNumbers ns BLOCK_ROWS) (sym c.deref.ensures.value) c.requires.pushed.all in
+    let front : AreAllNumbers numbers (length c.args.block.now.rows) = subst (AreAllNumbers numbers) c.rows.ensures (block_numbers c.deref.result.now c.rows.result all few) in
+    subst (λ ns. MayJoin old.gathering (length kept.columns.kinds) (numbered ns kept.columns.rows)) (sym c.as_slice-numbers.ensures.value)
+    (block_may_join old kept c.args.block.now c.args.found numbers c.requires c.in_ok-take.ensures front)
 
 pub returns : goal.returns
 returns c =
     let old = c.args.self.now in
-    let numbers = take c.len-len.result c.deref.result.now in
-    let all : AreAllNumbers c.deref.result.now (length c.deref.result.now) = subst (λ ns. AreAllNumbers ns (length ns)) (sym c.deref.ensures.value) c.in_ok-reach.ensures.all in
-    let few : c.len-len.result ≤ length c.deref.result.now = omega (arith, c.in_ok-reach.ensures.long, ap length c.deref.ensures.value) in
-    let front : AreAllNumbers numbers (length c.take.new.self.columns.rows) =
-    subst (AreAllNumbers numbers) c.len-len.ensures (first_numbers c.deref.result.now c.len-len.result all few) in
-    let has : HasKept old.kept c.take.new.self (selected_rows (kept_places old.kept) (numbered c.args.found.numbers.items c.args.block.now.rows)) =
-    subst (λ ns. HasKept old.kept c.take.new.self (selected_rows (kept_places old.kept) (numbered ns c.args.block.now.rows))) c.as_slice.ensures.value c.in_ok-take.ensures in
-    aggregate_pushed old _ c.args.block.now.rows (numbered numbers c.take.new.self.columns.rows) c.args.found refl refl
-    (same_then old.kept c.take.new.self c.reduce.new.self has.same c.in_ok-reduce.ensures.same) c.in_ok-reduce.ensures.rows c.in_ok-reach.ensures.all
-    (block_rows old c.take.new.self c.args.block.now c.args.found numbers c.requires has front) c.in_ok-join.ensures
+    let kept = c.take.new.self in
+    let numbers = take c.rows.result c.deref.result.now in
+    let few : c.rows.result ≤ BLOCK_ROWS = omega (arith, c.rows.ensures, c.rows_are_few.ensures) in
+    let all : AreAllNumbers c.deref.result.now BLOCK_ROWS = subst (λ ns. AreAllNumbers ns BLOCK_ROWS) (sym c.deref.ensures.value) c.requires.pushed.all in
+    let front : AreAllNumbers numbers (length c.args.block.now.rows) = subst (AreAllNumbers numbers) c.rows.ensures (block_numbers c.deref.result.now c.rows.result all few) in
+    let same = c.in_ok-take.ensures.same in
+    let joins : Adjoins old.gathering c.join.new.self (numbered c.args.found.numbers.items kept.columns.rows) =
+    subst (λ ns. Adjoins old.gathering c.join.new.self (numbered ns kept.columns.rows)) c.as_slice-numbers.ensures.value c.in_ok-join.ensures in
+    aggregate_pushed old _ c.args.block.now.rows (numbered c.args.found.numbers.items kept.columns.rows) c.args.found refl refl refl
+    (record { places = same.places; names = same.names; kinds = c.clear.ensures.kinds ∙ same.kinds }) c.clear.ensures.rows
+    (block_rows old kept c.args.block.now c.args.found numbers c.requires c.in_ok-take.ensures front) joins

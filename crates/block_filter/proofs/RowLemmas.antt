@@ -1,0 +1,113 @@
+-- Rows of a block that are looked at one after another.
+use Rattle.std.proofs.Common.{◌≡◌, inl, inr, ℕ, zero, suc, ◌+◌, ◌<◌, ◌≤◌, Bool, true, false, ◌&&◌, ◌||◌, Option, None, Some, List, [], ◌∷◌, ◌++◌, length, take, get_or, refl, sym, subst, ap, ◌∙◌, arith}
+use Rattle.std.specs.Prelude.{is_none, is_some, not, option_and_then, slice_get, slice_set}
+use Rattle.std.specs.List.{All, list_any}
+use Rattle.std.proofs.Math.Bool.{or-false}
+use Rattle.std.proofs.lemmas.Bool.{cases_lt}
+use Rattle.std.proofs.lemmas.List.{get_or-set_other, get_or-set_same, take_all, take_more}
+use Rattle.cell_types.specs.Column.{ColumnOf}
+use Rattle.cell_types.specs.Rows.{IsTableRow}
+use Rattle.cell_types.specs.Value.{CellValue, null}
+use Rattle.typed_trees.specs.TypedTree.{TruthExprOf}
+use Rattle.row_eval.specs.declared.truth.Truth.{Truth}
+use Rattle.row_eval.specs.Outcome.{truth_outcome}
+use Rattle.query_meaning.specs.Filter.{faults, is_true, passes}
+use Rattle.block_filter.specs.Marks.{marked}
+use Rattle.block_filter.specs.Passing.{Narrows}
+use Rattle.block_filter.proofs.NarrowLemmas.{one_more}
+
+-- ---- one row after another
+
+-- the first rows were gone through, and the others are as they were
+pub record AreNarrowed (e : TruthExprOf) (rows : List (List CellValue)) (was now : List Bool) (i : ℕ) (faulted : Bool) : Type 0 where
+  pub done : (k : ℕ) → k < i → get_or now k false ≡ (get_or was k false && passes e (get_or rows k []))
+  pub left : (k : ℕ) → i ≤ k → get_or now k false ≡ get_or was k false
+  pub faulted_is : faulted ≡ list_any (faults e) (marked (take i was) rows)
+
+pub none_narrowed : (e : TruthExprOf) (rows : List (List CellValue)) (was : List Bool) → AreNarrowed e rows was was 0 false
+none_narrowed e rows was = record { done = λ k h. absurd (omega (arith, h)); left = λ k h. refl; faulted_is = refl }
+
+pub all_narrowed : (e : TruthExprOf) (rows : List (List CellValue)) (was now : List Bool) (i : ℕ) (faulted : Bool) → length was ≤ i → length was ≡ length rows
+    → AreNarrowed e rows was now i faulted → Narrows e rows was now faulted
+all_narrowed e rows was now i faulted over long so_far = record {
+  each = λ row h. so_far.done row (omega (arith, h, over, long));
+  faulted_is = so_far.faulted_is ∙ ap (λ marks. list_any (faults e) (marked marks rows)) (take_all i was over);
+}
+
+-- the next of them is looked at
+module _ (e : TruthExprOf) (rows : List (List CellValue)) (was now : List Bool) (i : ℕ) (faulted : Bool) (inside : i < length was) (long : length was ≡ length rows)
+    (so_far : AreNarrowed e rows was now i faulted) where
+  faults_more : list_any (faults e) (marked (take (i + 1) was) rows) ≡ (faulted || (get_or now i false && faults e (get_or rows i [])))
+  faults_more =
+      one_more (faults e) was rows i inside long
+      ∙ ap (λ b. b || (get_or was i false && faults e (get_or rows i []))) (sym so_far.faulted_is)
+      ∙ ap (λ b. faulted || (b && faults e (get_or rows i []))) (sym (so_far.left i (omega arith)))
+
+  -- where it is wanted, what the condition makes of it is written
+  pub wanted_row : (outcome : Option Truth) → get_or now i false ≡ true → outcome ≡ truth_outcome e (get_or rows i []) → length now ≡ length was
+      → AreNarrowed e rows was (slice_set now i (is_true outcome)) (i + 1) (faulted || is_none outcome)
+  wanted_row outcome is made same = record {
+    done = λ k h. elim (cases_lt k i) [
+      | inl low ↦ get_or-set_other now i k (is_true outcome) false (λ same_row. absurd (omega (arith, low, same_row))) ∙ so_far.done k low
+      | inr high ↦
+          let here : k ≡ i = omega (arith, h, high) in
+          subst (λ n. get_or (slice_set now i (is_true outcome)) n false ≡ (get_or was n false && passes e (get_or rows n []))) (sym here)
+          (get_or-set_same now i (is_true outcome) false (omega (arith, inside, same)) ∙ ap is_true made
+          ∙ sym (ap (λ b. b && passes e (get_or rows i [])) (sym (so_far.left i (omega arith)) ∙ is)))
+    ];
+    left = λ k h. get_or-set_other now i k (is_true outcome) false (λ same_row. absurd (omega (arith, h, same_row))) ∙ so_far.left k (omega (arith, h));
+    faulted_is =
+        ap (λ o. faulted || is_none o) made ∙ sym (ap (λ b. faulted || (b && faults e (get_or rows i []))) is) ∙ sym faults_more;
+  }
+
+  -- where it is not, it stays so
+  pub other_row : get_or now i false ≡ false → AreNarrowed e rows was now (i + 1) faulted
+  other_row is = record {
+    done = λ k h. elim (cases_lt k i) [
+      | inl low ↦ so_far.done k low
+      | inr high ↦
+          let here : k ≡ i = omega (arith, h, high) in
+          subst (λ n. get_or now n false ≡ (get_or was n false && passes e (get_or rows n []))) (sym here)
+          (is ∙ sym (ap (λ b. b && passes e (get_or rows i [])) (sym (so_far.left i (omega arith)) ∙ is)))
+    ];
+    left = λ k h. so_far.left k (omega (arith, h));
+    faulted_is = sym (faults_more ∙ ap (λ b. faulted || (b && faults e (get_or rows i []))) is ∙ or-false faulted);
+  }
+
+pub none_is : (outcome : Option Truth) (b : Bool) → is_some outcome ≡ not b → is_none outcome ≡ b
+none_is None true e = refl
+none_is None false e = absurd (cc)
+none_is (Some truth) true e = absurd (cc)
+none_is (Some truth) false e = refl
+
+-- ---- the values of a row
+
+module _ (col : ℕ) (value : CellValue) where
+  value_there : (values : List CellValue) (n : ℕ) → slice_get values n ≡ Some value → (n < length values) × (get_or values n null ≡ value)
+  value_there [] n e = absurd (cc)
+  value_there (v ∷ values) zero e = (omega arith, cc)
+  value_there (v ∷ values) (suc n) e = let rest = value_there values n e in let within = rest.0 in (omega (arith, within), rest.1)
+
+  row_there : (rows : List (List CellValue)) (row : ℕ) → option_and_then (λ values. slice_get values col) (slice_get rows row) ≡ Some value
+      → (col < length (get_or rows row [])) × (get_or (get_or rows row []) col null ≡ value)
+  row_there [] row e = absurd (cc)
+  row_there (r ∷ rows) zero e = value_there r col e
+  row_there (r ∷ rows) (suc row) e = row_there rows row e
+
+  pub value_read : (rows : List (List CellValue)) (row : ℕ) (values : List CellValue) → values ≡ take col (get_or rows row [])
+      → option_and_then (λ values. slice_get values col) (slice_get rows row) ≡ Some value → values ++ value ∷ [] ≡ take (col + 1) (get_or rows row [])
+  value_read rows row values so_far e =
+      let there = row_there rows row e in
+      ap (λ vs. vs ++ value ∷ []) so_far ∙ ap (λ v. take col (get_or rows row []) ++ v ∷ []) (sym there.1) ∙ sym (take_more (get_or rows row []) col null there.0)
+
+row_long : (schema : List ColumnOf) (row : List CellValue) → IsTableRow schema row → length row ≡ length schema
+row_long [] [] fits = refl
+row_long [] (v ∷ row) fits = absurd fits
+row_long (c ∷ schema) [] fits = absurd fits
+row_long (c ∷ schema) (v ∷ row) fits = ap suc (row_long schema row fits.2)
+
+pub row_read : (schema : List ColumnOf) (rows : List (List CellValue)) (row width : ℕ) (values : List CellValue) → All (IsTableRow schema) rows → row < length rows → length schema ≤ width
+    → values ≡ take width (get_or rows row []) → values ≡ get_or rows row []
+row_read schema rows row width values fits inside wide so_far =
+    let long = row_long schema (get_or rows row []) (fits row [] inside) in
+    so_far ∙ take_all width (get_or rows row []) (omega (arith, long, wide))
