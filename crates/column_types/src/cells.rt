@@ -1,12 +1,7 @@
 //! What the text of one cell is.
-ghost use Rattle.std.specs.Prelude.{◌≡◌, ◌-◌, ◌==◌, ◌&&◌, length, nat_lt, slice_index};
-ghost use Rattle.cell_types.specs.Decimal.{are_digits as are_digits_of};
-ghost use Rattle.column_types.specs.Types.{is_padded as is_padded_of};
 
-/// Whether there is a digit, and nothing else.
-pub fn are_digits(text: &str) -> bool
-    ensures { result ≡ are_digits_of text.now }
-{
+/// Returns true if there is a digit, and nothing else.
+pub fn are_digits(text: &str) -> bool {
     for byte in text.as_bytes() {
         if !byte.is_ascii_digit() {
             return false;
@@ -15,17 +10,21 @@ pub fn are_digits(text: &str) -> bool
     !text.is_empty()
 }
 
-/// Two digits or more, of which the first is 0.
-pub fn is_padded(cell: &str) -> bool
-    ensures { result ≡ is_padded_of cell.now }
-{
+/// Returns true for two digits or more, of which the first is 0.
+pub fn is_padded(cell: &str) -> bool {
     cell.len() > 1 && cell.starts_with('0') && are_digits(cell)
 }
 
-/// Two bytes or more, of which the last is 0.
-pub fn last_is_zero(places: &str) -> bool
-    ensures { result ≡ (nat_lt 1 (length places.now)
-        && (slice_index places.now (length places.now - 1) == 48)) }
-{
+/// Returns true for two bytes or more, of which the last is 0.
+pub fn last_is_zero(places: &str) -> bool {
     places.len() > 1 && places.ends_with('0')
+}
+
+/// Returns the text without the white space at its ends, which is none of a value (Model for Tabular Data and Metadata on the Web, section 6.4).
+pub fn without_white(cell: &str) -> &str {
+    let bytes = cell.as_bytes();
+    match (bytes.first(), bytes.last()) {
+        (Some(first), Some(last)) if *first > b' ' && *last > b' ' => cell,
+        _ => cell.trim_matches(&[' ', '\t', '\n', '\r']),
+    }
 }

@@ -1,28 +1,22 @@
-//! How the texts of a column's cells look: as codes, or as versions.
-ghost use Rattle.std.specs.Prelude.{◌≡◌, ℕ, List, [], ◌∷◌, ◌++◌};
-ghost use Rattle.column_types.specs.Seen.{HasForm};
-ghost use Rattle.column_types.specs.Types.{are_versions};
-
+//! How the cells of a column look: as codes, or as versions.
 use crate::cells::{are_digits, is_padded, last_is_zero};
 
-/// How the texts of some cells look.
+/// How the cells of a column look that have a value. White space at their ends is left out.
 #[derive(Drop)]
 pub struct Form {
-    /// Whether some cell is a padded number.
+    /// Some cell is a padded number.
     pub padded: bool,
-    /// Whether all cells have one point between digits.
+    /// All cells have one point between digits.
     pub points: bool,
-    /// Where they have: whether some cell has one place after the point.
+    /// If they have: some cell has one place after the point.
     pub one_place: bool,
-    /// Where they have: whether some cell has more, and the last is 0.
+    /// If they have: some cell has more places, and the last is 0.
     pub zero: bool,
 }
 
 impl Form {
-    /// That of no cell.
-    pub fn new() -> Form
-        ensures { HasForm result [] }
-    {
+    /// Returns the form of no cell.
+    pub fn new() -> Form {
         Form {
             padded: false,
             points: true,
@@ -31,11 +25,8 @@ impl Form {
         }
     }
 
-    /// Looks at one more cell. Where one has no point between digits, the others' don't matter.
-    pub fn read(&mut self, cell: &str)
-        ensures { (cells : List (List ℕ)) → HasForm self.old cells
-            → HasForm self.new (cells ++ cell.now ∷ []) }
-    {
+    /// Looks at one more cell. If one has no point between digits, the others' points don't matter.
+    pub fn read(&mut self, cell: &str) {
         self.padded |= is_padded(cell);
         if !self.points {
             return;
@@ -49,10 +40,8 @@ impl Form {
         self.zero |= last_is_zero(places);
     }
 
-    /// Whether the cells are versions.
-    pub fn are_versions(&self) -> bool
-        ensures { (cells : List (List ℕ)) → HasForm self.now cells → result ≡ are_versions cells }
-    {
+    /// Returns true if 4.10 comes after 4.9 among the cells.
+    pub fn are_versions(&self) -> bool {
         self.points && self.one_place && self.zero
     }
 }

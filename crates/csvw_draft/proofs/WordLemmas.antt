@@ -48,27 +48,27 @@ are_present f b c e s = sym (list_any-map (λ (row : Row). explicit_source row.s
 
 -- without a folder nothing is asked for
 pub no_folder : (rows : List Row) → first_of (codes "folder") rows ≡ None → (words : Words) → AsksSo words rows None → ⊥
-no_folder rows e (Draft folder write keys) h = let bad : None ≡ Some folder.now = sym e ∙ h.folder_is in cc bad
+no_folder rows e (Draft asks) h = let bad : None ≡ Some asks.folder.now = sym e ∙ h.folder_is in cc bad
 no_folder rows e (Show folder) h = h
 no_folder rows e (Explain folder) h = h
 
 -- nor by a subcommand that does not stand alone
 pub not_alone : (rows : List Row) (found : Text) (inner : List Row) → list_any (λ row. explicit_source row.source) rows ≡ true
     → (words : Words) → AsksSo words rows (Some (found, inner)) → ⊥
-not_alone rows found inner e (Draft folder write keys) h = h
+not_alone rows found inner e (Draft asks) h = h
 not_alone rows found inner e (Show folder) h = let bad : true ≡ false = sym e ∙ h.alone in cc bad
 not_alone rows found inner e (Explain folder) h = let bad : true ≡ false = sym e ∙ h.alone in cc bad
 
 -- nor by one without a folder
 pub no_inner_folder : (rows : List Row) (found : Text) (inner : List Row) → first_of (codes "folder") inner ≡ None
     → (words : Words) → AsksSo words rows (Some (found, inner)) → ⊥
-no_inner_folder rows found inner e (Draft folder write keys) h = h
+no_inner_folder rows found inner e (Draft asks) h = h
 no_inner_folder rows found inner e (Show folder) h = let bad : None ≡ Some folder.now = sym e ∙ h.folder_is in cc bad
 no_inner_folder rows found inner e (Explain folder) h = let bad : None ≡ Some folder.now = sym e ∙ h.folder_is in cc bad
 
 -- nor by another subcommand
 pub other_name : (rows : List Row) (found : Text) (inner : List Row) → (found ≡ codes "show" → ⊥) → (found ≡ codes "explain" → ⊥)
     → (words : Words) → AsksSo words rows (Some (found, inner)) → ⊥
-other_name rows found inner show explain (Draft folder write keys) h = h
+other_name rows found inner show explain (Draft asks) h = h
 other_name rows found inner show explain (Show folder) h = show h.name_is
 other_name rows found inner show explain (Explain folder) h = explain h.name_is

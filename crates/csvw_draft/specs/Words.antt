@@ -1,5 +1,5 @@
 -- The program's command, as `clap` describes commands, and what its reading of a command line asks for.
-use Rattle.std.specs.Prelude.{◌≡◌, ◌⊎◌, Bool, true, false, not, List, [], Option, Some, None, codes}
+use Rattle.std.specs.Prelude.{◌≡◌, ◌⊎◌, true, false, not, List, [], Option, Some, None, codes}
 use Rattle.std.specs.List.{list_any}
 use Rattle.clap.specs.Facts.{explicit_source}
 use Rattle.clap.specs.Words.{App, Row, Text, fault_of, first_of, matches_of, one_of, subcommand_of, with_rule, with_subcommand}
@@ -8,6 +8,7 @@ use Rattle.command_words.specs.Fault.{IsRefusal}
 use Rattle.command_words.specs.Words.{HasFlag}
 use Rattle.command_words.specs.declared.fault.WordsFault.{WordsFault}
 use Rattle.command_words.specs.declared.fault.WordsFault.TheVariants.{Usage}
+use Rattle.csvw_draft.specs.declared.words.Asks.{Asks}
 use Rattle.csvw_draft.specs.declared.words.Words.{Words}
 use Rattle.csvw_draft.specs.declared.words.Words.TheVariants.{Draft, Show, Explain}
 
@@ -20,18 +21,24 @@ abbrev pub with_folder : App
 with_folder = with_rule versioned_app (folder_rule false)
 
 -- `csvw_draft [FOLDER] [--write] [--no-key]`
+abbrev pub with_keys : App
+with_keys = with_rule (with_rule with_folder (flag_rule (codes "write"))) (flag_rule (codes "no-key"))
+
+-- `csvw_draft [FOLDER] [--write] [--no-key] [--skip-refused] [--add]`
 abbrev pub draft_app : App
-draft_app = with_rule (with_rule with_folder (flag_rule (codes "write"))) (flag_rule (codes "no-key"))
+draft_app = with_rule (with_rule with_keys (flag_rule (codes "skip-refused"))) (flag_rule (codes "add"))
 
 -- the whole command, with `show FOLDER` and `explain FOLDER`
 abbrev pub whole_command : App
 whole_command = with_subcommand (with_subcommand draft_app (over_folder (codes "show")).top) (over_folder (codes "explain")).top
 
 -- what a draft is asked for by
-pub record SaysDraft (folder : Text) (write keys : Bool) (rows : List Row) : Type 0 where
-  pub folder_is : first_of (codes "folder") rows ≡ Some folder
-  pub write_is : HasFlag (one_of (codes "write") rows) write
-  pub keys_are : HasFlag (one_of (codes "no-key") rows) (not keys)
+pub record SaysDraft (asks : Asks) (rows : List Row) : Type 0 where
+  pub folder_is : first_of (codes "folder") rows ≡ Some asks.folder.now
+  pub write_is : HasFlag (one_of (codes "write") rows) asks.write
+  pub keys_are : HasFlag (one_of (codes "no-key") rows) (not asks.keys)
+  pub skip_is : HasFlag (one_of (codes "skip-refused") rows) asks.skip
+  pub add_is : HasFlag (one_of (codes "add") rows) asks.add
 
 -- a subcommand over a folder, before which no argument stands
 pub record SaysFolder (name folder : Text) (rows : List Row) (found : Text) (inner : List Row) : Type 0 where
@@ -41,7 +48,7 @@ pub record SaysFolder (name folder : Text) (rows : List Row) (found : Text) (inn
 
 -- what a reading asks for, by its arguments, and by its subcommand with that one's
 abbrev pub AsksSo : Words → List Row → Option (Text × List Row) → Type 0
-AsksSo (Draft folder write keys) rows None = SaysDraft folder.now write keys rows
+AsksSo (Draft asks) rows None = SaysDraft asks rows
 AsksSo (Show folder) rows (Some (found, inner)) = SaysFolder (codes "show") folder.now rows found inner
 AsksSo (Explain folder) rows (Some (found, inner)) = SaysFolder (codes "explain") folder.now rows found inner
 AsksSo words rows reading = ⊥

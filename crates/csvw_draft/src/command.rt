@@ -1,10 +1,12 @@
 //! What the words of the command line ask for, done: each command ends with an exit status.
 use crate::draft::draft_folder;
 use crate::explain::tell_folder;
-use crate::status::{DONE, MEMORY, USAGE, status_of};
+use crate::status::{DEVICE, DONE, MEMORY, USAGE, status_of};
+use crate::told::status_after;
 use crate::words::{USAGE_LINE, Words, read_words};
 use command_words::{WordsFault, line_of, system_words};
 use std::io::{self, ErrorKind, IsTerminal};
+use std::rt::Files;
 
 /// Tells how the program is called, and gives the exit status.
 fn usage_status(rt: &HostRuntime) -> u8 {
@@ -12,38 +14,65 @@ fn usage_status(rt: &HostRuntime) -> u8 {
     USAGE
 }
 
-/// Does what the words ask for, or tells why there is nothing to do. Where someone looks on, it tells of long work.
-fn words_status(rt: &HostRuntime, words: Result<Words<'_>, WordsFault>) -> io::Result<u8> {
-    match words {
-        Ok(
-            Words::Draft {
-                folder,
-                write,
-                keys,
-            },
-        ) => draft_folder(rt, folder, write, keys, rt.stderr().is_terminal()),
-        Ok(Words::Show { folder }) => Ok(tell_folder(rt, folder, false)),
-        Ok(Words::Explain { folder }) => Ok(tell_folder(rt, folder, true)),
-        Err(WordsFault::Shows(text)) => text.print(rt).and(Ok(DONE)),
-        Err(WordsFault::Usage) => Ok(usage_status(rt)),
-        Err(WordsFault::NoMemory) => Ok(MEMORY),
+/// Reports that memory ran out, as far as that can be told, and returns the exit status.
+fn memory_status(rt: &HostRuntime) -> u8 {
+    let _ = rt.eprintln("not done: memory ran out");
+    MEMORY
+}
+
+/// Reports why nothing was done with a folder, as far as that can be told, and returns the exit status.
+fn device_status(rt: &HostRuntime, folder: &str) -> u8 {
+    let cause = match rt.metadata(folder) {
+        Ok(found) if found.is_dir() => {
+            "a file of it, or the output, can't be read or written, or is no plain file"
+        }
+        Ok(_) => "it is no folder",
+        Err(error) => match error.kind() {
+            ErrorKind::NotFound => "there is no such folder",
+            _ => "it can't be read",
+        },
+    };
+    let _ = eprintln!(rt; "not done: {folder}: {cause}");
+    DEVICE
+}
+
+/// Reports an end that has no line of its own yet, and returns its exit status.
+fn end_of(rt: &HostRuntime, folder: &str, end: io::Result<u8>) -> u8 {
+    match status_of(end) {
+        DEVICE => device_status(rt, folder),
+        MEMORY => memory_status(rt),
+        status => status,
     }
 }
 
-/// Does what the system's words ask for.
-fn line_status(rt: &HostRuntime, words: &[String]) -> io::Result<u8> {
-    let line = line_of(rt.alloc(), words)?;
-    words_status(rt, read_words(rt.alloc(), line.as_slice()))
+/// Does what the words ask for, or reports why there is nothing to do. If someone looks on, it reports long work.
+fn words_status(rt: &HostRuntime, words: Result<Words<'_>, WordsFault>) -> u8 {
+    match words {
+        Ok(Words::Draft(asks)) => {
+            let end = draft_folder(rt, &asks, rt.stderr().is_terminal());
+            end_of(rt, asks.folder, end)
+        }
+        Ok(Words::Show { folder }) => end_of(rt, folder, Ok(tell_folder(rt, folder, false))),
+        Ok(Words::Explain { folder }) => end_of(rt, folder, Ok(tell_folder(rt, folder, true))),
+        Err(WordsFault::Shows(text)) => status_after(text.print(rt), DONE),
+        Err(WordsFault::Usage) => usage_status(rt),
+        Err(WordsFault::NoMemory) => memory_status(rt),
+    }
 }
 
-/// Does what the command line asks for, and gives the exit status.
+/// Does what the command line asks for, and returns the exit status.
 pub fn command_status(rt: &HostRuntime) -> u8 {
-    match system_words(rt) {
-        Ok(words) => status_of(line_status(rt, words.as_slice())),
+    let words = match system_words(rt) {
+        Ok(words) => words,
         Err(error) => match error.kind() {
             // a word that is not UTF-8 is no word of the command
-            ErrorKind::InvalidData => usage_status(rt),
-            _ => status_of(Err(error)),
+            ErrorKind::InvalidData => return usage_status(rt),
+            ErrorKind::OutOfMemory => return memory_status(rt),
+            _ => return device_status(rt, "."),
         },
+    };
+    match line_of(rt.alloc(), words.as_slice()) {
+        Ok(line) => words_status(rt, read_words(rt.alloc(), line.as_slice())),
+        Err(_) => memory_status(rt),
     }
 }

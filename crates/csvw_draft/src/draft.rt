@@ -1,16 +1,20 @@
 //! The draft of a folder.
-use crate::folder::{path_in, push_files};
-use crate::status::{DONE, MEMORY, status_of};
+use crate::add::added_text;
+use crate::cure::help_with;
+use crate::folder::{file_in, path_in, read_files};
+use crate::status::{DONE, MEMORY, REFUSED, status_of};
 use crate::told::{print_text, refuse, refuse_for, status_after};
 use crate::warning::warn_of;
-use csvw_guess::{Draft, DraftFault, draft_of, write_schemas};
-use csvw_meta::Limits;
-use folder_report::{Report, refuse_file};
+use crate::words::Asks;
+use csv_index::TextFault;
+use csvw_guess::{Aims, DraftFault, Guess, accepted_text, draft_of, guess_of};
+use csvw_meta::{Limits, MetaFault, Schemas};
+use folder_report::{Line, Report, refuse_file};
 use served_folders::METADATA;
 use std::fs::File;
 use std::io::{self, ErrorKind, Write};
 use std::rt::Files;
-use table_store::NamedFile;
+use table_store::{LoadFault, NamedFile};
 
 /// What is said where the metadata would be written over.
 const NOT_WRITTEN: &str = "csv-metadata.json: the folder has one, which stays as it is";
@@ -21,23 +25,73 @@ const NO_TABLES: &str = "no file of the folder is a table that is served";
 /// What is said where more are drafted than are served.
 const TOO_MANY_TABLES: &str = "accepted: 256 files at most";
 
-/// Tells why files have no draft, and gives the exit status.
-fn refuse_files(rt: &HostRuntime, files: &[NamedFile], fault: DraftFault) -> u8 {
-    let (file, fault) = match fault {
-        DraftFault::FileTooLarge { file } => (file, None),
-        DraftFault::Text { file, fault } => (file, Some(fault)),
-        DraftFault::NoTables => return refuse_for(rt, NO_TABLES),
-        DraftFault::TooManyTables => return refuse_for(rt, TOO_MANY_TABLES),
-        DraftFault::NoMemory => return MEMORY,
-    };
+/// What is said after the cause of a draft that the service refuses.
+const DEFECT: &str =
+    ": csvw_draft made this draft, and the service refuses it: please report it, with this line";
+
+/// What is said after the cause if the metadata of the folder is a part of the draft.
+const SEE_EXPLAIN: &str = ": see csvw_draft explain";
+
+/// Reports a file that is no table, and what helps, and returns the exit status.
+fn refuse_one(rt: &HostRuntime, file: &NamedFile, fault: Option<TextFault>) -> u8 {
     let mut report = Report::new(rt.alloc());
-    if let Some(file) = files.get(file) {
-        refuse_file(&mut report, file, fault);
-    }
+    refuse_file(&mut report, file, fault);
     if report.is_short {
+        return MEMORY;
+    }
+    let status = refuse(rt, report.lines.as_slice());
+    match fault {
+        Some(fault) if status == REFUSED => {
+            let helped = help_with(rt, file.name.as_str(), file.bytes.as_slice(), fault);
+            status_after(helped, REFUSED)
+        }
+        _ => status,
+    }
+}
+
+/// Reports the files that are no tables, and returns the exit status: that of a refusal, if nothing is drafted for them.
+fn refuse_files(rt: &HostRuntime, files: &[NamedFile], guess: &Guess, skip: bool) -> u8 {
+    for refusal in &guess.refusals {
+        if let Some(file) = files.get(refusal.file) {
+            let status = refuse_one(rt, file, refusal.fault);
+            if status != REFUSED {
+                return status;
+            }
+        }
+    }
+    if guess.refusals.is_empty() || skip {
+        return DONE;
+    }
+    if guess.schemas.is_empty() {
+        return REFUSED;
+    }
+    let refused = guess.refusals.len();
+    let count = files.len();
+    status_after(
+        eprintln!(rt; "refused: {refused} of {count} files: --skip-refused drafts the others"),
+        REFUSED,
+    )
+}
+
+/// Reports that the service refuses a draft, and returns the exit status.
+fn refuse_draft(rt: &HostRuntime, cause: &LoadFault, add: bool) -> u8 {
+    let mut line = Line::new(rt.alloc());
+    line.push_made(cause.text(rt.alloc()));
+    line.push(if add { SEE_EXPLAIN } else { DEFECT });
+    if line.is_short {
         MEMORY
     } else {
-        refuse(rt, report.lines.as_slice())
+        refuse_for(rt, line.text.as_str())
+    }
+}
+
+/// Reports why files have no draft, and returns the exit status.
+fn refuse_fault(rt: &HostRuntime, fault: &DraftFault, add: bool) -> u8 {
+    match fault {
+        DraftFault::NoTables => refuse_for(rt, NO_TABLES),
+        DraftFault::TooManyTables => refuse_for(rt, TOO_MANY_TABLES),
+        DraftFault::Refused(cause) => refuse_draft(rt, cause, add),
+        DraftFault::NoMemory => MEMORY,
     }
 }
 
@@ -63,62 +117,105 @@ fn write_metadata(rt: &HostRuntime, path: &str, text: &[u8]) -> u8 {
     }
 }
 
-/// Gives the text of metadata: prints it, or writes it at a path; and gives the exit status.
-fn give_metadata(rt: &HostRuntime, path: Option<&str>, text: &[u8]) -> u8 {
-    match path {
-        Some(path) => write_metadata(rt, path, text),
-        None => {
-            let status = print_text(rt, text);
-            if status == DONE {
-                print_text(rt, b"\n")
-            } else {
-                status
-            }
+/// Writes metadata at a path over what is there: beside it first, so that what is there is whole at each moment; and returns the exit status.
+fn replace_metadata(rt: &HostRuntime, path: &str, text: &[u8]) -> io::Result<u8> {
+    let new = format!(in rt.alloc(); "{path}.new")?;
+    let mut file = File::create(rt, new.as_str())?;
+    let written = file.write_all(text);
+    match written.and(rt.rename(new.as_str(), path)) {
+        Ok(()) => Ok(status_after(println!(rt; "wrote {path}"), DONE)),
+        Err(error) => {
+            let _ = rt.remove_file(new.as_str());
+            Err(error)
         }
     }
 }
 
-/// Tells what the publisher of files should look at, and gives their metadata, with keys or without.
+/// Gives the text of metadata: prints it, or writes it at a path; and returns the exit status.
+fn give_metadata(rt: &HostRuntime, asks: &Asks<'_>, path: &str, text: &[u8]) -> io::Result<u8> {
+    if asks.write && asks.add {
+        return replace_metadata(rt, path, text);
+    }
+    if asks.write {
+        return Ok(write_metadata(rt, path, text));
+    }
+    let status = print_text(rt, text);
+    if status == DONE {
+        Ok(print_text(rt, b"\n"))
+    } else {
+        Ok(status)
+    }
+}
+
+/// Returns the metadata of a folder with what is drafted that it does not have yet; as a fault why there is none.
+fn added_draft(
+    rt: &HostRuntime,
+    json: &[u8],
+    guess: &Guess,
+    files: Vec<NamedFile>,
+) -> Result<Vec<u8>, DraftFault> {
+    let limits = Limits::greatest();
+    let schemas = match Schemas::read(rt.alloc(), json, &limits) {
+        Ok(schemas) => schemas,
+        Err(MetaFault::NoMemory) => return Err(DraftFault::NoMemory),
+        Err(fault) => return Err(DraftFault::Refused(LoadFault::Meta(fault))),
+    };
+    let old = schemas.tables.as_slice();
+    match added_text(rt.alloc(), json, old, guess.schemas.as_slice()) {
+        Ok(text) => accepted_text(rt.alloc(), limits, text, files),
+        Err(_) => Err(DraftFault::NoMemory),
+    }
+}
+
+/// Returns the metadata of a folder, if it is asked for and there is one.
+fn old_metadata(rt: &HostRuntime, asks: &Asks<'_>) -> io::Result<Option<Vec<u8>>> {
+    if !asks.add {
+        return Ok(None);
+    }
+    match file_in(rt, asks.folder, METADATA, false) {
+        Ok(json) => Ok(Some(json)),
+        Err(error) => match error.kind() {
+            ErrorKind::NotFound => Ok(None),
+            _ => Err(error),
+        },
+    }
+}
+
+/// Reports what the publisher of files should look at, and gives their metadata as it is asked for.
 fn give_draft(
     rt: &HostRuntime,
-    files: &[NamedFile],
-    draft: &mut Draft,
-    keys: bool,
-    path: Option<&str>,
+    asks: &Asks<'_>,
+    files: Vec<NamedFile>,
+    path: &str,
 ) -> io::Result<u8> {
-    warn_of(rt, draft, files)?;
-    if !keys {
-        for schema in draft.schemas.iter_mut() {
-            schema.key.clear();
-        }
+    let limits = Limits::greatest();
+    let aims = Aims {
+        limits,
+        keys: asks.keys,
+    };
+    let guess = guess_of(rt.alloc(), aims, files.as_slice())?;
+    warn_of(rt, &guess, files.as_slice())?;
+    let status = refuse_files(rt, files.as_slice(), &guess, asks.skip);
+    if status != DONE {
+        return Ok(status);
     }
-    match write_schemas(rt.alloc(), draft.schemas.as_slice()) {
-        Ok(text) => Ok(give_metadata(rt, path, text.as_slice())),
-        Err(_) => Ok(MEMORY),
+    let made = match old_metadata(rt, asks)? {
+        Some(json) => added_draft(rt, json.as_slice(), &guess, files),
+        None => draft_of(rt.alloc(), limits, guess.schemas.as_slice(), files),
+    };
+    match made {
+        Ok(text) => give_metadata(rt, asks, path, text.as_slice()),
+        Err(fault) => Ok(refuse_fault(rt, &fault, asks.add)),
     }
 }
 
-/// Drafts the metadata of a folder, with keys or without, and prints it, or writes it there.
-pub fn draft_folder(
-    rt: &HostRuntime,
-    folder: &str,
-    write: bool,
-    keys: bool,
-    tells: bool,
-) -> io::Result<u8> {
-    let path = path_in(rt.alloc(), folder, METADATA)?;
-    // nothing is drafted in vain
-    if write && rt.symlink_metadata(path.as_str()).is_ok() {
+/// Drafts the metadata of a folder, and prints it, or writes it there. If someone looks on, it reports long work.
+pub fn draft_folder(rt: &HostRuntime, asks: &Asks<'_>, tells: bool) -> io::Result<u8> {
+    let path = path_in(rt.alloc(), asks.folder, METADATA)?;
+    if asks.write && !asks.add && rt.symlink_metadata(path.as_str()).is_ok() {
         Ok(refuse_for(rt, NOT_WRITTEN))
     } else {
-        let mut files = Vec::new(rt.alloc());
-        push_files(rt, folder, tells, &mut files)?;
-        match draft_of(rt.alloc(), &Limits::greatest(), files.as_slice()) {
-            Ok(mut draft) => {
-                let path = write.then_some(path.as_str());
-                give_draft(rt, files.as_slice(), &mut draft, keys, path)
-            }
-            Err(fault) => Ok(refuse_files(rt, files.as_slice(), fault)),
-        }
+        let files = read_files(rt, asks.folder, tells)?;
+        give_draft(rt, asks, files, path.as_str())
     }
 }

@@ -1,9 +1,9 @@
 //! What the service understands of a folder, and why it refuses one.
-use crate::folder::file_in;
+use crate::folder::{file_in, names_of};
 use crate::status::{DEVICE, MEMORY, status_of};
 use crate::told::{print_text, refuse, refuse_for};
 use csvw_meta::{Limits, MetaFault, Schema, Schemas};
-use folder_report::{Report, catalog_text, refuse_metadata, refuse_table};
+use folder_report::{Report, catalog_text, cut, refuse_metadata, refuse_table};
 use served_folders::{Disk, FolderFault, Folders, METADATA};
 use std::io::{self, ErrorKind};
 use table_store::{Catalog, LoadFault};
@@ -75,14 +75,31 @@ fn tell_fault(rt: &HostRuntime, folder: &str, fault: &FolderFault, explains: boo
     }
 }
 
-/// Prints what the service understands of the tables of a folder; where it is asked why the folder is refused, that it is accepted.
-fn tell_catalog(rt: &HostRuntime, catalog: &Catalog, explains: bool) -> u8 {
-    if explains {
-        return print_text(rt, b"accepted\n");
+/// Reports the CSV files of a folder that no table names.
+fn tell_unpublished(rt: &HostRuntime, folder: &str, catalog: &Catalog) -> io::Result<()> {
+    for name in names_of(rt, folder)?.files {
+        let mut tables = catalog.tables().iter();
+        if !tables.any(|table| table.schema().url.as_str() == name.as_str()) {
+            let name = cut(rt.alloc(), name.as_str())?;
+            eprintln!(rt; "not published: {name}: csvw_draft FOLDER --add drafts it")?;
+        }
     }
-    match catalog_text(rt.alloc(), catalog) {
-        Ok(text) => print_text(rt, text.as_slice()),
-        Err(_) => MEMORY,
+    Ok(())
+}
+
+/// Prints what the service understands of the tables of a folder, and reports the files that no table names.
+fn show_catalog(rt: &HostRuntime, folder: &str, catalog: &Catalog) -> io::Result<u8> {
+    let text = catalog_text(rt.alloc(), catalog)?;
+    tell_unpublished(rt, folder, catalog)?;
+    Ok(print_text(rt, text.as_slice()))
+}
+
+/// Shows the tables of a folder that is served; if it is asked why the folder is refused, it prints that it is accepted.
+fn tell_catalog(rt: &HostRuntime, folder: &str, catalog: &Catalog, explains: bool) -> u8 {
+    if explains {
+        print_text(rt, b"accepted\n")
+    } else {
+        status_of(show_catalog(rt, folder, catalog))
     }
 }
 
@@ -90,7 +107,7 @@ fn tell_catalog(rt: &HostRuntime, catalog: &Catalog, explains: bool) -> u8 {
 /// each.
 pub fn tell_folder(rt: &HostRuntime, folder: &str, explains: bool) -> u8 {
     match Disk::new(rt).load(rt.alloc(), folder) {
-        Ok(catalog) => tell_catalog(rt, &catalog, explains),
+        Ok(catalog) => tell_catalog(rt, folder, &catalog, explains),
         Err(fault) => tell_fault(rt, folder, &fault, explains),
     }
 }

@@ -2,7 +2,10 @@
 //! standard error and by the exit status.
 #![tactic(auto)]
 
+mod add;
+mod cells;
 mod command;
+mod cure;
 mod draft;
 mod explain;
 mod folder;

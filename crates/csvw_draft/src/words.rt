@@ -13,7 +13,7 @@ use std::alloc::Global;
 
 /// What is said of words that are no command.
 pub const USAGE_LINE: &str =
-    "bad command line; usage: csvw_draft FOLDER [--write] [--no-key], csvw_draft show FOLDER, csvw_draft explain FOLDER";
+    "bad command line; usage: csvw_draft FOLDER [--write] [--no-key] [--skip-refused] [--add], csvw_draft show FOLDER, csvw_draft explain FOLDER";
 
 /// The version that is told.
 const VERSION: &str = "1.0.0";
@@ -23,7 +23,15 @@ const ABOUT: &str =
     "Prints a draft of csv-metadata.json for the CSV files of a folder; shows what the service understands of a folder, and explains why it refuses one";
 
 /// What help says of `--write`.
-const WRITE: &str = "Writes csv-metadata.json into the folder, where there is none";
+const WRITE: &str =
+    "Writes csv-metadata.json into the folder, if there is none; with --add over the one that is there";
+
+/// What help says of `--skip-refused`.
+const SKIP: &str = "Leaves out the files that are no tables";
+
+/// What help says of `--add`.
+const ADD: &str =
+    "Adds the files and columns that csv-metadata.json does not have yet, and keeps the rest of it";
 
 /// What help says of `show`.
 const SHOW: &str =
@@ -33,23 +41,29 @@ const SHOW: &str =
 const EXPLAIN: &str =
     "Tells why a folder is refused: the file, the line, the column, the cell, and what would be accepted";
 
+/// How the metadata of a folder is drafted.
+#[derive(Clone, Copy)]
+pub struct Asks<'a> {
+    pub folder: &'a str,
+    /// It is written into the folder.
+    pub write: bool,
+    /// Tables have keys.
+    pub keys: bool,
+    /// Files that are no tables are left out.
+    pub skip: bool,
+    /// What the folder's metadata does not have yet is added to it.
+    pub add: bool,
+}
+
 /// What the program is asked to do.
 #[derive(Clone, Copy)]
 pub enum Words<'a> {
-    /// To draft the metadata of a folder, with keys or without; and to write it there.
-    Draft {
-        folder: &'a str,
-        write: bool,
-        keys: bool,
-    },
+    /// To draft the metadata of a folder.
+    Draft(Asks<'a>),
     /// To show what the service understands of a folder.
-    Show {
-        folder: &'a str,
-    },
+    Show { folder: &'a str },
     /// To explain why a folder is refused.
-    Explain {
-        folder: &'a str,
-    },
+    Explain { folder: &'a str },
 }
 
 /// What `clap` reads of the words by the whole command, of which `help` is no word.
@@ -61,8 +75,10 @@ fn line_matches<'a>(alloc: Global, words: &'a [&'a str]) -> Result<ArgMatches<'a
     let one = add_folder(alloc, top, false, "The folder with the CSV files");
     let two = add_flag(alloc, one, "write", WRITE);
     let three = add_flag(alloc, two, "no-key", "Leaves out the keys");
-    let four = add_folder_command(alloc, three, "show", SHOW);
-    let whole = add_folder_command(alloc, four, "explain", EXPLAIN);
+    let four = add_flag(alloc, three, "skip-refused", SKIP);
+    let five = add_flag(alloc, four, "add", ADD);
+    let six = add_folder_command(alloc, five, "show", SHOW);
+    let whole = add_folder_command(alloc, six, "explain", EXPLAIN);
     matches_of(whole, words)
 }
 
@@ -73,11 +89,19 @@ fn draft_words<'a>(matches: &ArgMatches<'a>) -> Result<Words<'a>, WordsFault>
         × AsksNot (rows_of (found_of matches.now)) None) }
 {
     match text(matches, "folder") {
-        Some(folder) => Ok(Words::Draft {
-            folder,
-            write: flag(matches, "write"),
-            keys: !flag(matches, "no-key"),
-        }),
+        Some(folder) => {
+            let write = flag(matches, "write");
+            let no_key = flag(matches, "no-key");
+            let skip = flag(matches, "skip-refused");
+            let add = flag(matches, "add");
+            Ok(Words::Draft(Asks {
+                folder,
+                write,
+                keys: !no_key,
+                skip,
+                add,
+            }))
+        }
         None => Err(WordsFault::Usage),
     }
 }

@@ -1,12 +1,1 @@
-pub mod Members
-pub mod ColumnText
-pub mod TableText
-pub mod Text
-pub mod TextLaws
-pub mod Rows
-pub mod Names
-pub mod Table
-pub mod FirstKey
-pub mod Fault
 pub mod Draft
-pub mod Laws

@@ -1,65 +1,64 @@
 //! The columns of a table.
-ghost use Rattle.std.specs.Prelude.{◌≡◌, ◌<◌, ℕ, List, IfOk, length, map};
-ghost use Rattle.cell_types.specs.Column.{column_view};
-ghost use Rattle.column_types.specs.Kinds.{AreCandidates};
-ghost use Rattle.column_types.specs.Seen.{HasPlaces, Knows};
-ghost use Rattle.csvw_guess.specs.Rows.{next_cell, next_column, HaveCells};
-ghost use Rattle.csvw_guess.specs.Table.{file_columns};
+ghost use Rattle.csv_index.specs.Index.{FitsFile};
 
-use crate::names::{next_name, titles};
-use crate::rows::read_columns;
-use crate::warnings::{Warnings, column_warnings};
-use cell_types::Column;
-use column_types::{Candidates, Seen};
-use csv_index::IndexedText;
+use crate::file::FileTable;
+use crate::names::{next_name, titles_of};
+use cell_types::{Column, Datatype};
+use column_types::Seen;
 use std::alloc::{AllocError, Global};
 
-/// The column after those of a file, of whose cells this is known.
+/// Returns true if a header cell calls its column a version.
+fn is_version(cell: &str) -> bool {
+    let mut words = cell.split(|c: char| !c.is_ascii_alphanumeric());
+    words.any(|word| word.eq_ignore_ascii_case("version")) || cell.ends_with("Version")
+}
+
+/// Returns the datatype of a column with a header cell. Versions are texts, since 4.10 is no 4.1.
+fn datatype_of(alloc: Global, seen: &Seen, cell: &str) -> Result<Datatype, AllocError> {
+    let datatype = seen.datatype(alloc)?;
+    if matches!(datatype, Datatype::Decimal) && is_version(cell) {
+        return Ok(Datatype::Text);
+    }
+    Ok(datatype)
+}
+
+/// Returns the column after some, by its header cell and what is known of its cells.
 fn make_column(
     alloc: Global,
     seen: &Seen,
-    file: &IndexedText,
+    cell: &str,
     earlier: &[Column],
-) -> Result<Column, AllocError>
-    requires col { length earlier.now < length file.now.header }
-    requires places { HasPlaces seen.now }
-    ensures { IfOk result (λ made. (cells : List (List ℕ)) → Knows seen.now cells
-        → column_view made ≡ next_column earlier.now (next_cell file.now earlier.now) cells) }
-{
-    let cell = file.header(earlier.len()).text(alloc)?.into_owned(alloc)?;
-    let name = next_name(alloc, earlier, cell.as_str())?;
-    let titles = titles(alloc, name.as_str(), cell)?;
-    seen.column(alloc, name, titles)
+) -> Result<Column, AllocError> {
+    let name = next_name(alloc, earlier, cell)?;
+    let titles = titles_of(alloc, name.as_str(), cell)?;
+    let datatype = datatype_of(alloc, seen, cell)?;
+    let nulls = seen.nulls(alloc, &datatype)?;
+    Ok(Column {
+        name,
+        titles,
+        datatype,
+        nulls,
+        default: String::new(alloc),
+        required: false,
+    })
 }
 
-/// The columns of a file, of whose cells this is known.
-fn make_columns(
+/// Returns the columns of a file, of whose cells this is known.
+pub(crate) fn make_columns(
     alloc: Global,
     known: &[Seen],
-    file: &IndexedText,
+    file: &FileTable<'_>,
 ) -> Result<Vec<Column>, AllocError>
-    requires { HaveCells known.now file.now }
-    ensures { IfOk result (λ made. map column_view made.items ≡ file_columns file.now) }
+    requires { FitsFile file.now.index.now file.now.text.now }
 {
     let mut columns = Vec::new(alloc);
-    for seen in known {
-        let column = make_column(alloc, seen, file, columns.as_slice())?;
+    for col in 0..file.index.width() {
+        let Some(seen) = known.get(col) else {
+            return Ok(columns);
+        };
+        let cell = file.index.header(file.text, col).text(alloc)?;
+        let column = make_column(alloc, seen, cell.as_str(), columns.as_slice())?;
         columns.push(column)?;
     }
     Ok(columns)
-}
-
-/// The columns of the file of that number. What there is to look at in their cells is added to the warnings.
-pub fn read_table(
-    warnings: &mut Warnings,
-    candidates: &Candidates,
-    number: usize,
-    file: &IndexedText,
-) -> Result<Vec<Column>, AllocError>
-    requires { AreCandidates candidates.now }
-    ensures { IfOk result (λ made. map column_view made.items ≡ file_columns file.now) }
-{
-    let known = read_columns(warnings.alloc, candidates, file)?;
-    column_warnings(warnings, candidates, number, file, known.as_slice());
-    make_columns(warnings.alloc, known.as_slice(), file)
 }

@@ -1,37 +1,97 @@
 //! Why files have no draft, and what their publisher should look at.
-
 use csv_index::TextFault;
+use table_store::LoadFault;
 
-/// Why there is no draft. Files count from 0.
-#[derive(Clone, Copy)]
+/// Why there is no draft.
+#[derive(Drop)]
 pub enum DraftFault {
-    /// A file has more bytes than the limit.
-    FileTooLarge { file: usize },
-    /// A file is no table.
-    Text { file: usize, fault: TextFault },
     /// No file is a table that is served.
     NoTables,
-    /// More files are tables than the limit.
+    /// More files are tables than are served.
     TooManyTables,
+    /// The service refuses the draft, for that cause. It never should: this is a defect of the draft.
+    Refused(LoadFault),
     /// Memory ran out.
     NoMemory,
+}
+
+/// A file that has no schema, by its number from 0.
+#[derive(Clone, Copy)]
+pub struct Refusal {
+    pub file: usize,
+    /// Why it is no table; `None` if it has more bytes than the limit.
+    pub fault: Option<TextFault>,
 }
 
 /// What the publisher of files should look at. Files and columns count from 0.
 #[derive(Clone, Copy)]
 pub enum Warning {
     /// The name of a file can't be a `url`: the file is left out.
-    NotUrl { file: usize },
+    NotUrl {
+        file: usize,
+    },
     /// An earlier file has the name: the file is left out.
-    SameName { file: usize },
+    SameName {
+        file: usize,
+    },
     /// A table has more columns than the limit: the file is left out.
-    ManyColumns { file: usize, columns: usize },
+    ManyColumns {
+        file: usize,
+        columns: usize,
+    },
     /// Each cell of a column is a date with the day first, and one with the month first: it is a column of texts.
-    TwoDates { file: usize, col: usize },
+    TwoDates {
+        file: usize,
+        col: usize,
+    },
     /// The cells of a column are numbers, and one is finer than six places: it is a column of texts.
-    TooFine { file: usize, col: usize },
-    /// There is one column, and this byte stands in each line: it may part fields.
-    OtherSeparator { file: usize, byte: u8 },
-    /// A header cell has a value of its column's datatype, which is none of texts: the first line may be data.
-    HeaderIsData { file: usize },
+    TooFine {
+        file: usize,
+        col: usize,
+    },
+    /// All cells of a column of texts that are not null look alike, or nearly all of them.
+    Alike {
+        file: usize,
+        col: usize,
+        /// What they look like.
+        form: &'static str,
+        /// How many cells there are, and how many look so.
+        cells: usize,
+        alike: usize,
+        /// The row of the first that looks different, counted from 0.
+        other: Option<usize>,
+    },
+    /// A column is called a version, and its cells are decimals: it is a column of texts.
+    Version {
+        file: usize,
+        col: usize,
+    },
+    /// So many cells of a column of texts are a text that is null in another column.
+    NullElsewhere {
+        file: usize,
+        col: usize,
+        /// The other column.
+        other: usize,
+        word: &'static str,
+        cells: usize,
+    },
+    /// A header cell is empty.
+    EmptyHeader {
+        file: usize,
+        col: usize,
+    },
+    /// So many rows at the end have only empty cells.
+    EmptyRows {
+        file: usize,
+        rows: usize,
+    },
+    /// There is one column, and this byte is in each line: it may separate fields.
+    OtherSeparator {
+        file: usize,
+        byte: u8,
+    },
+    /// Each header cell of a column that is none of texts is a value of it: the first line may be data.
+    HeaderIsData {
+        file: usize,
+    },
 }

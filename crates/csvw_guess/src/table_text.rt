@@ -1,59 +1,35 @@
-//! Tables, their schemas and their keys.
-ghost use Rattle.std.specs.Prelude.{◌≡◌, map};
-ghost use Rattle.json.specs.Tree.{json_tokens};
-ghost use Rattle.cell_types.specs.Column.{column_view};
-ghost use Rattle.csvw_meta.specs.Schema.{schema_view};
-ghost use Rattle.csvw_guess.specs.Members.{field_tokens, Writes};
-ghost use Rattle.csvw_guess.specs.TableText.{key_field, name_at as name_in, table_json};
-
+//! The text of tables, their schemas and their keys (Metadata Vocabulary for Tabular Data, sections 5.3 to 5.5).
 use crate::column_text::write_column;
 use crate::members::Output;
-use cell_types::Column;
 use csvw_meta::Schema;
 use json::Token;
 
-/// The name of the column at that place, empty where there is none.
-fn name_at(columns: &[Column], place: usize) -> &str
-    ensures { result.now ≡ name_in (map column_view columns.now) place }
-{
-    match columns.get(place) {
-        Some(column) => column.name.as_str(),
-        None => "",
-    }
-}
-
-/// A key by the names of its columns, where there is one.
-fn write_key(out: &mut Output, columns: &[Column], places: &[usize])
-    ensures { Writes out.old (field_tokens (key_field (map column_view columns.now) places.now))
-        out.new }
-{
-    if places.is_empty() {
+/// Writes a key by the names of its columns, if there is one.
+fn write_key(out: &mut Output, schema: &Schema) {
+    if schema.key.is_empty() {
         return;
     }
-    out.put_all(&[Token::Key("primaryKey"), Token::BeginArray]);
-    for place in places {
-        out.put_text(name_at(columns, *place));
+    out.begin_array("primaryKey");
+    for place in &schema.key {
+        if let Some(column) = schema.columns.get(*place) {
+            out.put_text(column.name.as_str());
+        }
     }
     out.put(Token::EndArray);
 }
 
-/// A table with its schema.
-pub(crate) fn write_table(out: &mut Output, schema: &Schema)
-    ensures { Writes out.old (json_tokens (table_json (schema_view schema.now))) out.new }
-{
-    let columns = schema.columns.as_slice();
-    out.put_all(&[Token::BeginObject, Token::Key("url")]);
-    out.put_text(&schema.url);
-    out.put_all(&[
-        Token::Key("tableSchema"),
-        Token::BeginObject,
-        Token::Key("columns"),
-        Token::BeginArray,
-    ]);
-    for column in columns {
+/// Writes a table with its schema.
+pub(crate) fn write_table(out: &mut Output, schema: &Schema) {
+    out.put(Token::BeginObject);
+    out.put_member("url", schema.url.as_str());
+    out.put(Token::Key("tableSchema"));
+    out.put(Token::BeginObject);
+    out.begin_array("columns");
+    for column in &schema.columns {
         write_column(out, column);
     }
     out.put(Token::EndArray);
-    write_key(out, columns, &schema.key);
-    out.put_all(&[Token::EndObject, Token::EndObject]);
+    write_key(out, schema);
+    out.put(Token::EndObject);
+    out.put(Token::EndObject);
 }

@@ -1,19 +1,20 @@
 //! What the publisher of a table should look at.
-ghost use Rattle.std.specs.Prelude.{◌≡◌, ◌<◌, ◌++◌, ◌∷◌, ◌⊎◌, [], length, true};
-ghost use Rattle.column_types.specs.Kinds.{AreCandidates};
+ghost use Rattle.std.specs.Prelude.{◌≡◌, ◌<◌, ◌++◌, ◌∷◌, ◌⊎◌, [], true};
+ghost use Rattle.csv_index.specs.Index.{FitsFile};
 
 use crate::fault::Warning;
-use crate::key::key_value;
+use crate::file::FileTable;
+use crate::looks::Looks;
 use cell_types::{CellFault, Column, Datatype, Value};
-use column_types::{Candidates, DECIMAL, Seen};
-use csv_index::IndexedText;
-use raw_fields::{Raw, cell_value};
+use column_types::{NULL_WORDS, Seen, are_digits, look_name};
+use csv_index::Raw;
+use raw_fields::cell_value;
 use std::alloc::Global;
 
-/// The bytes that may part fields in the place of a comma.
+/// The bytes that may separate fields in the place of a comma.
 const SEPARATORS: [u8; 3] = [b';', b'\t', b'|'];
 
-/// What there is to look at so far. Where memory runs out that is kept in it, so that a warning has no failure of its own.
+/// What there is to look at so far. If memory runs out that is kept in it, so that a warning has no failure of its own.
 #[derive(Drop)]
 pub struct Warnings {
     pub alloc: Global,
@@ -22,7 +23,7 @@ pub struct Warnings {
 }
 
 impl Warnings {
-    /// One more, or memory runs out.
+    /// Adds one more, or memory runs out.
     pub fn put(&mut self, warning: Warning)
         ensures { (self.new.is_short ≡ true)
             ⊎ ((self.new.is_short ≡ self.old.is_short)
@@ -34,106 +35,184 @@ impl Warnings {
     }
 }
 
-/// Whether all cells of a column are numbers or null, and one is finer than six places.
-fn is_too_fine(
-    warnings: &mut Warnings,
-    candidates: &Candidates,
-    file: &IndexedText,
-    col: usize,
-) -> bool
-    requires candidates { AreCandidates candidates.now }
-    requires col { col < length file.now.header }
+/// Returns true if a byte is in the header cell and in each cell of the first column.
+fn is_in_each(file: &FileTable<'_>, byte: u8) -> bool
+    requires bytes { FitsFile file.now.index.now file.now.text.now }
+    requires width { 0 < file.now.index.now.width }
 {
-    let column = &candidates.typed[DECIMAL];
-    let mut is_finer = false;
-    for row in 0..file.rows() {
-        match cell_value(warnings.alloc, column, file.cell(row, col)).err() {
-            None => {}
-            Some(CellFault::TooFine) => is_finer = true,
-            Some(fault) => {
-                warnings.is_short |= matches!(fault, CellFault::NoMemory);
-                return false;
-            }
-        }
-    }
-    is_finer
-}
-
-/// Whether a byte stands in the header cell and in each cell of the first column.
-fn stands_in_each(file: &IndexedText, byte: u8) -> bool
-    requires { 0 < length file.now.header }
-{
-    if !file.header(0).bytes.as_bytes().contains(&byte) {
+    if !file
+        .index
+        .header(file.text, 0)
+        .bytes
+        .as_bytes()
+        .contains(&byte)
+    {
         return false;
     }
-    for row in 0..file.rows() {
-        if !file.cell(row, 0).bytes.as_bytes().contains(&byte) {
+    for row in 0..file.index.rows() {
+        if !file
+            .index
+            .cell(file.text, row, 0)
+            .bytes
+            .as_bytes()
+            .contains(&byte)
+        {
             return false;
         }
     }
     true
 }
 
-/// Whether a header cell has a value of its column's datatype that is not null. In a column of texts that says nothing.
+/// Returns true for a column of texts.
+fn is_text(column: &Column) -> bool {
+    matches!(column.datatype, Datatype::Text)
+}
+
+/// Returns true if a header cell has a value of its column's datatype that is not null.
 fn is_data(warnings: &mut Warnings, column: &Column, cell: Raw<'_>) -> bool {
-    if matches!(column.datatype, Datatype::Text) {
-        return false;
-    }
-    match key_value(warnings.alloc, column, cell) {
+    match cell_value(warnings.alloc, column, cell) {
         Ok(value) => !matches!(value, Value::Null),
-        Err(_) => {
-            warnings.is_short = true;
+        Err(fault) => {
+            warnings.is_short |= matches!(fault, CellFault::NoMemory);
             false
         }
     }
 }
 
-/// Adds what there is to look at in the columns of the file of that number, of whose cells this is known. Only columns of texts have some.
-pub fn column_warnings(
-    warnings: &mut Warnings,
-    candidates: &Candidates,
-    number: usize,
-    file: &IndexedText,
-    known: &[Seen],
-)
-    requires candidates { AreCandidates candidates.now }
-    requires known { length known.now ≡ length file.now.header }
-{
-    for (col, seen) in known.iter().enumerate() {
-        if seen.has_two_dates() && !seen.all_null {
-            warnings.put(Warning::TwoDates { file: number, col });
-        } else if seen.is_text() && is_too_fine(warnings, candidates, file, col) {
-            warnings.put(Warning::TooFine { file: number, col });
+/// Returns true if a header cell may be a year, of which many columns are called.
+fn is_year(cell: Raw<'_>) -> bool {
+    cell.bytes.len() == 4 && are_digits(cell.bytes)
+}
+
+/// Adds what there is to look at in a column of texts, by its index.
+fn text_warnings(warnings: &mut Warnings, file: usize, col: usize, seen: &Seen, looks: &Looks) {
+    if seen.has_two_dates() {
+        warnings.put(Warning::TwoDates { file, col });
+    } else if !seen.is_text() && !seen.stays_text() {
+        warnings.put(Warning::Version { file, col });
+    } else if let Some(found) = looks.likeness() {
+        if found.is_fine {
+            warnings.put(Warning::TooFine { file, col });
+        } else if found.alike > 1 {
+            warnings.put(Warning::Alike {
+                file,
+                col,
+                form: look_name(found.look, found.is_loose),
+                cells: found.cells,
+                alike: found.alike,
+                other: found.other,
+            });
         }
     }
 }
 
-/// Adds what there is to look at in the header of the file of that number: whether a cell of it has a value of its column's datatype, and of one column
-/// the bytes that may part its fields.
-pub fn header_warnings(
-    warnings: &mut Warnings,
-    number: usize,
-    file: &IndexedText,
-    columns: &[Column],
-)
-    requires width { 0 < length file.now.header }
-    requires columns { length columns.now ≡ length file.now.header }
-{
-    for (col, column) in columns.iter().enumerate() {
-        if is_data(warnings, column, file.header(col)) {
-            warnings.put(Warning::HeaderIsData { file: number });
-            break;
+/// Adds the columns of texts in which a text is a cell that is null in another column.
+fn null_warnings(warnings: &mut Warnings, file: usize, known: &[Seen], columns: &[Column]) {
+    for (place, word) in NULL_WORDS.iter().enumerate() {
+        let mut other = None;
+        for (col, (seen, column)) in known.iter().zip(columns).enumerate() {
+            if seen.count(place) > 0 && !is_text(column) {
+                other = other.or(Some(col));
+            }
+        }
+        let Some(other) = other else {
+            continue;
+        };
+        for (col, (seen, column)) in known.iter().zip(columns).enumerate() {
+            let cells = seen.count(place);
+            if cells > 0 && is_text(column) {
+                warnings.put(Warning::NullElsewhere {
+                    file,
+                    col,
+                    other,
+                    word,
+                    cells,
+                });
+            }
         }
     }
-    if columns.len() != 1 {
+}
+
+/// Adds what there is to look at in the columns of a file, of whose cells this is known.
+pub(crate) fn column_warnings(
+    warnings: &mut Warnings,
+    file: usize,
+    known: &[Seen],
+    looks: &[Looks],
+    columns: &[Column],
+) {
+    let cells = known.iter().zip(looks);
+    for (col, ((seen, looks), column)) in cells.zip(columns).enumerate() {
+        if is_text(column) {
+            text_warnings(warnings, file, col, seen, looks);
+        }
+    }
+    null_warnings(warnings, file, known, columns);
+}
+
+/// Returns true if the header of a file may be data: each header cell of a column that is none of texts is a value of it, and one is no year.
+fn has_data_header(warnings: &mut Warnings, file: &FileTable<'_>, columns: &[Column]) -> bool
+    requires { FitsFile file.now.index.now file.now.text.now }
+{
+    let mut has_data = false;
+    for col in 0..file.index.width() {
+        let cell = file.index.header(file.text, col);
+        if let Some(column) = columns.get(col)
+            && !is_text(column)
+        {
+            if !is_data(warnings, column, cell) {
+                return false;
+            }
+            has_data |= !is_year(cell);
+        }
+    }
+    has_data
+}
+
+/// Returns how many rows at the end of a file have only empty cells.
+fn empty_rows(file: &FileTable<'_>) -> usize
+    requires { FitsFile file.now.index.now file.now.text.now }
+{
+    let rows = file.index.rows();
+    for back in 1..=rows {
+        for col in 0..file.index.width() {
+            if !file
+                .index
+                .cell(file.text, rows - back, col)
+                .bytes
+                .is_empty()
+            {
+                return back - 1;
+            }
+        }
+    }
+    rows
+}
+
+/// Adds what there is to look at in the header and the last rows of a file: header cells that are empty or data, rows of empty cells, and of one column the bytes
+/// that may separate its fields.
+pub(crate) fn header_warnings(warnings: &mut Warnings, file: &FileTable<'_>, columns: &[Column])
+    requires { FitsFile file.now.index.now file.now.text.now }
+{
+    let number = file.number;
+    for col in 0..file.index.width() {
+        if file.index.header(file.text, col).bytes.is_empty() {
+            warnings.put(Warning::EmptyHeader { file: number, col });
+        }
+    }
+    if has_data_header(warnings, file, columns) {
+        warnings.put(Warning::HeaderIsData { file: number });
+    }
+    if file.index.width() != 1 {
+        let rows = empty_rows(file);
+        if rows > 0 {
+            warnings.put(Warning::EmptyRows { file: number, rows });
+        }
         return;
     }
-    for byte in &SEPARATORS {
-        if stands_in_each(file, *byte) {
-            warnings.put(Warning::OtherSeparator {
-                file: number,
-                byte: *byte,
-            });
+    for byte in SEPARATORS {
+        if is_in_each(file, byte) {
+            warnings.put(Warning::OtherSeparator { file: number, byte });
         }
     }
 }

@@ -111,7 +111,7 @@ pub fn push_accepted_cell(line: &mut Line, column: &Column, fault: CellFault) {
             pattern_of(*form)
         }
         Datatype::Decimal =>
-            "digits with a sign or none and at most one point, of six decimal places at most",
+            "digits with a sign or none and at most one point, of six decimal places at most, from -9223372036854.775808 to 9223372036854.775807",
     };
     line.push(accepted);
 }

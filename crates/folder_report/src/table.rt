@@ -12,42 +12,67 @@ use csvw_meta::{MOST_FILE_BYTES, Schema};
 use std::str::from_utf8;
 use table_store::{LoadFault, NamedFile};
 
-/// Adds the refusals of the first rows of another width than the header, by the lines in which they begin and their fields.
-fn refuse_widths(report: &mut Report, url: &str, bytes: &[u8]) {
+/// A row of another width than the header.
+#[derive(Clone, Copy)]
+struct Uneven {
+    row: usize,
+    line: usize,
+    fields: usize,
+    wanted: usize,
+}
+
+/// Returns the line of a row of another width than the header.
+fn uneven_line(report: &mut Report, url: &str, uneven: Uneven) -> Line {
+    let table = report.owned(url);
+    let fault = TextFault::Width { row: uneven.row };
+    let mut told = report.begin(LoadFault::Text { table, fault });
+    told.push_with("line ", uneven.line);
+    told.push_with(": fields ", uneven.fields);
+    told.push_with("; accepted: ", uneven.wanted);
+    told.push(", as the header has");
+    told
+}
+
+/// Adds the refusals of the rows of another width than the header, by the lines in which they begin and their fields. They are the first ones,
+/// or, in brief, the first one and how many more there are.
+fn refuse_widths(report: &mut Report, url: &str, bytes: &[u8], is_brief: bool) {
     let mut records = Records {
         bytes,
         at: 0,
         line: 1,
     };
     let (_, wanted) = records.next_record();
+    let mut count: usize = 0;
     for row in 0..bytes.len() {
-        if records.at >= bytes.len() || report.is_full() {
+        if records.at >= bytes.len() || report.is_full() && !is_brief {
             break;
         }
         let (line, fields) = records.next_record();
-        if fields != wanted {
-            let table = report.owned(url);
-            let fault = TextFault::Width { row };
-            let mut told = report.begin(LoadFault::Text { table, fault });
-            told.push_with("line ", line);
-            told.push_with(": fields ", fields);
-            told.push_with("; accepted: ", wanted);
-            told.push(", as the header has");
-            if fields == wanted.saturating_add(1) {
-                told.push(
-                    "; where each row has one more, the header lacks its first name: sed '1s/^/Row,/' gives it one",
-                );
-            }
+        if fields == wanted {
+            continue;
+        }
+        count = count.saturating_add(1);
+        if count == 1 || !is_brief {
+            let uneven = Uneven {
+                row,
+                line,
+                fields,
+                wanted,
+            };
+            let told = uneven_line(report, url, uneven);
             report.put(told);
         }
+    }
+    if is_brief && count > 1 {
+        let mut told = Line::new(report.alloc);
+        told.push(url);
+        told.push_with(": more rows of another width: ", count.saturating_sub(1));
+        report.put(told);
     }
 }
 
 /// Adds the refusal of a file that is no table for that fault.
 fn refuse_text(report: &mut Report, url: &str, bytes: &[u8], fault: TextFault) {
-    if matches!(fault, TextFault::Width { .. }) {
-        return refuse_widths(report, url, bytes);
-    }
     let table = report.owned(url);
     let mut line = report.begin(LoadFault::Text { table, fault });
     let before = place_of(fault).min(bytes.len());
@@ -141,6 +166,7 @@ fn refuse_bytes(report: &mut Report, schema: &Schema, bytes: &[u8]) {
             };
             refuse_indexed(report, &file);
         }
+        Err(TextFault::Width { .. }) => refuse_widths(report, schema.url.as_str(), bytes, false),
         Err(fault) => refuse_text(report, schema.url.as_str(), bytes, fault),
     }
 }
@@ -162,10 +188,11 @@ fn refuse_missing(report: &mut Report, url: &str) {
     report.put(line);
 }
 
-/// Adds the refusal of a file: that it is no table for that fault, or else that it is above the limit.
+/// Adds the refusal of a file, in one line or two: that it is no table for that fault, or else that it is above the limit.
 pub fn refuse_file(report: &mut Report, file: &NamedFile, fault: Option<TextFault>) {
     let url = file.name.as_str();
     match fault {
+        Some(TextFault::Width { .. }) => refuse_widths(report, url, file.bytes.as_slice(), true),
         Some(fault) => refuse_text(report, url, file.bytes.as_slice(), fault),
         None => refuse_large(report, url),
     }

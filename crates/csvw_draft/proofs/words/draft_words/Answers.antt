@@ -9,6 +9,8 @@ pub returns-in-Some-clause-words : goal.returns-in-Some-clause-words
 returns-in-Some-clause-words c =
     let Has : Bool → Type 0 = λ b. HasFlag (one_of (codes "no-key") (rows_of (found_of c.args.matches.now))) b in record {
       folder_is = search rules;
-      write_is = c.flag.ensures;
-      keys_are = subst Has (sym (not-not c.flag-in-Some.result)) c.flag-in-Some.ensures;
+      write_is = c.flag-write.ensures;
+      keys_are = subst Has (sym (not-not c.flag-no_key.result)) c.flag-no_key.ensures;
+      skip_is = c.flag-skip.ensures;
+      add_is = c.flag-add.ensures;
     }
