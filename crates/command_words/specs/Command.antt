@@ -1,5 +1,5 @@
 -- The commands of the programs over folders, as `clap` describes commands.
-use Rattle.std.specs.Prelude.{◌≡◌, Bool, true, [], Some, Result, IfOk, codes, pos}
+use Rattle.std.specs.Prelude.{◌≡◌, Bool, false, true, [], Some, Result, IfOk, codes, pos}
 use Rattle.std.specs.declared.alloc.AllocError.{AllocError}
 use Rattle.clap.specs.Words.{App, Rule, Text, app_of, new_app, new_rule, with_rule}
 use Rattle.clap.specs.declared.builder.ValueParser.TheVariants as parser
@@ -9,6 +9,10 @@ use Rattle.clap.specs.declared.builder.command.Command.{Command}
 -- the same argument, whose value help calls by one name
 abbrev pub shown_rule : Rule → Rule
 shown_rule rule = record rule { value_names = 1 }
+
+-- the same argument, which may be left out
+abbrev pub optional_rule : Rule → Rule
+optional_rule rule = record rule { required = false }
 
 -- `[FOLDER]`, or `FOLDER` where it is needed
 abbrev pub folder_rule : Bool → Rule

@@ -2,7 +2,7 @@
 //! want of memory on. What help says of a command and of its arguments no clause says.
 ghost use Rattle.std.specs.Prelude.{◌≡◌, IfErr, IfOk, false, is_ok, true};
 ghost use Rattle.clap.specs.Words.{App, is_simple_and_free, rule_of, with_rule, with_subcommand};
-ghost use Rattle.command_words.specs.Command.{MakesCommand, flag_rule, folder_rule, number_rule, over_folder, program_named, shown_rule, text_rule};
+ghost use Rattle.command_words.specs.Command.{MakesCommand, flag_rule, folder_rule, number_rule, optional_rule, over_folder, program_named, shown_rule, text_rule};
 ghost use Rattle.command_words.specs.Fault.{IsReadingOf, IsRefusal};
 ghost use Rattle.command_words.specs.Words.{port_rule, texts};
 
@@ -54,16 +54,17 @@ pub fn add_folder<'a>(
     add(command, folder.required(needed).help(help))
 }
 
-/// The command with the option `--port P`.
+/// Adds the option `--port P` to `command`; it may be left out.
 pub fn add_port<'a>(
     alloc: Global,
     command: Result<Command<'a>, AllocError>,
     help: &'a str,
 ) -> Result<Command<'a>, AllocError>
     ensures app { (app : App) → MakesCommand command.entry app
-        → MakesCommand result (with_rule app (shown_rule port_rule)) }
+        → MakesCommand result (with_rule app (optional_rule (shown_rule port_rule))) }
 {
-    add(command, port_option(alloc).value_name("P").help(help))
+    let option = port_option(alloc).required(false);
+    add(command, option.value_name("P").help(help))
 }
 
 /// The command with one more option with a text, which help calls by a letter.

@@ -5,7 +5,7 @@ use Rattle.std.proofs.lemmas.Option.{slice_get-map}
 use Rattle.listen_sockets.specs.declared.peer.Peer.{Peer}
 use Rattle.listen_sockets.specs.declared.sockets.Wire.{Wire}
 use Rattle.listen_sockets.specs.Peer.{but_for_events}
-use Rattle.listen_sockets.specs.Sockets.{ChangesAt, ChangesPeer, KeepsSockets, KeepsStreams, is_ended_at, is_ended_wire, with_peer}
+use Rattle.listen_sockets.specs.Sockets.{ChangesAt, ChangesPeer, KeepsSockets, KeepsStreams, SocketsStay, is_ended_at, is_ended_wire, socket_at, wire_of, with_peer}
 
 -- ---- one place
 
@@ -80,6 +80,23 @@ keeps_streams old new k place =
     let said : (wires : List Wire) → is_ended_at (map (with_peer but_for_events) wires) place ≡ is_ended_at wires place =
     λ wires. ap is_ended_wire (slice_get-map (with_peer but_for_events) wires place) ∙ ended_said (slice_get wires place) in
     sym (said new) ∙ ap (λ wires. is_ended_at wires place) k ∙ said old
+
+socket_said : (o : Option Wire) → (wire_of (option_map (with_peer but_for_events) o)).socket ≡ (wire_of o).socket
+socket_said None = refl
+socket_said (Some wire) = socket_by wire.waits wire.losses wire.peer
+  where
+    socket_by : (waits losses : ℕ) (peer : Option Peer)
+        → (wire_of (Some (with_peer but_for_events (record { peer = peer; waits = waits; losses = losses })))).socket
+        ≡ (wire_of (Some (record { peer = peer; waits = waits; losses = losses }))).socket
+    socket_by waits losses None = refl
+    socket_by waits losses (Some peer) = refl
+
+-- and each place has the socket that it had
+pub sockets_stay : (old new : List Wire) → KeepsSockets old new → SocketsStay old new
+sockets_stay old new k place =
+    let said : (wires : List Wire) → socket_at (map (with_peer but_for_events) wires) place ≡ socket_at wires place =
+    λ wires. ap (λ o. (wire_of o).socket) (slice_get-map (with_peer but_for_events) wires place) ∙ socket_said (slice_get wires place) in
+    sym (said new) ∙ ap (λ wires. socket_at wires place) k ∙ said old
 
 -- ---- all places in order
 

@@ -1,9 +1,10 @@
--- What a round makes of places that a vector has, and which streams are ended there.
-use Rattle.std.proofs.Common.{◌≡◌, ◌<◌, ℕ, List, [], ◌∷◌, ◌++◌, length, take, drop, Option, Some, None, Ok, Err, refl, sym, ap, subst, ◌∙◌, inl, inr, arith, append-nil, length-append}
-use Rattle.std.specs.Prelude.{Bool, true, false, not, ◌==◌}
+-- What a visit makes of places that a vector has, and which streams are ended there.
+use Rattle.std.proofs.Common.{◌≡◌, ◌<◌, ◌≤◌, ℕ, List, [], ◌∷◌, ◌++◌, length, take, drop, Option, Some, None, Ok, Err, refl, sym, ap, subst, ◌∙◌, inl, inr, arith, append-nil, length-append}
+use Rattle.std.specs.Prelude.{Bool, true, false, not, ◌==◌, MatchOption}
 use Rattle.std.proofs.lemmas.Bool.Decides.{nat_tests}
 use Rattle.std.proofs.lemmas.Bool.{false≢true}
 use Rattle.std.proofs.lemmas.List.{take_all, drop_all}
+use Rattle.std.proofs.lemmas.Option.{slice_get_past}
 use Rattle.std.specs.Borrow.{Bor}
 use Rattle.odata_http.specs.Waiting.{IsFront}
 use Rattle.odata_hub.specs.declared.answers.HubFault.{HubFault}
@@ -13,7 +14,7 @@ use Rattle.odata_hub.specs.Hopeless.{TellsHopeless}
 use Rattle.odata_hub.specs.Stands.{LendsAt, TellsHopelessAt}
 use Rattle.odata_rounds.specs.declared.slot.Slot.{Slot}
 use Rattle.odata_rounds.specs.Peers.{WireOf}
-use Rattle.odata_rounds.specs.Rounds.{Rounds, sight}
+use Rattle.odata_rounds.specs.Sights.{ServesAt, SightOf, VisitsAt, sight}
 use Rattle.listen_sockets.specs.declared.sockets.Wire.{Wire}
 use Rattle.listen_sockets.specs.Peer.{after_end}
 use Rattle.listen_sockets.specs.Server.{IsEndIfHopeless, IsEndedIfHopeless, TellsHopelessOf, has_waiting}
@@ -24,15 +25,24 @@ taken_whole n new items a b =
     let none : drop (length new) items ≡ [] = drop_all (length new) items (omega (arith, a, b)) in
     ap (λ t. take n (new ++ t)) none ∙ ap (take n) (append-nil new) ∙ take_all n new (omega (arith, a))
 
--- what a round makes of the places is written back
-pub round_back : (n : ℕ) (items now new : List Slot) (a b : Hub) (w v : ℕ → WireOf) → now ≡ items → length now ≡ n → length new ≡ length now
-    → Rounds (length now) (sight a now w) (sight b new v)
-    → Rounds (length items) (sight a items w) (sight b (take n (new ++ drop (length new) items)) v)
-round_back n items now new a b w v same len kept r =
+visits_there : (place : ℕ) (a b : SightOf) → ServesAt place a b → VisitsAt place a b
+visits_there place a b s =
+    let P : Option Slot → Type 0 = λ o. MatchOption o (b ≡ a) (λ slot. ServesAt place a b) in subst P (sym s.slot_is) s
+
+-- what a visit makes of its place is written back
+pub visit_back : (n place : ℕ) (items now new : List Slot) (a b : Hub) (w v : ℕ → WireOf) → now ≡ items → length now ≡ n → length new ≡ length now
+    → ServesAt place (sight a now w) (sight b new v)
+    → VisitsAt place (sight a items w) (sight b (take n (new ++ drop (length new) items)) v)
+visit_back n place items now new a b w v same len kept r =
     let size : length items ≡ n = ap length (sym same) ∙ len in
-    let P : List Slot → Type 0 = λ x. Rounds (length x) (sight a x w) (sight b new v) in
-    let Q : List Slot → Type 0 = λ x. Rounds (length items) (sight a items w) (sight b x v) in
-    subst Q (sym (taken_whole n new items (kept ∙ len) size)) (subst P same r)
+    let P : List Slot → Type 0 = λ x. ServesAt place (sight a x w) (sight b new v) in
+    let Q : List Slot → Type 0 = λ x. ServesAt place (sight a items w) (sight b x v) in
+    visits_there place _ _ (subst Q (sym (taken_whole n new items (kept ∙ len) size)) (subst P same r))
+
+-- where there is no such place, nothing is done
+pub visits_nowhere : (place : ℕ) (a : SightOf) → length a.slots ≤ place → VisitsAt place a a
+visits_nowhere place a past =
+    let P : Option Slot → Type 0 = λ o. MatchOption o (a ≡ a) (λ slot. ServesAt place a a) in subst P (sym (slice_get_past a.slots place past)) refl
 
 -- ---- output that waits
 

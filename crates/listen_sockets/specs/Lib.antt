@@ -4,3 +4,4 @@ pub mod Slow
 pub mod Sockets
 pub mod Server
 pub mod Sights
+pub mod SlowValues

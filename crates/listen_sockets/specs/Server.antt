@@ -12,10 +12,11 @@ use Rattle.odata_rounds.specs.declared.slot.Slot.{Slot}
 use Rattle.odata_rounds.specs.Lives.{free_slot}
 use Rattle.listen_sockets.specs.declared.slow.Due.{Due}
 use Rattle.listen_sockets.specs.declared.slow.Limits.{Limits}
+use Rattle.listen_sockets.specs.declared.slow.Seen.{Seen}
 use Rattle.listen_sockets.specs.declared.sockets.Wire.{Wire}
 use Rattle.listen_sockets.specs.Slow.{due_where}
-use Rattle.listen_sockets.specs.Peer.{after_end}
-use Rattle.listen_sockets.specs.Sockets.{ChangesPeer, free_wire, is_ended_at, times_at}
+use Rattle.listen_sockets.specs.Peer.{after_end, after_visit}
+use Rattle.listen_sockets.specs.Sockets.{ChangesPeer, free_wire, is_awake_at, is_ended_at, times_at}
 
 -- so many places over some tables: the hub's are free, nothing became of any, and none has a socket
 pub record AreFree (catalog : CatalogOf) (places : ℕ) (hub : Hub) (slots : List Slot) (wires : List Wire) : Type 0 where
@@ -36,10 +37,18 @@ abbrev pub has_waiting : Option ConnOf → Bool
 has_waiting None = false
 has_waiting (Some c) = not (length c.output == 0)
 
+-- a visit that worked is noted of the socket at a place, by whether output of its connection waits
+abbrev pub NotesWork : ℕ → ℕ → Hub → List Wire → List Wire → Type 0
+NotesWork now place hub old new = (h : HubOf) → Models hub h → ChangesPeer place (after_visit now (has_waiting (conn_at h place))) old new
+
+-- what is known of a connection beside its times
+abbrev pub seen_at : Bool → Option ConnOf → List Wire → ℕ → Seen
+seen_at crowded conn wires place = record { crowded = crowded; awake = is_awake_at wires place; waits = has_waiting conn }
+
 -- this is due of the connection at a place
-abbrev pub IsDueAt : Limits → ℕ → ℕ → Hub → List Wire → Due → Type 0
-IsDueAt limits now place hub wires due =
-    (h : HubOf) → Models hub h → due ≡ due_where limits (has_waiting (conn_at h place)) now (times_at wires place)
+abbrev pub IsDueAt : Limits → Bool → ℕ → ℕ → Hub → List Wire → Due → Type 0
+IsDueAt limits crowded now place hub wires due =
+    (h : HubOf) → Models hub h → due ≡ due_where limits (seen_at crowded (conn_at h place) wires place) now (times_at wires place)
 
 -- whether the rest of the connection at a place can begin no head any more; where there is none, it is not told so
 abbrev pub TellsHopelessOf : Option ConnOf → Bool → Type 0

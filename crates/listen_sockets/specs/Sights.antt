@@ -1,5 +1,5 @@
 -- What rounds see of a server.
-use Rattle.odata_rounds.specs.Rounds.{SightOf, sight}
+use Rattle.odata_rounds.specs.Sights.{SightOf, sight}
 use Rattle.listen_sockets.specs.declared.server.Server.{Server}
 use Rattle.listen_sockets.specs.Sockets.{wire_at}
 

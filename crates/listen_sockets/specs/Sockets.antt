@@ -1,28 +1,47 @@
 -- What the system's sockets tell and count.
-use Rattle.std.specs.Prelude.{◌≡◌, ◌≢◌, ℕ, ◌-◌, ◌^◌, Bool, true, false, not, List, [], ◌∷◌, map, nat_lt, Option, None, Some, MatchOption, is_none, option_map, slice_get, slice_set}
+use Rattle.std.specs.Prelude.{◌≡◌, ◌≢◌, ℕ, ℤ, ◌-◌, ◌^◌, Bool, true, false, not, List, [], ◌∷◌, map, nat_lt, Option, None, Some, MatchOption, is_none, option_map, slice_get, slice_set}
 use Rattle.std.specs.List.{list_any}
 use Rattle.mio.specs.Event.{event_token}
+use Rattle.mio.specs.Net.{stream_fd}
 use Rattle.mio.specs.declared.event.event.Event.{Event}
 use Rattle.listen_sockets.specs.declared.peer.Peer.{Peer}
 use Rattle.listen_sockets.specs.declared.slow.Times.{Times}
 use Rattle.listen_sockets.specs.declared.sockets.Wire.{Wire}
 use Rattle.listen_sockets.specs.Peer.{after_event, but_for_events}
+use Rattle.listen_sockets.specs.Slow.{is_heavy}
 use Rattle.odata_rounds.specs.Peers.{WireOf}
 
--- a socket that tells no bytes, and counts
-abbrev pub untold : ℕ → ℕ → WireOf
-untold waits losses = record { left = None; taken = None; waits = waits; losses = losses }
+-- a place whose socket tells no bytes, and counts
+abbrev pub untold : Option ℤ → ℕ → ℕ → WireOf
+untold socket waits losses = record { socket = socket; left = None; taken = None; waits = waits; losses = losses }
+
+-- the descriptor of a socket, where there is one
+abbrev pub socket_of : Option Peer → Option ℤ
+socket_of None = None
+socket_of (Some peer) = Some (stream_fd peer.stream)
 
 abbrev pub untold_wire : Wire → WireOf
-untold_wire wire = untold wire.waits wire.losses
+untold_wire wire = untold (socket_of wire.peer) wire.waits wire.losses
 
--- where there is no place, the counts are full
+-- where there is no place, there is no socket, and the counts are full
 abbrev pub wire_of : Option Wire → WireOf
-wire_of None = untold (2 ^ 64 - 1) (2 ^ 64 - 1)
+wire_of None = untold None (2 ^ 64 - 1) (2 ^ 64 - 1)
 wire_of (Some wire) = untold_wire wire
 
 abbrev pub wire_at : List Wire → ℕ → WireOf
 wire_at wires place = wire_of (slice_get wires place)
+
+-- which socket is at a place
+abbrev pub socket_at : List Wire → ℕ → Option ℤ
+socket_at wires place = (wire_at wires place).socket
+
+-- each place has the socket that it had
+abbrev pub SocketsStay : List Wire → List Wire → Type 0
+SocketsStay old new = (place : ℕ) → socket_at new place ≡ socket_at old place
+
+-- and each but one
+abbrev pub OthersStay : ℕ → List Wire → List Wire → Type 0
+OthersStay place old new = (other : ℕ) → other ≢ place → socket_at new other ≡ socket_at old other
 
 -- a place with no socket, at which nothing was counted
 abbrev pub free_wire : Wire
@@ -95,6 +114,14 @@ wire_times (Some wire) = peer_times wire.peer
 abbrev pub times_at : List Wire → ℕ → Option Times
 times_at wires place = wire_times (slice_get wires place)
 
+-- whether the service worked so long for the connection at a place that others go before it
+abbrev pub is_heavy_where : Option Times → Bool
+is_heavy_where None = false
+is_heavy_where (Some times) = is_heavy times
+
+abbrev pub is_heavy_at : List Wire → ℕ → Bool
+is_heavy_at wires place = is_heavy_where (times_at wires place)
+
 -- whether the system said that the connection at a place is lost
 abbrev pub is_lost_peer : Option Peer → Bool
 is_lost_peer None = false
@@ -106,6 +133,18 @@ is_lost_wire (Some wire) = is_lost_peer wire.peer
 
 abbrev pub is_lost_at : List Wire → ℕ → Bool
 is_lost_at wires place = is_lost_wire (slice_get wires place)
+
+-- whether something was said or done at a place since its socket last had to wait
+abbrev pub is_awake_peer : Option Peer → Bool
+is_awake_peer None = false
+is_awake_peer (Some peer) = peer.awake
+
+abbrev pub is_awake_wire : Option Wire → Bool
+is_awake_wire None = false
+is_awake_wire (Some wire) = is_awake_peer wire.peer
+
+abbrev pub is_awake_at : List Wire → ℕ → Bool
+is_awake_at wires place = is_awake_wire (slice_get wires place)
 
 -- whether no more is read of the stream at a place: it ended, or is ended here, or there is no socket
 abbrev pub is_ended_peer : Option Peer → Bool

@@ -2,7 +2,9 @@
 //! are held open for a while once their connections are over.
 #![tactic(auto)]
 
+pub mod laws;
 mod lingering;
+mod noted;
 mod peer;
 mod poller;
 mod rounds;
@@ -15,5 +17,5 @@ pub use lingering::{Lingering, LingeringPeer};
 pub use peer::Peer;
 pub use poller::Poller;
 pub use server::Server;
-pub use slow::{Due, Limits, Times};
+pub use slow::{Due, Limits, Seen, Taking, Times};
 pub use sockets::{Sockets, Wire};

@@ -1,5 +1,5 @@
 //! One socket, over `mio`.
-ghost use Rattle.std.specs.Prelude.{◌≡◌, length};
+ghost use Rattle.std.specs.Prelude.{◌≡◌, Some, length};
 ghost use Rattle.std.specs.Io.{ReadsAtMost, WritesAtMost};
 ghost use Rattle.odata_http.specs.Device.{TakesSome};
 
@@ -20,6 +20,8 @@ pub struct Peer {
     stream: TcpStream,
     readable: bool,
     writable: bool,
+    /// Something was said or done since a read or a write last had to wait.
+    pub awake: bool,
     /// The peer said that it sends no more: bytes may be left before its end.
     closing: bool,
     /// Its stream ended, or is ended here: no more is read of it.
@@ -28,13 +30,14 @@ pub struct Peer {
     pub lost: bool,
     /// Something was read since this was last asked.
     has_read: bool,
-    /// Something was written since this was last asked.
-    has_written: bool,
+    /// How many bytes were written since this was last asked.
+    written: u64,
     pub times: Times,
 }
 
 impl Peer {
-    ghost use Rattle.listen_sockets.specs.Peer.{after_end, after_event, after_visit, before_try, but_for_reads, but_for_writes, fresh_peer};
+    ghost use Rattle.listen_sockets.specs.Peer.{after_charge, after_end, after_event, after_visit, before_try, but_for_reads, but_for_writes, fresh_peer};
+    ghost use Rattle.listen_sockets.specs.Sockets.{socket_of};
 
     /// A socket of which nothing is known yet.
     pub fn new(stream: TcpStream, now: u64) -> Peer
@@ -44,11 +47,12 @@ impl Peer {
             stream,
             readable: true,
             writable: true,
+            awake: true,
             closing: false,
             ended: false,
             lost: false,
             has_read: false,
-            has_written: false,
+            written: 0,
             times: Times::new(now),
         }
     }
@@ -77,6 +81,7 @@ impl Peer {
         let fails = event.is_error();
         self.readable |= event.is_readable() | fails;
         self.writable |= event.is_writable() | fails;
+        self.awake = true;
         self.closing |= event.is_read_closed() | fails;
         self.lost |= fails;
     }
@@ -86,6 +91,7 @@ impl Peer {
     pub fn try_write(&mut self)
         ensures { self.new ≡ before_try self.old }
     {
+        self.awake |= !self.writable;
         self.writable = true;
     }
 
@@ -94,22 +100,30 @@ impl Peer {
         ensures { self.new ≡ after_end now self.old }
     {
         self.ended = true;
+        self.awake = true;
         self.times.turned(now);
     }
 
-    /// Notes what a visit that worked did, by the clock.
-    pub fn note_work(&mut self, now: u64)
-        ensures { self.new ≡ after_visit now self.old }
+    /// Notes what a visit that worked did, by the clock, and whether output waits after it.
+    pub fn note_work(&mut self, now: u64, waits: bool)
+        ensures { self.new ≡ after_visit now waits self.old }
     {
         if self.has_read {
             self.times.read(now);
-        } else if self.has_written {
-            self.times.wrote(now);
+        } else if self.written > 0 {
+            self.times.wrote(now, self.written, waits);
         } else {
             self.times.turned(now);
         }
         self.has_read = false;
-        self.has_written = false;
+        self.written = 0;
+    }
+
+    /// Notes the microseconds that the service worked for it.
+    pub fn charge(&mut self, micros: u64)
+        ensures { self.new ≡ after_charge micros self.old }
+    {
+        self.times.charge(micros);
     }
 
     /// Drops what came and was not read. Whether the peer may still send.
@@ -141,18 +155,21 @@ impl Peer {
         ensures bound { WritesAtMost result bytes.now }
         ensures some { TakesSome bytes.now result }
         ensures peer { but_for_writes self.new ≡ but_for_writes self.old }
+        ensures socket { socket_of (Some self.new) ≡ socket_of (Some self.old) }
     {
         if !self.writable {
+            self.awake = false;
             return Err(PeerFault::Waits);
         }
         match self.stream.write(bytes) {
             Ok(0) if !bytes.is_empty() => Err(PeerFault::Lost),
             Ok(count) => {
-                self.has_written = true;
+                self.written = self.written.saturating_add(count as u64);
                 Ok(count)
             }
             Err(error) => {
                 self.writable = error.kind() == ErrorKind::Interrupted;
+                self.awake = self.writable;
                 Err(fault_of(error.kind()))
             }
         }
@@ -162,11 +179,13 @@ impl Peer {
     pub fn read(&mut self, buf: &mut [u8]) -> Result<usize, PeerFault>
         ensures bound { ReadsAtMost result buf.new }
         ensures peer { but_for_reads self.new ≡ but_for_reads self.old }
+        ensures socket { socket_of (Some self.new) ≡ socket_of (Some self.old) }
     {
         if self.ended {
             return Ok(0);
         }
         if !self.readable {
+            self.awake = false;
             return Err(PeerFault::Waits);
         }
         match self.stream.read(buf) {
@@ -178,6 +197,7 @@ impl Peer {
             }
             Err(error) => {
                 self.readable = error.kind() == ErrorKind::Interrupted;
+                self.awake = self.readable;
                 Err(fault_of(error.kind()))
             }
         }

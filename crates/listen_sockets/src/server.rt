@@ -4,11 +4,11 @@ ghost use Rattle.odata_rounds.specs.Lives.{free_slot};
 
 use crate::lingering::Lingering;
 use crate::peer::Peer;
-use crate::slow::{Due, Limits};
+use crate::slow::{Due, Limits, Seen};
 use crate::sockets::Sockets;
 use mio::Poll;
 use odata_hub::{Conn, Hub, HubFault};
-use odata_rounds::{Slot, SlotState, has_worked, round};
+use odata_rounds::{Slot, SlotState, visit_place};
 use std::alloc::{AllocError, Global};
 use std::rc::Rc;
 use table_store::Catalog;
@@ -47,14 +47,13 @@ pub struct Server {
 
 impl Server {
     ghost use Rattle.std.specs.Prelude.{IfOk, None, OnErr, replicate};
-    ghost use Rattle.std.specs.List.{list_any};
-    ghost use Rattle.odata_rounds.specs.Rounds.{Rounds, is_working, sight};
+    ghost use Rattle.odata_rounds.specs.Sights.{VisitsAt, sight};
     ghost use Rattle.odata_hub.specs.Connections.{Done, Opened, call_answer};
     ghost use Rattle.odata_hub.specs.Schedules.{Drop, HubOf, Open, conn_at};
     ghost use Rattle.odata_hub.specs.Stands.{IsHubStep, Models};
     ghost use Rattle.listen_sockets.specs.Lingering.{MayHold, TendsAt};
-    ghost use Rattle.listen_sockets.specs.Server.{AreFree, EndsHopeless, EndsIfHopeless, IsDueAt, TellsHopelessOf, has_waiting, state_at};
-    ghost use Rattle.listen_sockets.specs.Sockets.{EndsStream, IsPut, TakesPeer, peer_at, wire_at};
+    ghost use Rattle.listen_sockets.specs.Server.{AreFree, EndsHopeless, EndsIfHopeless, IsDueAt, NotesWork, TellsHopelessOf, has_waiting, state_at};
+    ghost use Rattle.listen_sockets.specs.Sockets.{EndsStream, IsPut, KeepsStreams, OthersStay, SocketsStay, TakesPeer, peer_at, wire_at};
 
     /// So many places, all of them free, over these tables.
     pub fn new(alloc: Global, catalog: Rc<Catalog>, places: u32) -> Result<Server, AllocError>
@@ -79,21 +78,22 @@ impl Server {
         })
     }
 
-    /// One round, and whether something was done in it.
-    pub fn round(&mut self) -> bool
-        ensures rounds { Rounds (length self.old.slots.items)
+    /// Visits `place` once, and notes what became of it. Does nothing if there is no such place.
+    pub fn visit(&mut self, place: u32)
+        ensures visit { VisitsAt place
             (sight self.old.hub self.old.slots.items (wire_at self.old.sockets.wires.items))
             (sight self.new.hub self.new.slots.items (wire_at self.new.sockets.wires.items)) }
-        ensures worked { result ≡ list_any is_working self.new.slots.items }
         ensures lingering { self.new.lingering ≡ self.old.lingering }
     {
-        round(
-            &mut self.hub,
-            &mut self.slots,
-            &mut self.sockets,
-            &mut self.room,
-        );
-        has_worked(&self.slots)
+        if place < self.places() {
+            visit_place(
+                &mut self.hub,
+                &mut self.slots,
+                &mut self.sockets,
+                place,
+                &mut self.room,
+            );
+        }
     }
 
     /// Opens a connection at the least free place, and answers which; none where there is no free place.
@@ -106,6 +106,8 @@ impl Server {
         ensures sockets { OnErr result (self.new.sockets ≡ self.old.sockets) }
         ensures peer { IfOk result (λ conn.
             IsPut conn.0 peer self.old.sockets.wires.items self.new.sockets.wires.items) }
+        ensures others { IfOk result (λ conn.
+            OthersStay conn.0 self.old.sockets.wires.items self.new.sockets.wires.items) }
         ensures lingering { self.new.lingering ≡ self.old.lingering }
     {
         let conn = self.hub.open()?;
@@ -122,6 +124,8 @@ impl Server {
         ensures sockets { TakesPeer place
             self.old.sockets.wires.items self.new.sockets.wires.items }
         ensures streams { EndsStream place
+            self.old.sockets.wires.items self.new.sockets.wires.items }
+        ensures others { OthersStay place
             self.old.sockets.wires.items self.new.sockets.wires.items }
         ensures lingering { self.new.lingering ≡ self.old.lingering }
     {
@@ -154,6 +158,8 @@ impl Server {
             self.old.sockets.wires.items self.new.sockets.wires.items }
         ensures streams { EndsStream place
             self.old.sockets.wires.items self.new.sockets.wires.items }
+        ensures others { OthersStay place
+            self.old.sockets.wires.items self.new.sockets.wires.items }
         ensures lingering { MayHold (peer_at self.old.sockets.wires.items place)
             self.old.lingering.held.items self.new.lingering.held.items }
     {
@@ -181,7 +187,7 @@ impl Server {
         self.slots.len() as u32
     }
 
-    /// What became of a place in the last round.
+    /// What became of a place at its last visit.
     pub fn state(&self, place: u32) -> SlotState
         ensures { result ≡ state_at self.now.slots.items place }
     {
@@ -220,6 +226,8 @@ impl Server {
             self.old.sockets.wires.items self.new.sockets.wires.items }
         ensures ends { EndsHopeless place self.old.hub
             self.old.sockets.wires.items self.new.sockets.wires.items }
+        ensures stay { SocketsStay
+            self.old.sockets.wires.items self.new.sockets.wires.items }
         ensures lingering { self.new.lingering ≡ self.old.lingering }
     {
         if self.is_hopeless(place) {
@@ -227,12 +235,36 @@ impl Server {
         }
     }
 
-    /// What is due of the connection at a place.
-    pub fn due(&self, place: u32, limits: &Limits, now: u64) -> Due
-        ensures { IsDueAt limits.now now place self.now.hub self.now.sockets.wires.items result }
+    /// Notes what a visit that worked did at `place`.
+    pub fn note_work(&mut self, place: u32, now: u64)
+        ensures hub { self.new.hub ≡ self.old.hub }
+        ensures slots { self.new.slots.items ≡ self.old.slots.items }
+        ensures sockets { NotesWork now place self.old.hub
+            self.old.sockets.wires.items self.new.sockets.wires.items }
+        ensures streams { KeepsStreams
+            self.old.sockets.wires.items self.new.sockets.wires.items }
+        ensures stay { SocketsStay
+            self.old.sockets.wires.items self.new.sockets.wires.items }
+        ensures lingering { self.new.lingering ≡ self.old.lingering }
+    {
+        let waits = self.has_waiting(place);
+        self.sockets.note_work(place, now, waits);
+    }
+
+    /// Returns what is due of the connection at `place`, by whether another waits for a place.
+    pub fn due(&self, place: u32, limits: &Limits, now: u64, crowded: bool) -> Due
+        ensures { IsDueAt limits.now crowded now place
+            self.now.hub self.now.sockets.wires.items result }
     {
         match self.sockets.times(place) {
-            Some(times) => times.due(limits, self.has_waiting(place), now),
+            Some(times) => {
+                let seen = Seen {
+                    crowded,
+                    awake: self.sockets.is_awake(place),
+                    waits: self.has_waiting(place),
+                };
+                times.due(limits, seen, now)
+            }
             None => Due::Nothing,
         }
     }

@@ -21,8 +21,8 @@ pub struct Wire {
 impl Wire {
     ghost use Rattle.std.specs.Prelude.{is_some, option_map};
     ghost use Rattle.odata_rounds.specs.Peers.{CountsFault, IsRead, IsWrite};
-    ghost use Rattle.listen_sockets.specs.Peer.{after_end, after_event, after_visit, before_try, but_for_reads, but_for_writes};
-    ghost use Rattle.listen_sockets.specs.Sockets.{is_ended_peer, is_lost_peer, peer_times, untold_wire, with_peer};
+    ghost use Rattle.listen_sockets.specs.Peer.{after_charge, after_end, after_event, after_visit, before_try, but_for_reads, but_for_writes};
+    ghost use Rattle.listen_sockets.specs.Sockets.{is_awake_peer, is_ended_peer, is_lost_peer, peer_times, socket_of, untold_wire, with_peer};
 
     /// Counts what a socket answered.
     fn count(&mut self, answer: Result<usize, PeerFault>)
@@ -64,11 +64,21 @@ impl Wire {
     }
 
     /// Whether the system said that the connection is lost.
-    fn is_lost(&self) -> bool
+    pub(crate) fn is_lost(&self) -> bool
         ensures { result ≡ is_lost_peer self.now.peer }
     {
         match &self.peer {
             Some(peer) => peer.lost,
+            None => false,
+        }
+    }
+
+    /// Returns whether something was said or done since the socket last had to wait.
+    pub(crate) fn is_awake(&self) -> bool
+        ensures { result ≡ is_awake_peer self.now.peer }
+    {
+        match &self.peer {
+            Some(peer) => peer.awake,
             None => false,
         }
     }
@@ -87,6 +97,7 @@ impl Wire {
     /// Sets what the system says of the socket now.
     pub(crate) fn mark(&mut self, event: &Event)
         ensures peer { self.new ≡ with_peer (after_event event.now) self.old }
+        ensures socket { socket_of self.new.peer ≡ socket_of self.old.peer }
         ensures stream { is_ended_peer self.new.peer ≡ is_ended_peer self.old.peer }
     {
         if let Some(peer) = &mut self.peer {
@@ -97,6 +108,7 @@ impl Wire {
     /// Has the next write to the socket tried.
     pub(crate) fn try_write(&mut self)
         ensures peer { self.new ≡ with_peer before_try self.old }
+        ensures socket { socket_of self.new.peer ≡ socket_of self.old.peer }
         ensures stream { is_ended_peer self.new.peer ≡ is_ended_peer self.old.peer }
     {
         if let Some(peer) = &mut self.peer {
@@ -105,18 +117,31 @@ impl Wire {
     }
 
     /// Notes what a visit that worked did.
-    fn note_work(&mut self, now: u64)
-        ensures peer { self.new ≡ with_peer (after_visit now) self.old }
+    pub(crate) fn note_work(&mut self, now: u64, waits: bool)
+        ensures peer { self.new ≡ with_peer (after_visit now waits) self.old }
+        ensures socket { socket_of self.new.peer ≡ socket_of self.old.peer }
         ensures stream { is_ended_peer self.new.peer ≡ is_ended_peer self.old.peer }
     {
         if let Some(peer) = &mut self.peer {
-            peer.note_work(now);
+            peer.note_work(now, waits);
+        }
+    }
+
+    /// Notes the microseconds that the service worked for the socket.
+    pub(crate) fn charge(&mut self, micros: u64)
+        ensures peer { self.new ≡ with_peer (after_charge micros) self.old }
+        ensures socket { socket_of self.new.peer ≡ socket_of self.old.peer }
+        ensures stream { is_ended_peer self.new.peer ≡ is_ended_peer self.old.peer }
+    {
+        if let Some(peer) = &mut self.peer {
+            peer.charge(micros);
         }
     }
 
     /// No more is read of its stream.
-    fn end(&mut self, now: u64)
+    pub(crate) fn end(&mut self, now: u64)
         ensures peer { self.new ≡ with_peer (after_end now) self.old }
+        ensures socket { socket_of self.new.peer ≡ socket_of self.old.peer }
         ensures stream { is_ended_peer self.new.peer ≡ true }
     {
         if let Some(peer) = &mut self.peer {
@@ -125,7 +150,7 @@ impl Wire {
     }
 
     /// The times of the socket, where there is one.
-    fn times(&self) -> Option<Times>
+    pub(crate) fn times(&self) -> Option<Times>
         ensures { result ≡ peer_times self.now.peer }
     {
         match &self.peer {
@@ -164,10 +189,9 @@ pub struct Sockets {
 }
 
 impl Sockets {
-    ghost use Rattle.std.specs.List.{list_any};
+    ghost use Rattle.std.specs.List.{list_all, list_any};
     ghost use Rattle.std.specs.Prelude.{IfOk, IfSome, Some, replicate};
-    ghost use Rattle.listen_sockets.specs.Peer.{after_end, after_visit};
-    ghost use Rattle.listen_sockets.specs.Sockets.{ChangesPeer, EndsStream, IsPut, KeepsStreams, TakesPeer, free_wire, has_no_peer, is_lost_at, peer_at, times_at};
+    ghost use Rattle.listen_sockets.specs.Sockets.{EndsStream, IsPut, OthersStay, TakesPeer, free_wire, has_no_peer, peer_at};
 
     /// So many places, at none of which is a socket.
     pub fn new(alloc: Global, places: u32) -> Result<Sockets, AllocError>
@@ -186,7 +210,8 @@ impl Sockets {
 
     /// Puts a socket at a place.
     pub fn put(&mut self, place: u32, peer: Peer)
-        ensures { IsPut place peer self.old.wires.items self.new.wires.items }
+        ensures put { IsPut place peer self.old.wires.items self.new.wires.items }
+        ensures others { OthersStay place self.old.wires.items self.new.wires.items }
     {
         let place = place as usize;
         if place < self.wires.len() {
@@ -199,6 +224,7 @@ impl Sockets {
         ensures peer { result ≡ peer_at self.old.wires.items place }
         ensures sockets { TakesPeer place self.old.wires.items self.new.wires.items }
         ensures streams { EndsStream place self.old.wires.items self.new.wires.items }
+        ensures others { OthersStay place self.old.wires.items self.new.wires.items }
     {
         let place = place as usize;
         if place >= self.wires.len() {
@@ -213,6 +239,7 @@ impl Sockets {
         ensures peer { IfSome result (λ peer. peer_at self.old.wires.items place ≡ Some peer) }
         ensures sockets { TakesPeer place self.old.wires.items self.new.wires.items }
         ensures streams { EndsStream place self.old.wires.items self.new.wires.items }
+        ensures others { OthersStay place self.old.wires.items self.new.wires.items }
     {
         let mut peer = self.take(place)?;
         if peer.close(room) {
@@ -228,49 +255,10 @@ impl Sockets {
         self.wires.iter().any(|wire| wire.peer.is_none())
     }
 
-    /// Whether the system said that the connection at a place is lost.
-    pub fn is_lost(&self, place: u32) -> bool
-        ensures { result ≡ is_lost_at self.now.wires.items place }
+    /// True if no place has a socket.
+    pub fn are_free(&self) -> bool
+        ensures { result ≡ list_all has_no_peer self.now.wires.items }
     {
-        match self.wires.get(place as usize) {
-            Some(wire) => wire.is_lost(),
-            None => false,
-        }
-    }
-
-    /// Notes what a visit that worked did at a place.
-    pub fn note_work(&mut self, place: u32, now: u64)
-        ensures sockets { ChangesPeer place (after_visit now)
-            self.old.wires.items self.new.wires.items }
-        ensures streams { KeepsStreams self.old.wires.items self.new.wires.items }
-    {
-        let place = place as usize;
-        if place >= self.wires.len() {
-            return;
-        }
-        self.wires[place].note_work(now);
-    }
-
-    /// Ends the stream of the socket at a place.
-    pub fn end_stream(&mut self, place: u32, now: u64)
-        ensures sockets { ChangesPeer place (after_end now)
-            self.old.wires.items self.new.wires.items }
-        ensures streams { EndsStream place self.old.wires.items self.new.wires.items }
-    {
-        let place = place as usize;
-        if place >= self.wires.len() {
-            return;
-        }
-        self.wires[place].end(now);
-    }
-
-    /// The times of the socket at a place.
-    pub fn times(&self, place: u32) -> Option<Times>
-        ensures { result ≡ times_at self.now.wires.items place }
-    {
-        match self.wires.get(place as usize) {
-            Some(wire) => wire.times(),
-            None => None,
-        }
+        self.wires.iter().all(|wire| wire.peer.is_none())
     }
 }

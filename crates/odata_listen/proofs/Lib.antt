@@ -1,4 +1,3 @@
 mod ReloadLemmas
 mod ServingLemmas
-mod StreamLemmas
-mod WordLemmas
+mod TurnLemmas

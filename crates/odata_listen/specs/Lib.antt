@@ -1,5 +1,5 @@
 pub mod Watch
 pub mod Serving
-pub mod Log
-pub mod Words
+pub mod Command
 pub mod Laws
+pub mod Turns

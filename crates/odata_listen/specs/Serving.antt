@@ -1,23 +1,26 @@
 -- What the service does with its places and sockets.
-use Rattle.std.specs.Prelude.{◌≡◌, ◌⊎◌, ℕ, Bool, true, false, List, Option, slice_set}
+use Rattle.std.specs.Prelude.{◌≡◌, ◌⊎◌, ℕ, List, Result, Ok, Err, slice_set}
 use Rattle.table_store.specs.Catalog.{CatalogOf}
 use Rattle.odata_hub.specs.declared.hub.Hub.{Hub}
-use Rattle.odata_hub.specs.Connections.{Answer, ConnOf, Done}
-use Rattle.odata_hub.specs.Schedules.{Drop, HubOf, Reload, conn_at}
-use Rattle.odata_hub.specs.Stands.{IsHubStep, Models}
+use Rattle.mio.specs.declared.net.stream.TcpStream.{TcpStream}
+use Rattle.odata_hub.specs.declared.answers.HubFault.{HubFault}
+use Rattle.odata_hub.specs.Connections.{Answer, Done, Opened, Refused}
+use Rattle.odata_hub.specs.Schedules.{Drop, Open, Reload}
+use Rattle.odata_hub.specs.Stands.{IsHubStep}
 use Rattle.odata_rounds.specs.declared.answers.SlotState.{SlotState}
 use Rattle.odata_rounds.specs.declared.answers.SlotState.TheVariants.{Free, Rests, Worked, Answered, Lost, Failed}
-use Rattle.odata_rounds.specs.declared.slot.Slot.{Slot}
 use Rattle.odata_rounds.specs.Lives.{AreSettled, Deed, Lives, free_slot}
+use Rattle.odata_listen.specs.declared.endings.Moment.{Moment}
+use Rattle.listen_sockets.specs.declared.peer.Peer.{Peer}
 use Rattle.listen_sockets.specs.declared.server.Server.{Server}
 use Rattle.listen_sockets.specs.declared.slow.Due.{Due}
 use Rattle.listen_sockets.specs.declared.slow.Due.TheVariants as due
 use Rattle.listen_sockets.specs.declared.slow.Limits.{Limits}
 use Rattle.listen_sockets.specs.declared.sockets.Wire.{Wire}
-use Rattle.listen_sockets.specs.Peer.{after_end, after_visit}
-use Rattle.listen_sockets.specs.Server.{EndsHopeless, EndsIfHopeless, IsDueAt, IsEndedIfHopeless, state_at}
+use Rattle.listen_sockets.specs.Peer.{after_end, fresh_peer}
+use Rattle.listen_sockets.specs.Server.{EndsHopeless, EndsIfHopeless, IsDueAt, NotesWork}
 use Rattle.listen_sockets.specs.Sights.{sight_of}
-use Rattle.listen_sockets.specs.Sockets.{ChangesPeer, EndsStream, TakesPeer, is_ended_at}
+use Rattle.listen_sockets.specs.Sockets.{ChangesPeer, EndsStream, IsPut, OthersStay, SocketsStay, TakesPeer}
 
 -- a life leads from the server as it was to the server as it is: what holds of each connection in every life holds there
 pub record RunsTo (old new : Server) : Type 0 where
@@ -29,13 +32,16 @@ pub record RunsOn (old new : Server) : Type 0 where
   pub runs : AreSettled old.slots.items → RunsTo old new
   pub settled : AreSettled old.slots.items → AreSettled new.slots.items
 
--- the hub, and what is kept of each place, are as they were
-abbrev pub IsKept : Server → Server → Type 0
-IsKept old new = (new.hub ≡ old.hub) × (new.slots.items ≡ old.slots.items)
+-- the hub, and what is kept of each place, are as they were, and each place has the socket that it had
+pub record IsKept (old new : Server) : Type 0 where
+  pub hub : new.hub ≡ old.hub
+  pub slots : new.slots.items ≡ old.slots.items
+  pub stay : SocketsStay old.sockets.wires.items new.sockets.wires.items
 
--- the same, and so are the sockets
+-- the hub, what is kept of each place, and the sockets are as they were
 pub record Stays (old new : Server) : Type 0 where
-  pub kept : IsKept old new
+  pub hub : new.hub ≡ old.hub
+  pub slots : new.slots.items ≡ old.slots.items
   pub sockets : new.sockets.wires.items ≡ old.sockets.wires.items
 
 -- the same, but that the stream at a place is ended; all other sockets are as they were
@@ -47,7 +53,7 @@ pub record Ends (now place : ℕ) (old new : Server) : Type 0 where
 -- they were
 pub record NotesVisit (now place : ℕ) (hub : Hub) (old new : List Wire) : Type 0 where
   pub mid : List Wire
-  pub visit : ChangesPeer place (after_visit now) old mid
+  pub visit : NotesWork now place hub old mid
   pub ends : EndsIfHopeless now place hub mid new
 
 -- the same, but that a visit is noted, and that the stream at a place is ended where its rest can begin no head any more, and there alone
@@ -63,6 +69,7 @@ pub record Frees (place : ℕ) (old new : Server) : Type 0 where
   pub slots : new.slots.items ≡ slice_set old.slots.items place free_slot
   pub sockets : TakesPeer place old.sockets.wires.items new.sockets.wires.items
   pub streams : EndsStream place old.sockets.wires.items new.sockets.wires.items
+  pub others : OthersStay place old.sockets.wires.items new.sockets.wires.items
 
 -- A place is given back where its connection is over, lost or failed, and there alone. Where something was done its stream is ended if its rest can
 -- begin no head any more, and no stream else.
@@ -74,50 +81,34 @@ Settles now Answered place old new = Frees place old new
 Settles now Lost place old new = Frees place old new
 Settles now Failed place old new = Frees place old new
 
--- The stream at a place, before and after, by what became of the place and its connection: none is read any more of a place that was given back.
-abbrev pub StreamAfter : SlotState → Option ConnOf → Bool → Bool → Type 0
-StreamAfter Free conn old new = new ≡ old
-StreamAfter Rests conn old new = new ≡ old
-StreamAfter Worked conn old new = IsEndedIfHopeless conn old new
-StreamAfter Answered conn old new = new ≡ true
-StreamAfter Lost conn old new = new ≡ true
-StreamAfter Failed conn old new = new ≡ true
-
--- so it is at each place
-abbrev pub SettlesStreams : Server → Server → Type 0
-SettlesStreams old new = (h : HubOf) → Models old.hub h → (place : ℕ)
-    → StreamAfter (state_at old.slots.items place) (conn_at h place) (is_ended_at old.sockets.wires.items place)
-    (is_ended_at new.sockets.wires.items place)
-
--- what is kept of a place after that
-abbrev pub settled_by : SlotState → Slot → Slot
-settled_by Free slot = slot
-settled_by Rests slot = slot
-settled_by Worked slot = slot
-settled_by Answered slot = free_slot
-settled_by Lost slot = free_slot
-settled_by Failed slot = free_slot
-
-abbrev pub settled : Slot → Slot
-settled slot = settled_by slot.state slot
-
--- a stream is ended where that is due, and a place is given back where its connection is to be dropped since its peer is slow; both there alone
+-- a stream is ended where that is due, and a place is given back where its connection is to be dropped, since its peer is slow or its query takes too long;
+-- both there alone
 abbrev pub EndsSlow : ℕ → Due → ℕ → Server → Server → Type 0
 EndsSlow now due.Nothing place old new = Stays old new
 EndsSlow now due.End place old new = Ends now place old new
 EndsSlow now due.Drop place old new = Frees place old new
+EndsSlow now due.TooLong place old new = Frees place old new
 
 -- what is due at a place is done there
-pub record DoesDue (limits : Limits) (now place : ℕ) (old new : Server) : Type 0 where
+pub record DoesDue (limits : Limits) (moment : Moment) (place : ℕ) (old new : Server) : Type 0 where
   pub due : Due
-  pub is : IsDueAt limits now place old.hub old.sockets.wires.items due
-  pub ends : EndsSlow now due place old new
-
--- a place is given back where the system said that its connection is lost, and there alone
-abbrev pub EndsLost : Bool → ℕ → Server → Server → Type 0
-EndsLost true place old new = Frees place old new
-EndsLost false place old new = Stays old new
+  pub is : IsDueAt limits moment.crowded moment.second place old.hub old.sockets.wires.items due
+  pub ends : EndsSlow moment.second due place old new
 
 -- the hub has other tables from now on, or all is as it was
 abbrev pub MayReload : Hub → Hub → Type 0
 MayReload old new = (new ≡ old) ⊎ ((catalog : CatalogOf) × IsHubStep old (Reload catalog) Done new)
+
+-- A connection was opened at a place for a socket, which was put there; or the hub opened none, and said why; or the place was given back at once, as the
+-- system does not report the socket.
+pub data TakesPeerIn (peer : Peer) (old new : Server) : Type 0 where
+  opens : (place : ℕ) → IsHubStep old.hub Open (Opened place) new.hub → IsPut place peer old.sockets.wires.items new.sockets.wires.items
+      → TakesPeerIn peer old new
+  refuses : (fault : HubFault) → IsHubStep old.hub Open (Refused fault) new.hub → TakesPeerIn peer old new
+  gives_back : (place : ℕ) (mid : Hub) (answer : Answer) → IsHubStep old.hub Open (Opened place) mid → IsHubStep mid (Drop place) answer new.hub
+      → TakesPeerIn peer old new
+
+-- a connection that was accepted is taken in; where none was, nothing is done
+abbrev pub TakesAccepted : {E : Type 0} → ℕ → Result TcpStream E → Server → Server → Type 0
+TakesAccepted now (Ok stream) old new = TakesPeerIn (fresh_peer stream now) old new
+TakesAccepted now (Err error) old new = Stays old new

@@ -1,5 +1,5 @@
 -- When a folder is loaded anew, and what is done with what was loaded.
-use Rattle.std.specs.Prelude.{◌≡◌, ◌≢◌, ⊤, ℕ, Bool, true, false, not, List, is_none, Result, Ok, Err}
+use Rattle.std.specs.Prelude.{◌≡◌, ◌≢◌, ◌*◌, ⊤, ℕ, zero, suc, length, min, Bool, true, false, not, List, is_none, Result, Ok, Err}
 use Rattle.table_store.specs.Catalog.{CatalogOf}
 use Rattle.odata_hub.specs.declared.hub.Hub.{Hub}
 use Rattle.odata_hub.specs.Connections.{Done}
@@ -9,6 +9,8 @@ use Rattle.served_folders.specs.declared.folders.FolderFault.{FolderFault}
 use Rattle.program_ends.specs.declared.fault.ProgramFault.{ProgramFault}
 use Rattle.program_ends.specs.declared.fault.ProgramFault.TheVariants.{Folder, NoMemory}
 use Rattle.served_folders.specs.Folders.{folder_cause}
+use Rattle.service_log.specs.declared.log.Loaded.{Loaded}
+use Rattle.odata_listen.specs.declared.watch.TheConstants.{MOST_PAUSE}
 use Rattle.odata_listen.specs.declared.watch.Look.{Look}
 use Rattle.odata_listen.specs.declared.watch.Look.TheVariants.{Same, Moves, Changed}
 
@@ -17,6 +19,16 @@ abbrev pub Looks : List ℕ → List ℕ → List ℕ → Look → Type 0
 Looks taken seen found Same = found ≡ taken
 Looks taken seen found Changed = (found ≢ taken) × (found ≡ seen)
 Looks taken seen found Moves = (found ≢ taken) × (found ≢ seen)
+
+-- the pause after a pause: none, a second, and then twice as long each time, up to a minute
+abbrev pub next_pause : ℕ → ℕ
+next_pause zero = 1
+next_pause (suc n) = min (2 * suc n) MOST_PAUSE
+
+-- how many tables were loaded, and in how long; none where the folder was refused
+abbrev pub IsSize : Result CatalogOf FolderFault → ℕ → Loaded → Type 0
+IsSize (Ok catalog) millis loaded = (loaded.tables ≡ length catalog.tables) × (loaded.millis ≡ millis)
+IsSize (Err fault) millis loaded = (loaded.tables ≡ 0) × (loaded.rows ≡ 0) × (loaded.millis ≡ millis)
 
 -- The hub has the tables that were loaded from now on. Where none were, or memory ran out, it is as it was.
 abbrev pub HandsOver : Result CatalogOf FolderFault → Hub → Hub → Result ⊤ ProgramFault → Type 0

@@ -1,46 +1,30 @@
-//! What the words of the command line ask for, done. Each end has the exit status and the text that `program_ends` has for it, and a line of its own where that has none.
-ghost use Rattle.std.specs.Prelude.{◌≡◌};
+//! What the words of the command line ask for, done. Each end has the exit status that `program_ends` has for it, and each status but 0 a line on standard error.
+ghost use Rattle.std.specs.Prelude.{◌≡◌, ◌≢◌, ◌==◌, ◌-◌, ◌^◌, if◌then◌else◌};
+ghost use Rattle.std.specs.IoError.{error_kind};
+ghost use Rattle.command_words.specs.Words.{texts};
 ghost use Rattle.program_ends.specs.Status.{IsFaultStatus};
+ghost use Rattle.odata_listen.specs.Command.{IsLineStatus, IsServedStatus, IsStartStatus};
 
+use crate::drain::Drain;
 use crate::folder::Folder;
-use crate::log::Log;
 use crate::serving::{Service, serve};
-use crate::words::{MOST_PLACES, USAGE_LINE, Words, read_words};
 use command_words::{WordsFault, line_of, system_words};
 use listen_sockets::{Limits, Server};
-use mio::net::TcpListener;
+use listen_words::{
+    Listens, MOST_PLACES, Obstacle, USAGE_LINE, Words, listens_of, read_words, unserved_line,
+};
 use program_ends::{DEVICE, DONE, MEMORY, ProgramFault, USAGE, error_status, report};
-use served_folders::{Disk, Folders};
+use served_folders::FolderFault;
+use service_log::Log;
+use socket_listener::Listener;
 use std::io::{self, ErrorKind};
-use std::net::{IpAddr, Net, SocketAddr};
+use std::net::{Net, SocketAddr};
 use std::rc::Rc;
 use std::rt::{Clock, Env, Files};
 use table_store::Catalog;
 
-/// Tells where it listens, and serves.
-fn listen(
-    rt: &HostRuntime,
-    words: &Words<'_>,
-    address: IpAddr,
-    folder: Folder<'_>,
-    catalog: Catalog,
-) -> io::Result<()> {
-    let tables = Rc::new(rt.alloc(), catalog)?;
-    let mut server = Server::new(rt.alloc(), tables, words.places)?;
-    let listener = TcpListener::bind(rt, SocketAddr::new(address, words.port))?;
-    let bound = listener.local_addr()?;
-    rt.println(format!(in rt.alloc(); "listening {bound}")?)?;
-    let limits = Limits {
-        head: words.head_seconds,
-        idle: words.idle_seconds,
-    };
-    let mut service = Service {
-        folder,
-        limits,
-        log: Log::new(rt, words.log),
-    };
-    serve(rt, &mut server, listener, &mut service, u64::MAX)
-}
+/// What is said where memory ran out.
+const NO_MEMORY: &str = "not served: memory ran out";
 
 /// Says how the program is called.
 fn usage_status(rt: &HostRuntime) -> u8
@@ -50,37 +34,182 @@ fn usage_status(rt: &HostRuntime) -> u8
     USAGE
 }
 
-/// Says why a folder is not served.
-fn unserved(rt: &HostRuntime, fault: &ProgramFault) -> u8
-    ensures { IsFaultStatus fault.now result }
+/// Says that memory ran out.
+fn memory_status(rt: &HostRuntime) -> u8
+    ensures { result ≡ MEMORY }
 {
-    let status = report(rt, fault);
+    let _ = rt.eprintln(NO_MEMORY);
+    MEMORY
+}
+
+/// Says why a folder is not served.
+fn refused_status(rt: &HostRuntime, fault: FolderFault) -> u8
+    ensures status { IsFaultStatus (ProgramFault.Folder fault) result }
+    ensures other { result ≢ USAGE }
+{
+    let status = report(rt, &ProgramFault::Folder(fault));
     if status == DEVICE {
         let _ = rt.eprintln("not served: a file can't be read, or is no plain file");
     }
     if status == MEMORY {
-        let _ = rt.eprintln("not served: memory ran out");
+        let _ = rt.eprintln(NO_MEMORY);
     }
     status
 }
 
+/// Says that the service could not begin, or that it ended, for an error of the system.
+fn ended_status(rt: &HostRuntime, error: &io::Error) -> u8
+    ensures memory { error_kind error.now ≡ ErrorKind.OutOfMemory → result ≡ MEMORY }
+    ensures device { error_kind error.now ≢ ErrorKind.OutOfMemory → result ≡ DEVICE }
+    ensures other { result ≢ USAGE }
+{
+    match error.kind() {
+        ErrorKind::OutOfMemory => memory_status(rt),
+        _ => {
+            let _ = rt.eprintln("not served: a call of the system failed");
+            DEVICE
+        }
+    }
+}
+
+/// Says that a place to listen at could not be taken.
+fn unbound_status(rt: &HostRuntime, at: &Listens<'_>, error: &io::Error) -> u8
+    ensures memory { error_kind error.now ≡ ErrorKind.OutOfMemory → result ≡ MEMORY }
+    ensures device { error_kind error.now ≢ ErrorKind.OutOfMemory → result ≡ DEVICE }
+    ensures other { result ≢ USAGE }
+{
+    let kind = error.kind();
+    if kind == ErrorKind::OutOfMemory {
+        return memory_status(rt);
+    }
+    if let Ok(line) = unserved_line(rt.alloc(), at, Obstacle::of(kind)) {
+        let _ = rt.eprintln(line);
+    }
+    DEVICE
+}
+
+/// Takes a place to listen at.
+fn bind(rt: &HostRuntime, at: &Listens<'_>) -> io::Result<Listener> {
+    match at {
+        Listens::Port { address, port, .. } => {
+            Listener::at_port(rt, SocketAddr::new(*address, *port))
+        }
+        Listens::Unix { path } => Listener::at_path(rt, path),
+        Listens::Stdin => Listener::of_input(rt),
+    }
+}
+
+/// Says where it listens: the path, or the address and port that the system tells.
+fn say_listening(rt: &HostRuntime, words: &Words<'_>, listener: &Listener) -> io::Result<()> {
+    if let Some(path) = words.unix {
+        return rt.println(format!(in rt.alloc(); "listening {path}")?);
+    }
+    let address = listener.address()?;
+    rt.println(format!(in rt.alloc(); "listening {address}")?)
+}
+
+/// Returns the most seconds of a reply: 0 on the command line is no limit.
+fn most_seconds(seconds: u32) -> u32
+    ensures { result ≡ (if seconds == 0 then 2 ^ 32 - 1 else seconds) }
+{
+    if seconds == 0 { u32::MAX } else { seconds }
+}
+
+/// Says where it listens, and serves.
+fn listen(
+    rt: &HostRuntime,
+    words: &Words<'_>,
+    listener: Listener,
+    folder: Folder<'_>,
+    catalog: Catalog,
+) -> io::Result<()> {
+    let tables = Rc::new(rt.alloc(), catalog)?;
+    let mut server = Server::new(rt.alloc(), tables, words.places)?;
+    say_listening(rt, words, &listener)?;
+    let limits = Limits {
+        head: words.head_seconds,
+        idle: words.idle_seconds,
+        query: words.query_seconds,
+        reply: most_seconds(words.reply_seconds),
+    };
+    let mut service = Service {
+        folder,
+        limits,
+        log: Log::new(rt, words.log),
+        drain: Drain::new(words.drain_file),
+    };
+    let ended = serve(rt, &mut server, listener, &mut service, u64::MAX);
+    service.log.flush();
+    ended
+}
+
+/// Serves the tables of a folder at a place.
+fn tables_status(
+    rt: &HostRuntime,
+    words: &Words<'_>,
+    at: &Listens<'_>,
+    folder: Folder<'_>,
+    catalog: Catalog,
+) -> u8
+    ensures { result ≢ USAGE }
+{
+    match bind(rt, at) {
+        Ok(listener) => match listen(rt, words, listener, folder, catalog) {
+            Ok(()) => DONE,
+            Err(error) => ended_status(rt, &error),
+        },
+        Err(error) => unbound_status(rt, at, &error),
+    }
+}
+
+/// Serves what a folder came to at the start, or says why it does not: `None` is a folder that changed under each load.
+fn start_status(
+    rt: &HostRuntime,
+    words: &Words<'_>,
+    at: &Listens<'_>,
+    folder: Folder<'_>,
+    loaded: Option<Result<Catalog, FolderFault>>,
+) -> u8
+    ensures status { IsStartStatus loaded result }
+    ensures other { result ≢ USAGE }
+{
+    match loaded {
+        Some(Ok(catalog)) => tables_status(rt, words, at, folder, catalog),
+        Some(Err(fault)) => refused_status(rt, fault),
+        None => {
+            let _ = rt.eprintln("not served: the folder changes while it is read");
+            DEVICE
+        }
+    }
+}
+
 /// Serves a folder.
-fn serve_folder(rt: &HostRuntime, words: &Words<'_>) -> u8 {
-    let Ok(address) = words.address.parse::<IpAddr>() else {
+fn serve_folder(rt: &HostRuntime, words: &Words<'_>) -> u8
+    ensures { IsServedStatus words.now result }
+{
+    let Some(at) = listens_of(words) else {
         return usage_status(rt);
     };
     if words.places == 0 || words.places > MOST_PLACES {
         return usage_status(rt);
     }
-    let follows = !words.plain_files;
-    let folder = Folder::new(rt, words.folder, follows);
-    let mut disk = Disk::new(rt).follow_links(follows);
-    match disk.load(rt.alloc(), words.folder) {
-        Ok(catalog) => match listen(rt, words, address, folder, catalog) {
+    let mut folder = Folder::new(rt, words.folder, !words.plain_files);
+    let loaded = folder.load(rt);
+    start_status(rt, words, &at, folder, loaded)
+}
+
+/// Does what a line of words asks for, the first of which is the program's name.
+pub fn line_status(rt: &HostRuntime, line: &[&str]) -> u8
+    ensures { IsLineStatus (texts line.now) result }
+{
+    match read_words(rt.alloc(), line) {
+        Ok(words) => serve_folder(rt, &words),
+        Err(WordsFault::Shows(text)) => match text.print(rt) {
             Ok(()) => DONE,
             Err(error) => error_status(&error),
         },
-        Err(fault) => unserved(rt, &ProgramFault::Folder(fault)),
+        Err(WordsFault::Usage) => usage_status(rt),
+        Err(WordsFault::NoMemory) => memory_status(rt),
     }
 }
 
@@ -88,23 +217,15 @@ fn serve_folder(rt: &HostRuntime, words: &Words<'_>) -> u8 {
 fn words_status(rt: &HostRuntime) -> io::Result<u8> {
     let words = system_words(rt)?;
     let line = line_of(rt.alloc(), words.as_slice())?;
-    match read_words(rt.alloc(), line.as_slice()) {
-        Ok(words) => Ok(serve_folder(rt, &words)),
-        Err(WordsFault::Shows(text)) => {
-            text.print(rt)?;
-            Ok(DONE)
-        }
-        Err(WordsFault::Usage) => Ok(usage_status(rt)),
-        Err(WordsFault::NoMemory) => Ok(MEMORY),
-    }
+    Ok(line_status(rt, line.as_slice()))
 }
 
-/// Does what the command line asks for, and gives the exit status.
+/// Does what the command line asks for, and gives the exit status: by [`line_status`], of the words that the system hands over.
 pub fn command_status(rt: &HostRuntime) -> u8 {
     match words_status(rt) {
         Ok(status) => status,
         // a word that is not UTF-8 is no word of the command
         Err(error) if error.kind() == ErrorKind::InvalidData => usage_status(rt),
-        Err(error) => error_status(&error),
+        Err(error) => ended_status(rt, &error),
     }
 }

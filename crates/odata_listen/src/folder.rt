@@ -1,13 +1,18 @@
 //! A folder that is looked at, and taken up where it changed. Its metadata and the files that this names are looked at, and nothing else.
-use crate::log::Log;
-use crate::watch::{Look, hand_over, is_final, look_of};
+use crate::watch::{Look, hand_over, is_final, look_of, pause_after, size_of};
 use odata_hub::Hub;
-use served_folders::{Disk, Folders, METADATA, look};
+use served_folders::{Disk, FolderFault, Folders, METADATA, look};
+use service_log::{Loaded, Log};
 use std::alloc::AllocError;
 use std::fs::Metadata;
-use std::io::ErrorKind;
+use std::io::{self, ErrorKind};
 use std::os::unix::fs::MetadataExt;
-use std::rt::Files;
+use std::rt::{Clock, Files};
+use std::time::Instant;
+use table_store::Catalog;
+
+/// The most loads at the start, while the folder changes under each.
+const MOST_LOADS: u32 = 10;
 
 /// A folder, with its states as it was taken last and at the last look.
 #[derive(Drop)]
@@ -22,6 +27,17 @@ pub struct Folder<'a> {
     seen: String,
     /// The last reload came to nothing since a device failed or memory ran out. That was told, and it is tried again as long as the folder is not as it was taken.
     wants: bool,
+    /// The looks from the last failure to the next try, and how many of them are left.
+    pause: u32,
+    left: u32,
+}
+
+/// Returns the milliseconds since `start`.
+fn millis_since(rt: &HostRuntime, start: io::Result<Instant>) -> u64 {
+    match (start, Instant::now(rt)) {
+        (Ok(start), Ok(now)) => u64::try_from(now.duration_since(start).as_millis()).unwrap_or(0),
+        _ => 0,
+    }
 }
 
 /// Adds to a text what tells one state of a file from another: its device and number, its length, and the times of its last write and change.
@@ -52,6 +68,8 @@ impl<'a> Folder<'a> {
             taken: String::new(rt.alloc()),
             seen: String::new(rt.alloc()),
             wants: false,
+            pause: 0,
+            left: 0,
         };
         folder.taken = folder.state(rt);
         folder
@@ -100,29 +118,65 @@ impl<'a> Folder<'a> {
         self.read_state(rt).unwrap_or(String::new(rt.alloc()))
     }
 
+    /// Loads the folder at the start, anew while it changes under a load. Returns `None` if it changed under each of them.
+    pub fn load(&mut self, rt: &HostRuntime) -> Option<Result<Catalog, FolderFault>> {
+        for _try in 0..MOST_LOADS {
+            let mut disk = Disk::new(rt).follow_links(self.follows);
+            let loaded = disk.load(rt.alloc(), self.name);
+            let after = self.state(rt);
+            if self.taken == after {
+                return Some(loaded);
+            }
+            self.taken = after;
+        }
+        None
+    }
+
+    /// Notes how a reload ended: one that failed is tried again after a pause, which doubles at each failure.
+    fn note(&mut self, holds: bool, found: String) {
+        if holds {
+            self.taken = found;
+            self.pause = 0;
+        } else {
+            self.pause = pause_after(self.pause);
+        }
+        self.left = self.pause;
+        self.wants = !holds;
+    }
+
     /// Loads the folder; where it is afterwards as it was at the last look, the hub has its tables from now on. Where a device failed or memory ran out, the
     /// folder counts as it was taken before, so that the next look finds it changed again.
     #[tactic(auto, using(crate::proofs::ServingLemmas::may_hand_over))]
     fn take_up(&mut self, rt: &HostRuntime, hub: &mut Hub, log: &mut Log<'_>)
         ensures { MayReload hub.old hub.new }
     {
+        let start = Instant::now(rt);
         let mut disk = Disk::new(rt).follow_links(self.follows);
         let loaded = disk.load(rt.alloc(), self.name);
+        let size = size_of(&loaded, millis_since(rt, start));
         let after = self.state(rt);
         if look_of(&self.seen, &self.seen, &after) == Look::Same {
             let end = hand_over(rt.alloc(), hub, loaded);
             let holds = is_final(&end);
-            if holds {
-                self.taken = after;
-            }
             if holds || !self.wants {
-                log.reloaded(end);
+                log.reloaded(end.map(|()| size));
             }
-            self.wants = !holds;
+            self.note(holds, after);
         }
     }
 
-    /// Looks at the folder. Where it changed, and stands still since the last look, it is taken up.
+    /// Loads the folder, unless the pause after the last failure is not over.
+    fn try_again(&mut self, rt: &HostRuntime, hub: &mut Hub, log: &mut Log<'_>)
+        ensures { MayReload hub.old hub.new }
+    {
+        if self.left > 1 {
+            self.left -= 1;
+            return;
+        }
+        self.take_up(rt, hub, log);
+    }
+
+    /// Looks at the folder, and loads it if it changed and is as it was at the last look. Logs what the service counts, once a minute.
     pub fn look(&mut self, rt: &HostRuntime, hub: &mut Hub, log: &mut Log<'_>)
         ensures { MayReload hub.old hub.new }
     {
@@ -130,9 +184,19 @@ impl<'a> Folder<'a> {
         let says = look_of(&self.taken, &self.seen, &found);
         self.seen = found;
         match says {
-            Look::Same => self.wants = false,
-            Look::Moves => {}
-            Look::Changed => self.take_up(rt, hub, log),
+            Look::Same => {
+                self.wants = false;
+                self.pause = 0;
+                self.left = 0;
+            }
+            // what changed again may be mended
+            Look::Moves => {
+                self.pause = 0;
+                self.left = 0;
+            }
+            Look::Changed => self.try_again(rt, hub, log),
         }
+        log.each_second();
+        log.flush();
     }
 }

@@ -3,12 +3,13 @@
 #![tactic(auto)]
 
 mod command;
+mod drain;
 mod endings;
 mod folder;
-mod log;
 mod serving;
+mod stopwatch;
+mod turns;
 mod watch;
-mod words;
 
 use command::command_status;
 use std::process::ExitCode;

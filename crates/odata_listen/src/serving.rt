@@ -1,20 +1,21 @@
-//! The service: connections are taken in as places are free, each tick has some rounds, and once a second slow peers are ended and the folder is
+//! The service: connections are taken in as places are free, each tick has one round, and once a second slow peers are ended and the folder is
 //! looked at. Whatever that does is a life over its hub, so what holds of each connection in every life holds of the service.
-ghost use Rattle.odata_listen.specs.Serving.{RunsOn};
+ghost use Rattle.odata_listen.specs.Serving.{RunsOn, TakesAccepted, TakesPeerIn};
 
-use crate::endings::{end_all_lost, end_all_slow, settle_all};
+use crate::drain::Drain;
+use crate::endings::{Moment, end_all_slow};
 use crate::folder::Folder;
-use crate::log::Log;
-use crate::words::MOST_PLACES;
+use crate::stopwatch::Stopwatch;
+use crate::turns::{Circle, Circles, run_round};
 use listen_sockets::{Limits, Peer, Poller, Server};
+use listen_words::MOST_PLACES;
 use mio::Poll;
-use mio::net::TcpListener;
+use mio::net::TcpStream;
 use odata_hub::Conn;
+use service_log::Log;
+use socket_listener::Listener;
 use std::io::{self, ErrorKind};
 use std::rt::{Clock, Files};
-
-/// The most rounds before the system is asked again.
-const ROUNDS: u32 = 16;
 
 /// What the service has beside its places and sockets: the folder that it serves, how long a peer may take, and where it tells what it did.
 #[derive(Drop)]
@@ -22,11 +23,13 @@ pub struct Service<'a> {
     pub folder: Folder<'a>,
     pub limits: Limits,
     pub log: Log<'a>,
+    pub drain: Drain<'a>,
 }
 
-/// Opens a connection for a socket, and has the system report it.
+/// Opens a connection for `peer`, and has the system report it. Closes `peer` if no connection is opened or the system does not report it.
 fn open(server: &mut Server, poll: &Poll, peer: Peer, log: &mut Log<'_>)
-    ensures { RunsOn server.old server.new }
+    ensures runs { RunsOn server.old server.new }
+    ensures peer { TakesPeerIn peer server.old server.new }
 {
     let Ok(Conn(place)) = server.open(peer) else {
         return;
@@ -49,18 +52,22 @@ enum Taken {
     Later,
 }
 
-/// Takes in a connection that waits, where a place is free.
+/// Takes in a connection that was accepted.
 #[tactic(auto, using(crate::proofs::ServingLemmas::on_none))]
-fn take_in(server: &mut Server, poller: &Poller, now: u64, log: &mut Log<'_>) -> Taken
-    ensures { RunsOn server.old server.new }
+fn take_accepted(
+    server: &mut Server,
+    poller: &Poller,
+    accepted: io::Result<TcpStream>,
+    log: &mut Log<'_>,
+) -> Taken
+    ensures runs { RunsOn server.old server.new }
+    ensures taken { TakesAccepted poller.now.second accepted server.old server.new }
 {
-    if !server.sockets.has_free() {
-        return Taken::Later;
-    }
-    match poller.listener.accept() {
-        Ok((stream, _)) => {
+    match accepted {
+        Ok(stream) => {
             let _ = stream.set_nodelay(true);
-            open(server, &poller.poll, Peer::new(stream, now), log);
+            let peer = Peer::new(stream, poller.second);
+            open(server, &poller.poll, peer, log);
             Taken::One
         }
         Err(error) if error.kind() == ErrorKind::WouldBlock => Taken::Nothing,
@@ -69,9 +76,20 @@ fn take_in(server: &mut Server, poller: &Poller, now: u64, log: &mut Log<'_>) ->
     }
 }
 
+/// Takes in a connection that waits, where a place is free.
+#[tactic(auto, using(crate::proofs::ServingLemmas::on_none))]
+fn take_in(server: &mut Server, poller: &Poller, log: &mut Log<'_>) -> Taken
+    ensures { RunsOn server.old server.new }
+{
+    if !server.sockets.has_free() {
+        return Taken::Later;
+    }
+    take_accepted(server, poller, poller.listener.accept(), log)
+}
+
 /// Takes in connections, where some may wait, as long as places are free. Whether one was taken in.
 #[tactic(auto, using(crate::proofs::ServingLemmas::on_none))]
-fn accept(server: &mut Server, poller: &mut Poller, now: u64, log: &mut Log<'_>) -> bool
+fn accept(server: &mut Server, poller: &mut Poller, log: &mut Log<'_>) -> bool
     ensures { RunsOn server.old server.new }
 {
     let mut took = false;
@@ -79,7 +97,7 @@ fn accept(server: &mut Server, poller: &mut Poller, now: u64, log: &mut Log<'_>)
         return took;
     }
     for _turn in 0..MOST_PLACES {
-        match take_in(server, poller, now, log) {
+        match take_in(server, poller, log) {
             Taken::One => took = true,
             Taken::Nothing => {
                 poller.accepts = false;
@@ -101,60 +119,58 @@ fn tend_lingering(server: &mut Server)
     }
 }
 
-/// One round, and what it did. Whether it did something.
-fn run_round(server: &mut Server, poll: &Poll, now: u64, log: &mut Log<'_>) -> bool
-    ensures { RunsOn server.old server.new }
-{
-    let worked = server.round();
-    settle_all(server, poll, now, log);
-    worked
-}
-
-/// Some rounds, until one did nothing. Whether the last of them did something.
-#[tactic(auto, using(crate::proofs::ServingLemmas::on_none))]
-fn run_rounds(server: &mut Server, poll: &Poll, now: u64, log: &mut Log<'_>) -> bool
-    ensures { RunsOn server.old server.new }
-{
-    for _turn in 0..ROUNDS {
-        if !run_round(server, poll, now, log) {
-            return false;
-        }
-    }
-    true
-}
-
 /// What is done where a second began: slow peers are ended, and the folder is looked at. The next write to each socket is tried.
 #[tactic(auto, using(crate::proofs::ServingLemmas::on_none))]
-fn tend(rt: &HostRuntime, server: &mut Server, service: &mut Service<'_>, now: u64, is_new: bool)
+fn tend(
+    rt: &HostRuntime,
+    server: &mut Server,
+    service: &mut Service<'_>,
+    poller: &Poller,
+    is_new: bool,
+)
     ensures { RunsOn server.old server.new }
 {
     if !is_new {
         return;
     }
-    end_all_slow(server, &service.limits, now, &mut service.log);
+    let moment = Moment {
+        second: poller.second,
+        crowded: poller.accepts && !server.sockets.has_free(),
+    };
+    end_all_slow(server, &service.limits, moment, &mut service.log);
     tend_lingering(server);
     service.folder.look(rt, &mut server.hub, &mut service.log);
     server.sockets.try_writes();
 }
 
-/// One tick: the events that there are, some rounds, what is done once a second, and new connections. Whether there is more to do at once.
+/// What goes on from one tick to the next: whose turn it is, and whether there is more to do at once.
+#[derive(Drop)]
+struct Course<'a> {
+    watch: Stopwatch<'a>,
+    circles: Circles,
+    busy: bool,
+}
+
+/// One tick: the events that there are, one round, what is done once a second, and new connections.
 fn tick(
     rt: &HostRuntime,
     poller: &mut Poller,
     server: &mut Server,
     service: &mut Service<'_>,
-    busy: bool,
-) -> io::Result<bool>
+    course: &mut Course<'_>,
+) -> io::Result<()>
     ensures { RunsOn server.old server.new }
 {
-    let now = poller.wait(rt, &mut server.sockets, busy)?;
-    let is_new = poller.is_new_second(now);
-    end_all_lost(server, &mut service.log);
-    // what came while a folder was loaded is read before peers are found slow
-    let worked = run_rounds(server, &poller.poll, now, &mut service.log);
-    tend(rt, server, service, now, is_new);
-    let took = accept(server, poller, now, &mut service.log);
-    Ok(worked || took)
+    poller.wait(rt, &mut server.sockets, course.busy)?;
+    let is_new = poller.is_new_second();
+    let watch = &mut course.watch;
+    let busy = run_round(watch, server, poller, &mut service.log, &mut course.circles);
+    tend(rt, server, service, poller, is_new);
+    let took = accept(server, poller, &mut service.log);
+    service.drain.look(rt, server, poller);
+    service.log.flush();
+    course.busy = busy || took;
+    Ok(())
 }
 
 /// Serves a folder for so many ticks.
@@ -162,16 +178,26 @@ fn tick(
 pub fn serve(
     rt: &HostRuntime,
     server: &mut Server,
-    listener: TcpListener,
+    listener: Listener,
     service: &mut Service<'_>,
     ticks: u64,
 ) -> io::Result<()>
     ensures { RunsOn server.old server.new }
 {
     let mut poller = Poller::new(rt, listener)?;
-    let mut busy = false;
+    let mut course = Course {
+        watch: Stopwatch::new(rt)?,
+        circles: Circles {
+            light: Circle::new(server.places(), false),
+            heavy: Circle::new(server.places(), true),
+        },
+        busy: false,
+    };
     for _tick in 0..ticks {
-        busy = tick(rt, &mut poller, server, service, busy)?;
+        tick(rt, &mut poller, server, service, &mut course)?;
+        if service.drain.is_over(server, poller.second) {
+            return Ok(());
+        }
     }
     Ok(())
 }

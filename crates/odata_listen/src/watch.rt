@@ -1,13 +1,61 @@
 //! When a folder is loaded anew, and what is done with what was loaded.
 ghost use Rattle.std.specs.Prelude.{◌≡◌};
-ghost use Rattle.odata_listen.specs.Watch.{HandsOver, Looks, is_final};
+ghost use Rattle.odata_listen.specs.Laws.{WorkedPauses};
+ghost use Rattle.odata_listen.specs.Watch.{HandsOver, IsSize, Looks, is_final, next_pause};
 
 use odata_hub::Hub;
 use program_ends::ProgramFault;
 use served_folders::FolderFault;
+use service_log::Loaded;
 use std::alloc::Global;
 use std::rc::Rc;
-use table_store::Catalog;
+use table_store::{Catalog, Table};
+
+/// The most seconds between two tries of a load that fails.
+pub const MOST_PAUSE: u32 = 60;
+
+/// The pauses after one failure after the other.
+pub fn worked_pauses()
+    ensures { WorkedPauses }
+{}
+
+/// Returns the seconds until a load that failed is tried again, after a pause of `pause` seconds or after none.
+pub fn pause_after(pause: u32) -> u32
+    ensures { result ≡ next_pause pause }
+{
+    if pause == 0 {
+        1
+    } else {
+        pause.saturating_mul(2).min(MOST_PAUSE)
+    }
+}
+
+/// Returns how many rows tables have.
+fn rows_of(tables: &[Table]) -> u64 {
+    let mut rows: u64 = 0;
+    for table in tables {
+        rows = rows.saturating_add(table.rows() as u64);
+    }
+    rows
+}
+
+/// Returns how much was loaded in `millis` milliseconds: nothing if the load was refused.
+pub fn size_of(loaded: &Result<Catalog, FolderFault>, millis: u64) -> Loaded
+    ensures { IsSize loaded.now millis result }
+{
+    match loaded {
+        Ok(catalog) => Loaded {
+            tables: catalog.tables().len() as u64,
+            rows: rows_of(catalog.tables()),
+            millis,
+        },
+        Err(_) => Loaded {
+            tables: 0,
+            rows: 0,
+            millis,
+        },
+    }
+}
 
 /// What a look at a folder says.
 #[derive(Clone, Copy, PartialEq, Eq)]

@@ -1,4 +1,4 @@
--- What visits and rounds move, and the laws.
+-- What visits move, and the laws.
 use Rattle.std.proofs.Common.{◌≡◌, ◌≢◌, ℕ, zero, suc, List, [], ◌∷◌, ◌++◌, Option, None, Some, refl, sym, ap, subst, ◌∙◌, inl, inr, append-nil, append_assoc}
 use Rattle.std.specs.Prelude.{Bool, true, false, ◌==◌, if◌then◌else◌, ◌||◌}
 use Rattle.std.proofs.lemmas.Bool.Decides.{eqb_tells}
@@ -7,13 +7,12 @@ use Rattle.std.proofs.Math.Bool.{or_assoc}
 use Rattle.std.proofs.KnownBytes.{Appends-trans, Consumes-trans}
 use Rattle.odata_hub.specs.Connections.{Answer, Call, End, Own, Piece, Take, Turn, came_with, ends_with, given_by, input_ended, stream_of, taken_of}
 use Rattle.odata_hub.specs.Laws.{GivesReplies}
-use Rattle.odata_hub.specs.Schedules.{Drop, Event, Happening, On, Open, Reload, own_before, own_of}
+use Rattle.odata_hub.specs.Schedules.{own_of}
 use Rattle.odata_hub.specs.Streams.{bytes_of}
 use Rattle.odata_rounds.specs.Peers.{WireOf}
 use Rattle.odata_rounds.specs.Visits.{IsReadOut, Moves, at_place, piece_of, pieces_of}
-use Rattle.odata_rounds.specs.Rounds.{ServesAt, SightOf}
-use Rattle.odata_rounds.specs.Laws.{AllWereTaken, AreCalls, WasTaken, IsCall, Moved, MovesAt, MovesJoin, RoundMoves, ServesSocket}
-use Rattle.odata_rounds.proofs.RunLemmas.{run_joins, run_none}
+use Rattle.odata_rounds.specs.Sights.{ServesAt, SightOf}
+use Rattle.odata_rounds.specs.Laws.{AllWereTaken, AreCalls, MovesAt, MovesJoin, ServesSocket, VisitMoves, WasTaken}
 use Rattle.odata_rounds.proofs.ByteLemmas.{consumes_none}
 use Rattle.odata_rounds.proofs.VisitLemmas.{appends_none}
 
@@ -50,6 +49,7 @@ pub moves_join : MovesJoin
 moves_join a b c os ps p q =
     let P : List ℕ → Type 0 = λ l. Consumes a.left c.left l in
     let Q : List ℕ → Type 0 = λ l. Appends a.taken c.taken l in record {
+      socket = q.socket ∙ p.socket;
       taken = subst Q (sym (given_join os ps)) (Appends-trans _ _ _ (taken_of os) (taken_of ps) p.taken q.taken);
       left = subst P (sym (pieces_join os ps)) (Consumes-trans _ _ _ (pieces_of os) (pieces_of ps) p.left q.left);
       ended = λ e. read_out_join _ _ _ (pieces_of os) (pieces_of ps) (input_ended os) (input_ended ps) p.left q.left p.ended q.ended
@@ -57,25 +57,9 @@ moves_join a b c os ps p q =
     }
 
 moves_none : (w : WireOf) → Moves w w []
-moves_none w = record { taken = appends_none _ _ refl; left = consumes_none _ _ refl; ended = λ no. absurd (cc no) }
+moves_none w = record { socket = refl; taken = appends_none _ _ refl; left = consumes_none _ _ refl; ended = λ no. absurd (cc no) }
 
 -- ---- the own events of a place
-
-own_if : (b : Bool) (o : Own) (more os ps : List Own) → more ≡ os ++ ps → (if b then o ∷ more else more) ≡ (if b then o ∷ os else os) ++ ps
-own_if true o more os ps e = ap (λ l. o ∷ l) e
-own_if false o more os ps e = e
-
-own_before_join : (place : ℕ) (event : Event) (answer : Answer) (more os ps : List Own) → IsCall event → more ≡ os ++ ps
-    → own_before place event answer more ≡ own_before place event answer os ++ ps
-own_before_join place (On at call) answer more os ps i e = own_if (at == place) (record { call = call; answer = answer }) more os ps e
-own_before_join place Open answer more os ps i e = absurd i
-own_before_join place (Drop at) answer more os ps i e = absurd i
-own_before_join place (Reload catalog) answer more os ps i e = absurd i
-
-own_join : (place : ℕ) (xs ys : List Happening) → AreCalls xs → own_of place (xs ++ ys) ≡ own_of place xs ++ own_of place ys
-own_join place [] ys c = refl
-own_join place (x ∷ xs) ys c =
-    own_before_join place x.event x.answer (own_of place (xs ++ ys)) (own_of place xs) (own_of place ys) c.0 (own_join place xs ys c.1)
 
 own_here : (place : ℕ) (os : List Own) → own_of place (at_place place os) ≡ os
 own_here place [] = refl
@@ -95,11 +79,7 @@ pub calls_at : (place : ℕ) (os : List Own) → AreCalls (at_place place os)
 calls_at place [] = tt
 calls_at place (o ∷ os) = (tt, calls_at place os)
 
-pub calls_join : (xs ys : List Happening) → AreCalls xs → AreCalls ys → AreCalls (xs ++ ys)
-calls_join [] ys c d = d
-calls_join (x ∷ xs) ys c d = (c.0, calls_join xs ys c.1 d)
-
--- ---- rounds
+-- ---- visits
 
 visit_moves_here : (place : ℕ) (a b : SightOf) (s : ServesAt place a b) → MovesAt place a b (at_place place s.serves.os)
 visit_moves_here place a b s =
@@ -111,29 +91,19 @@ visit_moves_away place other a b s away =
     let Q : WireOf → Type 0 = λ w. Moves (a.wires other) w [] in
     subst P (sym (own_away place other s.serves.os (λ e. away (sym e)))) (subst Q (sym (s.serves.others other away)) (moves_none (a.wires other)))
 
-visit_moves : (place : ℕ) (a b : SightOf) (s : ServesAt place a b) (other : ℕ) → MovesAt other a b (at_place place s.serves.os)
-visit_moves place a b s other = elim (eqb_tells other place) [
+moves_at : (place : ℕ) (a b : SightOf) (s : ServesAt place a b) (other : ℕ) → MovesAt other a b (at_place place s.serves.os)
+moves_at place a b s other = elim (eqb_tells other place) [
   | inl h ↦ let P : ℕ → Type 0 = λ q. MovesAt q a b (at_place place s.serves.os) in subst P (sym h.1) (visit_moves_here place a b s)
   | inr h ↦ visit_moves_away place other a b s h.1
 ]
 
-moved_more : (place : ℕ) (a b c : SightOf) → Moved a b → ServesAt place b c → Moved a c
-moved_more place a b c m s = record {
-  events = m.events ++ at_place place s.serves.os;
-  calls = calls_join m.events (at_place place s.serves.os) m.calls (calls_at place s.serves.os);
-  run = run_joins a.hub b.hub c.hub m.events (at_place place s.serves.os) m.run s.serves.run;
-  moves = λ other.
-      let P : List Own → Type 0 = λ os. Moves (a.wires other) (c.wires other) os in
-      subst P (sym (own_join other m.events (at_place place s.serves.os) m.calls)) (moves_join _ _ _ _ _ (m.moves other) (visit_moves place b c s other));
+pub visit_moves : VisitMoves
+visit_moves place a b s = record {
+  events = at_place place s.serves.os;
+  calls = calls_at place s.serves.os;
+  run = s.serves.run;
+  moves = moves_at place a b s;
 }
-
-moved_none : (a b : SightOf) → b ≡ a → Moved a b
-moved_none a b e = let P : SightOf → Type 0 = λ x. Moved a x in
-    subst P (sym e) (record { events = []; calls = tt; run = run_none a.hub; moves = λ other. moves_none (a.wires other) })
-
-pub round_moves : RoundMoves
-round_moves zero a b r = moved_none a b r
-round_moves (suc place) a b r = moved_more place a r.0 b (round_moves place a r.0 r.1) r.2
 
 -- ---- what a socket was given
 
@@ -151,6 +121,7 @@ stream_is (o ∷ os) a = stream_join o.call o.answer os a.0 (stream_is os a.1)
 pub serves_socket : GivesReplies → ServesSocket
 serves_socket gives start end place events old new run m =
     let g = gives start end place events run in record {
+      socket = m.socket;
       sent = taken_of (own_of place events);
       taken = m.taken;
       some = g.some;

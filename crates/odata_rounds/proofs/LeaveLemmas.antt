@@ -1,4 +1,4 @@
--- What visits and rounds leave at a place.
+-- What visits leave at a place.
 use Rattle.std.proofs.Common.{◌≡◌, ◌≢◌, ℕ, List, [], ◌∷◌, ◌++◌, take, drop, Option, None, Some, refl, sym, ap, ◌∙◌, subst, inl, inr, append_assoc, take-append-drop}
 use Rattle.std.specs.Prelude.{Bool, true, false}
 use Rattle.std.proofs.lemmas.Bool.{and_parts}
@@ -14,8 +14,7 @@ use Rattle.odata_rounds.specs.declared.answers.SlotState.TheVariants.{Free, Rest
 use Rattle.odata_rounds.specs.Comes.{is_over_at, is_over_of}
 use Rattle.odata_rounds.specs.Peers.{WireOf}
 use Rattle.odata_rounds.specs.Visits.{AfterIdle, AfterTake, Became, HasOutput, IsAtRest, IsDry, Last, StandsAt, Visit, at_place, came, ends, gives, goes, idles, misses, none, nothing, reads, turned, waits}
-use Rattle.odata_rounds.specs.Rounds.{is_worked}
-use Rattle.odata_rounds.specs.Leaves.{AreOfOneReply, HoldsOneReply, IsAtEase, IsOneReply, MayTellOver, output_of}
+use Rattle.odata_rounds.specs.Leaves.{AreOfOneReply, HoldsOneReply, IsAtEase, IsOneReply, MayTellOver, is_worked, output_of}
 use Rattle.odata_rounds.proofs.CallLemmas.{IsIdle, IsStill, at_same, call_away, call_is, conn, given_end, given_piece, given_turn, idle_turn, one_empty, one_turn, output_end, output_piece, refused_turn, still_end, still_piece, took_is}
 
 -- a connection's call is its step

@@ -3,7 +3,6 @@ mod CallLemmas
 mod LawLemmas
 mod LeaveLemmas
 mod LifeLemmas
-mod RoundLemmas
 mod RunLemmas
 mod LendLemmas
 mod VisitLemmas

@@ -11,13 +11,13 @@ use Rattle.odata_hub.specs.Schedules.{Drop, Event, Happening, On, Open, Reload, 
 use Rattle.odata_hub.specs.Stands.{IsHubStep}
 use Rattle.odata_rounds.specs.Peers.{WireOf}
 use Rattle.odata_rounds.specs.Visits.{IsHubRun, Moves}
-use Rattle.odata_rounds.specs.Rounds.{SightOf}
+use Rattle.odata_rounds.specs.Sights.{SightOf}
 use Rattle.odata_rounds.specs.Laws.{AreCalls, IsCall, Moved, MovesAt}
-use Rattle.odata_rounds.specs.Lives.{AreElsewhere, Clears, Deed, Frees, Goes, IsCarried, IsDeed, IsElsewhere, KeepsAll, KeepsBytes, Lives, LivesMove, MovesSince, Opens, Refuses, Reloads, Stands}
+use Rattle.odata_rounds.specs.Lives.{AreElsewhere, Clears, Deed, Frees, IsCarried, IsDeed, IsElsewhere, KeepsAll, KeepsSocket, Lives, LivesMove, MovesSince, Opens, Refuses, Reloads, Stands, Visits}
 use Rattle.odata_rounds.proofs.RunLemmas.{run_joins, run_none, run_one, run_step}
 use Rattle.odata_rounds.proofs.ByteLemmas.{consumes_none}
 use Rattle.odata_rounds.proofs.VisitLemmas.{appends_none}
-use Rattle.odata_rounds.proofs.LawLemmas.{moves_join, round_moves}
+use Rattle.odata_rounds.proofs.LawLemmas.{moves_join, visit_moves}
 
 -- ---- events that give back no connection at a place
 
@@ -66,9 +66,9 @@ stays_join place (x ∷ xs) ys c d = (c.0, stays_join place xs ys c.1 d)
 
 -- ---- what one deed moves at a place that it leaves alone
 
--- nothing moves where the socket tells the same bytes
-moves_still : (a b : WireOf) → KeepsBytes a b → Moves a b []
-moves_still a b k = record { taken = appends_none _ _ k.1; left = consumes_none _ _ k.0; ended = λ no. absurd (cc no) }
+-- nothing moves where the same socket tells the same bytes
+moves_still : (a b : WireOf) → KeepsSocket a b → Moves a b []
+moves_still a b k = record { socket = k.0; taken = appends_none _ _ k.2; left = consumes_none _ _ k.1; ended = λ no. absurd (cc no) }
 
 -- the events of a deed, and what moves at the place by them
 pub record MovesBy (place : ℕ) (old new : SightOf) : Type 0 where
@@ -78,10 +78,10 @@ pub record MovesBy (place : ℕ) (old new : SightOf) : Type 0 where
   pub moves : MovesAt place old new events
 
 cleared : (place at : ℕ) (a b : SightOf) → Clears at a b → at ≢ place → Moves (a.wires place) (b.wires place) []
-cleared place at a b c away = moves_still _ _ (c.bytes place (λ e. away (sym e)))
+cleared place at a b c away = moves_still _ _ (c.sockets place (λ e. away (sym e)))
 
 kept : (place : ℕ) (a b : SightOf) → KeepsAll a b → Moves (a.wires place) (b.wires place) []
-kept place a b k = moves_still _ _ (k.bytes place)
+kept place a b k = moves_still _ _ (k.sockets place)
 
 own_drop : (place at : ℕ) (answer : Answer) → at ≢ place → own_of place (record { event = Drop at; answer = answer } ∷ []) ≡ []
 own_drop place at answer away = elim (eqb_tells at place) [
@@ -90,7 +90,7 @@ own_drop place at answer away = elim (eqb_tells at place) [
 ]
 
 deed_moves : (place : ℕ) (deed : Deed) (a b : SightOf) → IsElsewhere place deed → IsDeed deed a b → MovesBy place a b
-deed_moves place Goes a b away d = let m = round_moves _ a b d.1 in
+deed_moves place (Visits at) a b away d = let m = visit_moves at a b d.1 in
     record { events = m.events; stays = calls_stay place m.events m.calls; run = m.run; moves = m.moves place }
 deed_moves place (Opens at) a b away d = record {
   events = opened at ∷ [];
@@ -131,7 +131,7 @@ moves_on place a b c m n =
 
 moves_same : (place : ℕ) (a b : SightOf) → b ≡ a → MovesBy place a b
 moves_same place a b e = let P : SightOf → Type 0 = λ x. MovesBy place a x in
-    subst P (sym e) (record { events = []; stays = tt; run = run_none a.hub; moves = moves_still _ _ (refl, refl) })
+    subst P (sym e) (record { events = []; stays = tt; run = run_none a.hub; moves = moves_still _ _ (refl, refl, refl) })
 
 life_moves : (place : ℕ) (deeds : List Deed) (a b : SightOf) → AreElsewhere place deeds → Lives a deeds b → MovesBy place a b
 life_moves place [] a b away l = moves_same place a b l

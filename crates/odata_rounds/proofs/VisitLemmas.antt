@@ -54,6 +54,7 @@ read_end place a b w v buf zero answer state e lt r others not_over step is = re
   kind = ends (call_answer (λ _. Done) answer);
   run = run_one a b (On place End) (call_answer (λ _. Done) answer) step not_over;
   output = came_output answer;
+  socket = r.socket;
   taken = r.taken;
   left = r.left.0;
   ended = λ _. read_out _ _ _ r.left.0 (r.left.1 refl lt);
@@ -63,16 +64,17 @@ read_end place a b w v buf zero answer state e lt r others not_over step is = re
 read_end place a b w v buf (suc n) answer state e lt r others not_over step is = absurd (omega arith)
 
 piece_of_bytes : (place : ℕ) (a b : Hub) (w v : ℕ → WireOf) (bytes : List ℕ) (catalog : CatalogOf) (answer : Result ⊤ HubFault) (state : SlotState)
-    → 0 < length bytes → Consumes (w place).left (v place).left bytes → (v place).taken ≡ (w place).taken → KeepsOthers place w v
-    → IsOverAt a place false → IsHubStep a (On place (Piece catalog bytes)) (call_answer (λ _. Done) answer) b → state ≡ came_to answer → MakesCalls AfterIdle place a b w v state
-piece_of_bytes place a b w v [] catalog answer state lt left taken others not_over step is = absurd (omega arith)
-piece_of_bytes place a b w v (x ∷ bytes) catalog answer state lt left taken others not_over step is =
+    → 0 < length bytes → Consumes (w place).left (v place).left bytes → (v place).taken ≡ (w place).taken → (v place).socket ≡ (w place).socket
+    → KeepsOthers place w v → IsOverAt a place false → IsHubStep a (On place (Piece catalog bytes)) (call_answer (λ _. Done) answer) b → state ≡ came_to answer → MakesCalls AfterIdle place a b w v state
+piece_of_bytes place a b w v [] catalog answer state lt left taken socket others not_over step is = absurd (omega arith)
+piece_of_bytes place a b w v (x ∷ bytes) catalog answer state lt left taken socket others not_over step is =
     let P : List ℕ → Type 0 = λ l. Consumes (w place).left (v place).left l in record {
       os = piece catalog (x ∷ bytes) (call_answer (λ _. Done) answer) ∷ [];
       last = came (call_answer (λ _. Done) answer);
       kind = reads catalog x bytes (call_answer (λ _. Done) answer);
       run = run_one a b (On place (Piece catalog (x ∷ bytes))) (call_answer (λ _. Done) answer) step not_over;
       output = came_output answer;
+      socket = socket;
       taken = taken;
       left = subst P (sym (append-nil (x ∷ bytes))) left;
       ended = λ no. absurd (cc no);
@@ -86,7 +88,7 @@ pub read_piece : (place : ℕ) (a b : Hub) (w v : ℕ → WireOf) (buf : List �
     → MakesCalls AfterIdle place a b w v state
 read_piece place a b w v buf n catalog answer state lt r others not_over step is =
     let some : length (take n buf) ≡ n = sym r.bound.1 in
-    piece_of_bytes place a b w v (take n buf) catalog answer state (omega arith) r.left.0 r.taken others not_over step is
+    piece_of_bytes place a b w v (take n buf) catalog answer state (omega arith) r.left.0 r.taken r.socket others not_over step is
 
 pub read_waits : (place : ℕ) (a : Hub) (w v : ℕ → WireOf) (buf : List ℕ) → IsRead (w place) (v place) buf (Err Waits) → KeepsOthers place w v
     → IsOverAt a place false → MakesCalls AfterIdle place a a w v Rests
@@ -96,6 +98,7 @@ read_waits place a w v buf r others not_over = record {
   kind = nothing;
   run = run_none a;
   output = refl;
+  socket = r.socket;
   taken = r.taken;
   left = keeps_consumes _ _ r.left;
   ended = λ no. absurd (cc no);
@@ -111,6 +114,7 @@ read_lost place a w v buf r others not_over = record {
   kind = nothing;
   run = run_none a;
   output = refl;
+  socket = r.socket;
   taken = r.taken;
   left = keeps_consumes _ _ r.left;
   ended = λ no. absurd (cc no);
@@ -125,6 +129,7 @@ idle_over place a w over = record {
   kind = nothing;
   run = run_none a;
   output = refl;
+  socket = refl;
   taken = refl;
   left = consumes_none _ _ refl;
   ended = λ no. absurd (cc no);
@@ -142,6 +147,7 @@ turn_worked place a b w step = record {
   kind = goes (Went TurnWorked);
   run = run_one a b (On place Turn) (Went TurnWorked) step (λ h stands. tt);
   output = refl;
+  socket = refl;
   taken = refl;
   left = consumes_none _ _ refl;
   ended = λ no. absurd (cc no);
@@ -157,6 +163,7 @@ turn_refused place a b w fault step = record {
   kind = goes (Refused fault);
   run = run_one a b (On place Turn) (Refused fault) step (λ h stands. tt);
   output = refl;
+  socket = refl;
   taken = refl;
   left = consumes_none _ _ refl;
   ended = λ no. absurd (cc no);
@@ -172,6 +179,7 @@ turn_idle place a b c w v state step rest = record {
   kind = idles rest.last rest.os rest.kind;
   run = run_step a b c (On place Turn) (Went Idle) (at_place place rest.os) step (λ h stands. tt) rest.run;
   output = rest.output;
+  socket = rest.socket;
   taken = rest.taken;
   left = rest.left;
   ended = rest.ended;
@@ -187,15 +195,16 @@ appends_none (Some xs) None e = absurd (cc e)
 appends_none (Some xs) (Some ys) e = let same : ys ≡ xs = cc e in same ∙ sym (append-nil xs)
 
 wrote_of : (place n : ℕ) (a b : Hub) (w v : ℕ → WireOf) (given : List ℕ) → 0 < length given → IsHubRun a (at_place place (took n given ∷ [])) b
-    → Appends (w place).taken (v place).taken given → (v place).left ≡ (w place).left → KeepsOthers place w v → Serves place a b w v Worked
-wrote_of place n a b w v [] lt run taken left others = absurd (omega arith)
-wrote_of place n a b w v (y ∷ given) lt run taken left others =
+    → Appends (w place).taken (v place).taken given → (v place).left ≡ (w place).left → (v place).socket ≡ (w place).socket
+    → KeepsOthers place w v → Serves place a b w v Worked
+wrote_of place n a b w v [] lt run taken left socket others = absurd (omega arith)
+wrote_of place n a b w v (y ∷ given) lt run taken left socket others =
     let P : List ℕ → Type 0 = λ l. Appends (w place).taken (v place).taken l in record {
       os = took n (y ∷ given) ∷ [];
       last = wrote;
       visit = gives n y given;
       run = run;
-      moves = record { taken = subst P (sym (append-nil (y ∷ given))) taken; left = consumes_none _ _ left; ended = λ no. absurd (cc no) };
+      moves = record { socket = socket; taken = subst P (sym (append-nil (y ∷ given))) taken; left = consumes_none _ _ left; ended = λ no. absurd (cc no) };
       became = tt;
       others = others;
     }
@@ -207,7 +216,7 @@ serves_wrote place a b w v bytes n lends lt r others taken =
     let some : 0 < n = r.some lt in
     let le : n ≤ length bytes.now = r.bound in
     let long : length (take n bytes.now) ≡ n = length-take-le n bytes.now le in
-    wrote_of place n a b w v (take n bytes.now) (omega (arith, some, long)) (run_took place n a b bytes lends le taken) r.taken r.left others
+    wrote_of place n a b w v (take n bytes.now) (omega (arith, some, long)) (run_took place n a b bytes lends le taken) r.taken r.left r.socket others
 
 -- it took nothing for now
 pub serves_rests : (place : ℕ) (a : Hub) (w v : ℕ → WireOf) (bytes : Bor (List ℕ)) → Lends a place (Ok bytes) → 0 < length bytes.now
@@ -217,7 +226,7 @@ serves_rests place a w v bytes lends lt r others = record {
   last = wrote;
   visit = waits;
   run = run_none a;
-  moves = record { taken = keeps_appends _ _ r.taken; left = consumes_none _ _ r.left; ended = λ no. absurd (cc no) };
+  moves = record { socket = r.socket; taken = keeps_appends _ _ r.taken; left = consumes_none _ _ r.left; ended = λ no. absurd (cc no) };
   became = (r.counts.0, inl (refl, λ h s. has_output (conn_at h place) bytes lt (lends h s)));
   others = others;
 }
@@ -230,7 +239,7 @@ serves_lost place a w v bytes lends lt r others = record {
   last = wrote;
   visit = waits;
   run = run_none a;
-  moves = record { taken = keeps_appends _ _ r.taken; left = consumes_none _ _ r.left; ended = λ no. absurd (cc no) };
+  moves = record { socket = r.socket; taken = keeps_appends _ _ r.taken; left = consumes_none _ _ r.left; ended = λ no. absurd (cc no) };
   became = (r.counts.1, inl (refl, λ h s. has_output (conn_at h place) bytes lt (lends h s)));
   others = others;
 }
@@ -245,7 +254,7 @@ serves_dry place a b w v bytes state lends empty x =
       last = x.last;
       visit = none (λ h s. is_dry (conn_at h place) bytes empty (lends h s)) x.last x.os x.kind;
       run = x.run;
-      moves = record { taken = subst P (sym x.output) (appends_none _ _ x.taken); left = x.left; ended = x.ended };
+      moves = record { socket = x.socket; taken = subst P (sym x.output) (appends_none _ _ x.taken); left = x.left; ended = x.ended };
       became = subst Q (sym x.output) x.became;
       others = x.others;
     }
@@ -257,7 +266,7 @@ serves_free place a w fault lends = record {
   last = nowhere;
   visit = misses;
   run = run_none a;
-  moves = record { taken = appends_none _ _ refl; left = consumes_none _ _ refl; ended = λ no. absurd (cc no) };
+  moves = record { socket = refl; taken = appends_none _ _ refl; left = consumes_none _ _ refl; ended = λ no. absurd (cc no) };
   became = (refl, λ h s. is_free (conn_at h place) fault (lends h s));
   others = λ other away. refl;
 }

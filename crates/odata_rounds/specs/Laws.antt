@@ -9,7 +9,7 @@ use Rattle.odata_hub.specs.Schedules.{Event, Happening, HubOf, HubRun, On, opene
 use Rattle.odata_hub.specs.Streams.{bytes_of}
 use Rattle.odata_rounds.specs.Peers.{WireOf}
 use Rattle.odata_rounds.specs.Visits.{IsHubRun, IsReadOut, Moves, pieces_of}
-use Rattle.odata_rounds.specs.Rounds.{Rounds, SightOf}
+use Rattle.odata_rounds.specs.Sights.{ServesAt, SightOf}
 
 -- what moved between the connection at a place and its socket, by its own events among these
 abbrev pub MovesAt : ℕ → SightOf → SightOf → List Happening → Type 0
@@ -24,16 +24,16 @@ abbrev pub AreCalls : List Happening → Type 0
 AreCalls [] = ⊤
 AreCalls (h ∷ hs) = IsCall h.event × AreCalls hs
 
--- the calls of rounds are a run of the hub, and at each place what moved is by its own of them
+-- the calls are a run of the hub, and at each place what moved is by its own of them
 pub record Moved (old new : SightOf) : Type 0 where
   pub events : List Happening
   pub calls : AreCalls events
   pub run : IsHubRun old.hub events new.hub
   pub moves : (place : ℕ) → MovesAt place old new events
 
--- a round moves so
-abbrev pub RoundMoves : Type 0
-RoundMoves = (places : ℕ) (old new : SightOf) → Rounds places old new → Moved old new
+-- a visit moves so
+abbrev pub VisitMoves : Type 0
+VisitMoves = (place : ℕ) (old new : SightOf) → ServesAt place old new → Moved old new
 
 -- what moved in turn moved together
 abbrev pub MovesJoin : Type 0
@@ -54,9 +54,10 @@ abbrev pub AllWereTaken : List Own → Type 0
 AllWereTaken [] = ⊤
 AllWereTaken (o ∷ os) = WasTaken o.call o.answer × AllWereTaken os
 
--- What a socket took is a front of the replies of the stream, each head answered from its own tables; and the stream is what was read from the socket,
+-- One socket is at the place all the while. What it took is a front of the replies of the stream, each head answered from its own tables; and the stream is what was read from the socket,
 -- where no piece of it was refused; and it ended only where nothing is left to be read there.
 pub record IsServedWire (os : List Own) (old new : WireOf) : Type 0 where
+  pub socket : new.socket ≡ old.socket
   pub sent : List ℕ
   pub taken : Appends old.taken new.taken sent
   pub some : List ℕ

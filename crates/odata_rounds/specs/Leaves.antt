@@ -1,6 +1,5 @@
--- What a round leaves at a place: the output there is of one reply, and where nothing worked, nothing is left to be done.
-use Rattle.std.specs.Prelude.{◌≡◌, ◌≢◌, ◌⊎◌, ◌<◌, ⊤, ℕ, true, false, List, [], ◌++◌, Option, Some, None, slice_get}
-use Rattle.std.specs.List.{list_any}
+-- What a visit leaves at a place: output of one reply, and where it did nothing, nothing is left to be done.
+use Rattle.std.specs.Prelude.{◌≡◌, ◌≢◌, ◌⊎◌, ⊤, ℕ, Bool, true, false, List, [], ◌++◌, Option, Some, None, slice_get}
 use Rattle.odata_http.specs.Replies.{last_reply}
 use Rattle.odata_hub.specs.Connections.{ConnOf, works}
 use Rattle.odata_hub.specs.Replies.{IsReplyTo}
@@ -11,7 +10,7 @@ use Rattle.odata_rounds.specs.declared.answers.SlotState.{SlotState}
 use Rattle.odata_rounds.specs.declared.answers.SlotState.TheVariants.{Free, Rests, Worked, Answered, Lost, Failed}
 use Rattle.odata_rounds.specs.declared.slot.Slot.{Slot}
 use Rattle.odata_rounds.specs.Comes.{ServingRun, is_over_at}
-use Rattle.odata_rounds.specs.Rounds.{Rounds, SightOf, is_working}
+use Rattle.odata_rounds.specs.Sights.{ServesAt, SightOf}
 use Rattle.odata_rounds.specs.Laws.{AreCalls}
 
 -- the whole reply to one head, or to what is left of a stream; an empty rest has none
@@ -53,18 +52,23 @@ MayTellOver Failed = ⊤
 abbrev pub IsToldOver : HubOf → ℕ → Slot → Type 0
 IsToldOver h place slot = is_over_at h place ≡ true → MayTellOver slot.state
 
--- what a round leaves of a hub that stood for one: one that it stands for now, after calls on its connections
-pub record Leaves (places : ℕ) (old new : SightOf) (h : HubOf) : Type 0 where
+abbrev pub is_worked : SlotState → Bool
+is_worked Worked = true
+is_worked state = false
+
+-- what a visit leaves of a hub that stood for one: one that it stands for now, after calls on the connection at its place
+pub record Leaves (place : ℕ) (old new : SightOf) (h : HubOf) : Type 0 where
   pub next : HubOf
   pub events : List Happening
   pub calls : AreCalls events
   pub run : ServingRun h events next
   pub stands : Models new.hub next
-  pub one_reply : (place : ℕ) → HoldsOneReply h place → HoldsOneReply next place
-  pub at_ease : list_any is_working new.slots ≡ false → (place : ℕ) → place < places → IsAtEase (conn_at next place)
-  pub over : (place : ℕ) (slot : Slot) → place < places → slice_get new.slots place ≡ Some slot → IsToldOver next place slot
+  pub one_reply : HoldsOneReply h place → HoldsOneReply next place
+  pub at_ease : (slot : Slot) → slice_get new.slots place ≡ Some slot → is_worked slot.state ≡ false → IsAtEase (conn_at next place)
+  pub over : (slot : Slot) → slice_get new.slots place ≡ Some slot → IsToldOver next place slot
+  pub others : (other : ℕ) → other ≢ place → conn_at next other ≡ conn_at h other
 
--- No more than one reply waits at a place where that was so before the round; a round in which nothing worked leaves each place at rest; and a place
--- whose connection is over is told so.
-abbrev pub RoundLeaves : Type 0
-RoundLeaves = (places : ℕ) (old new : SightOf) (h : HubOf) → Rounds places old new → Models old.hub h → Leaves places old new h
+-- No more than one reply waits at a place where that was so before its visit; one that did nothing leaves the place at ease; a place whose connection is
+-- over is told so; and the connections at all other places are as they were.
+abbrev pub VisitLeaves : Type 0
+VisitLeaves = (place : ℕ) (old new : SightOf) (h : HubOf) → ServesAt place old new → Models old.hub h → Leaves place old new h

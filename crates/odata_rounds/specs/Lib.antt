@@ -1,7 +1,7 @@
 pub mod Peers
 pub mod Comes
 pub mod Visits
-pub mod Rounds
+pub mod Sights
 pub mod Laws
 pub mod Leaves
 pub mod Lives

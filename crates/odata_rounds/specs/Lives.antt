@@ -1,5 +1,5 @@
--- The life of a service over a hub: its rounds, and between them connections that are opened, places that are given back, and other tables.
-use Rattle.std.specs.Prelude.{◌≡◌, ◌≢◌, ⊤, ℕ, List, [], ◌∷◌, ◌++◌, length, slice_set}
+-- The life of a service over a hub: its visits, and between them connections that are opened, places that are given back, and other tables.
+use Rattle.std.specs.Prelude.{◌≡◌, ◌≢◌, ⊤, ℕ, List, [], ◌∷◌, ◌++◌, slice_set}
 use Rattle.table_store.specs.Catalog.{CatalogOf}
 use Rattle.odata_hub.specs.declared.answers.HubFault.{HubFault}
 use Rattle.odata_hub.specs.Connections.{Answer, Done, Opened, Refused}
@@ -10,34 +10,34 @@ use Rattle.odata_rounds.specs.declared.answers.SlotState.TheVariants as became
 use Rattle.odata_rounds.specs.declared.slot.Slot.{Slot}
 use Rattle.odata_rounds.specs.Peers.{WireOf}
 use Rattle.odata_rounds.specs.Visits.{IsHubRun, Moves}
-use Rattle.odata_rounds.specs.Rounds.{Rounds, SightOf}
+use Rattle.odata_rounds.specs.Sights.{ServesAt, SightOf}
 
 -- the slot of a place of which nothing became
 abbrev pub free_slot : Slot
 free_slot = record { state = became.Free }
 
--- what a service does: a round; a connection is opened at a place, or none is; a place is given back; other tables; or nothing of these
+-- what a service does: a visit at a place; a connection is opened at a place, or none is; a place is given back; other tables; or nothing of these
 pub data Deed : Type 0 where
-  Goes : Deed
+  Visits : (place : ℕ) → Deed
   Opens : (place : ℕ) → Deed
   Refuses : (fault : HubFault) → Deed
   Frees : (place : ℕ) (answer : Answer) → Deed
   Reloads : (catalog : CatalogOf) → Deed
   Stands : Deed
 
--- a socket tells of the same bytes as before
-abbrev pub KeepsBytes : WireOf → WireOf → Type 0
-KeepsBytes old new = (new.left ≡ old.left) × (new.taken ≡ old.taken)
+-- the same socket is there, and tells of the same bytes as before
+abbrev pub KeepsSocket : WireOf → WireOf → Type 0
+KeepsSocket old new = (new.socket ≡ old.socket) × (new.left ≡ old.left) × (new.taken ≡ old.taken)
 
--- what is kept of each place, and what each socket tells, are as they were
+-- what is kept of each place, and each socket with what it tells, are as they were
 pub record KeepsAll (old new : SightOf) : Type 0 where
   pub slots : new.slots ≡ old.slots
-  pub bytes : (place : ℕ) → KeepsBytes (old.wires place) (new.wires place)
+  pub sockets : (place : ℕ) → KeepsSocket (old.wires place) (new.wires place)
 
 -- a place is cleared, which may have another socket now; all other places are as they were
 pub record Clears (place : ℕ) (old new : SightOf) : Type 0 where
   pub slots : new.slots ≡ slice_set old.slots place free_slot
-  pub bytes : (other : ℕ) → other ≢ place → KeepsBytes (old.wires other) (new.wires other)
+  pub sockets : (other : ℕ) → other ≢ place → KeepsSocket (old.wires other) (new.wires other)
 
 -- no connection is over, lost or failed whose place was not given back
 abbrev pub IsSettledBy : SlotState → Type 0
@@ -52,9 +52,9 @@ abbrev pub AreSettled : List Slot → Type 0
 AreSettled [] = ⊤
 AreSettled (slot ∷ slots) = IsSettledBy slot.state × AreSettled slots
 
--- Each is one step of the hub, or the calls of a round. A round begins only where each place was given back whose connection is over, lost or failed.
+-- Each is one step of the hub, or the calls of a visit. A visit begins only where each place was given back whose connection is over, lost or failed.
 abbrev pub IsDeed : Deed → SightOf → SightOf → Type 0
-IsDeed Goes old new = AreSettled old.slots × Rounds (length old.slots) old new
+IsDeed (Visits place) old new = AreSettled old.slots × ServesAt place old new
 IsDeed (Opens place) old new = IsHubStep old.hub Open (Opened place) new.hub × Clears place old new
 IsDeed (Refuses fault) old new = IsHubStep old.hub Open (Refused fault) new.hub × KeepsAll old new
 IsDeed (Frees place answer) old new = IsHubStep old.hub (Drop place) answer new.hub × Clears place old new
@@ -68,7 +68,7 @@ Lives old (deed ∷ deeds) new = (mid : SightOf) × IsDeed deed old mid × Lives
 
 -- a place is neither taken nor given back
 abbrev pub IsElsewhere : ℕ → Deed → Type 0
-IsElsewhere place Goes = ⊤
+IsElsewhere place (Visits at) = ⊤
 IsElsewhere place (Opens at) = at ≢ place
 IsElsewhere place (Refuses fault) = ⊤
 IsElsewhere place (Frees at answer) = at ≢ place

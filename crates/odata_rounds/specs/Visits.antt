@@ -95,9 +95,10 @@ abbrev pub IsReadOut : Option (List ℕ) → Option (List ℕ) → Type 0
 IsReadOut None new = ⊤
 IsReadOut (Some bytes) new = new ≡ Some []
 
--- What moved between a connection and its socket, by the calls on the connection: the socket took the bytes that were taken of the output, in order; the
+-- What moved between a connection and its socket, which stays, by the calls on the connection: the socket took the bytes that were taken of the output, in order; the
 -- pieces are the bytes that were read, each once; and the end was told only where nothing is left to be read.
 pub record Moves (old new : WireOf) (os : List Own) : Type 0 where
+  pub socket : new.socket ≡ old.socket
   pub taken : Appends old.taken new.taken (taken_of os)
   pub left : Consumes old.left new.left (pieces_of os)
   pub ended : input_ended os ≡ true → IsReadOut old.left new.left
@@ -140,6 +141,7 @@ pub record MakesCalls (Kind : Last → List Own → Type 0) (place : ℕ) (old n
   pub kind : Kind last os
   pub run : IsHubRun old (at_place place os) new
   pub output : taken_of os ≡ []
+  pub socket : (next place).socket ≡ (wires place).socket
   pub taken : (next place).taken ≡ (wires place).taken
   pub left : Consumes (wires place).left (next place).left (pieces_of os)
   pub ended : input_ended os ≡ true → IsReadOut (wires place).left (next place).left

@@ -2,7 +2,7 @@
 use crate::scripts::{Peer, Script, Scripts};
 use csvw_meta::Limits;
 use odata_hub::{Conn, Hub};
-use odata_rounds::{Slot, SlotState, round};
+use odata_rounds::{Slot, SlotState, visit_place};
 use std::alloc::{AllocError, Global};
 use std::array;
 use std::rc::Rc;
@@ -101,12 +101,13 @@ fn free_slots() -> [Slot; 8] {
     })
 }
 
-/// Gives the peers rounds, and notes what became of the place of each last. A place whose connection is over or lost is given back.
+/// Goes round the places, each of which has a visit, and notes what became of the place of each peer last. A place whose connection is over or lost is given
+/// back.
 fn play(hub: &mut Hub, slots: &mut [Slot; 8], peers: &mut Scripts<'_>, rounds: u32) {
     let mut room = [0u8; 64];
     for _turn in 0..rounds {
-        round(hub, slots, peers, &mut room);
         for place in 0..PLACES {
+            visit_place(hub, slots, peers, place, &mut room);
             let slot = &mut slots[place as usize];
             if slot.state != SlotState::Free {
                 peers.note(place, slot.state);

@@ -98,7 +98,13 @@ impl<'a> Peers for Scripts<'a> {
     ghost use Rattle.std.specs.Prelude.{◌-◌, ◌^◌, None};
 
     ghost wires = { λ s place.
-        record { left = None; taken = None; waits = 2 ^ 64 - 1; losses = 2 ^ 64 - 1 } };
+        record {
+          socket = None;
+          left = None;
+          taken = None;
+          waits = 2 ^ 64 - 1;
+          losses = 2 ^ 64 - 1;
+        } };
 
     fn write(&mut self, place: u32, bytes: &[u8]) -> Result<usize, PeerFault> {
         match self.peers.get_mut(place as usize) {

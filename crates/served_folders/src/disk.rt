@@ -1,5 +1,5 @@
 //! Folders on a disk. Of `csv-metadata.json`, then of each file that it names, once, and of no other, at most one byte more than the limit of a file is read. What is
-//! no plain file in the place of one is a device that fails.
+//! no plain file in the place of one is a device that fails, before any file of a table is read.
 ghost use Rattle.std.specs.Prelude.{◌≡◌, ◌≢◌, ◌≤◌, ◌+◌, None, IfOk, IfSome, map, string_bytes, vec_len};
 ghost use Rattle.std.specs.IoError.{error_kind};
 ghost use Rattle.csvw_meta.specs.declared.limits.TheConstants.{MOST_FILE_BYTES};
@@ -11,7 +11,7 @@ ghost use Rattle.served_folders.specs.Folders.{greatest_limits, unasked};
 
 use crate::folders::{FolderFault, Folders};
 use crate::names::{METADATA, is_memory, names_of};
-use crate::plain::read_plain;
+use crate::plain::{check_plain, read_plain};
 use csvw_meta::{Limits, Schema, Schemas};
 use std::alloc::{AllocError, Global};
 use std::io::{self, ErrorKind};
@@ -123,6 +123,26 @@ fn named_file(alloc: Global, url: &str, bytes: Vec<u8>) -> Result<NamedFile, All
     Ok(NamedFile { name, bytes })
 }
 
+/// Looks at the files of the tables before the first is read: what is there and is no plain file is a device that fails.
+fn look_at_tables<R: Files>(
+    alloc: Global,
+    files: &R,
+    follows: bool,
+    folder: &str,
+    tables: &[Schema],
+) -> Result<(), TakeFault> {
+    for table in tables {
+        let name = table.url.as_str();
+        let path = format!(in alloc; "{folder}/{name}")?;
+        match check_plain(files, path.as_str(), follows) {
+            Ok(()) => {}
+            Err(error) if error.kind() == ErrorKind::NotFound => {}
+            Err(error) => return Err(device_fault(&error)),
+        }
+    }
+    Ok(())
+}
+
 /// The files of the tables, but those that are missing.
 fn take_tables<R: Files>(
     alloc: Global,
@@ -158,7 +178,11 @@ fn take_named<R: Files>(
         AreFilesIn (schemas_of greatest_limits meta.now) (map file_view files.items)) }
 {
     match Schemas::read(alloc, meta, &Limits::greatest()) {
-        Ok(schemas) => take_tables(alloc, files, follows, folder, schemas.tables.as_slice()),
+        Ok(schemas) => {
+            let tables = schemas.tables.as_slice();
+            look_at_tables(alloc, files, follows, folder, tables)?;
+            take_tables(alloc, files, follows, folder, tables)
+        }
         Err(fault) => {
             if is_memory(&fault) {
                 return Err(TakeFault::NoMemory);

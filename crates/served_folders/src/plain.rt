@@ -33,6 +33,12 @@ pub fn look<R: Files>(files: &R, path: &str, follows: bool) -> io::Result<Metada
     }
 }
 
+/// Fails if what is at a path is no plain file.
+pub(crate) fn check_plain<R: Files>(files: &R, path: &str, follows: bool) -> io::Result<()> {
+    plain(look(files, path, follows)?)?;
+    Ok(())
+}
+
 /// Whether both tell of one file of one device.
 fn is_same(one: &Metadata, other: &Metadata) -> bool {
     one.dev() == other.dev() && one.ino() == other.ino()

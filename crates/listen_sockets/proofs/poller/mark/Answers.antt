@@ -3,7 +3,7 @@ use Rattle.mio.specs.Event.{event_token}
 use Rattle.listen_sockets.specs.Peer.{after_event}
 use Rattle.listen_sockets.specs.Sockets.{tells_listener}
 use Rattle.listen_sockets.proofs.EventLemmas.{leads_first, leads_last, leads_next, same_count, tells_last, tells_next, tells_still}
-use Rattle.listen_sockets.proofs.PlaceLemmas.{keeps_sockets, keeps_streams}
+use Rattle.listen_sockets.proofs.PlaceLemmas.{keeps_sockets, keeps_streams, sockets_stay}
 use Rattle.listen_sockets.proofs.poller.mark.Goals as goal
 
 pub loop-event-init : goal.loop-event-init
@@ -41,4 +41,5 @@ returns c = record {
   marks = leads_last _ _ _ _ c.in-None.ensures.steps.0 c.loop-event.invariant.marks;
   sockets = c.loop-event.invariant.sockets;
   streams = keeps_streams _ _ c.loop-event.invariant.sockets;
+  stay = sockets_stay _ _ c.loop-event.invariant.sockets;
 }

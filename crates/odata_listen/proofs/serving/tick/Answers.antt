@@ -1,12 +1,11 @@
-use Rattle.odata_listen.proofs.ServingLemmas.{on_join, on_kept}
 use Rattle.std.proofs.Common.{refl}
+use Rattle.odata_listen.proofs.ServingLemmas.{on_join, on_kept, on_round}
 use Rattle.odata_listen.proofs.serving.tick.Goals as goal
 
-pub returns-then-worked : goal.returns-then-worked
-returns-then-worked c = on_join _ _ _ (on_join _ _ _ (on_join _ _ _ (on_join _ _ _ (on_kept _ _ (refl, refl)) c.end_all_lost.ensures) c.run_rounds-worked.ensures) c.tend.ensures) c.accept-took.ensures
+pub returns : goal.returns
+returns c =
+    on_join _ _ _ (on_join _ _ _ (on_join _ _ _ (on_join _ _ _ (on_kept _ _ (record { hub = refl; slots = refl; stay = c.wait.ensures.stay }))
+    (on_round _ _ _ _ _ c.run_round-busy.ensures.round)) c.tend.ensures) c.accept-took.ensures) c.look.ensures
 
-pub returns-else-worked : goal.returns-else-worked
-returns-else-worked c = on_join _ _ _ (on_join _ _ _ (on_join _ _ _ (on_join _ _ _ (on_kept _ _ (refl, refl)) c.end_all_lost.ensures) c.run_rounds-worked.ensures) c.tend.ensures) c.accept-took.ensures
-
-pub returns-in_err-now : goal.returns-in_err-now
-returns-in_err-now c = on_kept _ _ (refl, refl)
+pub returns-in_err-wait : goal.returns-in_err-wait
+returns-in_err-wait c = on_kept _ _ (record { hub = refl; slots = refl; stay = c.wait.ensures.stay })

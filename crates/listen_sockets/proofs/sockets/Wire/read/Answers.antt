@@ -3,4 +3,5 @@ use Rattle.listen_sockets.proofs.sockets.Wire.read.Goals as goal
 
 pub returns-clause-read : goal.returns-clause-read
 returns-clause-read c =
-    socket_read _ _ _ _ _ _ _ c.read_peer-answer.ensures.bound c.read_peer-answer.ensures.counts c.count.ensures.counts
+    let read = c.read_peer-answer in
+    socket_read c.args.self.now read.new.self c.count.new.self _ _ read.ensures.bound read.ensures.counts c.count.ensures.counts c.count.ensures.peer

@@ -3,4 +3,6 @@ use Rattle.listen_sockets.proofs.sockets.Wire.write.Goals as goal
 
 pub returns-clause-write : goal.returns-clause-write
 returns-clause-write c =
-    socket_write _ _ _ _ _ _ _ c.write_peer-answer.ensures.bound c.write_peer-answer.ensures.some c.write_peer-answer.ensures.counts c.count.ensures.counts
+    let wrote = c.write_peer-answer in
+    socket_write c.args.self.now wrote.new.self c.count.new.self _ _ wrote.ensures.bound wrote.ensures.some wrote.ensures.counts c.count.ensures.counts
+    c.count.ensures.peer

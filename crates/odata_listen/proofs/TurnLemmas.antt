@@ -1,0 +1,54 @@
+-- Visits and turns, one after another.
+use Rattle.std.proofs.Common.{◌≡◌, ◌+◌, ◌<◌, ◌≤◌, ℕ, suc, Bool, true, false, arith, refl, ap, subst, ◌∙◌, inl, inr}
+use mathlib.Core.Bool.{beq}
+use Rattle.std.specs.Prelude.{◌==◌, MatchBool, not}
+use Rattle.std.proofs.lemmas.Bool.Decides.{eqb_tells}
+use Rattle.listen_sockets.specs.declared.server.Server.{Server}
+use Rattle.listen_sockets.specs.Sockets.{is_heavy_at}
+use Rattle.odata_listen.specs.Turns.{AreVisits, HasTurn, HasTurnOf, Turns, Visited, turn_at}
+
+pub visits_more : (visits now place : ℕ) (a b c : Server) → AreVisits visits now place a b → Visited now place b c → AreVisits (visits + 1) now place a c
+visits_more visits now place a b c v w = let e : visits + 1 ≡ suc visits = omega arith in rw e (b, v, w)
+
+pub turns_more : (turns : ℕ) (heavy kind : Bool) (now places there from at next : ℕ) (a b c : Server) → Turns turns heavy now places from at a b
+    → kind ≡ heavy → there ≡ places → HasTurnOf kind now (turn_at there at) b c → next ≡ turn_at there at + 1
+    → Turns (turns + 1) heavy now places from next a c
+turns_more turns heavy kind now places there from at next a b c t same whole turn on =
+    let P : Bool → Type 0 = λ k. HasTurnOf k now (turn_at places at) b c in
+    let Q : ℕ → Type 0 = λ n. HasTurnOf kind now (turn_at n at) b c in
+    let e : turns + 1 ≡ suc turns = omega arith in
+    rw e (at, b, t, subst P same (subst Q whole turn), on ∙ ap (λ (n : ℕ). turn_at n at + 1) whole)
+
+-- a place has its turn where it is of those that have theirs
+turn_there : (is heavy : Bool) (T E : Type 0) → not (beq is heavy) ≡ false → T → MatchBool is (MatchBool heavy T E) (MatchBool heavy E T)
+turn_there true true T E e t = t
+turn_there true false T E e t = absurd (cc e)
+turn_there false true T E e t = absurd (cc e)
+turn_there false false T E e t = t
+
+turn_elsewhere : (is heavy : Bool) (T E : Type 0) → not (beq is heavy) ≡ true → E → MatchBool is (MatchBool heavy T E) (MatchBool heavy E T)
+turn_elsewhere true true T E n e = absurd (cc n)
+turn_elsewhere true false T E n e = e
+turn_elsewhere false true T E n e = e
+turn_elsewhere false false T E n e = absurd (cc n)
+
+pub has_turn : (told heavy : Bool) (now place at : ℕ) (a b : Server) → told ≡ is_heavy_at a.sockets.wires.items place → not (beq told heavy) ≡ false
+    → HasTurn now place a b → place ≡ at → HasTurnOf heavy now at a b
+has_turn told heavy now place at a b is same t there =
+    let P : ℕ → Type 0 = λ k. HasTurnOf heavy now k a b in
+    let Q : Bool → Type 0 = λ x. MatchBool x (MatchBool heavy (HasTurn now place a b) (b ≡ a)) (MatchBool heavy (b ≡ a) (HasTurn now place a b)) in
+    subst P there (subst Q is (turn_there told heavy (HasTurn now place a b) (b ≡ a) same t))
+
+pub has_none : (told heavy : Bool) (now place at : ℕ) (a : Server) → told ≡ is_heavy_at a.sockets.wires.items place → not (beq told heavy) ≡ true
+    → place ≡ at → HasTurnOf heavy now at a a
+has_none told heavy now place at a is other there =
+    let P : ℕ → Type 0 = λ k. HasTurnOf heavy now k a a in
+    let Q : Bool → Type 0 = λ x. MatchBool x (MatchBool heavy (HasTurn now place a a) (a ≡ a)) (MatchBool heavy (a ≡ a) (HasTurn now place a a)) in
+    subst P there (subst Q is (turn_elsewhere told heavy (HasTurn now place a a) (a ≡ a) other refl))
+
+-- those for whom much was done have their turns once all others had theirs
+pub heavy_after : (left : ℕ) (T E : Type 0) → left ≤ 0 → T → MatchBool (left == 0) T E
+heavy_after left T E h t = elim (eqb_tells left 0) [ inl x ↦ rw x.0 t | inr x ↦ absurd (x.1 (omega (arith, h))) ]
+
+pub heavy_not_yet : (left : ℕ) (T E : Type 0) → 0 < left → E → MatchBool (left == 0) T E
+heavy_not_yet left T E h e = elim (eqb_tells left 0) [ inl x ↦ absurd (omega (arith, h, x.1)) | inr x ↦ rw x.0 e ]

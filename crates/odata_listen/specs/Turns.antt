@@ -1,0 +1,97 @@
+-- The turns of places: how often each is visited, and in which order they have theirs.
+use Rattle.std.specs.Prelude.{◌≡◌, ℕ, zero, suc, ◌+◌, ◌-◌, ◌<◌, ◌≤◌, ◌==◌, Bool, true, false, MatchBool, nat_lt, if◌then◌else◌}
+use Rattle.odata_rounds.specs.Sights.{VisitsAt}
+use Rattle.listen_sockets.specs.declared.server.Server.{Server}
+use Rattle.listen_sockets.specs.Peer.{after_charge}
+use Rattle.listen_sockets.specs.Server.{state_at}
+use Rattle.listen_sockets.specs.Sights.{sight_of}
+use Rattle.listen_sockets.specs.Sights.{sight_of}
+use Rattle.listen_sockets.specs.Sockets.{ChangesPeer, is_awake_at, is_heavy_at, is_lost_at}
+use Rattle.odata_listen.specs.declared.turns.Circle.{Circle}
+use Rattle.odata_listen.specs.declared.turns.Circles.{Circles}
+use Rattle.odata_listen.specs.Serving.{Frees, IsKept, Settles}
+
+-- what the service worked for the connection at a place is added to what it worked before, whatever that is
+pub record Charges (place : ℕ) (old new : Server) : Type 0 where
+  pub micros : ℕ
+  pub kept : IsKept old new
+  pub sockets : ChangesPeer place (after_charge micros) old.sockets.wires.items new.sockets.wires.items
+
+-- one visit at a place: its connection is charged for it, and what became of the place is settled
+pub record Visited (now place : ℕ) (old new : Server) : Type 0 where
+  pub mid : Server
+  pub visit : VisitsAt place (sight_of old) (sight_of mid)
+  pub charged : Server
+  pub charge : Charges place mid charged
+  pub settles : Settles now (state_at charged.slots.items place) place charged new
+
+-- so many of them, one after another
+abbrev pub AreVisits : ℕ → ℕ → ℕ → Server → Server → Type 0
+AreVisits zero now place old new = new ≡ old
+AreVisits (suc visits) now place old new = (mid : Server) × AreVisits visits now place old mid × Visited now place mid new
+
+-- the most visits of one turn
+abbrev pub most_visits : ℕ
+most_visits = 5
+
+-- a place is visited at least once, and at most so often
+pub record IsVisited (now place : ℕ) (old new : Server) : Type 0 where
+  pub visits : ℕ
+  pub some : 0 < visits
+  pub few : visits ≤ most_visits
+  pub are : AreVisits visits now place old new
+
+-- by whether a place is awake, and its connection lost
+abbrev pub HasTurnBy : Bool → Bool → ℕ → ℕ → Server → Server → Type 0
+HasTurnBy false lost now place old new = new ≡ old
+HasTurnBy true true now place old new = Frees place old new
+HasTurnBy true false now place old new = IsVisited now place old new
+
+-- A turn: a place whose connection is lost is given back, another that is awake is visited, and nothing is done at one that is not.
+abbrev pub HasTurn : ℕ → ℕ → Server → Server → Type 0
+HasTurn now place old new = HasTurnBy (is_awake_at old.sockets.wires.items place) (is_lost_at old.sockets.wires.items place) now place old new
+
+-- those have their turn for whom much was done, or the others
+abbrev pub HasTurnOf : Bool → ℕ → ℕ → Server → Server → Type 0
+HasTurnOf heavy now place old new = MatchBool (is_heavy_at old.sockets.wires.items place)
+    (MatchBool heavy (HasTurn now place old new) (new ≡ old)) (MatchBool heavy (new ≡ old) (HasTurn now place old new))
+
+-- the place whose turn it is, of so many in a circle: after the last comes the first
+abbrev pub turn_at : ℕ → ℕ → ℕ
+turn_at places next = if nat_lt next places then next else 0
+
+-- so many places had their turn in order, from one on; and where it goes on
+abbrev pub Turns : ℕ → Bool → ℕ → ℕ → ℕ → ℕ → Server → Server → Type 0
+Turns zero heavy now places from next old new = (next ≡ from) × (new ≡ old)
+Turns (suc turns) heavy now places from next old new =
+    (at : ℕ) × (mid : Server) × Turns turns heavy now places from at old mid × HasTurnOf heavy now (turn_at places at) mid new × (next ≡ turn_at places at + 1)
+
+-- how many places have their turn until all had it: all, where a circle begins
+abbrev pub left_of : ℕ → ℕ → ℕ
+left_of places left = if left == 0 then places else left
+
+-- one place had its turn, and is counted off
+pub record TookTurn (before after : Circle) : Type 0 where
+  pub next : after.next ≡ turn_at before.places before.next + 1
+  pub left : after.left ≡ before.left - 1
+  pub places : after.places ≡ before.places
+  pub kind : after.heavy ≡ before.heavy
+
+-- the places of a circle have their turns from where it was left, each once, and those that had it are counted off
+pub record GoesRound (now : ℕ) (before after : Circle) (old new : Server) : Type 0 where
+  pub turns : ℕ
+  pub are : Turns turns before.heavy now before.places before.next after.next old new
+  pub left : after.left + turns ≡ left_of before.places before.left
+  pub places : after.places ≡ before.places
+  pub kind : after.heavy ≡ before.heavy
+
+-- A round: the places of those who ask for little have their turns, and once all had theirs, the others.
+pub record IsRound (now : ℕ) (before after : Circles) (old new : Server) : Type 0 where
+  pub mid : Server
+  pub light : GoesRound now before.light after.light old mid
+  pub heavy : MatchBool (after.light.left == 0) (GoesRound now before.heavy after.heavy mid new) ((after.heavy ≡ before.heavy) × (new ≡ mid))
+
+-- in both circles each place had its turn
+pub record HadTurns (circles : Circles) : Type 0 where
+  pub light : circles.light.left ≡ 0
+  pub heavy : circles.heavy.left ≡ 0
