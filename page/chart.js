@@ -1,67 +1,38 @@
 /**
- * Groups as bars, each with its name and its number above it. The table beside it says the same in words, so the drawing is one image to a screen reader,
- * with a title and a description.
+ * Draws a line over days. The table below it says the same, so the drawing is one image to a screen reader.
  */
-import { drawing } from "./element.js";
+import { shortText } from "./cell.js";
+import { timeOf } from "./bins.js";
+import { drawing, element } from "./element.js";
 
-const ROW_HEIGHT = 40;
-const TEXT_HEIGHT = 16;
-const BAR_TOP = 22;
-const BAR_HEIGHT = 10;
+const HEIGHT = 160;
+const LEFT = 48;
+const RIGHT = 8;
+const TOP = 12;
+const BOTTOM = 20;
 
-const percent = (share) => `${(100 * share).toFixed(3)}%`;
-
-const nameOf = (value) => {
-    if (value === null) {
-        return "null";
-    }
-    return value === "" ? "empty text" : String(value);
-};
-
-/** The name of a group, and its number as text and as a length. */
-function barsOf(rows, columns) {
-    return rows.map((row) => {
-        const told = row[columns.told.name];
-        return { name: columns.by.map(({ name }) => nameOf(row[name])).join(", "), told, length: Number(told ?? 0) };
-    });
+/** The least and the greatest number of the axis. It may begin above zero if all of the line is far above it: the rules have their numbers. */
+function axisOf(lengths) {
+    const least = Math.min(...lengths);
+    const most = Math.max(...lengths);
+    const step = 10 ** Math.floor(Math.log10(most - least || 1));
+    const low = least > 0 && least < most / 2 ? 0 : Math.floor(least / step) * step;
+    return { low, high: Math.max(Math.ceil(most / step) * step, low + 1) };
 }
 
-/** The least and the greatest length, and nothing, are on the drawing. */
-function scaleOf(bars) {
-    const low = Math.min(0, ...bars.map(({ length }) => length));
-    const high = Math.max(0, ...bars.map(({ length }) => length));
-    return (length) => (high === low ? 0 : (length - low) / (high - low));
-}
-
-function bar({ name, told, length }, at, scale) {
-    const [from, to] = [scale(0), scale(length)].sort((one, other) => one - other);
-    return drawing("g", { class: "bar", "data-row": at },
-        drawing("rect", { class: "row", width: "100%", height: ROW_HEIGHT, y: at * ROW_HEIGHT }),
-        // a drawing in the drawing cuts a long name off where the number begins
-        drawing("svg", { width: "64%", height: ROW_HEIGHT, y: at * ROW_HEIGHT }, drawing("text", { y: TEXT_HEIGHT }, name.replace(/\s+/g, " "))),
-        drawing("text", { x: "100%", y: at * ROW_HEIGHT + TEXT_HEIGHT, "text-anchor": "end" }, told ?? "null"),
-        drawing("rect", { class: "length", x: percent(from), width: percent(to - from), y: at * ROW_HEIGHT + BAR_TOP, height: BAR_HEIGHT }));
-}
-
-const extremesOf = (bars) => {
-    const inOrder = bars.filter(({ told }) => told !== null).sort((one, other) => other.length - one.length);
-    if (inOrder.length === 0) {
-        return "No group has a number.";
-    }
-    const [most, least] = [inOrder[0], inOrder.at(-1)];
-    return `The greatest is ${most.name} with ${most.told}, the least ${least.name} with ${least.told}.`;
-};
-
-/** A drawing of groups; nothing where what is told of them are no numbers. */
-export function chartOf(rows, columns) {
-    if (!["integer", "decimal"].includes(columns.told.type) || rows.length === 0) {
-        return null;
-    }
-    const bars = barsOf(rows, columns);
-    const scale = scaleOf(bars);
-    const words = `${columns.told.title} by ${columns.by.map(({ title }) => title).join(" and ")}`;
-    return drawing("svg", { role: "img", "aria-labelledby": "chart-title chart-description", width: "100%", height: bars.length * ROW_HEIGHT },
-        drawing("title", { id: "chart-title" }, words),
-        drawing("desc", { id: "chart-description" }, `${bars.length} bars. ${extremesOf(bars)}`),
-        ...bars.map((one, at) => bar(one, at, scale)));
+/** Returns the line of groups by days, months or years, in their order. */
+export function lineChart(groups, words, width) {
+    const points = groups.filter(({ values, shown }) => values[0] !== null && shown !== null)
+        .map(({ values: [day], length }) => ({ day, at: timeOf(day.padEnd(10, "-01")), length }));
+    const [first, last] = [points[0], points.at(-1)];
+    const { low, high } = axisOf(points.map(({ length }) => length));
+    const x = (at) => LEFT + ((width - LEFT - RIGHT) * (at - first.at)) / (last.at - first.at || 1);
+    const y = (length) => HEIGHT - BOTTOM - ((HEIGHT - TOP - BOTTOM) * (length - low)) / (high - low);
+    const rules = [low, (low + high) / 2, high].flatMap((length) => [
+        drawing("line", { class: "rule", x1: LEFT, x2: width, y1: y(length), y2: y(length) }),
+        drawing("text", { x: LEFT - 6, y: y(length) + 4, "text-anchor": "end" }, shortText(length))]);
+    const ends = [[first, "start"], [last, "end"]].map(([{ day, at }, anchor]) => drawing("text", { x: x(at), y: HEIGHT - 3, "text-anchor": anchor }, day));
+    const line = drawing("polyline", { points: points.map(({ at, length }) => `${x(at).toFixed(1)},${y(length).toFixed(1)}`).join(" ") });
+    return element("figure", { class: "line-chart" },
+        drawing("svg", { viewBox: `0 0 ${width} ${HEIGHT}`, role: "img", "aria-label": `${words}, from ${first.day} to ${last.day}` }, ...rules, ...ends, line));
 }

@@ -1,34 +1,41 @@
 /**
- * The requests to the service, which stands where the page stands.
+ * Makes the requests to the service, which is where the page is. Replies are kept for ten seconds, as nginx keeps them.
+ * Few requests run at a time, since a server limits them for each client. If it says that there are too many, the request is made again after the time that it names.
  */
 
-/** What a reply of no words of the service means: nginx gives these itself. */
 const WORDS_OF_STATUS = {
-    400: "the request cannot be read; perhaps its address is too long",
-    414: "the address is too long",
-    429: "too many requests at once; wait a moment",
+    400: "the request can’t be read; perhaps its address is too long",
+    403: "this server does not give so many rows at once; ask for fewer",
+    414: "the address is too long; use fewer or shorter conditions",
+    429: "too many requests",
     502: "the service does not answer",
-    503: "too many requests at once; wait a moment",
+    503: "the service is busy",
     504: "the service took too long",
 };
-
-/** Where nginx says that there are too many requests, a request is made again, later each time. */
 const BUSY = [429, 503];
 const MOST_TRIES = 5;
 const FIRST_PAUSE = 400;
+const LONGEST_PAUSE = 10_000;
+const KEPT_FOR = 10_000;
+const MOST_KEPT = 1_000_000;
+const LANES = 3;
 
 /** A request that gave nothing to show: the reply's status, and the service's code and message (OData JSON Format, section 21.1). */
 export class Refusal extends Error {
     constructor(status, code, message) {
-        const head = [status, code].filter(Boolean).join(" ");
-        super(head === "" ? message : `${head}: ${message}`);
+        super(message);
+        this.status = status;
         this.code = code;
     }
 }
 
-/** A number keeps each of its digits, as a text: those of the service are greater than JavaScript's, and a text's own digits stand between quotes. */
-function exactJson(text) {
-    return JSON.parse(text.replace(/"[^"\\]*(?:\\.[^"\\]*)*"|-?\d+(?:\.\d+)?/g, (token) => (token.startsWith('"') ? token : `"${token}"`)));
+/** Parses JSON, with each number as a text: the service's digits exceed those of JavaScript's numbers. A text's own digits are between quotes. */
+const exactJson = (text) => JSON.parse(text.replace(/"[^"\\]*(?:\\.[^"\\]*)*"|-?\d+(?:\.\d+)?/g, (token) => (token.startsWith('"') ? token : `"${token}"`)));
+
+/** The pause before another try, in milliseconds: what the server says, else a longer one each time. */
+function pauseAfter(response, tries) {
+    const seconds = Number(response.headers.get("Retry-After") ?? "");
+    return seconds > 0 ? seconds * 1000 : tries * FIRST_PAUSE;
 }
 
 async function refusalOf(response) {
@@ -37,65 +44,97 @@ async function refusalOf(response) {
         const { code, message } = JSON.parse(text).error;
         return new Refusal(response.status, code, message);
     } catch {
-        return new Refusal(response.status, "", WORDS_OF_STATUS[response.status] ?? "a reply that is not the service's");
+        const words = WORDS_OF_STATUS[response.status] ?? `a reply that is not the service’s (${response.status})`;
+        const seconds = Math.ceil(pauseAfter(response, MOST_TRIES) / 1000);
+        return new Refusal(response.status, "", BUSY.includes(response.status) ? `${words}; try again in ${seconds} seconds` : words);
     }
 }
 
 const pause = (milliseconds, signal) => new Promise((resolve, reject) => {
     setTimeout(resolve, milliseconds);
-    signal.addEventListener("abort", () => reject(signal.reason), { once: true });
+    signal?.addEventListener("abort", () => reject(signal.reason), { once: true });
 });
 
 export class Client {
     #root;
+    #kept = new Map();
+    #running = 0;
+    #waiting = [];
 
-    /** The address under which the service document stands. */
+    /** `root` is the address of the service document. */
     constructor(root) {
         this.#root = root;
     }
 
-    /** The whole address of what stands at an address of the service. */
     whole(address) {
         return new URL(address, this.#root).href;
     }
 
     async #response(address, signal) {
+        while (this.#running >= LANES) {
+            await new Promise((resolve) => this.#waiting.push(resolve));
+        }
+        this.#running += 1;
         try {
+            signal?.throwIfAborted();
             return await fetch(this.whole(address), { signal, headers: { Accept: "application/json, text/plain" } });
         } catch (error) {
-            throw signal.aborted ? error : new Refusal(0, "", "there is no connection to the service");
+            throw signal?.aborted ? signal.reason : new Refusal(0, "", "there is no connection to the service");
+        } finally {
+            this.#running -= 1;
+            this.#waiting.shift()?.();
         }
     }
 
-    async #text(address, signal) {
+    #keep(address, text) {
+        const now = performance.now();
+        for (const [old, { at }] of this.#kept) {
+            if (now - at >= KEPT_FOR) {
+                this.#kept.delete(old);
+            }
+        }
+        if (text.length < MOST_KEPT) {
+            this.#kept.set(address, { text, at: now });
+        }
+    }
+
+    async text(address, signal) {
+        const kept = this.#kept.get(address);
+        if (kept && performance.now() - kept.at < KEPT_FOR) {
+            return kept.text;
+        }
         let response = await this.#response(address, signal);
         for (let tries = 1; BUSY.includes(response.status) && tries < MOST_TRIES; tries += 1) {
-            await pause(tries * FIRST_PAUSE, signal);
+            const milliseconds = pauseAfter(response, tries);
+            if (milliseconds > LONGEST_PAUSE) {
+                break;
+            }
+            await pause(milliseconds, signal);
             response = await this.#response(address, signal);
         }
         if (!response.ok) {
             throw await refusalOf(response);
         }
-        return response.text();
+        const text = await response.text();
+        this.#keep(address, text);
+        return text;
     }
 
-    /** The service document (OData JSON Format, section 5). A browser is given the page at `/`; with an option it is the service that answers. */
-    async document(signal) {
-        return JSON.parse(await this.#text("?$format=json", signal));
+    /**
+     * The service document (OData JSON Format, section 5), and what the publisher says of the tables.
+     * A browser gets the page at `/`, so the document is asked for with an option.
+     */
+    async folder() {
+        const [listing, metadata] = await Promise.all([this.text("?$format=json"), this.text("csv-metadata.json")]);
+        return { listing: JSON.parse(listing), metadata: JSON.parse(metadata) };
     }
 
-    async metadata(signal) {
-        return JSON.parse(await this.#text("csv-metadata.json", signal));
+    async number(address, signal) {
+        return Number(await this.text(address, signal));
     }
 
-    /** The number of rows of a table (URL Conventions, section 4.8). */
-    async count(table, signal) {
-        return Number(await this.#text(`${table.address}/$count`, signal));
-    }
-
-    /** Rows, each an object of its values, and how many there are in all, where that was asked for. Numbers are texts. */
+    /** Rows, each an object of its values. Numbers are texts. */
     async rows(address, signal) {
-        const reply = exactJson(await this.#text(address, signal));
-        return { rows: reply.value, count: "@odata.count" in reply ? Number(reply["@odata.count"]) : null };
+        return exactJson(await this.text(address, signal)).value;
     }
 }

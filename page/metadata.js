@@ -1,44 +1,60 @@
 /**
- * The tables and columns that csv-metadata.json describes (W3C Metadata Vocabulary for Tabular Data, sections 5.3 to 5.7). The service has refused
- * a folder whose metadata is wrong, so it is read here without being checked again. A member that is null is as if it were not there.
+ * Reads what csv-metadata.json says of the folder, its tables and their columns (W3C Metadata Vocabulary for Tabular Data, sections 5.2 to 5.7).
+ * The service has refused a folder with wrong metadata, so nothing is checked again. A member that is `null` is taken as absent.
  */
 
-/** The first title in the reader's language, else in any. Titles are a text, a list of texts, or either by language (section 5.6). */
-function titleOf(titles, languages) {
-    if (titles !== null && typeof titles === "object" && !Array.isArray(titles)) {
-        const found = languages.find((language) => titleOf(titles[language], []) !== null) ?? Object.keys(titles)[0];
-        return titleOf(titles[found], []);
+/** Returns a text in the reader's language from a text, a list, an object by language, or an object with `@value` or a name. */
+function textOf(given, languages) {
+    if (given == null || typeof given === "string") {
+        return given ?? null;
     }
-    return [titles].flat()[0] ?? null;
+    if (Array.isArray(given)) {
+        const found = languages.map((language) => given.find((one) => one?.["@language"] === language)).find(Boolean);
+        return textOf(found ?? given[0], languages);
+    }
+    if (typeof given === "object") {
+        if ("@value" in given || "@id" in given) {
+            return String(given["@value"] ?? given["@id"]);
+        }
+        const name = given["schema:name"] ?? given["foaf:name"];
+        return textOf(name ?? given[languages.find((language) => given[language] != null) ?? Object.keys(given)[0]], languages);
+    }
+    return String(given);
 }
 
-/** The languages of the reader, each with what it is a part of: de-AT, de, and last none of them. */
+/** The languages of the reader, each followed by what it is a part of (de-AT, de), and last the undetermined one. */
 const withParents = (languages) => [...languages.flatMap((language) => [language, language.split("-")[0]]), "und"];
 
-/** A member that is inherited (section 5.7): that of the nearest which has it. */
-const inherited = (name, levels) => levels.map((level) => level[name]).find((value) => value != null);
+/** An inherited member (section 5.7): that of the nearest level which has it. */
+const inherited = (name, levels) => levels.map((level) => level?.[name]).find((value) => value != null);
+
+/** A common property (section 5.8), with any of the prefixes that publishers use. */
+const common = (level, name, languages) => textOf(level[`dc:${name}`] ?? level[`dcterms:${name}`] ?? level[`schema:${name}`], languages);
+
+const FACTS = ["title", "description", "license", "publisher", "source", "modified"];
+
+const factsOf = (level, languages) => Object.fromEntries(FACTS.map((name) => [name, common(level, name, languages)]));
 
 function columnOf(column, levels, keys, languages) {
     const all = [column, ...levels];
     const datatype = inherited("datatype", all) ?? "string";
     return {
         name: column.name,
-        title: titleOf(column.titles ?? null, languages) ?? column.name,
+        title: textOf(column.titles, languages) ?? column.name,
+        description: common(column, "description", languages),
         type: typeof datatype === "string" ? datatype : (datatype.base ?? "string"),
         isKey: keys.includes(column.name),
         isRequired: inherited("required", all) === true,
     };
 }
 
-/** A table of the service, with its columns by their names. */
 class Table {
-    constructor(name, address, columns) {
-        this.name = name;
-        this.address = address;
-        this.columns = columns;
+    constructor(name, address, columns, facts) {
+        Object.assign(this, { name, address, columns, facts });
+        this.title = facts.title ?? name;
     }
 
-    /** A column; one that the table does not have is taken for one of texts, and the service says that it is not there. */
+    /** Returns a column. One that the table lacks is taken as a column of texts, and the service says that there is none. */
     column(name) {
         return this.columns.find((column) => column.name === name) ?? { name, title: name, type: "string" };
     }
@@ -48,19 +64,18 @@ class Table {
     }
 }
 
-/** The columns of each table, by the names of the tables: a table's name is its file's without `.csv`. */
-function columnsByTable(metadata, languages) {
-    const tables = metadata.tables ?? [metadata];
-    return new Map(tables.map((table) => {
-        const schema = table.tableSchema ?? metadata.tableSchema;
-        const keys = [schema.primaryKey ?? []].flat();
-        const columns = schema.columns.map((column) => columnOf(column, [schema, table, metadata], keys, languages));
-        return [table.url.replace(/\.csv$/, ""), columns];
-    }));
-}
-
-/** The tables that the service document lists, in its order, with what the metadata says of each. */
-export function tablesOf(listing, metadata, languages) {
-    const columns = columnsByTable(metadata, withParents(languages));
-    return listing.value.map(({ name, url }) => new Table(name, url, columns.get(name) ?? []));
+/** Returns the folder: what is said of it, and its tables in the order of the service document. */
+export function folderOf({ listing, metadata }, languages) {
+    const spoken = withParents(languages);
+    const facts = factsOf(metadata, spoken);
+    const described = new Map((metadata.tables ?? [metadata]).map((table) => [table.url.replace(/\.csv$/, ""), table]));
+    const tables = listing.value.map(({ name, url }) => {
+        const table = described.get(name);
+        const schema = table?.tableSchema ?? metadata.tableSchema;
+        const keys = [schema?.primaryKey ?? []].flat();
+        const columns = (schema?.columns ?? []).map((column) => columnOf(column, [schema, table, metadata], keys, spoken));
+        const own = table && metadata.tables ? factsOf(table, spoken) : facts;
+        return new Table(name, url, columns, { ...own, license: own.license ?? facts.license, publisher: own.publisher ?? facts.publisher });
+    });
+    return { facts, tables };
 }

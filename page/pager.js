@@ -1,58 +1,53 @@
 /**
- * Which of the rows, or groups, are shown, and the way to the others.
+ * Says which of the rows are shown, and leads to the others.
  */
-import { countText } from "./cell.js";
+import { countOf, countText } from "./cell.js";
 import { PAGE_SIZE } from "./state.js";
 
 const lastSkip = (count) => Math.max(0, Math.floor((count - 1) / PAGE_SIZE) * PAGE_SIZE);
 
-function words(noun, skip, shown, count) {
-    const inAll = count === null ? "" : ` of ${countText(count)}`;
-    if (shown === 0) {
-        return count === 0 ? `No ${noun}` : `No ${noun} this far${inAll}`;
-    }
-    return `${noun[0].toUpperCase()}${noun.slice(1)} ${countText(skip + 1)} to ${countText(skip + shown)}${inAll}`;
-}
+/** Returns how many rows there are, if the page shows it: after a page that is not full there are no more. */
+export const countByRows = (skip, shown) => (shown < PAGE_SIZE && (shown > 0 || skip === 0) ? skip + shown : null);
 
-/** How many there are where the rows tell it: behind a page that is not full there are no more. */
-const countByRows = (skip, shown) => (shown < PAGE_SIZE && (shown > 0 || skip === 0) ? skip + shown : null);
+function rangeText(skip, shown, count) {
+    if (shown === 0) {
+        return "No rows";
+    }
+    return count === shown ? countOf(count, "row") : `${countText(skip + 1)}–${countText(skip + shown)}${count === null ? "" : ` of ${countText(count)} rows`}`;
+}
 
 export class Pager {
     #summary;
+    #group;
     #steps;
 
-    constructor(summary, buttons, change) {
+    constructor(summary, group, change) {
         this.#summary = summary;
-        this.#steps = [...buttons.querySelectorAll("button")].map((button) => ({ button, skip: 0 }));
+        this.#group = group;
+        this.#steps = [...group.querySelectorAll("button")].map((button) => ({ button, skip: 0 }));
         for (const step of this.#steps) {
-            step.button.addEventListener("click", () => {
-                // a button that leads nowhere stays where it is, and keeps the focus
-                if (step.button.getAttribute("aria-disabled") === "false") {
-                    change({ skip: step.skip });
-                }
-            });
+            // a button that leads nowhere stays where it is, and keeps the focus
+            step.button.addEventListener("click", () => step.button.ariaDisabled === "false" && change({ skip: step.skip }));
         }
     }
 
-    /** Shows which rows these are; where their number is not known yet, all but the last are led to. Tells whether it is known. */
-    show(noun, skip, shown, given) {
-        const count = given ?? countByRows(skip, shown);
-        this.#summary.textContent = words(noun, skip, shown, count);
+    /** `count` is null as long as it is not known. */
+    show(skip, shown, count) {
         const last = count === null ? skip + shown : lastSkip(count);
-        const skips = [0, Math.max(0, Math.min(skip - PAGE_SIZE, last)), Math.min(skip + PAGE_SIZE, last), last];
+        const skips = [0, Math.max(0, skip - PAGE_SIZE), skip + PAGE_SIZE, last];
         const leads = [skip > 0, skip > 0, skip < last, skip < last && count !== null];
+        this.#summary.replaceChildren(rangeText(skip, shown, count));
         this.#steps.forEach((step, at) => {
             step.skip = skips[at];
-            step.button.setAttribute("aria-disabled", String(!leads[at]));
+            step.button.ariaDisabled = String(!leads[at]);
         });
-        return count !== null;
+        this.#group.classList.toggle("is-idle", leads.every((lead) => !lead));
     }
 
-    /** Nothing is known of the rows. */
     clear() {
-        this.#summary.textContent = "";
+        this.#summary.replaceChildren();
         for (const { button } of this.#steps) {
-            button.setAttribute("aria-disabled", "true");
+            button.ariaDisabled = "true";
         }
     }
 }

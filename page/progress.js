@@ -1,5 +1,5 @@
 /**
- * What is being asked for. What takes over half a second has a line, with the seconds that went by and a button that stops it.
+ * Shows what is being asked for, if it takes over half a second: with the seconds so far and a button that stops it.
  */
 
 const PATIENCE = 500;
@@ -16,50 +16,44 @@ export class Progress {
     #line;
     #words;
     #seconds;
-    #running = new Set();
+    #timer = 0;
+    #running = null;
 
     constructor(line) {
         this.#line = line;
         this.#words = line.querySelector("[role=status]");
         this.#seconds = line.querySelector(".seconds");
-        line.querySelector("button").addEventListener("click", () => this.#stop());
+        line.querySelector("button").addEventListener("click", () => this.#running?.controller.abort(new Stop()));
     }
 
-    /** The answer of what is asked, which is given the signal of this controller. */
+    /** Runs `ask`, whose requests end when the controller aborts. A newer call takes the line from an older one. */
     async run(words, controller, ask) {
-        const request = { words, controller, since: performance.now() };
-        this.#running.add(request);
-        const timer = setTimeout(() => this.#show(), PATIENCE);
+        const running = { words, controller, since: performance.now() };
+        this.#running = running;
+        this.#show();
         try {
-            return await ask(controller.signal);
+            return await ask();
         } finally {
-            clearTimeout(timer);
-            this.#running.delete(request);
-            this.#show();
+            if (this.#running === running) {
+                this.#running = null;
+                this.#show();
+            }
         }
     }
 
-    #stop() {
-        for (const { controller } of this.#running) {
-            controller.abort(new Stop());
-        }
-    }
-
-    /** The line of the request that runs longest, told anew each second while there is one. */
+    /** Writes the line, and again each second while the request runs. */
     #show() {
-        const [oldest] = this.#running;
-        const elapsed = oldest ? performance.now() - oldest.since : 0;
-        // a timer may come a moment early
-        const isSlow = elapsed > PATIENCE - 10;
-        this.#line.classList.toggle("is-shown", isSlow);
-        this.#line.inert = !isSlow;
-        const words = isSlow ? `Asking for ${oldest.words}` : "";
+        clearTimeout(this.#timer);
+        const elapsed = this.#running ? performance.now() - this.#running.since : 0;
+        const isSlow = elapsed >= PATIENCE;
+        const words = isSlow ? `Asking for ${this.#running.words}` : "";
+        this.#line.hidden = !isSlow;
         if (this.#words.textContent !== words) {
             this.#words.replaceChildren(words);
         }
-        this.#seconds.replaceChildren(isSlow && elapsed >= SECOND ? `${Math.floor(elapsed / SECOND)} s` : "");
-        if (isSlow) {
-            setTimeout(() => this.#show(), SECOND);
+        this.#seconds.replaceChildren(elapsed >= SECOND ? `${Math.floor(elapsed / SECOND)} s` : "");
+        if (this.#running) {
+            this.#timer = setTimeout(() => this.#show(), isSlow ? SECOND : PATIENCE - elapsed + 1);
         }
     }
 }

@@ -1,63 +1,74 @@
 /**
- * The list of tables, each with the number of its rows: beside each view, and with its columns where no table is chosen.
+ * Lists the tables, as a view and as a panel. Both are searched by names, titles, descriptions and columns.
  */
-import { countText, TYPE_WORDS } from "./cell.js";
+import { countOf, countText } from "./cell.js";
 import { element } from "./element.js";
 import { fragmentOf, START } from "./state.js";
 
-/** So many tables are counted at once: a limit of nginx on requests counts these too. */
-const LANES = 4;
+const wordsOf = (text) => text.toLocaleLowerCase().split(/\s+/).filter(Boolean);
 
-const linkOf = (table) => element("a", { href: fragmentOf({ ...START, table: table.name }) }, table.name);
-
-const countPlace = (table) => element("span", { class: "count", "data-count-of": table.name });
-
-function columnWords({ name, title, type, isKey }) {
-    const told = [title === name ? "" : `“${title}”`, TYPE_WORDS[type], isKey ? "key" : ""].filter(Boolean).join(", ");
-    return element("li", {}, element("span", { dir: "auto" }, name), element("small", { dir: "auto" }, told));
+/** Returns a test: whether a table has all of the words. */
+function finder(search) {
+    const words = wordsOf(search);
+    return ({ name, title, facts, columns }) => {
+        const text = [name, title, facts.description ?? "", ...columns.flatMap((column) => [column.name, column.title])].join(" ").toLocaleLowerCase();
+        return words.every((word) => text.includes(word));
+    };
 }
 
-function rowOf(table) {
-    return element("tr", {},
-        element("th", { scope: "row" }, linkOf(table)),
-        element("td", { class: "integer" }, countPlace(table)),
-        element("td", {}, element("ul", { class: "column-list" }, ...table.columns.map(columnWords))));
+const linkOf = ({ name }) => fragmentOf({ ...START, table: name });
+
+function lineOf(table) {
+    const { title, name, facts, columns } = table;
+    const own = title === name ? [] : [" ", element("code", { class: "quiet" }, name)];
+    return element("li", { "data-table": name },
+        element("a", { href: linkOf(table) }, element("span", { class: "table-title", dir: "auto" }, title), ...own),
+        element("span", { class: "table-about", dir: "auto" }, facts.description ?? columns.map((column) => column.title).join(", ")),
+        element("span", { class: "table-columns" }, countOf(columns.length, "column")),
+        element("span", { class: "table-rows" }, "\u00a0"));
 }
 
 export class TableList {
     #list;
-    #tables;
+    #status;
+    #lines;
 
-    constructor(list, overview, tables) {
+    /** Each line asks the counter for its number of rows when it comes into view. */
+    constructor(list, field, status, tables, counter) {
         this.#list = list;
-        this.#tables = tables;
-        list.replaceChildren(...tables.map((table) => element("li", {}, linkOf(table), " ", countPlace(table))));
-        overview.tBodies[0].replaceChildren(...tables.map(rowOf));
+        this.#status = status;
+        this.#lines = tables.map((table) => ({ table, line: lineOf(table) }));
+        const tableOf = new Map(this.#lines.map(({ table, line }) => [line, table]));
+        const seen = new IntersectionObserver((entries) => {
+            for (const { target } of entries.filter(({ isIntersecting }) => isIntersecting)) {
+                seen.unobserve(target);
+                counter.ask(tableOf.get(target), (count) => target.querySelector(".table-rows").replaceChildren(countOf(count, "row")));
+            }
+        });
+        this.#lines.forEach(({ line }) => seen.observe(line));
+        field.addEventListener("input", () => this.show(field.value));
+        this.show("");
     }
 
-    showChosen(name) {
-        for (const link of this.#list.querySelectorAll("a")) {
-            if (link.textContent === name) {
-                link.setAttribute("aria-current", "page");
-            } else {
-                link.removeAttribute("aria-current");
-            }
-        }
+    show(search) {
+        const isFound = finder(search);
+        const found = this.#lines.filter(({ table }) => isFound(table));
+        const all = this.#lines.length;
+        this.#list.replaceChildren(...found.map(({ line }) => line));
+        this.#status.replaceChildren(found.length === all ? countOf(all, "table") : `${countText(found.length)} of ${countOf(all, "table")}`);
     }
+}
 
-    /** Asks for the number of rows of each table; of one that gives none its error's words stand there. */
-    async count(client, progress) {
-        const waiting = [...this.#tables];
-        const controller = new AbortController();
-        const lane = async () => {
-            for (let table = waiting.shift(); table; table = waiting.shift()) {
-                const { name } = table;
-                const words = await client.count(table, controller.signal).then(countText, (error) => error.message);
-                for (const place of document.querySelectorAll(`[data-count-of="${name}"]`)) {
-                    place.textContent = words;
-                }
-            }
-        };
-        await progress.run("the numbers of rows", controller, () => Promise.all(Array.from({ length: LANES }, lane)));
-    }
+/** Returns the same list as names for a panel, to go from one table to another. Nothing is counted for it. */
+export function tableChoices(tables, chosen, counter) {
+    const words = "Search tables";
+    const field = element("input", { type: "search", placeholder: words, "aria-label": words, autocomplete: "off", spellcheck: "false", autofocus: true });
+    const list = element("ul", { class: "choices" });
+    const rowsOf = (name) => (counter.known(name) === undefined ? [] : [element("small", {}, countText(counter.known(name)))]);
+    const show = () => list.replaceChildren(...tables.filter(finder(field.value)).map((table) => element("li", {},
+        element("a", { href: linkOf(table), "aria-current": table.name === chosen ? "page" : null, dir: "auto" }, table.title), ...rowsOf(table.name))));
+    field.addEventListener("input", show);
+    show();
+    const all = element("a", { href: "#" }, `All ${countOf(tables.length, "table")}`);
+    return [element("p", { class: "find" }, field), element("p", { class: "all-tables" }, all), list];
 }

@@ -1,4 +1,4 @@
-"""Counts what is as it should be, and says what is not."""
+"""Counts the checks that pass, and prints those that fail."""
 
 
 class Checks:
@@ -11,3 +11,6 @@ class Checks:
         else:
             self.failed += 1
             print(f"{name}: {came!r:.400}, and not {wanted!r:.400}", flush=True)
+
+    def true(self, name, came):
+        self.equal(name, bool(came), True)

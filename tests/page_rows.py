@@ -1,4 +1,4 @@
-"""The rows of an example as its files have them, and what a person who looks at them would pick, put in order and group: what the page has to show."""
+"""The rows of an example as its files have them, and what is left of them by filters, orders and groups: what the page has to show."""
 
 import csv
 import json
@@ -69,7 +69,7 @@ def tables_of(folder):
 
 
 def text_of(value):
-    """A value as replies have it; null apart."""
+    """A value other than `null` as replies have it."""
     if isinstance(value, bool):
         return str(value).lower()
     if isinstance(value, Decimal):
@@ -79,7 +79,7 @@ def text_of(value):
 
 
 def shown(value):
-    """A value as the page shows it; what has no text of its own stands in brackets."""
+    """A value as the page shows it; what style marks is in brackets."""
     if value is None:
         return "[null]"
     return text_of(value) or "[empty text]"
@@ -93,57 +93,98 @@ def literal(column, value):
     return "'" + value.replace("'", "''") + "'" if column.type == "string" else text_of(value)
 
 
-# Each test of the page: whether a value has it, and how $filter says it.
+# Each test of a chip: whether a value passes with a list of values, and how $filter says it.
 TESTS = {
-    "is": (lambda value, other: value == other, "{0} eq {1}"),
-    "contains": (lambda value, other: other in value, "contains({0},{1})"),
-    "begins": (lambda value, other: value.startswith(other), "startswith({0},{1})"),
-    "ends": (lambda value, other: value.endswith(other), "endswith({0},{1})"),
-    "from": (lambda value, other: value >= other, "{0} ge {1}"),
-    "to": (lambda value, other: value <= other, "{0} le {1}"),
-    "true": (lambda value, other: value is True, "{0} eq true"),
-    "false": (lambda value, other: value is False, "{0} eq false"),
-    "null": (lambda value, other: False, "{0} eq null"),
-    "some": (lambda value, other: True, "{0} ne null"),
+    "is": (lambda value, others: value in others, lambda name, literals: f"{name} eq {literals[0]}" if len(literals) == 1 else f"{name} in ({','.join(literals)})"),
+    "not": (lambda value, others: value not in others, lambda name, literals: f"{name} ne {literals[0]}" if len(literals) == 1 else f"not ({name} in ({','.join(literals)}))"),
+    "contains": (lambda value, others: others[0] in value, lambda name, literals: f"contains({name},{literals[0]})"),
+    "lacks": (lambda value, others: others[0] not in value, lambda name, literals: f"not (contains({name},{literals[0]}))"),
+    "begins": (lambda value, others: value.startswith(others[0]), lambda name, literals: f"startswith({name},{literals[0]})"),
+    "ends": (lambda value, others: value.endswith(others[0]), lambda name, literals: f"endswith({name},{literals[0]})"),
+    "from": (lambda value, others: value >= others[0], lambda name, literals: f"{name} ge {literals[0]}"),
+    "to": (lambda value, others: value <= others[0], lambda name, literals: f"{name} le {literals[0]}"),
+    "range": (lambda value, others: others[0] <= value <= others[1], lambda name, literals: f"{name} ge {literals[0]} and {name} le {literals[1]}"),
+    "span": (lambda value, others: others[0] <= value < others[1], lambda name, literals: f"{name} ge {literals[0]} and {name} lt {literals[1]}"),
 }
 
 
-def passes(test, value, other):
-    """Whether a value has a test; null has that of null alone."""
-    return test == "null" if value is None else TESTS[test][0](value, other)
+def passes(test, value, others):
+    """True if a value passes a test of a chip: `null` equals `null` alone, and differs from all else; of no other test it is true."""
+    if test in ("is", "not"):
+        return (value in others) == (test == "is")
+    return value is not None and TESTS[test][0](value, others)
 
 
-def kept(table, conditions):
-    """The rows that meet conditions, each a column, a test and a value."""
-    return [row for row in table.rows if all(passes(test, row[table.place(column.name)], other) for column, test, other in conditions)]
+def kept(table, chips):
+    """The rows that meet chips, each a column, a test and a list of values."""
+    return [row for row in table.rows if all(passes(test, row[table.place(column.name)], others) for column, test, others in chips)]
 
 
-def filter_text(conditions):
-    return " and ".join(TESTS[test][1].format(column.name, "" if other is None else literal(column, other)) for column, test, other in conditions)
+def literal(column, value):
+    """A value as $filter has it; a decimal always has a point."""
+    if value is None:
+        return "null"
+    if column.type == "string":
+        return "'" + value.replace("'", "''") + "'"
+    text = text_of(value)
+    return f"{text}.0" if column.type == "decimal" and "." not in text else text
+
+
+def filter_text(chips):
+    return " and ".join(TESTS[test][1](column.name, [literal(column, other) for other in others]) for column, test, others in chips)
+
+
+def spellings(text):
+    """The spellings that a search looks for."""
+    return [text, text.lower(), text.upper(), text.title()]
+
+
+def searched(table, text):
+    """The rows that have a text in a column of texts, in any of its spellings."""
+    places = [place for place, column in enumerate(table.columns) if column.type == "string" and nameable(column)]
+    return [row for row in table.rows if any(row[place] is not None and spelling in row[place] for place in places for spelling in spellings(text))]
+
+
+def nameable(column):
+    """True if an expression can name a column: `not` and the like are words of expressions."""
+    return column.name not in ("true", "false", "null", "not")
 
 
 def in_order(rows, place, descending):
-    """Null is the least; rows that are equal stay as they were."""
+    """`null` is the least; rows that are equal stay as they were."""
     ordered = sorted((row for row in rows if row[place] is not None), key=lambda row: row[place], reverse=descending)
     none = [row for row in rows if row[place] is None]
     return ordered + none if descending else none + ordered
 
 
-def told(method, values):
+def computed(method, values):
+    """What a method makes of the values of a group."""
     some = [value for value in values if value is not None]
     if method == "countdistinct":
         return len(set(some))
+    if method == "mean":
+        return Decimal(sum(some)) / len(some)
     return {"sum": sum, "min": min, "max": max}[method](some) if some else None
 
 
-def groups_of(table, by, method, of):
-    """A row for each group, in the order of their first rows: its values, its number of rows, and what a method tells of a column."""
+def fronts_of(values, signs):
+    return tuple(value.isoformat()[:signs] if value is not None else None for value in values)
+
+
+def groups_of(table, by, method, of, signs=0):
+    """The groups as the page shows them: their values, their numbers of rows, and what a method makes of a column. Days are in their order and may be cut to their first
+    signs; other groups have the greatest first. A mean is that of the rows with a value."""
     places = [table.place(column.name) for column in by]
     groups = {}
     for row in table.rows:
-        groups.setdefault(tuple(row[place] for place in places), []).append(row)
+        if method == "mean" and row[table.place(of.name)] is None:
+            continue
+        values = tuple(row[place] for place in places)
+        groups.setdefault(fronts_of(values, signs) if signs else values, []).append(row)
     found = []
     for values, rows in groups.items():
-        more = [] if method == "count" else [told(method, [row[table.place(of.name)] for row in rows])]
+        more = [] if method == "count" else [computed(method, [row[table.place(of.name)] for row in rows])]
         found.append([*values, len(rows), *more])
-    return found
+    if by[0].type == "date":
+        return in_order(found, 0, False)
+    return in_order(in_order(found, len(by), True), len(by) + 1, True) if method == "mean" else in_order(found, -1 % len(found[0]) if found else 0, True)

@@ -2,6 +2,7 @@
 
 import contextlib
 import os
+import re
 import shutil
 import socket
 import subprocess
@@ -44,45 +45,57 @@ class Service:
 
 
 class Proxy:
-    """nginx with the configuration of the examples, of which only the ports, the paths and the limit on requests are replaced."""
+    """nginx with the configuration of the examples, of which only ports, paths and, unless `limited`, the limits for one client are replaced."""
 
-    def __init__(self, work, folder, backend):
+    def __init__(self, work, folder, backend, limited):
         self.port = free_port()
         chain, key = os.path.join(work, "chain.pem"), os.path.join(work, "key.pem")
         words = ["openssl", "req", "-x509", "-newkey", "rsa:2048", "-nodes", "-days", "2", "-subj", f"/CN={NAME}", "-keyout", key, "-out", chain]
         subprocess.run(words, check=True, capture_output=True)
         with open(os.path.join(TOP, "examples/nginx.conf"), encoding="utf-8") as file:
-            text = file.read()
-        for old, new in [
-            ("server 127.0.0.1:8081;", f"server 127.0.0.1:{backend};"),
-            ("listen 443 ssl", f"listen 127.0.0.1:{self.port} ssl"),
-            ("/etc/ssl/magpiecoffer/chain.pem", chain),
-            ("/etc/ssl/magpiecoffer/key.pem", key),
-            ("/var/cache/nginx/magpiecoffer", os.path.join(work, "cache")),
-            ("rate=20r/s", "rate=1000r/s"),
-            ("/usr/local/share/magpiecoffer", TOP),
-            ("/srv/magpiecoffer/current", folder),
-        ]:
-            if text.count(old) != 1:
-                raise ValueError(f"{old!r} does not stand once in examples/nginx.conf")
-            text = text.replace(old, new)
+            text = replaced(file.read(), [
+                (r"127\.0\.0\.1:8081", f"127.0.0.1:{backend}"),
+                (r"listen 443 ssl", f"listen 127.0.0.1:{self.port} ssl"),
+                (r"/etc/ssl/magpiecoffer/chain\.pem", chain),
+                (r"/etc/ssl/magpiecoffer/key\.pem", key),
+                (r"/var/cache/(nginx/)?magpiecoffer", os.path.join(work, "cache")),
+                (r"/usr/local/share/magpiecoffer", TOP),
+                (r"/srv/magpiecoffer/current", folder),
+            ])
+        # the redirection from HTTP has a port that is not tried here
+        text = text.replace("listen 80;", f"listen unix:{work}/redirection;")
+        if not limited:
+            text = re.sub(r"rate=\d+r/s", "rate=1000r/s", text)
+            text = re.sub(r"burst=\d+", "burst=1000", text)
+            text = re.sub(r"(limit_conn \w+) \d+;", r"\1 1000;", text)
         with open(os.path.join(work, "server.conf"), "w", encoding="utf-8") as file:
             file.write(text)
         temporary = "".join(f"{what}_temp_path {work}/{what};" for what in ("client_body", "proxy", "fastcgi", "uwsgi", "scgi"))
         user = "user root;" if os.geteuid() == 0 else ""
         with open(os.path.join(work, "main.conf"), "w", encoding="utf-8") as file:
-            file.write(f"{user} worker_processes 1; pid {work}/pid; events {{}} http {{ access_log off; {temporary} include {work}/server.conf; }}")
+            file.write(f"{user} worker_processes 1; pid {work}/pid; events {{}} http {{ access_log {work}/access.log; {temporary} include {work}/server.conf; }}")
         nginx = shutil.which("nginx", path=os.environ.get("PATH", "") + ":/usr/sbin:/sbin")
-        self.process = subprocess.Popen([nginx, "-p", work, "-e", os.path.join(work, "error.log"), "-c", os.path.join(work, "main.conf"), "-g", "daemon off;"], stderr=subprocess.DEVNULL)
+        self.process = subprocess.Popen(
+            [nginx, "-p", work, "-e", os.path.join(work, "error.log"), "-c", os.path.join(work, "main.conf"), "-g", "daemon off;"], stderr=subprocess.DEVNULL)
         for _ in range(100):
             try:
                 socket.create_connection(("127.0.0.1", self.port), timeout=1).close()
                 return
             except OSError:
                 time.sleep(0.1)
+        raise TimeoutError("nginx does not listen")
 
     def end(self):
         ends(self.process)
+
+
+def replaced(text, pairs):
+    """Replaces each pattern, which has to occur once in the text."""
+    for pattern, new in pairs:
+        text, count = re.subn(pattern, lambda _, new=new: new, text)
+        if count != 1:
+            raise ValueError(f"{pattern!r} occurs {count} times in examples/nginx.conf")
+    return text
 
 
 class Browser:
@@ -135,15 +148,16 @@ class Browser:
         self.settle()
 
     def settle(self):
-        """Waits until nothing is asked for: the browser has told the page of its address, a list of tables stands there, and no rows are on their way."""
+        """Waits until nothing is asked for: the folder is there, and neither rows nor a profile are awaited."""
         is_still = self.driver.execute_async_script("""
             const done = arguments[0];
             const since = performance.now();
             const look = () => {
-                const is_still = document.querySelector('#tables li') !== null && document.querySelector('#summary').getAttribute('aria-busy') !== 'true';
-                if (is_still || performance.now() - since > 20_000) done(is_still); else setTimeout(look, 15);
+                const is_there = document.querySelector('#start:not([hidden]), #table:not([hidden])') !== null;
+                const is_busy = document.querySelector('#table[aria-busy=true], #popup:popover-open .profile[aria-busy=true]');
+                if ((is_there && !is_busy) || performance.now() - since > 20_000) done(is_there && !is_busy); else setTimeout(look, 10);
             };
-            setTimeout(look, 20);
+            setTimeout(look, 15);
         """)
         if not is_still:
             raise TimeoutError(self.driver.current_url)
@@ -167,27 +181,48 @@ class Browser:
         self.find(selector).click()
         self.settle()
 
-    def choose(self, *choices):
-        """Chooses values of selects and types texts into inputs, each by its selector, as a person does one after another."""
+    def press(self, words, within="#popup"):
+        """Clicks the button of these words."""
         self.script("""
-            for (const [selector, value] of arguments[0]) {
-                const input = document.querySelector(selector);
-                input.value = value;
-                input.dispatchEvent(new Event('change', { bubbles: true }));
-                if (input.value !== value) throw new Error(`${selector} has no ${value}`);
-            }
-        """, choices)
+            const button = [...document.querySelectorAll(`${arguments[0]} button`)].find(it => it.textContent === arguments[1] || it.ariaLabel === arguments[1]);
+            if (!button) throw new Error(`no button ${arguments[1]}`);
+            button.click();
+        """, within, words)
+        self.settle()
+
+    def choose(self, selector, value):
+        """Chooses a value of a select, or types a text into a field: by a script, since the keys of the driver have no emoji."""
+        self.script("""
+            const input = document.querySelector(arguments[0]);
+            input.value = arguments[1];
+            if (input.value !== arguments[1]) throw new Error(`${arguments[0]} has no ${arguments[1]}`);
+            input.dispatchEvent(new Event('input', { bubbles: true }));
+            input.dispatchEvent(new Event('change', { bubbles: true }));
+        """, selector, value)
+        self.settle()
 
     def fragment(self):
         return self.script("return location.hash")
 
     def cells(self):
-        """The rows that are shown, as texts; a mark stands in brackets."""
-        return self.script("""return [...document.querySelectorAll('#rows tbody tr')].map(row => [...row.cells].map(cell =>
-            cell.querySelector('.mark') ? `[${cell.textContent}]` : cell.textContent))""")
+        """The rows that are shown, as texts; what style marks is in brackets."""
+        return self.script("""return [...document.querySelectorAll('#rows tbody tr')].map(row => [...row.cells].slice(1, -1).map(cell =>
+            cell.classList.contains('is-null') ? '[null]' : cell.classList.contains('is-empty') ? '[empty text]' : cell.textContent))""")
+
+    def cell(self, row, place):
+        """Clicks a cell; the numbers of rows are a column before the first."""
+        self.script("document.querySelector('#rows tbody').rows[arguments[0]].cells[arguments[1] + 1].click()", row, place)
+        self.settle()
+
+    def chips(self):
+        return self.script("return [...document.querySelectorAll('#chips .chip-words')].map(it => it.textContent)")
 
     def headers(self):
-        return self.script("return [...document.querySelectorAll('#rows thead th')].map(it => it.firstElementChild.matches('button') ? it.firstElementChild.firstChild.data : it.firstChild.data)")
+        return self.script("return [...document.querySelectorAll('#rows thead .words')].map(it => it.textContent)")
+
+    def requests(self):
+        """The requests of the page to the service so far, without its own files."""
+        return self.script("return performance.getEntriesByType('resource').map(it => it.name).filter(it => !it.includes('/page/'))")
 
     def console(self):
         """The lines on the console since it was last asked, but those of Chromium itself on replies that were refused."""
@@ -198,13 +233,14 @@ class Browser:
 
 
 @contextlib.contextmanager
-def stage_of(folder):
-    """The browser before nginx and the service over a folder; all of it ends behind it."""
+def stage_of(folder, limited=False):
+    """The browser before nginx and the service over a folder; all of it ends with the block. `limited` keeps the limits for one client."""
     with tempfile.TemporaryDirectory(prefix="page-") as work, contextlib.ExitStack() as ends_last:
         service = Service(folder)
         ends_last.callback(service.end)
-        proxy = Proxy(work, folder, service.port)
+        proxy = Proxy(work, folder, service.port, limited)
         ends_last.callback(proxy.end)
         browser = Browser(proxy.port, work)
         ends_last.callback(browser.end)
+        browser.service = f"http://127.0.0.1:{service.port}/"
         yield browser
