@@ -278,7 +278,8 @@ class Writer:
         other = draw.choice(["Integer", "Decimal"]) if kind in ("Integer", "Decimal") and draw.random() < 0.3 else kind
         if what < 9:
             return (draw.choice(COMPARISONS), self.tree(kind, depth), self.tree(other, depth))
-        return ("in", self.tree(kind, depth), [self.item(draw.choice([kind, other])) for _ in range(draw.randrange(1, 5))])
+        count = draw.randrange(5, draw.choice([20, 60, 501])) if draw.random() < 0.2 else draw.randrange(1, 5)
+        return ("in", self.tree(kind, depth), [self.item(draw.choice([kind, other])) for _ in range(count)])
 
     def item(self, kind):
         """A literal of a list, a number perhaps with `-` before it."""

@@ -6,3 +6,4 @@ pub mod TruthLemmas
 pub mod ArithmeticLemmas
 pub mod BoundLemmas
 pub mod PackedLemmas
+pub mod PartLemmas

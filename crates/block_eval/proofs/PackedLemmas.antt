@@ -28,7 +28,7 @@ use Rattle.block_eval.specs.Columns.{type_of_kind, IsRowAt}
 use Rattle.block_eval.specs.Lanes.{comparison, AreOutcomes, GivesTruths, HasTruths}
 use Rattle.block_eval.specs.declared.packed.ColumnTest.{ColumnTest}
 use Rattle.block_eval.specs.Packed.{ComparesPacked, HasNumbersAt, AreNumbersCompared}
-use Rattle.summary_eval.specs.Known.{comparison_of}
+use Rattle.summary_eval.specs.Known.{comparison_of, IsConstantNumber}
 use Rattle.block_eval.proofs.LogicLemmas.{all-gives}
 use Rattle.block_eval.proofs.NumberLemmas.{kind-cell}
 
@@ -130,12 +130,11 @@ packed-gives o f g columns wanted numbers l ts size left right has =
     ∙ ap (both (comparison o) (Some (get_or numbers row None))) (right cells))
 
 pub numbers-outcomes : (o : ComparisonOperator) (a b : NumberExprOf) (k : NumberKind) (type : PackedType) (place : ℕ) (l : ℤ) (test : ColumnTest) (columns : List Column) (rows : ℕ) (wanted : List Bool) (ts : List Truth)
-    → a ≡ typed.number_column k place → b ≡ typed.number_literal l → type ≡ type_of_kind k → ComparesPacked test columns rows ts → test ≡ record { operator = o; place = place; packed_type = type; number = l }
+    → a ≡ typed.number_column k place → IsConstantNumber b (Some l) → type ≡ type_of_kind k → ComparesPacked test columns rows ts → test ≡ record { operator = o; place = place; packed_type = type; number = l }
     → length wanted ≡ rows → AreOutcomes (typed.compare_numbers o a b) columns wanted ts
-numbers-outcomes o a b k type place l test columns rows wanted ts e f same given test_is size =
+numbers-outcomes o a b k type place l test columns rows wanted ts e constant same given test_is size =
     let is = subst (λ t. ComparesPacked t columns rows ts) test_is given in
     let stand = subst (λ t. HasNumbersAt columns place t is.numbers) same is.stand in
     subst (λ x. AreOutcomes (typed.compare_numbers o x b) columns wanted ts) (sym e)
-    (subst (λ y. AreOutcomes (typed.compare_numbers o (typed.number_column k place) y) columns wanted ts) (sym f)
-    (packed-gives o (number_outcome (typed.number_column k place)) (number_outcome (typed.number_literal l)) columns wanted is.numbers l ts (size ∙ sym is.long)
-    (λ row cells at. numbers-packed columns k place row is.numbers cells stand at) (λ cells. refl) is.passed))
+    (packed-gives o (number_outcome (typed.number_column k place)) (number_outcome b) columns wanted is.numbers l ts (size ∙ sym is.long)
+    (λ row cells at. numbers-packed columns k place row is.numbers cells stand at) constant is.passed)

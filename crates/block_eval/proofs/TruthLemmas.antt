@@ -1,5 +1,5 @@
 -- Truths as values on the rows that are wanted.
-use Rattle.std.proofs.Common.{◌≡◌, ◌<◌, ℕ, Bool, true, false, Option, Some, List, length, map, refl, sym, ap, ◌∙◌, arith}
+use Rattle.std.proofs.Common.{◌≡◌, ◌<◌, ℕ, Bool, true, false, Option, None, Some, List, length, map, refl, sym, ap, ◌∙◌, arith}
 use Rattle.std.specs.Prelude.{ℤ, option_map}
 use Rattle.std.specs.Ordering.{bool_cmp, int_cmp}
 use Rattle.block_summary.specs.Ranges.{RangeOf}
@@ -11,6 +11,7 @@ use Rattle.row_eval.specs.Logic.{option_of_truth, truth_of}
 use Rattle.row_eval.specs.Outcome.{both}
 use Rattle.block_eval.specs.declared.columns.Column.{Column}
 use Rattle.block_lanes.specs.declared.numbers.Numbers.{Numbers}
+use Rattle.block_eval.specs.Items.{AreFoundAmong}
 use Rattle.block_eval.specs.Lanes.{comparison, number_lane, truth_lane, GivesTruthsWithin, HasTruths}
 use Rattle.block_eval.specs.Truths.{number_of_truth, truth_comparison, AreTruthNumbers}
 use Rattle.block_eval.proofs.ListLemmas.{among-map, compared-map}
@@ -39,13 +40,12 @@ numbers-compared o ls rs ts a b rows l r left right has = record {
   long = has.long;
 }
 
-pub numbers-among : (xs ts : List Truth) (v : Numbers) (items : List (Option Bool)) (numbers : List (Option ℤ)) (rows : ℕ) → length xs ≡ rows → AreTruthNumbers xs v → numbers ≡ map (option_map number_of_truth) items
-    → HasTruths rows (λ row. truth_of (is_among int_cmp (number_lane v row) numbers)) ts → HasTruths rows (λ row. truth_among items (truth_lane xs row)) ts
-numbers-among xs ts v items numbers rows l are e has = record {
+pub numbers-among : (xs ts : List Truth) (v : Numbers) (items : List (Option Bool)) (numbers : List (Option ℤ)) → AreTruthNumbers xs v → numbers ≡ map (option_map number_of_truth) items
+    → AreFoundAmong (record { numbers = v; bounds = None }) numbers (length xs) ts → HasTruths (length xs) (λ row. truth_among items (truth_lane xs row)) ts
+numbers-among xs ts v items numbers are e has = record {
   each = λ row h.
-      let inside : row < length xs = omega (arith, h, l) in
-      has.each row h
-      ∙ ap (λ x. truth_of (is_among int_cmp x numbers)) (are.each row inside)
+      has.each row h tt
+      ∙ ap (λ x. truth_of (is_among int_cmp x numbers)) (are.each row h)
       ∙ ap (λ ns. truth_of (is_among int_cmp (option_map number_of_truth (option_of_truth (truth_lane xs row))) ns)) e
       ∙ ap truth_of (among-map number_of_truth bool_cmp int_cmp truth-order (option_of_truth (truth_lane xs row)) items);
   long = has.long;

@@ -10,4 +10,6 @@ pub mod Lanes
 pub mod Bounded
 pub mod Texts
 pub mod Packed
+pub mod Items
+pub mod Parts
 pub mod Truths

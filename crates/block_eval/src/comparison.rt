@@ -10,6 +10,7 @@ use crate::packed::{ColumnTest, compare_packed, type_of_kind};
 use block_lanes::{Fallback, compare};
 use row_eval::Truth;
 use std::alloc::Global;
+use summary_eval::constant_number;
 use typed_trees::{ComparisonOperator, NumberExpr};
 
 /// Whether a comparison holds between numbers, on the wanted rows of a block.
@@ -25,12 +26,12 @@ pub fn compare_numbers(
         truths.items) }
 {
     let WantedRows { columns, wanted } = rows;
-    if let (NumberExpr::Column(kind, place), NumberExpr::Literal(number)) = (left, right) {
+    if let (NumberExpr::Column(kind, place), Some(Some(number))) = (left, constant_number(right)) {
         let test = ColumnTest {
             operator,
             place: *place,
             packed_type: type_of_kind(*kind),
-            number: *number,
+            number,
         };
         if let Some(truths) = compare_packed(alloc, test, columns, wanted.len())? {
             return Ok(truths);

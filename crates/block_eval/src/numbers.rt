@@ -10,6 +10,7 @@ ghost use Rattle.block_eval.specs.Lanes.{AreNumbers};
 use crate::bounded::{Bounded, constant, join_bounded, nulls, same};
 use crate::columns::Column;
 use crate::packed::{are_same, type_of_kind};
+use crate::parts::parts_in;
 use block_lanes::{Fallback, Numbers, cells};
 use std::alloc::Global;
 use typed_trees::{ArithmeticOperator, MILLIONTHS, NumberExpr, NumberKind};
@@ -38,7 +39,7 @@ fn numbers_at<'a>(
 }
 
 /// The numbers of an expression on the wanted rows of a block, with their bounds.
-fn bounded_numbers<'a>(
+pub fn bounded_numbers<'a>(
     alloc: Global,
     expr: &NumberExpr,
     columns: &[Column<'a>],
@@ -72,6 +73,7 @@ fn bounded_numbers<'a>(
             let scaled = join_bounded(alloc, ArithmeticOperator::Mul, &numbers, &unit, wanted)?;
             Ok(scaled)
         }
+        NumberExpr::PartOf(part, date) => parts_in(alloc, *part, date, columns, wanted),
         _ => Err(Fallback::Rows),
     }
 }

@@ -47,7 +47,7 @@ pub fn are_same(given: PackedType, asked: PackedType) -> bool
     }
 }
 
-/// The column at a place, where it is packed, has numbers of this type, and so many rows.
+/// Returns the column at a place if it is packed, has numbers of this type and `rows` rows.
 fn packed_in<'a>(
     columns: &[Column<'a>],
     place: usize,
@@ -95,7 +95,7 @@ fn truths_of_column(
     Ok(truths)
 }
 
-/// Whether a test holds on each of so many rows; nothing where its column is not packed, has numbers of another type, or its number has no 64 bits.
+/// Returns whether a test holds on each row; `None` if its column is not packed, has numbers of another type, or its number has no 64 bits.
 pub fn compare_packed(
     alloc: Global,
     test: ColumnTest,

@@ -9,15 +9,16 @@ ghost use Rattle.block_eval.specs.Columns.{number_at};
 ghost use Rattle.block_eval.specs.Lanes.{truth_lane, GivesTruths, HasTruths};
 ghost use Rattle.block_eval.specs.Truths.{number_of_truth, truth_comparison, AreTruthNumbers};
 
+use crate::bounded::Bounded;
 use crate::columns::Column;
-use crate::lists::among;
+use crate::items::among;
 use block_lanes::{Fallback, Numbers, compare, truths_of};
 use block_summary::PackedType;
 use row_eval::Truth;
-use std::alloc::Global;
+use std::alloc::{AllocError, Global};
 use typed_trees::ComparisonOperator;
 
-/// The number of a truth value.
+/// Returns the number of a boolean.
 #[inline(always)]
 fn number_of(value: bool) -> i64
     ensures { result ≡ number_of_truth value }
@@ -49,24 +50,22 @@ fn truth_numbers<'a>(alloc: Global, truths: &[Truth]) -> Result<Numbers<'a>, Fal
 }
 
 /// The number of an item.
-fn truth_item(item: Option<bool>) -> Option<i64>
+fn truth_item(item: Option<bool>) -> Option<i128>
     ensures { result ≡ option_map number_of_truth item }
 {
     match item {
-        Some(value) => Some(number_of(value)),
+        Some(value) => Some(i128::from(number_of(value))),
         None => None,
     }
 }
 
 /// The numbers of the items.
-fn truth_items(alloc: Global, items: &[Option<bool>]) -> Result<Vec<Option<i64>>, Fallback>
+fn truth_items(alloc: Global, items: &[Option<bool>]) -> Result<Vec<Option<i128>>, AllocError>
     ensures { IfOk result (λ numbers. numbers.items ≡ map (option_map number_of_truth) items.now) }
 {
     let mut numbers = Vec::with_capacity(alloc, items.len())?;
     for item in items {
-        if numbers.push(truth_item(*item)).is_err() {
-            return Err(Fallback::NoMemory);
-        }
+        numbers.push(truth_item(*item))?;
     }
     Ok(numbers)
 }
@@ -102,6 +101,10 @@ pub fn truths_among(
 {
     let items = truth_items(alloc, items)?;
     let numbers = truth_numbers(alloc, truths)?;
+    let numbers = Bounded {
+        numbers,
+        bounds: None,
+    };
     let found = among(alloc, &numbers, items.as_slice(), truths.len())?;
     Ok(found)
 }

@@ -6,7 +6,7 @@ use Rattle.std.proofs.lemmas.Bool.{false≢true}
 use Rattle.std.proofs.lemmas.List.{get_or_append_left, length-append, length-map}
 use Rattle.std.proofs.lemmas.List.Elements.{All-from_recursion, filter-append}
 use Rattle.std.proofs.lemmas.List.Folds.{list_any_at}
-use Rattle.cell_types.specs.Value.{CellValue, null, value_view}
+use Rattle.cell_types.specs.Value.{CellValue, value_view}
 use Rattle.key_places.specs.Places.{insert_key}
 use Rattle.odata_query.specs.declared.aggregate.Aggregate.{Aggregate}
 use Rattle.query_meaning.specs.Apply.{group_values, rows_of_group, same_values, values_at}
@@ -18,7 +18,7 @@ use Rattle.row_groups.specs.Tallies.{FitsAll}
 use Rattle.row_groups.proofs.FitLemmas.{all_fit_kept}
 use Rattle.row_groups.proofs.GatheredLemmas.{AreOneType, OfPart, views}
 use Rattle.row_groups.proofs.GroupLemmas.{same_self}
-use Rattle.row_groups.proofs.ListLemmas.{zip_at, zip_long}
+use Rattle.row_groups.proofs.ListLemmas.{zip_long}
 use Rattle.row_groups.proofs.PartLemmas.{part_rows}
 
 module _ {X A B : Type 0} (R : A → B → Type 0) (f : X → A) where
@@ -109,28 +109,11 @@ known_put P (o ∷ known) zero g is all (suc c) = all (suc c)
 known_put P (o ∷ known) (suc code) g is all zero = all zero
 known_put P (o ∷ known) (suc code) g is all (suc c) = known_put (λ d. P (suc d)) known code g is (λ d. all (suc d)) c
 
-pub known_more : (old new : Groups) (value_of : ℕ → CellValue) (known : List (Option ℕ)) (code g : ℕ) → ((k : List CellValue) (h : ℕ) → IsGroupOf old k h → IsGroupOf new k h)
-    → IsGroupOf new (value_of code ∷ []) g → ((c : ℕ) → IfSome (get_or known c None) (IsGroupOf old (value_of c ∷ [])))
-    → (c : ℕ) → IfSome (get_or (slice_set known code (Some g)) c None) (IsGroupOf new (value_of c ∷ []))
-known_more old new value_of known code g keep is all = known_put (λ c. IsGroupOf new (value_of c ∷ [])) known code g is
-    (λ c. some_each (IsGroupOf old (value_of c ∷ [])) (IsGroupOf new (value_of c ∷ [])) (keep (value_of c ∷ [])) (get_or known c None) (all c))
-
--- the value of a row by which it is grouped alone
-pub one_place : (places : List ℕ) (row : List CellValue) → length places ≡ 1 → values_at places row ≡ get_or row (get_or places 0 0) null ∷ []
-one_place [] row e = absurd (omega (arith, e))
-one_place (p ∷ []) row e = refl
-one_place (p ∷ q ∷ ps) row e = absurd (omega (arith, e))
-
--- is that of its code
-pub value_here : (places : List ℕ) (rows : List (List CellValue)) (codes : List ℕ) (value_of : ℕ → CellValue) (number : ℕ) → length places ≡ 1 → number < length codes
-    → AllZip (λ row code. get_or row (get_or places 0 0) null ≡ value_of code) rows codes → values_at places (get_or rows number []) ≡ value_of (get_or codes number 0) ∷ []
-value_here places rows codes value_of number one less zip =
-    one_place places (get_or rows number []) one
-    ∙ ap (λ v. v ∷ []) (zip_at (λ row code. get_or row (get_or places 0 0) null ≡ value_of code) rows codes number [] 0 zip less)
-
-pub known_here : (groups : Groups) (value_of : ℕ → CellValue) (values : List CellValue) (code : ℕ) (o : Option ℕ) → values ≡ value_of code ∷ []
-    → IfSome o (IsGroupOf groups (value_of code ∷ [])) → IfSome o (IsGroupOf groups values)
-known_here groups value_of values code o is all = subst (λ vs. IfSome o (IsGroupOf groups vs)) (sym is) all
+pub known_more : (old new : Groups) (values_of : ℕ → List CellValue) (known : List (Option ℕ)) (code g : ℕ) → ((k : List CellValue) (h : ℕ) → IsGroupOf old k h → IsGroupOf new k h)
+    → IsGroupOf new (values_of code) g → ((c : ℕ) → IfSome (get_or known c None) (IsGroupOf old (values_of c)))
+    → (c : ℕ) → IfSome (get_or (slice_set known code (Some g)) c None) (IsGroupOf new (values_of c))
+known_more old new values_of known code g keep is all = known_put (λ c. IsGroupOf new (values_of c)) known code g is
+    (λ c. some_each (IsGroupOf old (values_of c)) (IsGroupOf new (values_of c)) (keep (values_of c)) (get_or known c None) (all c))
 
 -- ---- rows by their groups
 

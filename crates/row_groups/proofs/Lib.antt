@@ -10,5 +10,6 @@ pub mod GatheredLemmas
 pub mod JoinLemmas
 pub mod PartLemmas
 pub mod BegunLemmas
+pub mod CodeLemmas
 pub mod KeptLemmas
 pub mod EndLemmas

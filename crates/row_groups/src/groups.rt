@@ -154,7 +154,7 @@ impl Groups {
         }
     }
 
-    /// A row for each group: its values, so many, and what is computed of its rows.
+    /// Returns a row for each group: its values, and what is computed of its rows.
     pub(crate) fn rows(
         &self,
         alloc: Global,

@@ -20,7 +20,7 @@ use row_columns::Columns;
 /// Of fewer rows than this part of all, it is not worth while to ask how their column is kept.
 const SMALL_PART: usize = 16;
 
-/// Whether these are the numbers of so many rows, all of them and in their order. All are looked at, so that it runs in lanes.
+/// True if these are the numbers of the first `rows` rows, all of them and in order. Looks at all, so that it runs in lanes.
 fn are_all(numbers: &[usize], len: usize) -> bool
     ensures { IsTrue result → (rows : List (List CellValue)) → length rows ≡ len
         → numbered numbers.now rows ≡ rows }

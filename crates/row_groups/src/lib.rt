@@ -3,6 +3,7 @@
 //! what the definitions compute of the list of all rows.
 #![tactic(auto)]
 
+mod codes;
 mod computed;
 mod gathering;
 mod groups;

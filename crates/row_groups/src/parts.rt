@@ -7,6 +7,7 @@ ghost use Rattle.row_columns.specs.Picked.{numbered};
 ghost use Rattle.row_groups.specs.Gathered.{HasGroupMore, IsGroupOf};
 ghost use Rattle.row_groups.specs.Parts.{AreGroupsOf, ArePartsFrom, BeginsGroups, JoinsParts, MayJoinParts};
 
+use crate::codes::key_codes;
 use crate::groups::{Grouping, Groups};
 use crate::tallies::join_each;
 use cell_types::Value;
@@ -17,9 +18,6 @@ use std::alloc::{AllocError, Global};
 /// Where there are no more groups than that, rows are parted by them before they join.
 const MOST_PARTS: usize = 1024;
 
-/// Codes are less.
-const CODES: usize = 256;
-
 /// A row of columns.
 #[derive(Clone, Copy)]
 struct RowAt<'a> {
@@ -28,7 +26,7 @@ struct RowAt<'a> {
 }
 
 impl Groups {
-    /// The groups of the rows with these numbers, each looked up by the code of its value, where there are such codes and few groups.
+    /// The groups of the rows with these numbers, each looked up by the code of its values, where there are such codes and few groups.
     pub(crate) fn groups_of(
         &mut self,
         alloc: Global,
@@ -46,18 +44,20 @@ impl Groups {
             (numbered numbers.now columns.now.rows))) }
     {
         cell_types::values_are_ordered();
-        if grouping.places.len() != 1 || self.keys.len() > MOST_PARTS {
+        if self.keys.len() > MOST_PARTS {
             return Ok(None);
         }
-        let Some(codes) = columns.codes(alloc, grouping.places[0])? else {
+        let Some(codes) = key_codes(alloc, columns, numbers, grouping.places)? else {
             return Ok(None);
         };
         let mut groups = Vec::with_capacity(alloc, numbers.len())?;
-        let mut known = none_known(alloc)?;
-        for number in numbers {
-            let number = *number;
-            let code = codes[number] as usize;
-            let row = RowAt { columns, number };
+        let mut known = none_known(alloc, codes.count)?;
+        for i in 0..numbers.len() {
+            let code = usize::from(codes.codes[i]);
+            let row = RowAt {
+                columns,
+                number: numbers[i],
+            };
             let group = self.group_of_row(alloc, row, grouping, &mut known[code])?;
             groups.push(group)?;
         }
@@ -163,7 +163,7 @@ fn key_of<'a>(
     Ok(key)
 }
 
-/// The numbers of the rows of each of so many groups.
+/// Returns the numbers of the rows of each group.
 pub(crate) fn parts_of(
     alloc: Global,
     len: usize,
@@ -183,20 +183,20 @@ pub(crate) fn parts_of(
     Ok(parts)
 }
 
-/// No group is known of any code.
-fn none_known(alloc: Global) -> Result<Vec<Option<usize>>, AllocError>
-    ensures long { IfOk result (λ known. length known.items ≡ 256) }
+/// No group is known of any of so many codes.
+fn none_known(alloc: Global, count: usize) -> Result<Vec<Option<usize>>, AllocError>
+    ensures long { IfOk result (λ known. length known.items ≡ count) }
     ensures none { IfOk result (λ known.
         (code : ℕ) → slice_index_or known.items code None ≡ None) }
 {
-    let mut known = Vec::with_capacity(alloc, CODES)?;
-    for _ in 0..CODES {
+    let mut known = Vec::with_capacity(alloc, count)?;
+    for _ in 0..count {
         known.push(None)?;
     }
     Ok(known)
 }
 
-/// So many parts, without rows, each with room for so many.
+/// Returns parts without rows, each with room.
 fn no_parts(alloc: Global, len: usize, room: usize) -> Result<Vec<Vec<usize>>, AllocError>
     ensures long { IfOk result (λ parts. length parts.items ≡ len) }
     ensures none { IfOk result (λ parts.

@@ -1,4 +1,4 @@
-use Rattle.std.proofs.Common.{refl, ap, ◌∙◌}
+use Rattle.std.proofs.Common.{refl, ◌∙◌}
 use Rattle.block_eval.specs.declared.columns.Column.TheVariants.{Numbers}
 use Rattle.block_eval.proofs.NumberLemmas.{found-column, numbers-give}
 use Rattle.block_eval.proofs.numbers.numbers_at.Goals as goal

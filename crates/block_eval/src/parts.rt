@@ -1,0 +1,84 @@
+//! The years, months and days of dates on the rows of a block (OData 4.01 URL Conventions, sections 5.1.1.6.1 to 5.1.1.6.3).
+
+ghost use Rattle.std.specs.Prelude.{◌≡◌, ◌<◌, ℕ, pos, Some, IfOk, length, option_map, slice_index_or};
+ghost use Rattle.typed_trees.specs.TypedTree.{date_view};
+ghost use Rattle.row_eval.specs.Outcome.{date_outcome, part_in};
+ghost use Rattle.row_eval.specs.Row.{cell, day_in};
+ghost use Rattle.block_eval.specs.Bounded.{GivesBounded};
+ghost use Rattle.block_eval.specs.Parts.{day_part};
+
+use crate::bounded::Bounded;
+use crate::columns::Column;
+use block_lanes::{Fallback, Numbers};
+use block_summary::PackedType;
+use std::alloc::Global;
+use typed_trees::{DateExpr, DatePart};
+
+/// Returns a part of the day that a number stands for.
+#[inline(always)]
+fn part_of(part: DatePart, number: i64) -> i64
+    ensures { result ≡ day_part part number }
+{
+    let place = number.rem_euclid(512) as u64;
+    match part {
+        DatePart::Year => number.div_euclid(512),
+        DatePart::Month => (place / 32) as i64,
+        DatePart::Day => (place % 32) as i64,
+    }
+}
+
+/// Writes a part of each day.
+fn part_each(part: DatePart, numbers: &[i64], out: &mut [i64])
+    requires { length out.old ≡ length numbers.now }
+    ensures { (i : ℕ) → i < length out.new → slice_index_or out.new i (pos 0)
+        ≡ day_part part (slice_index_or numbers.now i (pos 0)) }
+{
+    for i in 0..out.len() {
+        out[i] = part_of(part, numbers[i]);
+    }
+}
+
+/// Returns a part of each date of a column.
+fn parts_at<'a>(
+    alloc: Global,
+    part: DatePart,
+    place: usize,
+    columns: &[Column<'a>],
+    wanted: &[bool],
+) -> Result<Bounded<'a>, Fallback>
+    ensures { IfOk result (GivesBounded
+        (λ cells. Some (option_map (part_in part) (cell day_in cells place)))
+        columns.now wanted.now) }
+{
+    let Some(Column::Numbers(PackedType::Date, values, nulls, _)) = columns.get(place) else {
+        return Err(Fallback::Rows);
+    };
+    if values.len() != wanted.len() || nulls.len() != wanted.len() {
+        return Err(Fallback::Rows);
+    }
+    let mut parts = Vec::from_elem(alloc, 0i64, values.len())?;
+    part_each(part, values, parts.as_mut_slice());
+    let nulls = Vec::from_slice(alloc, nulls)?;
+    Ok(Bounded {
+        numbers: Numbers::Computed(parts, nulls),
+        bounds: None,
+    })
+}
+
+/// Returns a part of each date of an expression, on the wanted rows of a block.
+pub fn parts_in<'a>(
+    alloc: Global,
+    part: DatePart,
+    date: &DateExpr,
+    columns: &[Column<'a>],
+    wanted: &[bool],
+) -> Result<Bounded<'a>, Fallback>
+    ensures { IfOk result (GivesBounded
+        (λ cells. Some (option_map (part_in part) (date_outcome (date_view date.now) cells)))
+        columns.now wanted.now) }
+{
+    match date {
+        DateExpr::Column(place) => parts_at(alloc, part, *place, columns, wanted),
+        _ => Err(Fallback::Rows),
+    }
+}
