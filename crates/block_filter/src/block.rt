@@ -24,7 +24,7 @@ pub struct Passed {
     pub faulted: bool,
 }
 
-/// How many rows of so many are the first ones; all of them where that is not limited.
+/// Returns how many of `rows` rows are the first ones that are asked for: all of them if there is no limit.
 fn limit_of(most: Option<u64>, rows: usize) -> usize
     ensures { (xs : List (List CellValue)) → length xs ≤ rows
         → take result xs ≡ first_rows most xs }

@@ -99,7 +99,7 @@ impl Lane {
         }
     }
 
-    /// The numbers of so many rows as keys of a column, if they were read and are of its type.
+    /// Returns the numbers of the first `rows` rows as keys of a column, if they were read and are of its type.
     fn keys(&self, column: KeyColumn, rows: usize) -> Option<Keys<'_>>
         ensures keys { IfSome result (AreKeysIn self.now column rows) }
         ensures found { HoldsKeys self.now column.packed_type rows → IsSome result }
@@ -177,7 +177,7 @@ pub struct Lanes {
 }
 
 impl Lanes {
-    /// So many columns, none of which was read.
+    /// Returns lanes of `width` columns, none of which was read.
     pub fn new(alloc: Global, width: usize) -> Result<Lanes, AllocError>
         ensures { IfOk result (AreWide width) }
     {

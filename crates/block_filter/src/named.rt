@@ -2,7 +2,7 @@
 ghost use Rattle.std.specs.Prelude.{◌<◌, IsTrue, length};
 
 use block_summary::Summary;
-use summary_eval::known_truth;
+use summary_eval::{constant_number, known_truth};
 use typed_trees::{DateExpr, NumberExpr, TextExpr, TruthExpr};
 
 /// Whether a place is marked.
@@ -57,9 +57,9 @@ fn mark_number(expr: &NumberExpr, named: &mut [bool]) {
     }
 }
 
-/// Marks what a comparison names; a column that is compared with a literal is not unpacked.
+/// Marks what a comparison names. A column that is compared with a constant number is not unpacked.
 fn mark_numbers(left: &NumberExpr, right: &NumberExpr, named: &mut [bool]) {
-    if let (NumberExpr::Column(_, _), NumberExpr::Literal(_)) = (left, right) {
+    if let (NumberExpr::Column(_, _), Some(Some(_))) = (left, constant_number(right)) {
         return;
     }
     mark_number(left, named);

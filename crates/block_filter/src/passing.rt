@@ -130,7 +130,7 @@ fn first_wanted(wanted: &[bool], from: usize) -> usize
     wanted.len()
 }
 
-/// The numbers of the first rows that are wanted, no more than so many.
+/// Returns the numbers of the first wanted rows, at most `most`.
 pub(crate) fn numbers_of(
     alloc: Global,
     wanted: &[bool],

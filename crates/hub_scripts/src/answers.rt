@@ -66,7 +66,7 @@ pub(crate) fn turned_line(
     }
 }
 
-/// Takes so many bytes of a connection's output, or as many as wait, and gives their line.
+/// Takes up to `room` bytes of a connection's output, and returns their line.
 pub(crate) fn take_line(
     alloc: Global,
     hub: &mut Hub,

@@ -16,7 +16,7 @@ use served_folders::{FolderFault, Folders};
 use std::alloc::Global;
 use std::rc::Rc;
 
-/// A script is played on a hub of so many places.
+/// How many slots the hub has on which a script is played.
 pub const PLACES: u32 = 64;
 
 /// The number of these places.
@@ -93,7 +93,7 @@ fn command_line<F: Folders>(
     }
 }
 
-/// Plays one line, whose number is told where it is no command.
+/// Plays one line; reports its number if it is no command.
 fn play_line<F: Folders, W: Sink>(
     alloc: Global,
     folders: &mut F,

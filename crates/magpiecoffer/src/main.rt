@@ -1,6 +1,6 @@
 //! Answers requests of OData over a folder of CSV files. Without words on the command line the program answers standard input over the
 //! built-in folder `notes`; with words it checks a folder on a disk, answers a target or a file of requests over it, or serves it. It ends with the
-//! status 0; a fault is told on standard error and by the exit status.
+//! status 0; a fault is reported on standard error and by the exit status.
 #![tactic(auto)]
 
 use odata_serve::command_status;

@@ -70,7 +70,7 @@ impl Outlet for Output {
     }
 }
 
-/// Writes a reply, as it is laid down.
+/// Writes a reply, piece by piece.
 fn send_reply<W: Sink>(out: &mut W, reply: Reply) -> Result<(), AnswerFault>
     ensures { IsSent (W.sink out.old) reply result (W.sink out.new) }
 {

@@ -70,7 +70,7 @@ impl Exchange {
         })
     }
 
-    /// One call, before the reply is laid down.
+    /// Makes one call, before the reply is written.
     pub(crate) fn go_on(&mut self, alloc: Global, catalog: &Catalog) -> Result<Step, AllocError>
         requires { MayWork catalog.now self.old.work }
         ensures goes_on { (head : HeadOf) (left : ℕ) → Answers catalog.now head left self.old
@@ -89,7 +89,7 @@ impl Exchange {
         Ok(step)
     }
 
-    /// The reply that waits is laid down.
+    /// Writes the reply that waits.
     fn lay_down(&mut self) -> Result<(), AllocError>
         ensures waiting { (reply : List ℕ) → IsWaiting self.old.work reply
             → OnOk result (GivesReply self.new reply) }
@@ -136,7 +136,7 @@ impl Exchange {
     }
 }
 
-/// The reply to a head, laid down whole.
+/// Returns the reply to a head, written whole.
 pub fn reply_to(alloc: Global, catalog: &Catalog, head: &CheckedHead) -> Result<Vec<u8>, AllocError>
     requires { length head.now.target ≤ 8192 }
     ensures { IfOk result (λ reply. IsReply catalog.now head.now reply.items) }

@@ -1,4 +1,4 @@
-//! The exchange of a head for its reply, whose body is laid down as it is taken.
+//! The exchange of a head for its reply, whose body is written as it is taken.
 ghost use Rattle.std.specs.Prelude.{◌≡◌, ◌≤◌, ℕ, List, IfOk, IsErr, Ok, OnErr, length};
 ghost use Rattle.query_exec.specs.declared.run.Step.TheVariants.{Done};
 ghost use Rattle.http_heads.specs.Head.{HeadOf};

@@ -24,7 +24,7 @@ pub(crate) struct Reading {
     pub(crate) format: Format,
     /// Whether only the number of rows is asked for.
     pub(crate) counting: bool,
-    /// No more calls than so many are left.
+    /// Returns an upper bound on the remaining calls.
     pub(crate) most: usize,
     pub(crate) run: Box<Run>,
     /// Those of some first rows of the answer, in its format.

@@ -83,7 +83,7 @@ fn push_first_lines(out: &mut Vec<u8>, status: u16, media: Media) -> Result<(), 
     push_field(out, b"OData-Version", b"4.0")
 }
 
-/// The lines before a body of so many bytes.
+/// Returns the lines before a body of `size` bytes.
 pub(crate) fn lines_before(
     alloc: Global,
     status: u16,

@@ -156,7 +156,7 @@ fn body_for(alloc: Global, method: Option<Method>, body: BodyCursor) -> BodyCurs
     }
 }
 
-/// The reply with that response, to a request of that method. Here the bytes of its body are counted; they are laid down as they are taken.
+/// The reply with that response, to a request of that method. Counts the bytes of its body; they are written as they are taken.
 pub(crate) fn reply_of(
     alloc: Global,
     method: Option<Method>,

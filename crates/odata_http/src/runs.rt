@@ -22,7 +22,7 @@ pub enum RunFault {
     Read,
     /// A write failed.
     Write,
-    /// So many reads were made, and none told the end of the stream.
+    /// The greatest number of reads was made, and none reported the end of the stream.
     TooManyReads,
 }
 

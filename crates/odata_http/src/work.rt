@@ -19,7 +19,7 @@ use table_store::Catalog;
 /// What is left to be done for a request.
 #[derive(Drop)]
 pub(crate) enum Work {
-    /// The error of that code is told.
+    /// The error of that code is the reply.
     Refuse(Code),
     /// The tables are listed.
     ListTables,
@@ -27,9 +27,9 @@ pub(crate) enum Work {
     Find(Finding),
     /// A query is under way.
     Read(Reading),
-    /// Nothing: this is the reply, whose body is laid down as it is taken.
+    /// Nothing: this is the reply, whose body is written as it is taken.
     Waits(Reply),
-    /// Nothing: this is the reply, laid down.
+    /// Nothing: this is the reply, written whole.
     Replied(Vec<u8>),
     /// Nothing: memory ran out.
     Failed,
@@ -89,7 +89,7 @@ impl Work {
         }
     }
 
-    /// No more calls than so many are left.
+    /// Returns an upper bound on the remaining calls.
     pub(crate) fn most_calls(&self) -> usize
         ensures { result ≡ most_calls self.now }
     {
@@ -143,7 +143,7 @@ impl Work {
         }
     }
 
-    /// The reply of work that waits is laid down.
+    /// Writes the reply of work that waits.
     pub(crate) fn lay_down(self) -> Result<Work, AllocError>
         ensures waiting { (reply : List ℕ) → IsWaiting self reply
             → IfOk result (λ work. IsReplied work reply) }

@@ -9,7 +9,7 @@ pub enum HubFault {
     NoSuchConnection,
     /// The connection's stream has ended.
     Ended,
-    /// The connection met want of memory before.
+    /// The connection ran out of memory before.
     Failed,
     /// Memory ran out, and the connection has failed.
     NoMemory,

@@ -207,7 +207,7 @@ impl Connection {
         self.output.waiting()
     }
 
-    /// The first so many bytes of the output wait no more, or all, where fewer wait.
+    /// Consumes up to `count` bytes of the output.
     pub(crate) fn took(&mut self, count: usize)
         ensures { IsConnTook self.old count self.new }
     {

@@ -30,7 +30,7 @@ impl Hub {
     ghost use Rattle.odata_hub.specs.Schedules.{Drop, HubOf, On, Open, Reload, conn_at};
     ghost use Rattle.odata_hub.specs.Stands.{IsHubStep, IsHubTook, LendsAt, Models, TellsHopelessAt, TellsOver, TellsTook, current_tables};
 
-    /// A hub of so many places, all of them free, with these tables.
+    /// Creates a hub of `places` slots, all of them free, over these tables.
     pub fn new(alloc: Global, catalog: Rc<Catalog>, places: u32) -> Result<Hub, AllocError>
         ensures { IfOk result (λ hub. Models hub
             (record { catalog = catalog.value; places = replicate places None })) }
@@ -100,7 +100,7 @@ impl Hub {
         waiting_at(&self.places, conn.0)
     }
 
-    /// The first so many bytes of a connection's output wait no more, or all, where fewer wait: as after a take with that room, without a buffer.
+    /// Consumes up to `count` bytes of a connection's output: as `take` with that room, without a buffer.
     pub fn took(&mut self, conn: Conn, count: usize) -> Result<(), HubFault>
         ensures took { IsHubTook self.old conn.0 count self.new }
         ensures tells { (h : HubOf) → Models self.old h → TellsTook (conn_at h conn.0) result }

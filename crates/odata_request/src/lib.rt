@@ -1,5 +1,5 @@
 //! What a request asks for: the step from a head and the tables of a folder to a request that owns all it says, or to the code under which it is
-//! refused (OData 4.01 Part 2, URL Conventions, sections 4 and 5). The first thing that is wrong is told: with the head, the target, the path, an
+//! refused (OData 4.01 Part 2, URL Conventions, sections 4 and 5). The first fault is reported: with the head, the target, the path, an
 //! option where it stands, and last the value of an option.
 #![tactic(auto)]
 

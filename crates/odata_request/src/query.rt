@@ -40,7 +40,7 @@ fn read_query(alloc: Global, limit: u32, texts: Texts<'_>) -> Result<Query, Requ
     })
 }
 
-/// The typed query that these texts ask for on the columns of a table, where `$apply` may have so many transformations at most.
+/// Returns the typed query that texts ask for on the columns of a table; `$apply` has at most `limit` transformations.
 pub(crate) fn typed_query(
     alloc: Global,
     limit: u32,

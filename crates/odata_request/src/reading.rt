@@ -24,7 +24,7 @@ fn read_key(alloc: Global, text: &str) -> Result<Key, RequestFault>
     Ok(parse_key(alloc, text, tokens.as_slice())?)
 }
 
-/// The value of `$apply`, where `/` may part so many transformations at most.
+/// Reads the value of `$apply`, which may have at most `limit` transformations.
 fn read_apply(alloc: Global, limit: u32, text: &str) -> Result<Vec<Transformation>, RequestFault>
     ensures { Yields apply_view (ReadsApply limit text.now) result }
 {

@@ -42,7 +42,7 @@ pub fn unread_status(rt: &impl Eprint, error: &io::Error) -> u8
     }
 }
 
-/// The exit status of an end, which is told on standard error where it is a fault.
+/// Returns the exit status of an end; a fault is reported on standard error.
 fn end_status(rt: &(impl Eprint + AllocGlobal), end: Result<(), ProgramFault>) -> u8
     ensures status { IsStatus end result }
     ensures other { EndsNoScript end → result ≢ USAGE }

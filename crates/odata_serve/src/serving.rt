@@ -27,7 +27,7 @@ fn write_port<L: Listener, W: Sink>(
     }
 }
 
-/// Answers so many connections in turn from the catalog.
+/// Answers a number of connections in turn from the catalog.
 fn answer_connections<L: Listener>(
     alloc: Global,
     catalog: &Catalog,
@@ -44,7 +44,7 @@ fn answer_connections<L: Listener>(
     Ok(())
 }
 
-/// Tells the port, then answers so many connections in turn from the catalog. Want of memory ends it, as does a connection that cannot be taken.
+/// Reports the port, then answers a number of connections in turn from the catalog. Running out of memory ends it, as does a connection that cannot be accepted.
 pub fn serve<L: Listener, W: Sink>(
     alloc: Global,
     catalog: &Catalog,

@@ -35,7 +35,7 @@ pub enum Words<'a> {
         folder: &'a str,
         script: &'a str,
     },
-    /// To answer so many connections to a port, one after another, over a folder.
+    /// To answer a number of connections to a port, one after another, over a folder.
     Serve {
         folder: &'a str,
         port: u16,

@@ -23,7 +23,7 @@ fn client<R: Net<Listener = TcpListener, Stream = TcpStream>>(
     Ok(client)
 }
 
-/// What is told of the port, and the reply to the second of two connections. The first client is gone before it is answered: its system refuses the first
+/// Returns the line of the port, and the reply to the second of two connections. The first client is gone before it is answered: its system refuses the first
 /// reply, so the write of the second fails.
 fn serve_two<R>(
     rt: &R,

@@ -1,4 +1,4 @@
-//! Streams over devices that move one byte at a call, and behind so many are interrupted or take nothing: each fault is told as what it is, and what was
+//! Streams over devices that move one byte at a call, and after some calls are interrupted or take nothing: each fault is reported as what it is, and what was
 //! written is the replies that were certain.
 use crate::base::{COUNT_REPLIES, COUNT_REPLY, COUNTS, notes};
 use odata_http::{Counted, RunFault, run};
@@ -8,7 +8,7 @@ use std::io::{ErrorKind, Read, Write};
 use std::test::Fail;
 use table_store::Catalog;
 
-/// Gives the stream of two requests, one byte a read. The read behind so many is interrupted.
+/// Gives the stream of two requests, one byte a read. The read after `most` reads is interrupted.
 #[derive(Drop)]
 struct Drips {
     reads: u32,
@@ -32,7 +32,7 @@ impl Read for Drips {
     }
 }
 
-/// Takes one byte a write. Behind so many bytes a write is interrupted, or takes nothing.
+/// Takes one byte a write. After some bytes a write is interrupted, or takes nothing.
 #[derive(Drop)]
 struct Sips {
     taken: Vec<u8>,
@@ -61,7 +61,7 @@ impl Write for Sips {
 /// The reads of the stream of two requests: the last tells its end.
 const READS: u32 = 79;
 
-/// The stream, of which so many reads are given.
+/// The stream, of which a number of reads was given.
 fn stream(most: u32) -> Drips {
     Drips { reads: 0, most }
 }
@@ -83,7 +83,7 @@ fn end_of(
     )
 }
 
-/// What a run that is given so many reads within a limit comes to, and behind how many reads.
+/// Returns how a run within a limit of reads ends, and after how many reads.
 #[derive(Clone, Copy)]
 struct Reading {
     given: u32,
@@ -104,7 +104,7 @@ fn is_reading(alloc: Global, catalog: &Catalog, wanted: &Reading, replies: &str)
     end == wanted.end && input.reads == wanted.reads && out.taken.as_slice() == replies.as_bytes()
 }
 
-/// A read is interrupted behind so many.
+/// A read is interrupted after some others.
 fn with_interrupt(most: u32) -> Reading {
     Reading {
         given: most,
@@ -149,7 +149,7 @@ fn reads(rt: HostRuntime) -> Result<(), Fail> {
     Ok(())
 }
 
-/// Whether a run fails where its output takes so many bytes, with these bytes of the replies written; and ends well where that takes all.
+/// Whether a run fails if its output takes only some bytes, with these bytes of the replies written; and ends well where that takes all.
 fn is_writing(alloc: Global, catalog: &Catalog, most: usize, interrupts: bool) -> bool {
     let wanted = if most == COUNT_REPLIES.len() {
         Ok(())

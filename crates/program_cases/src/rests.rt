@@ -1,15 +1,15 @@
-//! Rests that can begin no head any more: damaged heads, cut at every place, and the place from which the rest is told hopeless.
+//! Rests that can begin no head any more: damaged heads, cut at every place, and the offset from which the rest is hopeless.
 use odata_http::Splitter;
 use std::alloc::{AllocError, Global};
 use std::test::Fail;
 
-/// A head, or its beginning: some bytes, and a part that comes so many times between them.
+/// A head, or its beginning: some bytes, and a part that is repeated between them.
 struct Sent {
     front: &'static [u8],
     part: &'static [u8],
     times: usize,
     back: &'static [u8],
-    /// So many bytes are the first that no head can begin with; none where all of them are heads, or may go on as one.
+    /// How many bytes are the first that no head can begin with; `None` if all of them are heads, or may continue as one.
     hopeless: Option<usize>,
 }
 
@@ -130,7 +130,7 @@ const SENT: &[Sent] = &[
     },
 ];
 
-/// How many bytes there were as the rest was first told hopeless, where the bytes come one by one; what is told hopeless stays so.
+/// Returns after how many bytes, one by one, the rest was first hopeless; what is hopeless stays so.
 fn place_of(alloc: Global, bytes: &[u8]) -> Result<Option<usize>, Fail> {
     let mut splitter = Splitter::new(alloc);
     let mut place = None;

@@ -12,7 +12,7 @@ use std::alloc::{AllocError, Global};
 use table_store::Block;
 use typed_trees::TruthExpr;
 
-/// All of so many rows, as they are found.
+/// Returns all rows, as they are found.
 fn every_row(alloc: Global, rows: usize) -> Result<Passed, AllocError>
     ensures numbers { IfOk result (λ found. AreAllNumbers found.numbers.items rows) }
     ensures count { IfOk result (λ found. found.count ≡ rows) }

@@ -25,7 +25,7 @@ fn write_places(out: &mut [usize])
     }
 }
 
-/// The numbers of so many rows.
+/// Returns the numbers of the first `rows` rows.
 pub(crate) fn all_numbers(alloc: Global, len: usize) -> Result<Vec<usize>, AllocError>
     ensures { IfOk result (λ numbers. AreAllNumbers numbers.items len) }
 {
@@ -34,7 +34,7 @@ pub(crate) fn all_numbers(alloc: Global, len: usize) -> Result<Vec<usize>, Alloc
     Ok(numbers)
 }
 
-/// Whether these are the numbers of so many rows, all of them and in their order.
+/// True if these are the numbers of the first `len` rows, all of them and in order.
 pub(crate) fn are_all(numbers: &[usize], len: usize) -> bool
     ensures { IsTrue result → AreAllNumbers numbers.now len }
 {

@@ -78,7 +78,7 @@ impl Run {
     }
 
     /// What the steps make of the rows that passed the conditions, once every block that is needed was handed in. A division by zero, of a
-    /// condition too, is told here.
+    /// condition too, is reported here.
     fn go_on(&mut self, alloc: Global) -> Result<Option<Rows>, ExecFault>
         requires { wanted_block self.old ≡ None → IsReady self.old }
         ensures { RunGoesOn self.old self.new result }
@@ -216,7 +216,7 @@ impl Run {
         }
     }
 
-    /// Takes in the block that is needed next, or none where none is needed. A division by zero is told by the call that would answer
+    /// Takes in the block that is needed next, or none where none is needed. A division by zero is reported by the call that would answer
     /// Done, and by no other. After Done it answers Done, and after a refusal Failed.
     pub fn advance(&mut self, alloc: Global, block: Option<Block<'_>>) -> Result<Step, ExecFault>
         requires { MayBeHanded self.old block }

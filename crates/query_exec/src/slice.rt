@@ -12,7 +12,7 @@ use row_order::piece;
 use std::alloc::{AllocError, Global};
 use table_store::Block;
 
-/// How many rows are looked for after so many.
+/// Returns how many rows are still looked for.
 pub(crate) fn room_behind(room: Option<u64>, passed: u64) -> Option<u64>
     ensures { result ≡ room_behind room passed }
 {

@@ -57,7 +57,7 @@ fn aggregate(
     Intermediate::whole(alloc, names, columns, input.count)
 }
 
-/// The rows in the order of items, or the first so many of them.
+/// Returns the rows in the order of items, or the first ones that are asked for.
 fn sort(
     alloc: Global,
     input: Intermediate,

@@ -3,13 +3,13 @@
 use cell_types::Value;
 use row_columns::Columns;
 
-/// The cells of so many rows are read together.
+/// How many rows' cells are read together.
 const TOGETHER: usize = 8;
 
-/// So many rows came one after another while their block was read, and are near.
+/// How many rows came one after another while their block was read, and are near.
 const NEAR: usize = 4096;
 
-/// What is read of cells before so many rows are needed: of rows that are near, nothing.
+/// Reads cells before their rows are needed: of rows that are near, none.
 pub(crate) fn none_seen(rows: usize) -> Option<u8> {
     if rows > NEAR { Some(0) } else { None }
 }

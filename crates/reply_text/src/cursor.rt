@@ -1,4 +1,4 @@
-//! Bodies that are laid down piece by piece, within room that was reserved.
+//! Bodies that are written piece by piece, within room that was reserved.
 ghost use Rattle.std.specs.Prelude.{◌≡◌, ◌+◌, ◌==◌, ◌≤◌, IfOk, length, vec_capacity, vec_len};
 ghost use Rattle.std.specs.List.{concat};
 ghost use Rattle.reply_text.specs.Body.{row_text, rows_text};
@@ -20,7 +20,7 @@ use query_rows::Rows;
 use std::alloc::{AllocError, Global};
 use std::marker::Model;
 
-/// A body of which some pieces were laid down. It is seen as the bytes that are left, and a number of bytes that no piece passes.
+/// A body of which some pieces were written. It is seen as the bytes that are left, and a number of bytes that no piece passes.
 #[derive(Drop)]
 pub struct BodyCursor {
     pieces: Pieces,
@@ -45,7 +45,7 @@ impl Model for BodyCursor {
     ghost invariant = { IsAtPiece };
 }
 
-/// A body of pieces that take so many bytes. At an `Err` these are more than 64 bits tell.
+/// Returns a body of pieces with the number of their bytes. `Err` if that has more than 64 bits.
 fn of_pieces(pieces: Pieces, sizes: Sizes) -> Result<BodyCursor, AllocError>
     requires lays { MayLay pieces }
     requires sizes { AreSizesOf (body_pieces pieces) sizes.all sizes.longest }
@@ -156,7 +156,7 @@ impl BodyCursor {
         self.longest
     }
 
-    /// Lays down one more piece, within room that is there. It takes no memory.
+    /// Writes one more piece, within room that is there. It takes no memory.
     pub fn push_next(&mut self, out: &mut Vec<u8>)
         requires { vec_len out.old + self.old.longest ≤ vec_capacity out.old }
         ensures next { LaysNext self.old self.new out.old.items out.new.items }

@@ -38,7 +38,7 @@ pub(crate) fn frame_size(names: &[String]) -> usize
         .saturating_add(2)
 }
 
-/// How many bytes the row with a number takes, beside whose values so many stand.
+/// Returns how many bytes a row takes, with `frame` bytes other than its values.
 fn object_size(columns: &Columns, row: usize, frame: usize) -> usize
     requires { row < length columns.now.rows }
     ensures { result ≡ told (frame

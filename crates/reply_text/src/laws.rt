@@ -24,12 +24,12 @@ pub fn json_reads_back()
     ensures { JsonReadsBack }
 {}
 
-/// A number of bytes that is counted is the number of bytes that are laid down, where it is less than the greatest that 64 bits tell.
+/// A number of bytes that is counted is the number of bytes that are written, where it is less than the greatest that 64 bits tell.
 pub fn counts_are_lengths()
     ensures { CountsAreLengths }
 {}
 
-/// The pieces that a body of rows is laid down in are the body.
+/// The pieces in which a body of rows is written are the body.
 pub fn pieces_are_bodies()
     ensures { PiecesAreBodies }
 {}

@@ -1,6 +1,6 @@
 //! The bodies of replies: rows, the service document and errors as JSON (RFC 8259; OData 4.01 JSON Format), and rows as CSV (RFC 4180), each appended to one buffer in one
-//! pass, or laid down piece by piece. Each function gives the stated text, and beside it stands another that tells how many bytes it takes.
-//! What a connection is given are replies that wait to be taken, one after another, each laid down as it is taken.
+//! pass, or written piece by piece. Each function returns the stated text, and another one counts its bytes.
+//! What a connection is given are replies that wait to be taken, one after another, each written as it is taken.
 #![tactic(auto)]
 
 mod ahead;

@@ -37,7 +37,7 @@ fn copy_front(from: &[u8], to: &mut [u8]) -> usize
     count
 }
 
-/// The first so many bytes of these replies wait no more, or all, where fewer wait. A reply of which none waits goes.
+/// Consumes up to `count` bytes and drops finished replies.
 fn took_of(first: &mut Reply, others: &mut VecDeque<Reply>, count: usize)
     requires { first.old ≡ [] → others.old.items ≡ [] }
     ensures left { first.new ++ concat others.new.items
@@ -56,7 +56,7 @@ fn took_of(first: &mut Reply, others: &mut VecDeque<Reply>, count: usize)
     }
 }
 
-/// A reply of which nothing waits is let go with its buffer and with what its body was laid down from.
+/// A reply of which nothing waits is let go with its buffer and with what its body was written from.
 fn let_go(alloc: Global, first: &mut Reply)
     ensures { first.new ≡ first.old }
 {
@@ -121,7 +121,7 @@ impl Output {
         self.first.waiting()
     }
 
-    /// The first so many bytes wait no more, or all, where fewer wait.
+    /// Consumes up to `count` bytes.
     pub fn took(&mut self, count: usize)
         ensures { self.new ≡ drop count self.old }
     {

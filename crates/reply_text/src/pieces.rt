@@ -10,7 +10,7 @@ use crate::json_rows::{push_item, push_opening};
 use query_rows::Rows;
 use std::alloc::AllocError;
 
-/// What a body is laid down from.
+/// What a body is written from.
 #[derive(Drop)]
 pub enum Pieces {
     /// Rows as a JSON object, and what stands before the value of each member of a row.

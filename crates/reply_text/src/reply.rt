@@ -6,12 +6,12 @@ use crate::cursor::BodyCursor;
 use std::alloc::{AllocError, Global};
 use std::marker::Model;
 
-/// How many bytes of a body are laid down at once before they are taken, beside room for its longest row: so a long row here and there does not have the others
+/// How many bytes of a body are written at once before they are taken, beside room for its longest row: so a long row here and there does not have the others
 /// taken one by one.
 const ROOM: usize = 65_536;
 
-/// The bytes that are laid down, of which the first `at` were taken, and the body that is not. It is seen as the bytes that wait. None of the body is left
-/// where all that was laid down was taken, and no piece of it needs memory.
+/// The bytes that are written, of which the first `at` were taken, and the body that is not. It is seen as the bytes that wait. None of the body is left
+/// where all that was written was taken, and no piece of it needs memory.
 #[derive(Drop)]
 pub struct Reply {
     laid: Vec<u8>,
@@ -30,7 +30,7 @@ impl Model for Reply {
         × (length reply.laid.items ≤ reply.at → reply.body.bytes ≡ []) };
 }
 
-/// Lays down pieces of a body while the longest has room. It takes no memory.
+/// Writes pieces of a body while the longest has room. It takes no memory.
 fn fill(laid: &mut Vec<u8>, body: &mut BodyCursor)
     ensures bytes { laid.new.items ++ body.new.bytes ≡ laid.old.items ++ body.old.bytes }
     ensures longest { body.new.longest ≡ body.old.longest }
@@ -66,7 +66,7 @@ impl Reply {
         Ok(Reply { laid, at: 0, body })
     }
 
-    /// All bytes that wait, laid down.
+    /// Returns all bytes that wait, written.
     pub fn into_bytes(self) -> Result<Vec<u8>, AllocError>
         ensures { IfOk result (λ bytes. bytes.items ≡ self) }
     {
@@ -98,7 +98,7 @@ impl Reply {
         &self.laid[self.at..]
     }
 
-    /// The first so many of the bytes that are laid down wait no more, or all of these. How many. Where all were taken, more are laid down.
+    /// Consumes up to `count` of the written bytes, and returns how many. If all were taken, more are written.
     fn took_laid(&mut self, count: usize) -> usize
         ensures within { result ≤ count }
         ensures some { 0 < count → 0 < length self.old → 0 < result }
@@ -115,7 +115,7 @@ impl Reply {
         gone
     }
 
-    /// The first so many bytes wait no more, or all, where fewer wait. How many. It takes no memory.
+    /// Consumes up to `count` bytes, and returns how many. It takes no memory.
     pub fn took(&mut self, count: usize) -> usize
         ensures count { result ≡ min count (length self.old) }
         ensures left { self.new ≡ drop result self.old }

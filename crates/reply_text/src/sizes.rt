@@ -24,7 +24,7 @@ impl Sizes {
         }
     }
 
-    /// One piece more, of so many bytes.
+    /// Adds a piece of `size` bytes.
     pub fn with(self, size: usize) -> Sizes
         ensures all { result.all ≡ told (self.all + size) }
         ensures longest { result.longest ≡ max self.longest size }

@@ -26,7 +26,7 @@ fn one_place(rt: HostRuntime) -> Result<(), Fail> {
 /// The front of a reply to what is no head.
 const REFUSED: &[u8] = b"HTTP/1.1 400 Bad Request\r\n";
 
-/// Whether the rest of a connection is told hopeless with the byte that no head has at its place, and not before; and its end brings the reply.
+/// Whether the rest of a connection is hopeless with the byte that no head has at its place, and not before; and its end brings the reply.
 fn tells_rests(hub: &mut Hub, place: Conn) -> bool {
     let may_begin = hub.is_hopeless(place) == Ok(false)
         && hub.piece(place, b"GET / HTTP/1.1\r\nX") == Ok(())

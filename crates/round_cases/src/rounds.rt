@@ -56,7 +56,7 @@ const PLAIN: Script<'static> = Script {
     lost_at: 0,
 };
 
-/// So many places are enough for each list of cases.
+/// How many slots are enough for each list of cases.
 const PLACES: u32 = 8;
 
 /// The one file of the folder.
@@ -68,7 +68,7 @@ fn notes(alloc: Global, bytes: &str) -> Result<Vec<NamedFile>, AllocError> {
     Ok(vec![in alloc; file]?)
 }
 
-/// The tables where that has these bytes: such a folder is refused for want of memory alone.
+/// The tables where that has these bytes: such a folder is refused only if memory runs out.
 pub(crate) fn tables(alloc: Global, bytes: &str) -> Result<Rc<Catalog>, AllocError> {
     let files = notes(alloc, bytes)?;
     let meta = Vec::from_slice(alloc, META.as_bytes())?;

@@ -79,7 +79,7 @@ impl<'a> Peer<'a> {
     }
 }
 
-/// The peers at the places. Contracts are told nothing of their bytes, and their counts are full.
+/// The peers at the places. Contracts say nothing of their bytes, and their counts are full.
 #[derive(Drop)]
 pub(crate) struct Scripts<'a> {
     pub(crate) peers: Vec<Peer<'a>>,

@@ -83,7 +83,7 @@ impl Columns {
         })
     }
 
-    /// Rows of so many values of any kind.
+    /// Rows of `width` values of any kind.
     pub fn of_rows(
         alloc: Global,
         width: usize,

@@ -40,7 +40,7 @@ impl Model for Marks {
     ghost invariant = { AreCounted };
 }
 
-/// The number of the set bit that has so many set ones below it in its word.
+/// Returns the number of the set bit that has `n` set bits below it in its word.
 #[inline(always)]
 fn number_of(number: usize, word: u64, n: usize) -> u32
     requires set { n < ones_below word 64 }
@@ -53,7 +53,7 @@ fn number_of(number: usize, word: u64, n: usize) -> u32
     }
 }
 
-/// The number of the last of so many words before which no more than `n` bits are set, by halving.
+/// Returns the last word before which at most `n` bits are set, by halving.
 fn word_of(before: &[u32], count: usize, n: usize) -> usize
     requires some { 0 < count }
     requires long { count ≤ length before.now }

@@ -7,7 +7,7 @@ ghost use Rattle.row_columns.specs.Numbers.{numbers_from};
 use block_summary::BLOCK_ROWS;
 use std::alloc::{AllocError, Global};
 
-/// The numbers of so many places.
+/// The numbers of the rows.
 pub(crate) fn all_numbers(alloc: Global, len: usize) -> Result<Vec<usize>, AllocError>
     ensures { IfOk result (λ made. made.items ≡ numbers_from 0 len) }
 {

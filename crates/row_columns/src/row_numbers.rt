@@ -14,7 +14,7 @@ use std::mem;
 /// How many numbers 32 bits tell.
 const NUMBERS: usize = 1 << 32;
 
-/// Numbers: so many from one on, others that are marked, and others after them. They are seen as one list.
+/// Numbers: a range, others that are marked, and others after them. They are seen as one list.
 #[derive(Drop)]
 pub(crate) struct RowNumbers {
     first: usize,
@@ -46,7 +46,7 @@ fn rise_from(numbers: &[usize], first: usize) -> bool
     same
 }
 
-/// So many numbers from one on come after the others.
+/// Appends `count` numbers from `first` on.
 fn push_run(listed: &mut Vec<u32>, first: usize, count: usize) -> Result<(), AllocError>
     requires { first + count ≤ 2 ^ 32 }
     ensures { OnOk result (listed.new.items ≡ listed.old.items ++ numbers_from first count) }
@@ -126,7 +126,7 @@ impl RowNumbers {
         })
     }
 
-    /// So many numbers from one on take the place of all.
+    /// Replaces all numbers by `count` from `first` on.
     fn set_run(&mut self, first: usize, count: usize)
         requires { first + count ≤ 2 ^ 32 }
         ensures { self.new ≡ numbers_from first count }

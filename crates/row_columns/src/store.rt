@@ -22,15 +22,15 @@ use cell_types::{Column, Value};
 use std::alloc::{AllocError, Global};
 use table_store::Block;
 
-/// The rows of so many blocks have numbers.
+/// How many blocks have rows with numbers.
 const MOST_PIECES: usize = 1 << 20;
 
 /// Where rows stand.
 #[derive(Drop)]
 pub(crate) enum Store {
-    /// In blocks that are shared with their table. Of each column it is told what its numbers stand for; nothing of texts.
+    /// In blocks that are shared with their table. Of each column it is known what its numbers stand for; nothing of texts.
     Blocks(Vec<Option<PackedType>>, Vec<Piece>),
-    /// Beside one another, each of so many values of any kind.
+    /// Beside one another, each with a number of values of any kind.
     Values(usize, Vec<Vec<Value<'static>>>),
 }
 
@@ -148,7 +148,7 @@ impl Store {
         }
     }
 
-    /// The cells of a column as they are packed, where the rows with so many numbers from one on are all those of the last block, and the cells are no texts.
+    /// Returns the packed cells of a column if the numbers of `run` are exactly those of the last block; `None` for texts.
     pub(crate) fn packed(&self, run: (usize, usize), col: usize) -> Option<&PackedColumn>
         requires wide { IsStoredWide self.now }
         requires col { col < length (stored_kinds self.now) }

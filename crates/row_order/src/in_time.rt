@@ -1,5 +1,5 @@
 //! The rows of a block that may be among the first in the order of `$orderby`, behind rows that are kept (OData 4.01 URL Conventions, sections
-//! 5.1.5 and 5.1.6): they are told by the numbers of one column alone.
+//! 5.1.5 and 5.1.6): the numbers of one column alone decide.
 ghost use Rattle.std.specs.Prelude.{◌≡◌, ◌<◌, ◌≤◌, List, None, IfOk, IfSome, IsFalse, length, map, slice_index_or};
 ghost use Rattle.std.specs.List.{All};
 ghost use Rattle.block_summary.specs.Types.{cell_of};
@@ -71,7 +71,7 @@ fn key_of(value: &Value<'_>, packed_type: PackedType) -> Option<Option<i64>>
     }
 }
 
-/// Whether the last of so many others is not looked for: they are fewer than are asked for, or many more than the rows of the block, so that it would be
+/// Whether the last of the others is not looked for: they are fewer than are asked for, or many more than the rows of the block, so that it would be
 /// long to find.
 fn is_late(others: usize, rows: usize, most: u64) -> bool
     ensures { IsFalse result → most ≤ others }
@@ -177,7 +177,7 @@ fn nearest(
     Ok(near)
 }
 
-/// Of the rows of a block with these numbers those that are enough, behind rows that are kept, for the first rows in an order: the others come too late, which is told by their keys in the column of the first item. The items are such as never divide by zero.
+/// Drops the rows of a block that cannot reach the top, judging by their keys in the column of the first item. No item may divide by zero.
 pub fn may_reach_top(
     alloc: Global,
     kept: &Columns,

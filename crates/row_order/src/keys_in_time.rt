@@ -46,7 +46,7 @@ pub(crate) fn last_of(keys: &[Option<i64>], descending: bool) -> Option<i64>
     last
 }
 
-/// A key up to which rows are told from others.
+/// A key that separates rows from others.
 #[derive(Clone, Copy)]
 pub(crate) struct Bound {
     pub(crate) descending: bool,
@@ -102,7 +102,7 @@ pub(crate) fn within(
     Ok(made)
 }
 
-/// A key that some `most` of the rows do not stand behind, and not many more: the last of the first ones of so many parts of them.
+/// Returns a key that some `most` of the rows do not come after, and not many more: the last of the first ones of their parts.
 pub(crate) fn near(
     alloc: Global,
     keys: Keys<'_>,

@@ -1,5 +1,5 @@
 //! The blocks of a table's rows.
-ghost use Rattle.std.specs.Prelude.{◌≡◌, ◌<◌, ◌≤◌, Some, IfOk, length, map, slice_get, option_and_then};
+ghost use Rattle.std.specs.Prelude.{◌≡◌, ◌<◌, ◌≤◌, Some, IfOk, IsOk, length, map, slice_get, option_and_then};
 ghost use Rattle.std.specs.Option.{option_copied};
 ghost use Rattle.block_summary.specs.Cells.{AreUnpacked};
 ghost use Rattle.block_summary.specs.Ranges.{column_of, is_null};
@@ -79,7 +79,8 @@ impl<'t> Block<'t> {
     pub fn value(&self, alloc: Global, row: usize, col: usize) -> Result<Value<'t>, AllocError>
         requires row { row < length self.now.rows }
         requires col { col < length self.now.schema.columns }
-        ensures { IfOk result (λ value.
+        ensures memory { IsOk result }
+        ensures value { IfOk result (λ value.
             option_and_then (λ values. slice_get values col) (slice_get self.now.rows row)
             ≡ Some (value_view value)) }
     {

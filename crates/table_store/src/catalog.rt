@@ -85,7 +85,7 @@ impl Catalog {
     }
 }
 
-/// The tables of schemas, in order, each of a file of at most so many bytes as the limit; or why the first that is refused is.
+/// The tables of schemas, in order, each of a file of at most as many bytes as the limit; or why the first that is refused is.
 fn load_tables(
     alloc: Global,
     limit: u32,

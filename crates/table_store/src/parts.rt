@@ -9,7 +9,7 @@ use raw_fields::{Part, cell_value};
 use std::alloc::Global;
 use typed_columns::ColumnReader;
 
-/// Reads the rows of a part into the readers of their columns, column after column. An error is want of memory, or tells that a cell has no value.
+/// Reads the rows of a part into the readers of their columns, column after column. An error means that memory ran out, or that a cell has no value.
 fn read_columns(
     alloc: Global,
     columns: &[Column],
@@ -35,7 +35,7 @@ fn read_columns(
     Ok(())
 }
 
-/// The first cell of a row of a part that has no value, or want of memory; nothing where each has one.
+/// Returns the first cell of a row of a part that has no value, or out of memory; `None` if each has one.
 fn bad_in_row(
     alloc: Global,
     columns: &[Column],

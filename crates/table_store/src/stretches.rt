@@ -21,7 +21,7 @@ const STRETCHES: usize = 8;
 /// Columns, or the first cell of their rows, row by row, that has no value.
 pub type ReadColumns = Result<Vec<TypedColumn>, BadCell>;
 
-/// Want of memory, told as a cell.
+/// Out of memory, in the place of a cell.
 fn no_memory(row: usize) -> BadCell
     ensures { result.fault ≡ CellFault.NoMemory }
 {
@@ -101,7 +101,7 @@ fn read_before(
     }
 }
 
-/// How many rows a stretch has, of a file of so many.
+/// Returns how many rows a stretch of a file has.
 fn stretch_of(rows: usize) -> usize
     ensures some { 0 < result }
     ensures whole { AreWholeBlocks result }

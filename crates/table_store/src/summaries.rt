@@ -19,7 +19,7 @@ fn summary_at(alloc: Global, columns: &[TypedColumn], number: usize) -> Result<S
     Ok(Summary::of_ranges(ranges))
 }
 
-/// The summaries of the blocks of columns of so many rows.
+/// Returns the summaries of the blocks of columns of `rows` rows.
 pub fn summaries_of(
     alloc: Global,
     columns: &[TypedColumn],

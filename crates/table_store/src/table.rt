@@ -1,5 +1,5 @@
 //! A table of a folder: its schema, the values of its cells, and its rows by their keys.
-ghost use Rattle.std.specs.Prelude.{◌≡◌, ◌+◌, ◌^◌, ◌<◌, ◌≤◌, [], Some, None, IfOk, IfErr, IfSome, length, map, slice_get, slice_index_or, option_and_then, option_map, take, drop, string_bytes};
+ghost use Rattle.std.specs.Prelude.{◌≡◌, ◌+◌, ◌^◌, ◌<◌, ◌≤◌, [], Some, None, IfOk, IsOk, IfErr, IfSome, length, map, slice_get, slice_index_or, option_and_then, option_map, take, drop, string_bytes};
 ghost use Rattle.std.specs.List.{AllByRecursion};
 ghost use Rattle.std.specs.Option.{option_copied};
 ghost use Rattle.cell_types.specs.Value.{value_view};
@@ -88,7 +88,8 @@ impl Table {
     pub fn value(&self, _alloc: Global, row: usize, col: usize) -> Result<Value<'_>, AllocError>
         requires row { row < length self.now.rows }
         requires col { col < length self.now.schema.columns }
-        ensures { IfOk result (λ value.
+        ensures memory { IsOk result }
+        ensures value { IfOk result (λ value.
             option_and_then (λ values. slice_get values col) (slice_get self.now.rows row)
             ≡ Some (value_view value)) }
     {
@@ -146,7 +147,7 @@ impl Table {
         self.columns[col].shared(number)
     }
 
-    /// So many rows, from the one with that number on.
+    /// Returns `rows` rows from `first` on.
     pub(crate) fn rows_from(&self, first: usize, rows: usize) -> RowCursor<'_>
         requires within { first + rows ≤ length self.now.rows }
         requires fits { first + rows < 2 ^ 64 }
@@ -174,7 +175,7 @@ impl Table {
         self.keys.find(key)
     }
 
-    /// The table of a schema, whose file has those bytes, at most so many as the limit; or why it is refused.
+    /// Returns the table of a schema whose file has these bytes, at most as many as the limit; or why it is refused.
     pub(crate) fn load(
         alloc: Global,
         limit: u32,

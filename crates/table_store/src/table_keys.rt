@@ -13,7 +13,7 @@ use row_keys::{KeyFault, KeyReader, Keys};
 use std::alloc::{AllocError, Global};
 use typed_columns::TypedColumn;
 
-/// So many values, to be written over.
+/// Returns `count` values, to be overwritten.
 fn nulls<'a>(alloc: Global, count: usize) -> Result<Vec<Value<'a>>, AllocError>
     ensures { IfOk result (λ values. length values.items ≡ count) }
 {
@@ -42,7 +42,7 @@ fn write_key<'a>(
     }
 }
 
-/// Reads the keys of so many rows of columns, one after another.
+/// Reads the keys of `rows` rows of columns, one after another.
 fn read_keys(
     alloc: Global,
     columns: &[TypedColumn],
@@ -64,7 +64,7 @@ fn read_keys(
     Ok(())
 }
 
-/// The keys of so many rows of the columns of a table, or why they have none.
+/// Returns the keys of the rows of a table's columns, or why they have none.
 pub fn keys_of_rows(
     alloc: Global,
     schema: &Schema,

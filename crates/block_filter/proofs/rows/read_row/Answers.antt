@@ -9,7 +9,7 @@ use Rattle.block_filter.proofs.rows.read_row.Goals as goal
 pub loop-col-preserved : goal.loop-col-preserved
 loop-col-preserved c =
     ap (map value_view) c.in_ok-push.ensures.items ∙ map_push value_view c.loop-col.values.items c.in_ok-value.field-0
-    ∙ value_read c.loop-col.col (value_view c.in_ok-value.field-0) c.args.block.now.rows c.args.row (map value_view c.loop-col.values.items) c.loop-col.invariant c.in_ok-value.ensures
+    ∙ value_read c.loop-col.col (value_view c.in_ok-value.field-0) c.args.block.now.rows c.args.row (map value_view c.loop-col.values.items) c.loop-col.invariant c.in_ok-value.ensures.value
 
 pub returns : goal.returns
 returns c =

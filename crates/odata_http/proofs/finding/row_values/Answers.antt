@@ -12,7 +12,7 @@ loop-col-preserved c =
     ap row_view c.in_ok-push.ensures.items
     ∙ map-append value_view c.loop-col.values.items (c.in_ok-value.field-0 ∷ [])
     ∙ value_more c.args.table.now.rows c.args.row c.loop-col.col (row_view c.loop-col.values.items) (value_view c.in_ok-value.field-0) c.requires (omega (arith, test, wide))
-    c.loop-col.invariant c.in_ok-value.ensures
+    c.loop-col.invariant c.in_ok-value.ensures.value
 
 pub returns-clause-row : goal.returns-clause-row
 returns-clause-row c =

@@ -16,11 +16,14 @@ value-requires-clause-row c =
     let size = length-part block.table.now block.first block.rows c.self.invariant.within in
     omega (arith, size, ap (λ (t : TableOf). length t.rows) c.self.view_is, c.requires.row, c.self.invariant.within)
 
-pub returns : goal.returns
-returns c =
+pub returns-clause-memory : goal.returns-clause-memory
+returns-clause-memory c = c.value.ensures.memory
+
+pub returns-clause-value : goal.returns-clause-value
+returns-clause-value c =
     let block = c.self.inside in
     let size = length-part block.table.now block.first block.rows c.self.invariant.within in
     let within : c.args.row < block.rows = omega (arith, size, ap (λ (t : TableOf). length t.rows) c.self.view_is, c.requires.row) in
     IfOk-weaker c.value.result _ _
     (λ value e. ap (option_and_then (λ values. slice_get values c.args.col))
-    (ap (λ (t : TableOf). slice_get t.rows c.args.row) (sym c.self.view_is) ∙ part-row block.table.now block.first block.rows c.args.row within) ∙ e) c.value.ensures
+    (ap (λ (t : TableOf). slice_get t.rows c.args.row) (sym c.self.view_is) ∙ part-row block.table.now block.first block.rows c.args.row within) ∙ e) c.value.ensures.value

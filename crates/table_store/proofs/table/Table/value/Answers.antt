@@ -10,8 +10,8 @@ pub index-requires : goal.index-requires
 index-requires c =
     omega (arith, c.requires.col, c.self.invariant.columns.count, c.self.inside.columns.ok.0, ap (λ (t : TableOf). length t.schema.columns) c.self.view_is)
 
-pub returns : goal.returns
-returns c =
+pub returns-clause-value : goal.returns-clause-value
+returns-clause-value c =
     let table = c.self.inside in
     let items = table.columns.items in
     let kept = c.index.result.now in
