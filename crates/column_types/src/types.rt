@@ -1,5 +1,4 @@
 //! The datatypes that a column may be drafted with, each as a column in which cells are read; and the texts that may stand for null.
-use crate::seen::flagged_words;
 use cell_types::{BooleanForm, Column, Datatype, DateForm};
 use std::alloc::{AllocError, Global};
 
@@ -25,10 +24,10 @@ pub const WORD_COUNT: usize = 7;
 /// The texts that may stand for null beside the empty one.
 pub const NULL_WORDS: [&str; 7] = ["NA", "N/A", "NULL", "null", "-", ".", "#N/A"];
 
-/// Each of these texts, as one that does.
-const ALL_WORDS: [usize; 7] = [1, 1, 1, 1, 1, 1, 1];
+/// The most bytes of one of them.
+const MOST_WORD: usize = 4;
 
-/// The columns in which the cells of a file are read to draft its own: one for each datatype, in which each of the texts that may stand for null does.
+/// The columns in which the cells of a file that are not null are read to draft its own: one for each datatype, in which no text stands for null.
 #[derive(Drop)]
 pub struct Candidates {
     pub typed: Vec<Column>,
@@ -36,7 +35,13 @@ pub struct Candidates {
 
 /// Returns the index of a text among those that may stand for null beside the empty one.
 pub fn null_word(text: &str) -> Option<usize> {
-    NULL_WORDS.iter().position(|word| *word == text)
+    match text.as_bytes().first() {
+        // most texts begin with none of these
+        Some(b'N' | b'n' | b'-' | b'.' | b'#') if text.len() <= MOST_WORD => {
+            NULL_WORDS.iter().position(|word| *word == text)
+        }
+        _ => None,
+    }
 }
 
 /// Returns booleans with a format of those two words.
@@ -68,13 +73,12 @@ impl Candidates {
     pub fn new(alloc: Global) -> Result<Candidates, AllocError> {
         let mut typed = Vec::new(alloc);
         for place in 0..DATATYPE_COUNT {
-            let nulls = flagged_words(alloc, &ALL_WORDS)?;
             let datatype = datatype_at(alloc, place)?;
             typed.push(Column {
                 name: String::new(alloc),
                 titles: Vec::new(alloc),
                 datatype,
-                nulls,
+                nulls: Vec::new(alloc),
                 default: String::new(alloc),
                 required: false,
             })?;

@@ -1,1 +1,4 @@
 pub mod Draft
+pub mod Sorted
+pub mod Steps
+pub mod Laws

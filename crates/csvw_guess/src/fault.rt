@@ -15,30 +15,31 @@ pub enum DraftFault {
     NoMemory,
 }
 
-/// A file that has no schema, by its number from 0.
+/// Why a file has no schema.
 #[derive(Clone, Copy)]
-pub struct Refusal {
-    pub file: usize,
-    /// Why it is no table; `None` if it has more bytes than the limit.
-    pub fault: Option<TextFault>,
+pub enum LeftOutCause {
+    /// Its name can't be a `url`.
+    NotUrl,
+    /// An earlier file has its name.
+    SameName,
+    /// It has more bytes than the limit.
+    TooLarge,
+    /// It is no table.
+    NoTable { fault: TextFault },
+    /// It is a table of more columns than the limit.
+    ManyColumns { columns: usize },
 }
 
-/// What the publisher of files should look at. Files and columns count from 0.
+/// A file that has no schema, by its number from 0.
+#[derive(Clone, Copy)]
+pub struct LeftOut {
+    pub file: usize,
+    pub cause: LeftOutCause,
+}
+
+/// What the publisher of files that have schemas should look at. Files and columns count from 0.
 #[derive(Clone, Copy)]
 pub enum Warning {
-    /// The name of a file can't be a `url`: the file is left out.
-    NotUrl {
-        file: usize,
-    },
-    /// An earlier file has the name: the file is left out.
-    SameName {
-        file: usize,
-    },
-    /// A table has more columns than the limit: the file is left out.
-    ManyColumns {
-        file: usize,
-        columns: usize,
-    },
     /// Each cell of a column is a date with the day first, and one with the month first: it is a column of texts.
     TwoDates {
         file: usize,
@@ -60,6 +61,12 @@ pub enum Warning {
         alike: usize,
         /// The row of the first that looks different, counted from 0.
         other: Option<usize>,
+    },
+    /// The cells of a column of integers are days as yyyyMMdd, of which there are so many.
+    Days {
+        file: usize,
+        col: usize,
+        cells: usize,
     },
     /// A column is called a version, and its cells are decimals: it is a column of texts.
     Version {

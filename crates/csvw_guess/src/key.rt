@@ -4,6 +4,7 @@ ghost use Rattle.csv_index.specs.Index.{FitsFile};
 use crate::file::FileTable;
 use cell_types::{CellFault, Column, Datatype, Value};
 use csv_index::{Fields, Raw};
+use key_places::KeyPlaces;
 use raw_fields::cell_value;
 use std::alloc::{AllocError, Global};
 
@@ -42,26 +43,28 @@ fn integers_in(
     Ok(Some(integers))
 }
 
-/// Returns the texts of the first column as they are in the file, or `None` if a cell is empty or too long for a key. Fields that are the same texts
-/// have the same bytes.
-fn texts_in<'a>(alloc: Global, file: &FileTable<'a>) -> Result<Option<Vec<&'a str>>, AllocError>
+/// Returns true if the texts of the first column may be keys: none is empty or too long, and none is another's too. Fields that are the same texts have the same
+/// bytes.
+fn are_text_keys<'a>(alloc: Global, file: &FileTable<'a>) -> Result<bool, AllocError>
     requires { FitsFile file.now.index.now file.now.text.now }
 {
-    let mut texts = Vec::with_capacity(alloc, file.index.rows())?;
+    let mut keys: KeyPlaces<&'a str> = KeyPlaces::with_capacity(alloc, file.index.rows())?;
     let mut fields = file.index.fields(file.text, 0);
     for _row in 0..file.index.rows() {
         match first_field(&mut fields, file.index.width()) {
             Some(raw) if !raw.bytes.is_empty() && raw.bytes.len() <= MOST_KEY => {
-                texts.push(raw.bytes)?;
+                if !keys.insert(raw.bytes)? {
+                    return Ok(false);
+                }
             }
-            _ => return Ok(None),
+            _ => return Ok(false),
         }
     }
-    Ok(Some(texts))
+    Ok(true)
 }
 
-/// Returns true if no two of some values are equal. It sorts them if they are not in their order.
-fn are_distinct<T: Ord>(values: &mut [T]) -> bool {
+/// Returns true if no two of some integers are equal. It sorts them if they are not in their order.
+fn are_distinct(values: &mut [i128]) -> bool {
     if values.is_sorted_by(|one, next| *one < *next) {
         return true;
     }
@@ -82,10 +85,7 @@ pub(crate) fn is_key(
             Some(mut integers) => are_distinct(integers.as_mut_slice()),
             None => false,
         }),
-        Datatype::Text => Ok(match texts_in(alloc, file)? {
-            Some(mut texts) => are_distinct(texts.as_mut_slice()),
-            None => false,
-        }),
+        Datatype::Text => are_text_keys(alloc, file),
         _ => Ok(false),
     }
 }

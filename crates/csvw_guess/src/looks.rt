@@ -3,7 +3,6 @@ ghost use Rattle.csv_index.specs.Index.{FitsFile};
 
 use crate::file::FileTable;
 use column_types::{LOOK_COUNT, Look, NULL_WORDS, Seen, look_of, without_white};
-use csv_index::Raw;
 use std::alloc::{AllocError, Global};
 
 /// Of so many cells one may look different from the others.
@@ -126,21 +125,6 @@ impl Looks {
     }
 }
 
-/// Reads a field into the looks of its column. Returns true if the cells of the column may still look alike.
-fn read_field(
-    alloc: Global,
-    looks: &mut Looks,
-    raw: Raw<'_>,
-    row: usize,
-    most_others: usize,
-) -> Result<bool, AllocError> {
-    if looks.is_open {
-        let text = raw.text(alloc)?;
-        looks.read(text.as_str(), row, most_others);
-    }
-    Ok(looks.is_open)
-}
-
 /// Returns what the cells of the columns of a file look like, of those that can only be columns of texts. It ends if no column is left whose cells may look alike.
 pub(crate) fn read_looks(
     alloc: Global,
@@ -159,10 +143,16 @@ pub(crate) fn read_looks(
     for row in 0..file.index.rows() {
         let mut is_open = false;
         for looks in &mut columns {
+            if !looks.is_open {
+                fields.pass();
+                continue;
+            }
             let Some(raw) = fields.next_field() else {
                 return Ok(columns);
             };
-            is_open |= read_field(alloc, looks, raw, row, most_others)?;
+            let text = raw.text(alloc)?;
+            looks.read(text.as_str(), row, most_others);
+            is_open |= looks.is_open;
         }
         if !is_open {
             return Ok(columns);

@@ -42,11 +42,7 @@ fn is_taken(earlier: &[Column], name: &str) -> bool {
 }
 
 /// Returns the name of the column after some: that of its header cell, or, if one of them has it, the name with the least number from 2 on that none has.
-pub(crate) fn next_name(
-    alloc: Global,
-    earlier: &[Column],
-    cell: &str,
-) -> Result<String, AllocError> {
+pub fn next_name(alloc: Global, earlier: &[Column], cell: &str) -> Result<String, AllocError> {
     let name = base_name(alloc, cell)?;
     if !is_taken(earlier, name.as_str()) {
         return Ok(name);

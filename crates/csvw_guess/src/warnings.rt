@@ -5,14 +5,12 @@ ghost use Rattle.csv_index.specs.Index.{FitsFile};
 use crate::fault::Warning;
 use crate::file::FileTable;
 use crate::looks::Looks;
-use cell_types::{CellFault, Column, Datatype, Value};
+use cell_types::{CellFault, Column, Datatype, DateForm, Value};
 use column_types::{NULL_WORDS, Seen, are_digits, look_name};
 use csv_index::Raw;
+use csv_shapes::SEPARATORS;
 use raw_fields::cell_value;
-use std::alloc::Global;
-
-/// The bytes that may separate fields in the place of a comma.
-const SEPARATORS: [u8; 3] = [b';', b'\t', b'|'];
+use std::alloc::{AllocError, Global};
 
 /// What there is to look at so far. If memory runs out that is kept in it, so that a warning has no failure of its own.
 #[derive(Drop)]
@@ -148,6 +146,58 @@ pub(crate) fn column_warnings(
         }
     }
     null_warnings(warnings, file, known, columns);
+}
+
+/// Returns how many cells of a column are days, by a column of dates, if each of them is a day or null; else 0.
+fn count_days(warnings: &mut Warnings, file: &FileTable<'_>, col: usize, dates: &Column) -> usize
+    requires bytes { FitsFile file.now.index.now file.now.text.now }
+    requires col { col < file.now.index.now.width }
+{
+    let mut days: usize = 0;
+    for row in 0..file.index.rows() {
+        match cell_value(warnings.alloc, dates, file.index.cell(file.text, row, col)) {
+            Ok(Value::Null) => {}
+            Ok(_) => days = days.saturating_add(1),
+            Err(fault) => {
+                warnings.is_short |= matches!(fault, CellFault::NoMemory);
+                return 0;
+            }
+        }
+    }
+    days
+}
+
+/// Adds the columns of integers that may be days without a sign between year, month and day.
+pub(crate) fn day_warnings(
+    warnings: &mut Warnings,
+    file: &FileTable<'_>,
+    known: &[Seen],
+    columns: &[Column],
+) -> Result<(), AllocError>
+    requires { FitsFile file.now.index.now file.now.text.now }
+{
+    let alloc = warnings.alloc;
+    for col in 0..file.index.width() {
+        if let Some(column) = columns.get(col)
+            && let Some(seen) = known.get(col)
+            && matches!(column.datatype, Datatype::Integer)
+        {
+            let dates = Column {
+                name: String::new(alloc),
+                titles: Vec::new(alloc),
+                datatype: Datatype::Date(DateForm::Compact),
+                nulls: seen.nulls(alloc, &column.datatype)?,
+                default: String::new(alloc),
+                required: false,
+            };
+            let cells = count_days(warnings, file, col, &dates);
+            if cells > 1 {
+                let file = file.number;
+                warnings.put(Warning::Days { file, col, cells });
+            }
+        }
+    }
+    Ok(())
 }
 
 /// Returns true if the header of a file may be data: each header cell of a column that is none of texts is a value of it, and one is no year.

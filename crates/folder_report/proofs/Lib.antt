@@ -1,3 +1,1 @@
-pub mod BoundLemmas
-pub mod ShowLemmas
-pub mod SheetLemmas
+pub mod LineLemmas

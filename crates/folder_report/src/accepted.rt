@@ -1,6 +1,6 @@
 //! What would be accepted in the place of what is refused.
 use crate::line::Line;
-use crate::show::pattern_of;
+use crate::text::pattern_of;
 use cell_types::{BooleanForm, CellFault, Column, Datatype};
 use csv_index::TextFault;
 use csvw_meta::MetaFault;

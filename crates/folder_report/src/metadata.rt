@@ -1,5 +1,6 @@
 //! All that is refused of a metadata text, with its path there.
 use crate::accepted::accepted_metadata;
+use crate::help::{METADATA, push_help};
 use crate::json::{array_member, is_among, is_key, member};
 use crate::line::Line;
 use crate::probe::{IN_COLUMN, IN_GROUP, IN_SCHEMA, IN_TABLE, member_fault};
@@ -225,8 +226,9 @@ fn refuse_no_json(report: &mut Report, error: &serde_json::Error) {
     report.put_accepted(line, accepted_metadata(&MetaFault::NotJson));
 }
 
-/// Adds all that is refused of a metadata text, each with its path there, what stands at it, and what would be accepted.
+/// Adds all that is refused of a metadata text, each with its path there, its value, and what would be accepted; and what helps.
 pub fn refuse_metadata(report: &mut Report, bytes: &[u8]) {
+    push_help(&mut report.helps, "csv-metadata.json", METADATA);
     match Value::from_slice(report.alloc, &bytes[mark_len(bytes)..]) {
         Ok(value) => metadata(report, &value),
         Err(error) => refuse_no_json(report, &error),

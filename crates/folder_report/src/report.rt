@@ -1,7 +1,7 @@
 //! All that is refused of a folder, a line each.
-ghost use Rattle.std.specs.Prelude.{◌≡◌, ◌++◌, ◌⊎◌, [], ◌∷◌, false, true, IfOk, map, string_bytes};
+ghost use Rattle.std.specs.Prelude.{◌≡◌, ◌++◌, ◌⊎◌, [], ◌∷◌, false, true, IfOk, map, option_map, string_bytes};
 ghost use Rattle.table_store.specs.Fault.{load_fault_text};
-ghost use Rattle.folder_report.specs.Refusal.{AreLinesOf, HasFront};
+ghost use Rattle.folder_report.specs.Refusal.{first_with, said_lines, without_first};
 
 use crate::line::Line;
 use std::alloc::{AllocError, Global};
@@ -15,6 +15,8 @@ pub const MOST_REFUSALS: usize = 20;
 pub struct Report {
     pub alloc: Global,
     pub lines: Vec<String>,
+    /// What helps, a line for each table.
+    pub helps: Line,
     pub is_short: bool,
 }
 
@@ -26,6 +28,7 @@ impl Report {
         Report {
             alloc,
             lines: Vec::new(alloc),
+            helps: Line::new(alloc),
             is_short: false,
         }
     }
@@ -46,7 +49,7 @@ impl Report {
         }
     }
 
-    /// A line that begins with a cause, and what is told of it after a colon. Where the cause is want of memory that is kept in it.
+    /// Returns a line that begins with a cause and a colon. If the cause is that memory ran out, the line keeps that.
     pub fn begin(&self, fault: LoadFault) -> Line {
         let mut line = Line::new(self.alloc);
         line.is_short = fault.is_memory();
@@ -73,15 +76,17 @@ impl Report {
         self.put(line);
     }
 
-    /// The lines of a folder that is refused for that cause, at most [`MOST_REFUSALS`]: the first begins with the cause, as the service tells it, and the others follow
-    /// in their order.
+    /// Returns the lines of a folder that is refused for a cause, at most [`MOST_REFUSALS`]. The first is the one that says more of the cause, else the cause
+    /// alone; the others follow in their order.
     pub fn end(self, cause: &LoadFault) -> Result<Vec<String>, AllocError>
-        ensures { IfOk result (λ lines.
-            AreLinesOf (load_fault_text cause.now) (map string_bytes lines.items)) }
+        ensures { IfOk result (λ lines. map string_bytes lines.items
+            ≡ said_lines (load_fault_text cause.now) (map string_bytes self.lines.items)) }
     {
         let cause = cause.text(self.alloc)?;
+        let mut front = cause.clone()?;
+        front.push_str(": ")?;
         let mut lines = self.lines;
-        let first = take_first(&mut lines, cause);
+        let first = take_first(&mut lines, front.as_str()).unwrap_or(cause);
         if lines.insert(0, first).is_err() || self.is_short {
             return Err(AllocError);
         }
@@ -90,15 +95,17 @@ impl Report {
     }
 }
 
-/// The line of a cause, taken out of the others: the first that tells more of it, else the cause alone.
-fn take_first(lines: &mut Vec<String>, cause: String) -> String
-    ensures { HasFront (string_bytes cause) (string_bytes result) }
+/// Takes the first line with a front out of some, and returns it, if there is one.
+fn take_first(lines: &mut Vec<String>, front: &str) -> Option<String>
+    ensures first { option_map string_bytes result
+        ≡ first_with front.now (map string_bytes lines.old.items) }
+    ensures others { map string_bytes lines.new.items
+        ≡ without_first front.now (map string_bytes lines.old.items) }
 {
     for place in 0..lines.len() {
-        match lines[place].as_bytes().strip_prefix(cause.as_bytes()) {
-            Some(detail) if detail.starts_with(b": ") => return lines.remove(place),
-            _ => {}
+        if lines[place].as_bytes().starts_with(front.as_bytes()) {
+            return Some(lines.remove(place));
         }
     }
-    cause
+    None
 }

@@ -4,11 +4,12 @@ ghost use Rattle.csv_index.specs.Index.{FitsFile};
 
 use crate::accepted::push_accepted_cell;
 use crate::line::Line;
-use crate::place::{TableFile, line_after};
+use crate::place::TableFile;
 use crate::report::Report;
 use crate::value::push_value;
 use cell_types::{CellFault, Column, Value};
 use csv_index::Raw;
+use csv_shapes::line_after;
 use raw_fields::cell_value;
 use reply_values::push_json_value;
 use std::collections::BTreeMap;

@@ -2,12 +2,14 @@
 ghost use Rattle.csv_index.specs.Index.{FitsFile};
 
 use crate::accepted::{accepted_file, place_of};
+use crate::help::{CELLS, KEYS, MISSING, help_headers, push_command, push_file_help, push_help};
 use crate::line::Line;
-use crate::place::{Records, TableFile, line_after};
+use crate::place::TableFile;
 use crate::report::Report;
 use crate::rows::{refuse_cells, refuse_keys};
 use cell_types::Column;
 use csv_index::{Index, TextFault};
+use csv_shapes::{Record, Records, line_after};
 use csvw_meta::{MOST_FILE_BYTES, Schema};
 use std::str::from_utf8;
 use table_store::{LoadFault, NamedFile};
@@ -36,18 +38,14 @@ fn uneven_line(report: &mut Report, url: &str, uneven: Uneven) -> Line {
 /// Adds the refusals of the rows of another width than the header, by the lines in which they begin and their fields. They are the first ones,
 /// or, in brief, the first one and how many more there are.
 fn refuse_widths(report: &mut Report, url: &str, bytes: &[u8], is_brief: bool) {
-    let mut records = Records {
-        bytes,
-        at: 0,
-        line: 1,
-    };
-    let (_, wanted) = records.next_record();
+    let mut records = Records::new(bytes, b',');
+    let wanted = records.next_record().fields;
     let mut count: usize = 0;
     for row in 0..bytes.len() {
-        if records.at >= bytes.len() || report.is_full() && !is_brief {
+        if records.is_at_end() || report.is_full() && !is_brief {
             break;
         }
-        let (line, fields) = records.next_record();
+        let Record { line, fields, .. } = records.next_record();
         if fields == wanted {
             continue;
         }
@@ -78,6 +76,15 @@ fn refuse_text(report: &mut Report, url: &str, bytes: &[u8], fault: TextFault) {
     let before = place_of(fault).min(bytes.len());
     line.push_with("line ", line_after(1, &bytes[..before]));
     report.put_accepted(line, accepted_file(fault));
+}
+
+/// Adds the refusals of a file that is no table for a fault, and what helps.
+fn refuse_fault(report: &mut Report, url: &str, bytes: &[u8], fault: TextFault, is_brief: bool) {
+    match fault {
+        TextFault::Width { .. } => refuse_widths(report, url, bytes, is_brief),
+        _ => refuse_text(report, url, bytes, fault),
+    }
+    push_file_help(&mut report.helps, url, bytes, fault);
 }
 
 /// Whether a column may have that header: its name, or one of its titles.
@@ -144,12 +151,20 @@ fn refuse_indexed(report: &mut Report, file: &TableFile<'_>)
     requires { FitsFile file.now.index.now file.now.text.now }
 {
     let before = report.lines.len();
+    let url = file.schema.url.as_str();
     refuse_headers(report, file);
-    if report.lines.len() == before {
-        refuse_cells(report, file);
+    if report.lines.len() > before {
+        return help_headers(&mut report.helps, file);
     }
-    if report.lines.len() == before && !file.schema.key.is_empty() {
+    refuse_cells(report, file);
+    if report.lines.len() > before {
+        return push_help(&mut report.helps, url, CELLS);
+    }
+    if !file.schema.key.is_empty() {
         refuse_keys(report, file);
+    }
+    if report.lines.len() > before {
+        push_help(&mut report.helps, url, KEYS);
     }
 }
 
@@ -166,8 +181,7 @@ fn refuse_bytes(report: &mut Report, schema: &Schema, bytes: &[u8]) {
             };
             refuse_indexed(report, &file);
         }
-        Err(TextFault::Width { .. }) => refuse_widths(report, schema.url.as_str(), bytes, false),
-        Err(fault) => refuse_text(report, schema.url.as_str(), bytes, fault),
+        Err(fault) => refuse_fault(report, schema.url.as_str(), bytes, fault, false),
     }
 }
 
@@ -178,6 +192,12 @@ fn refuse_large(report: &mut Report, url: &str) {
     line.push_with("accepted: ", MOST_FILE_BYTES as usize);
     line.push(" bytes at most");
     report.put(line);
+    push_command(
+        &mut report.helps,
+        url,
+        "mlr --csv split -n 1000000 ",
+        " writes parts of it",
+    );
 }
 
 /// Adds the refusal of a file that is missing.
@@ -186,19 +206,19 @@ fn refuse_missing(report: &mut Report, url: &str) {
     let mut line = report.begin(LoadFault::FileMissing { table });
     line.push("no file of the folder has this name");
     report.put(line);
+    push_help(&mut report.helps, url, MISSING);
 }
 
-/// Adds the refusal of a file, in one line or two: that it is no table for that fault, or else that it is above the limit.
+/// Adds the refusal of a file, in one line or two, and what helps: it is no table for a fault, or else it is above the limit.
 pub fn refuse_file(report: &mut Report, file: &NamedFile, fault: Option<TextFault>) {
     let url = file.name.as_str();
     match fault {
-        Some(TextFault::Width { .. }) => refuse_widths(report, url, file.bytes.as_slice(), true),
-        Some(fault) => refuse_text(report, url, file.bytes.as_slice(), fault),
+        Some(fault) => refuse_fault(report, url, file.bytes.as_slice(), fault, true),
         None => refuse_large(report, url),
     }
 }
 
-/// Adds all that is refused of the file of a schema, where there is one: nothing where it is its table.
+/// Adds all that is refused of the file of a schema, if there is one, and what helps: nothing if it is its table.
 pub fn refuse_table(report: &mut Report, schema: &Schema, file: Option<&[u8]>) {
     let url = schema.url.as_str();
     match file {
