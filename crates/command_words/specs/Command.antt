@@ -14,6 +14,10 @@ shown_rule rule = record rule { value_names = 1 }
 abbrev pub optional_rule : Rule → Rule
 optional_rule rule = record rule { required = false }
 
+-- `ID`, which is needed
+abbrev pub place_rule : Text → Rule
+place_rule id = record (shown_rule (new_rule id)) { required = true }
+
 -- `[FOLDER]`, or `FOLDER` where it is needed
 abbrev pub folder_rule : Bool → Rule
 folder_rule needed = record (shown_rule (new_rule (codes "folder"))) { required = needed }

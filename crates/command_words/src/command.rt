@@ -1,8 +1,8 @@
 //! Commands, as they are made for `clap` one argument after the other, and what it reads by them. A call takes the command as the call before it left it, and passes
 //! want of memory on. What help says of a command and of its arguments no clause says.
 ghost use Rattle.std.specs.Prelude.{◌≡◌, IfErr, IfOk, false, is_ok, true};
-ghost use Rattle.clap.specs.Words.{App, is_simple_and_free, rule_of, with_rule, with_subcommand};
-ghost use Rattle.command_words.specs.Command.{MakesCommand, flag_rule, folder_rule, number_rule, optional_rule, over_folder, program_named, shown_rule, text_rule};
+ghost use Rattle.clap.specs.Words.{App, is_simple_and_free, new_app, rule_of, with_rule, with_subcommand};
+ghost use Rattle.command_words.specs.Command.{MakesCommand, flag_rule, folder_rule, number_rule, optional_rule, over_folder, place_rule, program_named, shown_rule, text_rule};
 ghost use Rattle.command_words.specs.Fault.{IsReadingOf, IsRefusal};
 ghost use Rattle.command_words.specs.Words.{port_rule, texts};
 
@@ -13,6 +13,9 @@ use std::alloc::{AllocError, Global};
 
 /// What help says of a folder that is served.
 pub const FOLDER_HELP: &str = "The folder, with csv-metadata.json and the files that it names";
+
+/// The version of all programs, which `--version` prints.
+pub const VERSION: &str = "1.1.0";
 
 /// The command of a program, without its arguments; and whether `help` is left out beside its subcommands.
 pub fn top_command<'a>(
@@ -52,6 +55,21 @@ pub fn add_folder<'a>(
 {
     let folder = Arg::new(alloc, "folder").value_name("FOLDER");
     add(command, folder.required(needed).help(help))
+}
+
+/// Adds a needed argument without an option to `command`, which help calls `value_name`.
+pub fn add_place<'a>(
+    alloc: Global,
+    command: Result<Command<'a>, AllocError>,
+    id: &'a str,
+    value_name: &'a str,
+    help: &'a str,
+) -> Result<Command<'a>, AllocError>
+    ensures app { (app : App) → MakesCommand command.entry app
+        → MakesCommand result (with_rule app (place_rule id.entry.now)) }
+{
+    let place = Arg::new(alloc, id).value_name(value_name);
+    add(command, place.required(true).help(help))
 }
 
 /// Adds the option `--port P` to `command`; it may be left out.
@@ -111,8 +129,19 @@ pub fn add_flag<'a>(
     add(command, option.help(help))
 }
 
+/// Returns a subcommand without its arguments.
+pub fn inner_command<'a>(
+    alloc: Global,
+    name: &'a str,
+    about: &'a str,
+) -> Result<Command<'a>, AllocError>
+    ensures app { MakesCommand result (new_app name.entry.now) }
+{
+    Ok(Command::new(alloc, name).about(about))
+}
+
 /// The command with one more subcommand.
-fn add_command<'a>(
+pub fn add_command<'a>(
     command: Result<Command<'a>, AllocError>,
     inner: Result<Command<'a>, AllocError>,
 ) -> Result<Command<'a>, AllocError>
@@ -132,7 +161,7 @@ pub fn add_folder_command<'a>(
     ensures app { (app : App) → MakesCommand command.entry app
         → MakesCommand result (with_subcommand app (over_folder name.entry.now).top) }
 {
-    let named = Ok(Command::new(alloc, name).about(about));
+    let named = inner_command(alloc, name, about);
     add_command(command, add_folder(alloc, named, true, FOLDER_HELP))
 }
 

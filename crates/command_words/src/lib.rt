@@ -7,8 +7,8 @@ mod fault;
 mod words;
 
 pub use command::{
-    FOLDER_HELP, add_flag, add_folder, add_folder_command, add_number, add_port, add_text,
-    matches_of, top_command,
+    FOLDER_HELP, VERSION, add_command, add_flag, add_folder, add_folder_command, add_number,
+    add_place, add_port, add_text, inner_command, matches_of, top_command,
 };
 pub use fault::WordsFault;
 pub use words::{flag, line_of, number, port, port_option, required, system_words, text};

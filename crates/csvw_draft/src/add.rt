@@ -1,14 +1,15 @@
 //! Metadata with the tables and the columns that it does not have yet.
 use cell_types::Column;
-use csvw_guess::{column_json, table_json};
+use csvw_guess::{column_json, next_name, table_json};
 use csvw_meta::Schema;
 use json_splice::{Splice, items_at, member_at, spliced};
 use std::alloc::{AllocError, Global};
+use std::mem::replace;
 
-/// What is put before a table of a group, and before a column of a schema.
-const BEFORE_TABLE: &[u8] = b",\n    ";
+/// The spaces before a table of a group, and before a column of a schema.
+const TABLE_INDENT: usize = 4;
 
-const BEFORE_COLUMN: &[u8] = b",\n          ";
+const COLUMN_INDENT: usize = 10;
 
 /// What is put before and after a table, so that it is one of a group.
 const BEFORE_GROUP: &[u8] = b"{\"@context\": \"http://www.w3.org/ns/csvw\", \"tables\": [\n";
@@ -32,26 +33,79 @@ fn is_called(column: &Column, other: &Column) -> bool {
     column.name.as_str() == header || column.titles.iter().any(|title| title.as_str() == header)
 }
 
-/// Returns a text with spaces after each line break, as many as after the line break of another text, which comes first.
-fn indented(alloc: Global, before: &[u8], text: &[u8]) -> Result<Vec<u8>, AllocError> {
-    let mut made = Vec::from_slice(alloc, before)?;
+/// Appends a line break and spaces.
+fn push_break(text: &mut Vec<u8>, indent: usize) -> Result<(), AllocError> {
+    text.push(b'\n')?;
+    for _space in 0..indent {
+        text.push(b' ')?;
+    }
+    Ok(())
+}
+
+/// Returns a text as an item of an array, with spaces after each line break, before the first of the items or after another.
+fn item_of(alloc: Global, text: &[u8], indent: usize, first: bool) -> Result<Vec<u8>, AllocError> {
+    let mut made = Vec::new(alloc);
+    if !first {
+        made.push(b',')?;
+        push_break(&mut made, indent)?;
+    }
     for byte in text {
-        made.push(*byte)?;
         if *byte == b'\n' {
-            for space in before.iter().skip(2) {
-                made.push(*space)?;
-            }
+            push_break(&mut made, indent)?;
+        } else {
+            made.push(*byte)?;
         }
+    }
+    if first {
+        made.push(b',')?;
+        push_break(&mut made, indent)?;
     }
     Ok(made)
 }
 
-/// Adds the columns of a drafted schema that the schema of a file does not have, after its other columns.
+/// Gives a drafted column another name if a column of a schema has its name, which is its header then.
+fn rename(alloc: Global, schema: &Schema, column: &mut Column) -> Result<(), AllocError> {
+    let name = next_name(alloc, schema.columns.as_slice(), column.name.as_str())?;
+    if name.as_str() == column.name.as_str() {
+        return Ok(());
+    }
+    let header = replace(&mut column.name, name);
+    if column.titles.is_empty() {
+        column.titles.push(header)?;
+    }
+    Ok(())
+}
+
+/// Adds a drafted column before the column of an index, or after all columns, by the offsets of these.
+fn add_column(
+    alloc: Global,
+    items: &[(usize, usize)],
+    next: usize,
+    column: &Column,
+    splices: &mut Vec<Splice>,
+) -> Result<(), AllocError> {
+    let made = column_json(alloc, column)?;
+    let before = match next.checked_sub(1) {
+        Some(last) => items.get(last),
+        None => None,
+    };
+    let at = match before {
+        Some((_, end)) => *end,
+        None => match items.first() {
+            Some((start, _)) => *start,
+            None => return Ok(()),
+        },
+    };
+    let text = item_of(alloc, made.as_slice(), COLUMN_INDENT, before.is_none())?;
+    splices.push(Splice { at, text }).or(Err(AllocError))
+}
+
+/// Adds the columns of a drafted schema that the schema of a file does not have, where the header of the file has them.
 fn add_columns(
     alloc: Global,
     json: &[u8],
     table: usize,
-    pair: (&Schema, &Schema),
+    pair: (&Schema, &mut Schema),
     splices: &mut Vec<Splice>,
 ) -> Result<(), AllocError> {
     let (schema, drafted) = pair;
@@ -62,16 +116,15 @@ fn add_columns(
         return Ok(());
     };
     let items = items_at(alloc, json, columns)?;
-    let Some((_, at)) = items.last() else {
-        return Ok(());
-    };
-    let at = *at;
-    for column in &drafted.columns {
-        let mut has = schema.columns.iter();
-        if !has.any(|other| is_called(other, column)) {
-            let made = column_json(alloc, column)?;
-            let text = indented(alloc, BEFORE_COLUMN, made.as_slice())?;
-            splices.push(Splice { at, text }).or(Err(AllocError))?;
+    let mut next: usize = 0;
+    for column in &mut drafted.columns {
+        let mut others = schema.columns.iter().enumerate().skip(next);
+        match others.find(|(_, other)| is_called(other, column)) {
+            Some((place, _)) => next = place.saturating_add(1),
+            None => {
+                rename(alloc, schema, column)?;
+                add_column(alloc, items.as_slice(), next, column, splices)?;
+            }
         }
     }
     Ok(())
@@ -82,14 +135,15 @@ fn add_to_tables(
     alloc: Global,
     json: &[u8],
     tables: &[(usize, usize)],
-    pair: (&[Schema], &[Schema]),
+    pair: (&[Schema], &mut [Schema]),
     splices: &mut Vec<Splice>,
 ) -> Result<(), AllocError> {
     let (schemas, drafted) = pair;
     for (schema, (table, _)) in schemas.iter().zip(tables) {
-        let mut same = drafted.iter();
-        if let Some(draft) = same.find(|draft| draft.url == schema.url) {
-            add_columns(alloc, json, *table, (schema, draft), splices)?;
+        for draft in &mut *drafted {
+            if draft.url == schema.url {
+                add_columns(alloc, json, *table, (schema, draft), splices)?;
+            }
         }
     }
     Ok(())
@@ -111,7 +165,7 @@ fn add_tables(
     for draft in drafted {
         if lacks(schemas, draft) {
             let made = table_json(alloc, draft)?;
-            let text = indented(alloc, BEFORE_TABLE, made.as_slice())?;
+            let text = item_of(alloc, made.as_slice(), TABLE_INDENT, false)?;
             splices.push(Splice { at, text }).or(Err(AllocError))?;
         }
     }
@@ -135,7 +189,7 @@ pub fn added_text(
     alloc: Global,
     json: &[u8],
     schemas: &[Schema],
-    drafted: &[Schema],
+    drafted: &mut [Schema],
 ) -> Result<Vec<u8>, AllocError> {
     let mut splices = Vec::new(alloc);
     let open = json.iter().position(|byte| *byte == b'{').unwrap_or(0);
@@ -146,7 +200,7 @@ pub fn added_text(
                 alloc,
                 json,
                 items.as_slice(),
-                (schemas, drafted),
+                (schemas, &mut *drafted),
                 &mut splices,
             )?;
             if let Some((_, end)) = items.last() {
@@ -159,7 +213,7 @@ pub fn added_text(
                 add_text(alloc, open, BEFORE_GROUP, &mut splices)?;
             }
             let whole = [(open, open)];
-            add_to_tables(alloc, json, &whole, (schemas, drafted), &mut splices)?;
+            add_to_tables(alloc, json, &whole, (schemas, &mut *drafted), &mut splices)?;
             if is_group {
                 let end = end_of(json);
                 add_tables(alloc, end, schemas, drafted, &mut splices)?;

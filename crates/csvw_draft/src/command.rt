@@ -3,8 +3,9 @@ use crate::draft::draft_folder;
 use crate::explain::tell_folder;
 use crate::status::{DEVICE, DONE, MEMORY, USAGE, status_of};
 use crate::told::status_after;
-use crate::words::{USAGE_LINE, Words, read_words};
 use command_words::{WordsFault, line_of, system_words};
+use convert_folders::convert_folder;
+use draft_words::{USAGE_LINE, Words, read_words};
 use std::io::{self, ErrorKind, IsTerminal};
 use std::rt::Files;
 
@@ -54,6 +55,7 @@ fn words_status(rt: &HostRuntime, words: Result<Words<'_>, WordsFault>) -> u8 {
         }
         Ok(Words::Show { folder }) => end_of(rt, folder, Ok(tell_folder(rt, folder, false))),
         Ok(Words::Explain { folder }) => end_of(rt, folder, Ok(tell_folder(rt, folder, true))),
+        Ok(Words::Convert(asks)) => end_of(rt, asks.folder, convert_folder(rt, &asks)),
         Err(WordsFault::Shows(text)) => status_after(text.print(rt), DONE),
         Err(WordsFault::Usage) => usage_status(rt),
         Err(WordsFault::NoMemory) => memory_status(rt),

@@ -1,15 +1,13 @@
 //! The draft of a folder.
 use crate::add::added_text;
-use crate::cure::help_with;
 use crate::folder::{file_in, path_in, read_files};
-use crate::status::{DONE, MEMORY, REFUSED, status_of};
-use crate::told::{print_text, refuse, refuse_for, status_after};
+use crate::left_out::{refuse_files, warn_of_left_out};
+use crate::status::{DONE, MEMORY, status_of};
+use crate::told::{SEE_EXPLAIN, print_text, refuse_cause, refuse_for, status_after};
 use crate::warning::warn_of;
-use crate::words::Asks;
-use csv_index::TextFault;
-use csvw_guess::{Aims, DraftFault, Guess, accepted_text, draft_of, guess_of};
-use csvw_meta::{Limits, MetaFault, Schemas};
-use folder_report::{Line, Report, refuse_file};
+use csvw_guess::{Aims, DraftFault, accepted_text, draft_of, guess_of};
+use csvw_meta::{Limits, MetaFault, Schema, Schemas};
+use draft_words::Asks;
 use served_folders::METADATA;
 use std::fs::File;
 use std::io::{self, ErrorKind, Write};
@@ -29,68 +27,13 @@ const TOO_MANY_TABLES: &str = "accepted: 256 files at most";
 const DEFECT: &str =
     ": csvw_draft made this draft, and the service refuses it: please report it, with this line";
 
-/// What is said after the cause if the metadata of the folder is a part of the draft.
-const SEE_EXPLAIN: &str = ": see csvw_draft explain";
-
-/// Reports a file that is no table, and what helps, and returns the exit status.
-fn refuse_one(rt: &HostRuntime, file: &NamedFile, fault: Option<TextFault>) -> u8 {
-    let mut report = Report::new(rt.alloc());
-    refuse_file(&mut report, file, fault);
-    if report.is_short {
-        return MEMORY;
-    }
-    let status = refuse(rt, report.lines.as_slice());
-    match fault {
-        Some(fault) if status == REFUSED => {
-            let helped = help_with(rt, file.name.as_str(), file.bytes.as_slice(), fault);
-            status_after(helped, REFUSED)
-        }
-        _ => status,
-    }
-}
-
-/// Reports the files that are no tables, and returns the exit status: that of a refusal, if nothing is drafted for them.
-fn refuse_files(rt: &HostRuntime, files: &[NamedFile], guess: &Guess, skip: bool) -> u8 {
-    for refusal in &guess.refusals {
-        if let Some(file) = files.get(refusal.file) {
-            let status = refuse_one(rt, file, refusal.fault);
-            if status != REFUSED {
-                return status;
-            }
-        }
-    }
-    if guess.refusals.is_empty() || skip {
-        return DONE;
-    }
-    if guess.schemas.is_empty() {
-        return REFUSED;
-    }
-    let refused = guess.refusals.len();
-    let count = files.len();
-    status_after(
-        eprintln!(rt; "refused: {refused} of {count} files: --skip-refused drafts the others"),
-        REFUSED,
-    )
-}
-
-/// Reports that the service refuses a draft, and returns the exit status.
-fn refuse_draft(rt: &HostRuntime, cause: &LoadFault, add: bool) -> u8 {
-    let mut line = Line::new(rt.alloc());
-    line.push_made(cause.text(rt.alloc()));
-    line.push(if add { SEE_EXPLAIN } else { DEFECT });
-    if line.is_short {
-        MEMORY
-    } else {
-        refuse_for(rt, line.text.as_str())
-    }
-}
-
 /// Reports why files have no draft, and returns the exit status.
 fn refuse_fault(rt: &HostRuntime, fault: &DraftFault, add: bool) -> u8 {
     match fault {
         DraftFault::NoTables => refuse_for(rt, NO_TABLES),
         DraftFault::TooManyTables => refuse_for(rt, TOO_MANY_TABLES),
-        DraftFault::Refused(cause) => refuse_draft(rt, cause, add),
+        DraftFault::Refused(cause) if add => refuse_cause(rt, cause, SEE_EXPLAIN),
+        DraftFault::Refused(cause) => refuse_cause(rt, cause, DEFECT),
         DraftFault::NoMemory => MEMORY,
     }
 }
@@ -121,8 +64,11 @@ fn write_metadata(rt: &HostRuntime, path: &str, text: &[u8]) -> u8 {
 fn replace_metadata(rt: &HostRuntime, path: &str, text: &[u8]) -> io::Result<u8> {
     let new = format!(in rt.alloc(); "{path}.new")?;
     let mut file = File::create(rt, new.as_str())?;
-    let written = file.write_all(text);
-    match written.and(rt.rename(new.as_str(), path)) {
+    let written = match file.write_all(text) {
+        Ok(()) => rt.rename(new.as_str(), path),
+        Err(error) => Err(error),
+    };
+    match written {
         Ok(()) => Ok(status_after(println!(rt; "wrote {path}"), DONE)),
         Err(error) => {
             let _ = rt.remove_file(new.as_str());
@@ -151,7 +97,7 @@ fn give_metadata(rt: &HostRuntime, asks: &Asks<'_>, path: &str, text: &[u8]) -> 
 fn added_draft(
     rt: &HostRuntime,
     json: &[u8],
-    guess: &Guess,
+    drafted: &mut [Schema],
     files: Vec<NamedFile>,
 ) -> Result<Vec<u8>, DraftFault> {
     let limits = Limits::greatest();
@@ -161,7 +107,7 @@ fn added_draft(
         Err(fault) => return Err(DraftFault::Refused(LoadFault::Meta(fault))),
     };
     let old = schemas.tables.as_slice();
-    match added_text(rt.alloc(), json, old, guess.schemas.as_slice()) {
+    match added_text(rt.alloc(), json, old, drafted) {
         Ok(text) => accepted_text(rt.alloc(), limits, text, files),
         Err(_) => Err(DraftFault::NoMemory),
     }
@@ -193,14 +139,15 @@ fn give_draft(
         limits,
         keys: asks.keys,
     };
-    let guess = guess_of(rt.alloc(), aims, files.as_slice())?;
+    let mut guess = guess_of(rt.alloc(), aims, files.as_slice())?;
+    warn_of_left_out(rt, guess.left_out.as_slice(), files.as_slice())?;
     warn_of(rt, &guess, files.as_slice())?;
     let status = refuse_files(rt, files.as_slice(), &guess, asks.skip);
     if status != DONE {
         return Ok(status);
     }
     let made = match old_metadata(rt, asks)? {
-        Some(json) => added_draft(rt, json.as_slice(), &guess, files),
+        Some(json) => added_draft(rt, json.as_slice(), guess.schemas.as_mut_slice(), files),
         None => draft_of(rt.alloc(), limits, guess.schemas.as_slice(), files),
     };
     match made {

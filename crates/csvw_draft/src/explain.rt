@@ -1,18 +1,21 @@
 //! What the service understands of a folder, and why it refuses one.
 use crate::folder::{file_in, names_of};
-use crate::status::{DEVICE, MEMORY, status_of};
-use crate::told::{print_text, refuse, refuse_for};
+use crate::status::{DEVICE, MEMORY, REFUSED, status_of};
+use crate::told::{SEE_EXPLAIN, print_text, refuse, refuse_cause, refuse_for, status_after, tell};
+use catalog_sheet::catalog_text;
 use csvw_meta::{Limits, MetaFault, Schema, Schemas};
-use folder_report::{Report, catalog_text, cut, refuse_metadata, refuse_table};
+use folder_report::{Line, Report, cut, refuse_metadata, refuse_table};
 use served_folders::{Disk, FolderFault, Folders, METADATA};
 use std::io::{self, ErrorKind};
+use std::mem::replace;
 use table_store::{Catalog, LoadFault};
 
-/// What is told of a folder without metadata.
-const NO_METADATA: &str = "csv-metadata.json: NoMetadata";
+/// What is said last of what helps.
+const LAST_HELP: &str =
+    "help: csvw_draft explain FOLDER prints accepted when nothing is left to fix\n";
 
-/// What is told of it further.
-const NO_METADATA_DETAIL: &str =
+/// What is said of a folder without metadata.
+const NO_METADATA: &str =
     "csv-metadata.json: NoMetadata: the folder has no such file; accepted: one, as csvw_draft FOLDER --write makes it";
 
 /// Adds what is refused of tables, in the order of the metadata, until there are as many refusals as are told.
@@ -50,16 +53,19 @@ fn refuse_folder(rt: &HostRuntime, folder: &str, report: &mut Report) -> io::Res
     }
 }
 
-/// Tells why a folder is refused: the one cause, as the service does, or all that is refused of it.
-fn tell_cause(rt: &HostRuntime, folder: &str, cause: &LoadFault, explains: bool) -> u8 {
+/// Reports all that is refused of a folder that is refused for a cause, and what helps; and returns the exit status.
+fn explain_cause(rt: &HostRuntime, folder: &str, cause: &LoadFault) -> u8 {
     let mut report = Report::new(rt.alloc());
-    if explains {
-        if let Err(error) = refuse_folder(rt, folder, &mut report) {
-            return status_of(Err(error));
-        }
+    if let Err(error) = refuse_folder(rt, folder, &mut report) {
+        return status_of(Err(error));
     }
+    let mut helps = replace(&mut report.helps, Line::new(rt.alloc()));
+    helps.push(LAST_HELP);
     match report.end(cause) {
-        Ok(lines) => refuse(rt, lines.as_slice()),
+        Ok(lines) => match refuse(rt, lines.as_slice()) {
+            REFUSED => status_after(tell(rt, &helps), REFUSED),
+            status => status,
+        },
         Err(_) => MEMORY,
     }
 }
@@ -67,10 +73,10 @@ fn tell_cause(rt: &HostRuntime, folder: &str, cause: &LoadFault, explains: bool)
 /// Tells why a folder has no catalog.
 fn tell_fault(rt: &HostRuntime, folder: &str, fault: &FolderFault, explains: bool) -> u8 {
     match fault {
-        FolderFault::NoMetadata if explains => refuse_for(rt, NO_METADATA_DETAIL),
         FolderFault::NoMetadata => refuse_for(rt, NO_METADATA),
         FolderFault::Load(LoadFault::NoMemory) | FolderFault::NoMemory => MEMORY,
-        FolderFault::Load(cause) => tell_cause(rt, folder, cause, explains),
+        FolderFault::Load(cause) if explains => explain_cause(rt, folder, cause),
+        FolderFault::Load(cause) => refuse_cause(rt, cause, SEE_EXPLAIN),
         FolderFault::Device => DEVICE,
     }
 }

@@ -5,14 +5,13 @@
 mod add;
 mod cells;
 mod command;
-mod cure;
 mod draft;
 mod explain;
 mod folder;
+mod left_out;
 mod status;
 mod told;
 mod warning;
-mod words;
 
 use command::command_status;
 use std::process::ExitCode;

@@ -1,7 +1,11 @@
 //! What is told, on standard error, a line for each thing; and the texts that were asked for.
-use crate::status::{DONE, REFUSED, status_of};
+use crate::status::{DONE, MEMORY, REFUSED, status_of};
 use folder_report::Line;
 use std::io::{self, ErrorKind};
+use table_store::LoadFault;
+
+/// What is said after a cause that `explain` says more of.
+pub const SEE_EXPLAIN: &str = ": see csvw_draft explain FOLDER";
 
 /// Tells lines that were written.
 pub fn tell(rt: &HostRuntime, lines: &Line) -> io::Result<()> {
@@ -22,6 +26,18 @@ pub fn status_after(done: io::Result<()>, status: u8) -> u8 {
 /// Tells why a folder is refused, and gives the exit status.
 pub fn refuse_for(rt: &HostRuntime, line: &str) -> u8 {
     status_after(eprintln!(rt; "refused: {line}"), REFUSED)
+}
+
+/// Reports a cause for which a folder is refused, and what is said after it, and returns the exit status.
+pub fn refuse_cause(rt: &HostRuntime, cause: &LoadFault, after: &str) -> u8 {
+    let mut line = Line::new(rt.alloc());
+    line.push_made(cause.text(rt.alloc()));
+    line.push(after);
+    if line.is_short {
+        MEMORY
+    } else {
+        refuse_for(rt, line.text.as_str())
+    }
 }
 
 /// [`refuse_for`] for several things.

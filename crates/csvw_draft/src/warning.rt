@@ -19,12 +19,6 @@ fn separator_warning(byte: u8) -> &'static str {
 /// Returns the file of a warning, and what is said after its name.
 fn parts_of(warning: &Warning) -> (usize, &'static str) {
     match warning {
-        Warning::NotUrl { file } => (
-            *file,
-            ": left out: a file that is served is called by a letter, then letters, digits, `_` and `-`, then .csv: rename it",
-        ),
-        Warning::SameName { file } => (*file, ": left out: an earlier file has this name"),
-        Warning::ManyColumns { file, .. } => (*file, ": left out: "),
         Warning::OtherSeparator { file, byte } => (*file, separator_warning(*byte)),
         Warning::HeaderIsData { file } => (
             *file,
@@ -36,6 +30,7 @@ fn parts_of(warning: &Warning) -> (usize, &'static str) {
         ),
         Warning::TooFine { file, .. } => (*file, ": "),
         Warning::Alike { file, .. } => (*file, ": string; "),
+        Warning::Days { file, .. } => (*file, ": integer; all "),
         Warning::Version { file, .. } => (
             *file,
             ": a string, since version 4.10 is not version 4.1: write decimal if these are numbers",
@@ -51,6 +46,7 @@ fn column_of(warning: &Warning) -> Option<usize> {
     match warning {
         Warning::TwoDates { col, .. }
         | Warning::Alike { col, .. }
+        | Warning::Days { col, .. }
         | Warning::Version { col, .. }
         | Warning::NullElsewhere { col, .. } => Some(*col),
         _ => None,
@@ -232,11 +228,13 @@ fn push_of_column(lines: &mut Line, warning: &Warning, guess: &Guess, file: &Nam
 /// Appends what a warning says further.
 fn push_details(lines: &mut Line, warning: &Warning, guess: &Guess, file: &NamedFile) {
     match warning {
-        Warning::ManyColumns { columns, .. } => {
-            lines.push_number(*columns);
-            lines.push(" columns, and 256 are served at most: mlr --csv cut -o -f A,B takes some");
-        }
         Warning::EmptyRows { rows, .. } => push_count(lines, *rows),
+        Warning::Days { cells, .. } => {
+            push_count(lines, *cells);
+            lines.push(
+                " cells are days as yyyyMMdd: write {\"base\": \"date\", \"format\": \"yyyyMMdd\"} for the datatype if they are meant so",
+            );
+        }
         Warning::OtherSeparator { .. } => push_made_of(lines, file, " makes it a CSV file"),
         Warning::HeaderIsData { .. } => push_made_of(lines, file, " gives the file a header"),
         _ => push_of_column(lines, warning, guess, file),

@@ -1,0 +1,130 @@
+//! The cells of a column, as far as they are read.
+use crate::candidates::candidates_of;
+use std::alloc::{AllocError, Global};
+use value_forms::{Form, made_by};
+
+/// The texts that may stand for null.
+pub const NULLS: [&str; 9] = ["NA", "N/A", "n/a", "NULL", "null", "-", ".", "..", "#N/A"];
+
+/// The cells of a column so far.
+#[derive(Drop)]
+pub struct Seen {
+    alloc: Global,
+    /// The forms that all cells so far have, by the first of them.
+    pub forms: Vec<Form<'static>>,
+    /// How many cells are neither empty nor a text that may stand for null.
+    pub cells: usize,
+    /// How many cells are each text of [`NULLS`].
+    pub nulls: Vec<usize>,
+    /// A cell has a point, and one has a comma.
+    pub has_mark: bool,
+    /// A cell begins as a code does.
+    pub is_code: bool,
+    /// The first cell, and whether another one is different.
+    first: Vec<u8>,
+    pub is_even: bool,
+}
+
+/// Returns a cell with plain spaces, and without spaces at its ends.
+pub fn seen_text(alloc: Global, cell: &[u8]) -> Result<Vec<u8>, AllocError> {
+    let mut made = Vec::with_capacity(alloc, cell.len())?;
+    let mut left = cell;
+    while let [byte, rest @ ..] = left {
+        left = match left {
+            [0xC2, 0xA0, rest @ ..]
+            | [0xE2, 0x80, 0xAF, rest @ ..]
+            | [0xE2, 0x80, 0x89, rest @ ..] => {
+                made.push(b' ')?;
+                rest
+            }
+            _ => {
+                made.push(*byte)?;
+                rest
+            }
+        };
+    }
+    Vec::from_slice(alloc, made.as_slice().trim_ascii())
+}
+
+/// Returns the number of the text of [`NULLS`] that a cell is.
+pub fn null_place(cell: &[u8]) -> Option<usize> {
+    for (place, word) in NULLS.iter().enumerate() {
+        if word.as_bytes() == cell {
+            return Some(place);
+        }
+    }
+    None
+}
+
+/// Returns true if a cell begins as codes and telephone numbers do: a zero before a digit or a space, or a plus before digits with spaces.
+fn is_code(cell: &[u8]) -> bool {
+    match cell {
+        [b'0', b'0'..=b'9' | b' ' | b'\'', ..] => true,
+        [b'+', rest @ ..] => rest.contains(&b' '),
+        _ => false,
+    }
+}
+
+impl Seen {
+    /// Returns what is known of no cell.
+    pub fn new(alloc: Global) -> Result<Seen, AllocError> {
+        Ok(Seen {
+            alloc,
+            forms: Vec::new(alloc),
+            cells: 0,
+            nulls: Vec::from_elem(alloc, 0, NULLS.len())?,
+            has_mark: false,
+            is_code: false,
+            first: Vec::new(alloc),
+            is_even: true,
+        })
+    }
+
+    /// Returns true if no cell that is read may change what is known.
+    pub fn is_text(&self) -> bool {
+        self.cells > 0 && self.forms.is_empty()
+    }
+
+    /// Keeps the forms that a cell has.
+    fn filter(&mut self, cell: &[u8]) -> Result<(), AllocError> {
+        let mut kept = Vec::new(self.alloc);
+        for form in self.forms.as_slice() {
+            let is_number = matches!(*form, Form::Number(_));
+            if !(is_number && self.is_code) && made_by(self.alloc, *form, cell)?.is_some() {
+                kept.push(*form)?;
+            }
+        }
+        self.forms = kept;
+        Ok(())
+    }
+
+    /// Reads a cell.
+    pub fn read(&mut self, cell: &[u8]) -> Result<(), AllocError> {
+        if cell.is_empty() {
+            return Ok(());
+        }
+        if let Some(place) = null_place(cell) {
+            if let Some(count) = self.nulls.get_mut(place) {
+                *count = count.saturating_add(1);
+            }
+            return Ok(());
+        }
+        if self.is_text() {
+            self.cells = self.cells.saturating_add(1);
+            return Ok(());
+        }
+        let text = seen_text(self.alloc, cell)?;
+        let text = text.as_slice();
+        if self.cells == 0 {
+            let first = std::str::from_utf8(text).unwrap_or("");
+            self.forms = candidates_of(self.alloc, first)?;
+            self.first = Vec::from_slice(self.alloc, text)?;
+        } else if self.is_even && self.first.as_slice() != text {
+            self.is_even = false;
+        }
+        self.cells = self.cells.saturating_add(1);
+        self.has_mark |= text.iter().any(|byte| matches!(*byte, b'.' | b','));
+        self.is_code |= is_code(text);
+        self.filter(text)
+    }
+}

@@ -1,0 +1,133 @@
+//! What is found in the columns of a table.
+use crate::asks::Asks;
+use crate::exchanges::exchange;
+use crate::report::{ColumnReport, Kind};
+use column_forms::{Choice, Point, Seen, Wants, choice_of, point_of};
+use csv_index::{IndexedText, Raw};
+use std::alloc::{AllocError, Global};
+
+/// Returns what a field says, with the comma and the separator exchanged back.
+pub(crate) fn cell_of(alloc: Global, separator: u8, raw: Raw<'_>) -> Result<Vec<u8>, AllocError> {
+    let text = raw.text(alloc)?;
+    let bytes = text.as_str().as_bytes();
+    bytes
+        .iter()
+        .map(|byte| exchange(separator, *byte))
+        .collect(alloc)
+}
+
+/// Reads all cells of a table into what is known of its columns.
+fn see_columns(alloc: Global, table: &IndexedText, separator: u8) -> Result<Vec<Seen>, AllocError> {
+    let mut columns = Vec::new(alloc);
+    for _column in 0..table.width() {
+        let seen = Seen::new(alloc)?;
+        columns.push(seen)?;
+    }
+    let mut fields = table.fields(0);
+    for _row in 0..table.rows() {
+        for seen in &mut columns {
+            if let Some(raw) = fields.next_field() {
+                let cell = cell_of(alloc, separator, raw)?;
+                seen.read(cell.as_slice())?;
+            }
+        }
+    }
+    Ok(columns)
+}
+
+/// Returns which point the numbers of a file have, where its columns agree.
+fn file_point(columns: &[Seen]) -> Point {
+    let mut found = Point::Unknown;
+    for seen in columns {
+        let point = point_of(seen);
+        found = match (found, point) {
+            (Point::Unknown, Point::Comma | Point::Dot) => point,
+            (Point::Comma, Point::Dot) | (Point::Dot, Point::Comma) => Point::Both,
+            _ => found,
+        };
+    }
+    found
+}
+
+/// Returns true if no cell of a column says anything.
+fn is_empty(seen: &Seen) -> bool {
+    seen.cells == 0 && seen.nulls.as_slice().iter().all(|count| *count == 0)
+}
+
+/// Returns a report of a column in which nothing is changed yet.
+fn report_of(
+    alloc: Global,
+    title: Vec<u8>,
+    kind: Kind,
+    seen: &Seen,
+) -> Result<ColumnReport, AllocError> {
+    Ok(ColumnReport {
+        title,
+        kind,
+        changed: 0,
+        line: 0,
+        before: Vec::new(alloc),
+        after: Vec::new(alloc),
+        fine: 0,
+        fine_line: 0,
+        difference: 0,
+        rounds: false,
+        nulls: Vec::from_slice(alloc, seen.nulls.as_slice())?,
+        asked_null: None,
+        asked_cells: 0,
+        is_text: false,
+        place: 0,
+    })
+}
+
+/// Returns what is found in a column.
+fn kind_of(seen: &Seen, wants: Wants<'_>, file: Point, separator: u8) -> Kind {
+    match choice_of(seen, wants, file, separator) {
+        Choice::Form(form) => Kind::Form(form),
+        Choice::Text => Kind::Text,
+        Choice::TwoPoints => Kind::TwoPoints,
+        Choice::TwoOrders => Kind::TwoOrders,
+    }
+}
+
+/// Returns the reports of the columns of a table, in which nothing is changed yet.
+pub(crate) fn reports_of(
+    alloc: Global,
+    asks: &Asks<'_>,
+    table: &IndexedText,
+    separator: u8,
+) -> Result<Vec<ColumnReport>, AllocError> {
+    let columns = see_columns(alloc, table, separator)?;
+    let file = file_point(columns.as_slice());
+    let mut reports = Vec::new(alloc);
+    for (col, seen) in columns.as_slice().iter().enumerate() {
+        if col >= table.width() {
+            break;
+        }
+        let title = cell_of(alloc, separator, table.header(col))?;
+        let name = std::str::from_utf8(title.as_slice()).unwrap_or("");
+        let wants = asks.wants(name);
+        let kind = kind_of(seen, wants, file, separator);
+        let null = match wants.null {
+            Some(text) => Some(Vec::from_slice(alloc, text.as_bytes())?),
+            None => None,
+        };
+        let mut report = report_of(alloc, title, kind, seen)?;
+        report.asked_null = null;
+        report.rounds = wants.round;
+        report.is_text = wants.text || matches!(kind, Kind::TwoPoints | Kind::TwoOrders);
+        reports.push(report).or(Err(AllocError))?;
+    }
+    drop_columns(columns.as_slice(), reports.as_mut_slice());
+    Ok(reports)
+}
+
+/// Marks the columns at the right that have neither a name nor a cell.
+fn drop_columns(columns: &[Seen], reports: &mut [ColumnReport]) {
+    for (seen, report) in columns.iter().zip(reports.iter_mut()).rev() {
+        if !report.title.is_empty() || !is_empty(seen) {
+            return;
+        }
+        report.kind = Kind::Empty;
+    }
+}

@@ -1,0 +1,3 @@
+pub mod Encodings
+pub mod Windows1252
+pub mod Worked

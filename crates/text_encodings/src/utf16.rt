@@ -1,0 +1,41 @@
+//! UTF-16, in either order of bytes.
+ghost use Rattle.std.specs.Prelude.{◌≡◌, IfOk, IfSome};
+ghost use Rattle.text_encodings.specs.Encodings.{AreUnits, unit_of};
+
+use std::alloc::{AllocError, Global};
+
+/// Which byte of a unit comes first.
+#[derive(Clone, Copy)]
+pub enum Order {
+    /// The less significant one.
+    Little,
+    /// The more significant one.
+    Big,
+}
+
+/// Returns the unit of two bytes.
+fn unit(order: Order, first: u8, second: u8) -> u16
+    ensures { result ≡ unit_of order first second }
+{
+    match order {
+        Order::Little => u16::from(first) + 256 * u16::from(second),
+        Order::Big => 256 * u16::from(first) + u16::from(second),
+    }
+}
+
+/// Returns the units that bytes are; `None` if there is an odd number of bytes.
+pub(crate) fn units_of(
+    alloc: Global,
+    order: Order,
+    bytes: &[u8],
+) -> Result<Option<Vec<u16>>, AllocError>
+    ensures { IfOk result (λ units. IfSome units (λ units. AreUnits order bytes.now units.items)) }
+{
+    let mut units = Vec::with_capacity(alloc, bytes.len() / 2)?;
+    let mut left = bytes;
+    while let [first, second, rest @ ..] = left {
+        units.push(unit(order, *first, *second))?;
+        left = rest;
+    }
+    Ok(if left.is_empty() { Some(units) } else { None })
+}

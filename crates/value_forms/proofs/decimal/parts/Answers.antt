@@ -1,0 +1,11 @@
+-- The bytes after the first one.
+use Rattle.std.proofs.Common.{◌+◌, ◌-◌, ◌≤◌, length, drop, arith, ap, ◌∙◌, drop-drop, take_all, length-drop}
+use Rattle.value_forms.proofs.decimal.parts.Goals as goal
+
+pub returns-in-len1-up-clause-fraction : goal.returns-in-len1-up-clause-fraction
+returns-in-len1-up-clause-fraction c =
+    let rest = c.split_at.result.1.now in
+    let text = c.args.text.now in
+    let place = c.whole_len.result in
+    let short : length (drop 1 rest) ≤ length rest - 1 = omega (arith, length-drop 1 rest) in
+    take_all (length rest - 1) (drop 1 rest) short ∙ ap (drop 1) c.split_at.ensures.back ∙ drop-drop 1 place text ∙ ap (λ n. drop (n + 1) text) c.whole_len.ensures.place

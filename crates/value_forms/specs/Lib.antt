@@ -1,0 +1,6 @@
+pub mod Dates
+pub mod Forms
+pub mod Numbers
+pub mod Scale
+pub mod Truths
+pub mod Worked

@@ -1,0 +1,60 @@
+-- Texts with their values, worked out by hand.
+use Rattle.std.specs.Prelude.{◌≡◌, Some, None, true, false, Ok, codes, pos}
+use Rattle.cell_types.specs.Date.{date_of}
+use Rattle.cell_types.specs.Decimal.{decimal_of}
+use Rattle.cell_types.specs.Value.{date, decimal}
+use Rattle.cell_types.specs.declared.datatype.DateForm.TheVariants.{YearMonthDay}
+use Rattle.value_forms.specs.declared.date.Order.TheVariants.{YearFirst, DayFirst, MonthFirst}
+use Rattle.value_forms.specs.declared.number.Marks.{Marks}
+use Rattle.value_forms.specs.Dates.{IsDayIn}
+use Rattle.value_forms.specs.Numbers.{marked_number}
+use Rattle.value_forms.specs.Scale.{moved}
+use Rattle.value_forms.specs.Truths.{word_truth}
+
+-- a decimal comma and points between thousands, and the other way round
+abbrev pub with_comma : Marks
+with_comma = record { point = 44; group = 46 }
+
+abbrev pub with_point : Marks
+with_point = record { point = 46; group = 44 }
+
+-- a decimal comma and spaces between thousands
+abbrev pub with_spaces : Marks
+with_spaces = record { point = 44; group = 32 }
+
+pub record WorkedMarks : Type 0 where
+  -- `1.234,50` is 1234.5
+  pub comma : marked_number with_comma (codes "1.234,50") ≡ Some (codes "1234.50")
+  pub comma_value : decimal_of (codes "1234.50") ≡ Ok (decimal (pos 1_234_500_000))
+  pub negative : marked_number with_comma (codes "-0,5") ≡ Some (codes "-0.5")
+  pub plain : marked_number with_comma (codes "1234") ≡ Some (codes "1234")
+  pub point : marked_number with_point (codes "+1,234,567.25") ≡ Some (codes "1234567.25")
+  pub spaces : marked_number with_spaces (codes "12 345") ≡ Some (codes "12345")
+  -- points are between thousands, and nowhere else
+  pub short_group : marked_number with_comma (codes "1.23,5") ≡ None
+  pub long_group : marked_number with_comma (codes "1.2345") ≡ None
+  pub late_group : marked_number with_comma (codes "1,234.5") ≡ None
+  pub no_digit : marked_number with_comma (codes ",5") ≡ None
+  pub version : marked_number with_comma (codes "1.2.3") ≡ None
+  -- a hundredth of 12, of 7.5 and of 100
+  pub percent : moved 2 0 (codes "12") ≡ codes "0.12"
+  pub fine_percent : moved 2 0 (codes "-7.5") ≡ codes "-0.075"
+  pub whole_percent : moved 2 0 (codes "100") ≡ codes "1.00"
+  -- 1.2 times ten to the fifth, and 3.5 times ten to the minus second
+  pub exponent : moved 0 5 (codes "1.2") ≡ codes "120000"
+  pub negative_exponent : moved 2 0 (codes "3.5") ≡ codes "0.035"
+
+pub record WorkedDates : Type 0 where
+  -- `01/02/2024` is 1 February with the day first, and 2 January with the month first
+  pub day_first : IsDayIn (record { order = DayFirst; separator = 47; is_named = false }) (codes "01/02/2024") (codes "2024-02-01")
+  pub day_value : date_of YearMonthDay (codes "2024-02-01") ≡ Ok (date (pos 2024) 2 1)
+  pub month_first : IsDayIn (record { order = MonthFirst; separator = 47; is_named = false }) (codes "01/02/2024") (codes "2024-01-02")
+  pub month_value : date_of YearMonthDay (codes "2024-01-02") ≡ Ok (date (pos 2024) 1 2)
+  pub dotted : IsDayIn (record { order = DayFirst; separator = 46; is_named = false }) (codes "1.2.2024") (codes "2024-02-01")
+  pub year_first : IsDayIn (record { order = YearFirst; separator = 47; is_named = false }) (codes "2012/01/31") (codes "2012-01-31")
+  pub named : IsDayIn (record { order = MonthFirst; separator = 32; is_named = true }) (codes "Jan 1, 2000") (codes "2000-01-01")
+
+pub record WorkedTruths : Type 0 where
+  pub of_true : word_truth (codes "ja") (codes "nein") (codes "ja") ≡ Some true
+  pub of_false : word_truth (codes "ja") (codes "nein") (codes "nein") ≡ Some false
+  pub other : word_truth (codes "ja") (codes "nein") (codes "Ja") ≡ None

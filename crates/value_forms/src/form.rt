@@ -1,0 +1,195 @@
+//! The form of a column's cells, and the values of cells in it.
+ghost use Rattle.std.specs.Prelude.{◌≡◌, IfOk, IfSome, None, option_map};
+ghost use Rattle.value_forms.specs.Forms.{IsDayWithTime, IsMadeBy, IsNumberMade, IsScaled, cell_made, alone_made};
+
+use crate::date::{DayForm, day_text};
+use crate::number::{Marks, number_text};
+use crate::rounding::rounded_text;
+use crate::scale::{exponent_text, percent_text};
+use crate::time::{is_midnight, split_time};
+use crate::truth::{TruthWords, truth_text};
+use crate::unit::{Unit, without_unit};
+use std::alloc::{AllocError, Global};
+
+/// What is done with a number once its marks are read.
+#[derive(Clone, Copy, PartialEq, Eq)]
+pub enum Scale {
+    /// Nothing.
+    Plain,
+    /// The number before a percent sign is divided by a hundred.
+    Percent,
+    /// A number with an exponent of ten is written out; one without is as it is.
+    Exponent,
+}
+
+/// How the numbers of a column are written.
+#[derive(Clone, Copy)]
+pub struct NumberForm<'a> {
+    pub marks: Marks,
+    pub scale: Scale,
+    pub unit: Option<Unit<'a>>,
+    /// Numbers are rounded to six decimal places.
+    pub rounds: bool,
+}
+
+/// How the cells of a column are written.
+#[derive(Clone, Copy)]
+pub enum Form<'a> {
+    /// As they are.
+    Same,
+    /// As numbers.
+    Number(NumberForm<'a>),
+    /// As numbers that are read as they are, and are rounded to six decimal places.
+    Round,
+    /// As days.
+    Day(DayForm),
+    /// As days with a time of day, which gets a column of its own.
+    DayAndTime(DayForm),
+    /// As days with a time of day that is midnight.
+    Midnight(DayForm),
+    /// As words of true and false.
+    Truth(TruthWords<'a>),
+}
+
+/// The text of a cell's value.
+#[derive(Drop)]
+pub struct Made {
+    pub text: Vec<u8>,
+    /// The time of day, if it is written into a column of its own.
+    pub time: Option<Vec<u8>>,
+    /// How many billionths of a millionth the value is from that of the cell.
+    pub difference: u64,
+}
+
+/// Returns a value without a time of day.
+fn plain(text: Option<Vec<u8>>) -> Option<Made>
+    ensures { option_map cell_made result ≡ option_map (λ text. alone_made text.items) text }
+{
+    match text {
+        Some(text) => Some(Made {
+            text,
+            time: None,
+            difference: 0,
+        }),
+        None => None,
+    }
+}
+
+/// Returns the number of a text without its currency.
+fn scaled_text(
+    alloc: Global,
+    form: NumberForm<'_>,
+    text: &[u8],
+) -> Result<Option<Vec<u8>>, AllocError>
+    ensures { IfOk result (λ made. IfSome made
+        (λ made. IsScaled form.entry.scale form.entry.marks text.now made.items)) }
+{
+    match form.scale {
+        Scale::Plain => number_text(alloc, form.marks, text),
+        Scale::Percent => percent_text(alloc, form.marks, text),
+        Scale::Exponent => match exponent_text(alloc, form.marks, text)? {
+            Some(number) => Ok(Some(number)),
+            None => number_text(alloc, form.marks, text),
+        },
+    }
+}
+
+/// Returns the number of a text.
+fn number_made(alloc: Global, form: NumberForm<'_>, text: &[u8]) -> Result<Option<Made>, AllocError>
+    ensures { IfOk result (λ made. IfSome made
+        (λ made. IsNumberMade form.entry text.now (cell_made made))) }
+{
+    let number = match form.unit {
+        Some(unit) => without_unit(unit, text),
+        None => Some(text),
+    };
+    let Some(number) = number else {
+        return Ok(None);
+    };
+    let Some(text) = scaled_text(alloc, form, number)? else {
+        return Ok(None);
+    };
+    if form.rounds
+        && let Some(rounded) = rounded_text(alloc, text.as_slice())?
+    {
+        return Ok(Some(Made {
+            text: rounded.text,
+            time: None,
+            difference: rounded.difference,
+        }));
+    }
+    Ok(plain(Some(text)))
+}
+
+/// Returns a number in six decimal places, if it has more.
+fn round_made(alloc: Global, text: &[u8]) -> Result<Option<Made>, AllocError>
+    ensures { IfOk result (λ made. IfSome made (λ made. (cell_made made).time ≡ None)) }
+{
+    match rounded_text(alloc, text)? {
+        Some(rounded) => Ok(Some(Made {
+            text: rounded.text,
+            time: None,
+            difference: rounded.difference,
+        })),
+        None => Ok(None),
+    }
+}
+
+/// Returns the day of a text, and its time of day, if `keeps` says so.
+fn day_made(
+    alloc: Global,
+    form: DayForm,
+    text: &[u8],
+    keeps: bool,
+) -> Result<Option<Made>, AllocError>
+    ensures { IfOk result (λ made. IfSome made
+        (λ made. IsDayWithTime form text.now (cell_made made))) }
+{
+    let Some((day, time)) = split_time(text) else {
+        return Ok(None);
+    };
+    if !keeps && !is_midnight(time) {
+        return Ok(None);
+    }
+    let Some(day) = day_text(alloc, form, day)? else {
+        return Ok(None);
+    };
+    let time = if keeps {
+        Some(Vec::from_slice(alloc, time)?)
+    } else {
+        None
+    };
+    Ok(Some(Made {
+        text: day,
+        time,
+        difference: 0,
+    }))
+}
+
+/// Returns the word of a truth value.
+fn truth_made(alloc: Global, words: TruthWords<'_>, text: &[u8]) -> Result<Option<Made>, AllocError>
+    ensures { IfOk result (λ made. IfSome made
+        (λ made. IsMadeBy (Form.Truth words.entry) text.now (cell_made made))) }
+{
+    match truth_text(words, text) {
+        Some(true) => Ok(plain(Some(Vec::from_slice(alloc, b"true")?))),
+        Some(false) => Ok(plain(Some(Vec::from_slice(alloc, b"false")?))),
+        None => Ok(None),
+    }
+}
+
+/// Returns the value of a text in a form; `None` if it is not of the form, or is left as it is.
+pub fn made_by(alloc: Global, form: Form<'_>, text: &[u8]) -> Result<Option<Made>, AllocError>
+    ensures { IfOk result (λ made. IfSome made
+        (λ made. IsMadeBy form.entry text.now (cell_made made))) }
+{
+    match form {
+        Form::Same => Ok(None),
+        Form::Number(form) => number_made(alloc, form, text),
+        Form::Round => round_made(alloc, text),
+        Form::Day(form) => Ok(plain(day_text(alloc, form, text)?)),
+        Form::DayAndTime(form) => day_made(alloc, form, text, true),
+        Form::Midnight(form) => day_made(alloc, form, text, false),
+        Form::Truth(words) => truth_made(alloc, words, text),
+    }
+}
