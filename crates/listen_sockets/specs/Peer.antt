@@ -1,8 +1,10 @@
 -- What becomes of a socket, and of what is known of it.
-use Rattle.std.specs.Prelude.{ℕ, Bool, true, false, ◌||◌, not, nat_lt, if◌then◌else◌}
+use Rattle.std.specs.Prelude.{◌≡◌, ◌==◌, ⊤, ℕ, Bool, true, false, ◌||◌, not, nat_lt, MatchBool, if◌then◌else◌, Result, Ok, Err}
 use Rattle.mio.specs.Event.{is_error, is_read_closed, is_readable, is_writable}
 use Rattle.mio.specs.declared.event.event.Event.{Event}
 use Rattle.mio.specs.declared.net.stream.TcpStream.{TcpStream}
+use Rattle.odata_rounds.specs.declared.answers.PeerFault.{PeerFault}
+use Rattle.odata_rounds.specs.declared.answers.PeerFault.TheVariants.{Waits, Lost}
 use Rattle.listen_sockets.specs.Slow.{fresh_times, times_after_charge, times_after_read, times_after_turn, times_after_write}
 use Rattle.listen_sockets.specs.declared.peer.Peer.{Peer}
 use Rattle.listen_sockets.specs.declared.slow.Times.{Times}
@@ -46,9 +48,10 @@ times_after_visit now waits peer =
     if peer.has_read then times_after_read peer.times now
     else (if nat_lt 0 peer.written then times_after_write now peer.written waits peer.times else times_after_turn now peer.times)
 
--- after a visit that worked was noted, by whether output waits, the next begins with nothing read and nothing written
+-- After a visit that worked was noted, by whether output waits, the next begins with nothing read and nothing written. Where something was done there may be more to
+-- do, so the socket does not rest.
 abbrev pub after_visit : ℕ → Bool → Peer → Peer
-after_visit now waits peer = record peer { has_read = false; written = 0; times = times_after_visit now waits peer }
+after_visit now waits peer = record peer { awake = true; has_read = false; written = 0; times = times_after_visit now waits peer }
 
 -- so many microseconds were worked for it
 abbrev pub after_charge : ℕ → Peer → Peer
@@ -65,3 +68,15 @@ but_for_reads peer = record peer { readable = false; awake = false; ended = fals
 -- a socket, and what is known of it but for what the system says
 abbrev pub but_for_events : Peer → Peer
 but_for_events peer = record peer { readable = false; writable = false; awake = false; closing = false; lost = false }
+
+-- When a socket may be left alone until the system says something of it: once a call had to wait and the next one would wait too. A call that moved bytes, or found
+-- the end of a stream, leaves it as it was, for the next may move more.
+abbrev pub RestsBy : (Peer → Bool) → Result ℕ PeerFault → Peer → Peer → Type 0
+RestsBy is_ready (Ok count) old new = new.awake ≡ old.awake
+RestsBy is_ready (Err Waits) old new = new.awake ≡ is_ready new
+RestsBy is_ready (Err Lost) old new = ⊤
+
+-- The next read of a socket waits unless the last one filled its buffer, or its peer said that it sends no more: bytes may be left before the end.
+abbrev pub IsReadableAfter : Result ℕ PeerFault → ℕ → Peer → Peer → Type 0
+IsReadableAfter (Ok count) room old new = MatchBool old.ended (new.readable ≡ old.readable) (new.readable ≡ (count == room || old.closing))
+IsReadableAfter (Err fault) room old new = ⊤

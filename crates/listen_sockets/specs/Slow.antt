@@ -100,4 +100,4 @@ times_after_charge micros times = record times { spent = min (times.spent + micr
 
 -- the service worked so long for a connection that others go before it
 abbrev pub is_heavy : Times → Bool
-is_heavy times = nat_le 1_000 times.spent
+is_heavy times = nat_le 200 times.spent

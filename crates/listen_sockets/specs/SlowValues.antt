@@ -6,7 +6,7 @@ use Rattle.listen_sockets.specs.declared.slow.Limits.{Limits}
 use Rattle.listen_sockets.specs.declared.slow.Seen.{Seen}
 use Rattle.listen_sockets.specs.declared.slow.Taking.{Taking}
 use Rattle.listen_sockets.specs.declared.slow.Times.{Times}
-use Rattle.listen_sockets.specs.Slow.{due_of, times_after_write}
+use Rattle.listen_sockets.specs.Slow.{due_of, is_heavy, times_after_write}
 
 -- 30 seconds for a head, 60 without a step, so many for a query, and an hour for a reply
 abbrev pub limits_of : ℕ → Limits
@@ -39,3 +39,6 @@ pub record SlowValues : Type 0 where
   -- a reply of an hour is too long, however fast it is taken; and once it was all taken, all begins anew
   pub hour : due_of (limits_of 30) (at_work false) 4_500 (taking_of 900 4_490 9_999_999) ≡ Drop
   pub all : times_after_write 1_000 1 false (taking_of 900 940 59_999) ≡ spent 0
+  -- from 200 microseconds on others go first
+  pub heavy : is_heavy (spent 200) ≡ true
+  pub light : is_heavy (spent 199) ≡ false

@@ -1,5 +1,5 @@
 -- What the system's sockets tell and count.
-use Rattle.std.specs.Prelude.{◌≡◌, ◌≢◌, ℕ, ℤ, ◌-◌, ◌^◌, Bool, true, false, not, List, [], ◌∷◌, map, nat_lt, Option, None, Some, MatchOption, is_none, option_map, slice_get, slice_set}
+use Rattle.std.specs.Prelude.{◌≡◌, ◌≢◌, ⊤, ℕ, ℤ, ◌-◌, ◌^◌, Bool, true, false, not, List, [], ◌∷◌, map, nat_lt, Option, None, Some, MatchOption, Result, is_none, option_map, slice_get, slice_set}
 use Rattle.std.specs.List.{list_any}
 use Rattle.mio.specs.Event.{event_token}
 use Rattle.mio.specs.Net.{stream_fd}
@@ -7,8 +7,9 @@ use Rattle.mio.specs.declared.event.event.Event.{Event}
 use Rattle.listen_sockets.specs.declared.peer.Peer.{Peer}
 use Rattle.listen_sockets.specs.declared.slow.Times.{Times}
 use Rattle.listen_sockets.specs.declared.sockets.Wire.{Wire}
-use Rattle.listen_sockets.specs.Peer.{after_event, but_for_events}
+use Rattle.listen_sockets.specs.Peer.{RestsBy, after_event, but_for_events}
 use Rattle.listen_sockets.specs.Slow.{is_heavy}
+use Rattle.odata_rounds.specs.declared.answers.PeerFault.{PeerFault}
 use Rattle.odata_rounds.specs.Peers.{WireOf}
 
 -- a place whose socket tells no bytes, and counts
@@ -145,6 +146,19 @@ is_awake_wire (Some wire) = is_awake_peer wire.peer
 
 abbrev pub is_awake_at : List Wire → ℕ → Bool
 is_awake_at wires place = is_awake_wire (slice_get wires place)
+
+-- when the socket at a place may be left alone until the system says something of it
+abbrev pub RestBy : (Peer → Bool) → Result ℕ PeerFault → Option Peer → Option Peer → Type 0
+RestBy is_ready answer (Some old) (Some new) = RestsBy is_ready answer old new
+RestBy is_ready answer old new = ⊤
+
+-- how many bytes the socket at a place took since that was last noted
+abbrev pub peer_sent : Option Peer → ℕ
+peer_sent None = 0
+peer_sent (Some peer) = peer.written
+
+abbrev pub sent_at : List Wire → ℕ → ℕ
+sent_at wires place = peer_sent (peer_at wires place)
 
 -- whether no more is read of the stream at a place: it ended, or is ended here, or there is no socket
 abbrev pub is_ended_peer : Option Peer → Bool

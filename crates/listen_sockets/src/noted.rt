@@ -6,7 +6,7 @@ use crate::sockets::Sockets;
 
 impl Sockets {
     ghost use Rattle.listen_sockets.specs.Peer.{after_charge, after_end, after_visit};
-    ghost use Rattle.listen_sockets.specs.Sockets.{ChangesPeer, EndsStream, KeepsStreams, SocketsStay, is_heavy_at, times_at};
+    ghost use Rattle.listen_sockets.specs.Sockets.{ChangesPeer, EndsStream, KeepsStreams, SocketsStay, is_heavy_at, sent_at, times_at};
 
     /// Notes what a visit that worked did at a place, and whether output waits after it.
     pub fn note_work(&mut self, place: u32, now: u64, waits: bool)
@@ -20,6 +20,16 @@ impl Sockets {
             return;
         }
         self.wires[place].note_work(now, waits);
+    }
+
+    /// Returns how many bytes the socket at `place` took since that was last noted.
+    pub fn sent(&self, place: u32) -> u64
+        ensures { result ≡ sent_at self.now.wires.items place }
+    {
+        match self.wires.get(place as usize) {
+            Some(wire) => wire.sent(),
+            None => 0,
+        }
     }
 
     /// Ends the stream of the socket at a place.

@@ -31,12 +31,12 @@ pub struct Peer {
     /// Something was read since this was last asked.
     has_read: bool,
     /// How many bytes were written since this was last asked.
-    written: u64,
+    pub written: u64,
     pub times: Times,
 }
 
 impl Peer {
-    ghost use Rattle.listen_sockets.specs.Peer.{after_charge, after_end, after_event, after_visit, before_try, but_for_reads, but_for_writes, fresh_peer};
+    ghost use Rattle.listen_sockets.specs.Peer.{IsReadableAfter, RestsBy, after_charge, after_end, after_event, after_visit, before_try, but_for_reads, but_for_writes, fresh_peer};
     ghost use Rattle.listen_sockets.specs.Sockets.{socket_of};
 
     /// A socket of which nothing is known yet.
@@ -104,7 +104,7 @@ impl Peer {
         self.times.turned(now);
     }
 
-    /// Notes what a visit that worked did, by the clock, and whether output waits after it.
+    /// Notes what a visit that worked did, by the clock, and whether output waits after it. There may be more to do.
     pub fn note_work(&mut self, now: u64, waits: bool)
         ensures { self.new ≡ after_visit now waits self.old }
     {
@@ -115,6 +115,7 @@ impl Peer {
         } else {
             self.times.turned(now);
         }
+        self.awake = true;
         self.has_read = false;
         self.written = 0;
     }
@@ -156,6 +157,7 @@ impl Peer {
         ensures some { TakesSome bytes.now result }
         ensures peer { but_for_writes self.new ≡ but_for_writes self.old }
         ensures socket { socket_of (Some self.new) ≡ socket_of (Some self.old) }
+        ensures rests { RestsBy (λ peer. peer.writable) result self.old self.new }
     {
         if !self.writable {
             self.awake = false;
@@ -180,6 +182,8 @@ impl Peer {
         ensures bound { ReadsAtMost result buf.new }
         ensures peer { but_for_reads self.new ≡ but_for_reads self.old }
         ensures socket { socket_of (Some self.new) ≡ socket_of (Some self.old) }
+        ensures rests { RestsBy (λ peer. peer.readable) result self.old self.new }
+        ensures on { IsReadableAfter result (length buf.new) self.old self.new }
     {
         if self.ended {
             return Ok(0);

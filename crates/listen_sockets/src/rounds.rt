@@ -5,7 +5,7 @@ use odata_rounds::{PeerFault, Peers};
 impl Peers for Sockets {
     ghost use Rattle.odata_rounds.specs.Peers.{IsRead, IsWrite, KeepsOthers};
     ghost use Rattle.listen_sockets.specs.Peer.{but_for_reads, but_for_writes};
-    ghost use Rattle.listen_sockets.specs.Sockets.{KeepsAt, wire_at};
+    ghost use Rattle.listen_sockets.specs.Sockets.{KeepsAt, RestBy, peer_at, wire_at};
 
     ghost wires = { λ s place. wire_at s.wires.items place };
 
@@ -15,6 +15,8 @@ impl Peers for Sockets {
         ensures others { KeepsOthers place
             (wire_at self.old.wires.items) (wire_at self.new.wires.items) }
         ensures sockets { KeepsAt but_for_writes place self.old.wires.items self.new.wires.items }
+        ensures rests { RestBy (λ peer. peer.writable) result
+            (peer_at self.old.wires.items place) (peer_at self.new.wires.items place) }
     {
         let place = place as usize;
         if place >= self.wires.len() {
@@ -29,6 +31,8 @@ impl Peers for Sockets {
         ensures others { KeepsOthers place
             (wire_at self.old.wires.items) (wire_at self.new.wires.items) }
         ensures sockets { KeepsAt but_for_reads place self.old.wires.items self.new.wires.items }
+        ensures rests { RestBy (λ peer. peer.readable) result
+            (peer_at self.old.wires.items place) (peer_at self.new.wires.items place) }
     {
         let place = place as usize;
         if place >= self.wires.len() {

@@ -198,7 +198,7 @@ impl Server {
     }
 
     /// Whether output of the connection at a place waits for its socket.
-    fn has_waiting(&self, place: u32) -> bool
+    pub fn has_waiting(&self, place: u32) -> bool
         ensures { (h : HubOf) → Models self.now.hub h → result ≡ has_waiting (conn_at h place) }
     {
         match self.hub.waiting(Conn(place)) {

@@ -63,7 +63,7 @@ pub const RATE_BYTES: u64 = 60_000;
 const MICROS: u64 = 1_000_000;
 
 /// The microseconds from which on others go first.
-pub const HEAVY_MICROS: u64 = 1_000;
+pub const HEAVY_MICROS: u64 = 200;
 
 impl Taking {
     /// A reply of which the first bytes, `count`, were taken now.

@@ -22,7 +22,7 @@ impl Wire {
     ghost use Rattle.std.specs.Prelude.{is_some, option_map};
     ghost use Rattle.odata_rounds.specs.Peers.{CountsFault, IsRead, IsWrite};
     ghost use Rattle.listen_sockets.specs.Peer.{after_charge, after_end, after_event, after_visit, before_try, but_for_reads, but_for_writes};
-    ghost use Rattle.listen_sockets.specs.Sockets.{is_awake_peer, is_ended_peer, is_lost_peer, peer_times, socket_of, untold_wire, with_peer};
+    ghost use Rattle.listen_sockets.specs.Sockets.{RestBy, is_awake_peer, is_ended_peer, is_lost_peer, peer_sent, peer_times, socket_of, untold_wire, with_peer};
 
     /// Counts what a socket answered.
     fn count(&mut self, answer: Result<usize, PeerFault>)
@@ -43,6 +43,8 @@ impl Wire {
         ensures counts { untold_wire self.new ≡ untold_wire self.old }
         ensures peer { option_map but_for_writes self.new.peer
             ≡ option_map but_for_writes self.old.peer }
+        ensures rests { RestBy (λ peer. peer.writable) result
+            self.old.peer self.new.peer }
     {
         match &mut self.peer {
             Some(peer) => peer.write(bytes),
@@ -56,6 +58,8 @@ impl Wire {
         ensures counts { untold_wire self.new ≡ untold_wire self.old }
         ensures peer { option_map but_for_reads self.new.peer
             ≡ option_map but_for_reads self.old.peer }
+        ensures rests { RestBy (λ peer. peer.readable) result
+            self.old.peer self.new.peer }
     {
         match &mut self.peer {
             Some(peer) => peer.read(buf),
@@ -149,6 +153,16 @@ impl Wire {
         }
     }
 
+    /// Returns how many bytes the socket took since that was last noted.
+    pub(crate) fn sent(&self) -> u64
+        ensures { result ≡ peer_sent self.now.peer }
+    {
+        match &self.peer {
+            Some(peer) => peer.written,
+            None => 0,
+        }
+    }
+
     /// The times of the socket, where there is one.
     pub(crate) fn times(&self) -> Option<Times>
         ensures { result ≡ peer_times self.now.peer }
@@ -164,6 +178,8 @@ impl Wire {
         ensures write { IsWrite (untold_wire self.old) (untold_wire self.new) bytes.now result }
         ensures peer { option_map but_for_writes self.new.peer
             ≡ option_map but_for_writes self.old.peer }
+        ensures rests { RestBy (λ peer. peer.writable) result
+            self.old.peer self.new.peer }
     {
         let answer = self.write_peer(bytes);
         self.count(answer);
@@ -175,6 +191,8 @@ impl Wire {
         ensures read { IsRead (untold_wire self.old) (untold_wire self.new) buf.new result }
         ensures peer { option_map but_for_reads self.new.peer
             ≡ option_map but_for_reads self.old.peer }
+        ensures rests { RestBy (λ peer. peer.readable) result
+            self.old.peer self.new.peer }
     {
         let answer = self.read_peer(buf);
         self.count(answer);

@@ -9,7 +9,7 @@ ghost use Rattle.listen_words.specs.Words.{AreListenWords, AsksBy, IsFaultOfWord
 
 use clap::ArgMatches;
 use command_words::{
-    FOLDER_HELP, WordsFault, add_flag, add_folder, add_number, add_port, add_text, flag,
+    FOLDER_HELP, VERSION, WordsFault, add_flag, add_folder, add_number, add_port, add_text, flag,
     matches_of, number, port, text, top_command,
 };
 use std::alloc::Global;
@@ -38,9 +38,6 @@ pub const REPLY_SECONDS: u32 = 3_600;
 /// What is said of words that are no command.
 pub const USAGE_LINE: &str =
     "bad command line; usage: odata_listen FOLDER (--port P [--address A] | --unix PATH | --socket-stdin) [--connections N] [--head-seconds S] [--idle-seconds S] [--query-seconds S] [--reply-seconds S] [--drain-file F] [--plain-files] [--log]";
-
-/// The version that is told.
-const VERSION: &str = "1.0.0";
 
 /// What help says of the program.
 const ABOUT: &str =
@@ -133,7 +130,8 @@ fn line_matches<'a>(alloc: Global, words: &'a [&'a str]) -> Result<ArgMatches<'a
 /// What the matches ask for.
 fn matches_words<'a>(matches: &ArgMatches<'a>) -> Option<Words<'a>>
     ensures some { IfSome result (λ words. AsksBy words (rows_of (found_of matches.now))) }
-    ensures none { IfNone result ((words : Words) → AsksBy words (rows_of (found_of matches.now)) → ⊥) }
+    ensures none { IfNone result
+        ((words : Words) → AsksBy words (rows_of (found_of matches.now)) → ⊥) }
 {
     let folder = text(matches, "folder")?;
     Some(Words {

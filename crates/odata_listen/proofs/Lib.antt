@@ -1,3 +1,4 @@
 mod ReloadLemmas
+mod RoundLemmas
 mod ServingLemmas
 mod TurnLemmas

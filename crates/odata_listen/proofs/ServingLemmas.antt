@@ -1,6 +1,6 @@
 -- Lives that lead from a server as it was to the server as it is.
 use Rattle.std.proofs.Common.{◌≡◌, ℕ, zero, suc, List, [], ◌∷◌, ◌++◌, set, Option, None, Some, Result, Ok, Err, refl, sym, ap, subst, ◌∙◌, inl, inr, IfOk, OnErr}
-use Rattle.std.specs.Prelude.{⊤, Bool, true, false, ◌==◌, MatchBool, MatchOption, slice_get}
+use Rattle.std.specs.Prelude.{⊤, MatchOption, slice_get}
 use Rattle.table_store.specs.Catalog.{CatalogOf}
 use Rattle.odata_hub.specs.declared.answers.HubFault.{HubFault}
 use Rattle.odata_hub.specs.declared.hub.Conn.{Conn}
@@ -23,11 +23,8 @@ use Rattle.listen_sockets.specs.declared.sockets.Sockets.{Sockets}
 use Rattle.listen_sockets.specs.declared.sockets.Wire.{Wire}
 use Rattle.listen_sockets.specs.Server.{state_at}
 use Rattle.listen_sockets.specs.Sights.{sight_of}
-use Rattle.listen_sockets.specs.Sockets.{IsPut, OthersStay, SocketsStay, is_awake_at, is_heavy_at, is_lost_at, socket_at, wire_at, wire_of}
-use Rattle.odata_listen.specs.declared.turns.Circle.{Circle}
-use Rattle.odata_listen.specs.declared.turns.Circles.{Circles}
+use Rattle.listen_sockets.specs.Sockets.{IsPut, OthersStay, SocketsStay, socket_at, wire_at, wire_of}
 use Rattle.odata_listen.specs.Serving.{EndsSlow, Frees, IsKept, MayReload, RunsOn, RunsTo, Settles, Stays, TakesPeerIn, opens, refuses}
-use Rattle.odata_listen.specs.Turns.{AreVisits, GoesRound, HasTurn, HasTurnBy, IsRound, Turns, Visited, turn_at}
 use Rattle.odata_listen.specs.Watch.{HandsOver}
 
 -- ---- sockets that tell no bytes
@@ -195,7 +192,7 @@ same_sight a b e = record {
 }
 
 -- a visit, and what became of its place is settled
-visited_by : (now place : ℕ) (a m n b : Server) (o : Option Slot)
+pub visited_by : (now place : ℕ) (a m n b : Server) (o : Option Slot)
     → MatchOption o (sight_of m ≡ sight_of a) (λ slot. ServesAt place (sight_of a) (sight_of m)) → IsKept m n
     → Settles now (state_at n.slots.items place) place n b → RunsOn a b
 visited_by now place a m n b None e same k =
@@ -206,47 +203,6 @@ visited_by now place a m n b (Some slot) s same k = record {
       (runs_join m n b (runs_kept m n same) (runs_settled now (state_at n.slots.items place) place n b k));
   settled = settled_visit now place a m n b s same.slots k;
 }
-
-on_visited : (now place : ℕ) (a b : Server) → Visited now place a b → RunsOn a b
-on_visited now place a b v = visited_by now place a v.mid v.charged b (slice_get a.slots.items place) v.visit v.charge.kept v.settles
-
-on_visits : (visits now place : ℕ) (a b : Server) → AreVisits visits now place a b → RunsOn a b
-on_visits zero now place a b e = on_same a b e
-on_visits (suc visits) now place a b v = on_join a v.0 b (on_visits visits now place a v.0 v.1) (on_visited now place v.0 b v.2)
-
-on_turn_by : (awake lost : Bool) (now place : ℕ) (a b : Server) → HasTurnBy awake lost now place a b → RunsOn a b
-on_turn_by false lost now place a b e = on_same a b e
-on_turn_by true true now place a b f = on_free place a b f
-on_turn_by true false now place a b v = on_visits v.visits now place a b v.are
-
-on_turn : (now place : ℕ) (a b : Server) → HasTurn now place a b → RunsOn a b
-on_turn now place a b t = on_turn_by (is_awake_at a.sockets.wires.items place) (is_lost_at a.sockets.wires.items place) now place a b t
-
-on_turn_if : (is heavy : Bool) (now place : ℕ) (a b : Server)
-    → MatchBool is (MatchBool heavy (HasTurn now place a b) (b ≡ a)) (MatchBool heavy (b ≡ a) (HasTurn now place a b)) → RunsOn a b
-on_turn_if true true now place a b t = on_turn now place a b t
-on_turn_if true false now place a b e = on_same a b e
-on_turn_if false true now place a b e = on_same a b e
-on_turn_if false false now place a b t = on_turn now place a b t
-
-on_turns : (turns : ℕ) (heavy : Bool) (now places from next : ℕ) (a b : Server) → Turns turns heavy now places from next a b → RunsOn a b
-on_turns zero heavy now places from next a b t = on_same a b t.1
-on_turns (suc turns) heavy now places from next a b t =
-    on_join a t.1 b (on_turns turns heavy now places from t.0 a t.1 t.2)
-    (on_turn_if (is_heavy_at t.1.sockets.wires.items (turn_at places t.0)) heavy now (turn_at places t.0) t.1 b t.3)
-
-on_circle : (now : ℕ) (before after : Circle) (a b : Server) → GoesRound now before after a b → RunsOn a b
-on_circle now before after a b r = on_turns r.turns before.heavy now before.places before.next after.next a b r.are
-
-on_circle_if : (whole : Bool) (now : ℕ) (before after : Circle) (a b : Server)
-    → MatchBool whole (GoesRound now before after a b) ((after ≡ before) × (b ≡ a)) → RunsOn a b
-on_circle_if true now before after a b r = on_circle now before after a b r
-on_circle_if false now before after a b r = on_same a b r.1
-
-pub on_round : (now : ℕ) (before after : Circles) (a b : Server) → IsRound now before after a b → RunsOn a b
-on_round now before after a b r =
-    on_join a r.mid b (on_circle now before.light after.light a r.mid r.light)
-    (on_circle_if (after.light.left == 0) now before.heavy after.heavy r.mid b r.heavy)
 
 pub on_slow : (now : ℕ) (due : Due) (place : ℕ) (a b : Server) → EndsSlow now due place a b → RunsOn a b
 on_slow now slow.Nothing place a b k = on_stays a b k

@@ -5,8 +5,8 @@ use Rattle.odata_hub.specs.declared.hub.Hub.{Hub}
 use Rattle.mio.specs.declared.net.stream.TcpStream.{TcpStream}
 use Rattle.odata_hub.specs.declared.answers.HubFault.{HubFault}
 use Rattle.odata_hub.specs.Connections.{Answer, Done, Opened, Refused}
-use Rattle.odata_hub.specs.Schedules.{Drop, Open, Reload}
-use Rattle.odata_hub.specs.Stands.{IsHubStep}
+use Rattle.odata_hub.specs.Schedules.{Drop, HubOf, Open, Reload, conn_at}
+use Rattle.odata_hub.specs.Stands.{IsHubStep, Models}
 use Rattle.odata_rounds.specs.declared.answers.SlotState.{SlotState}
 use Rattle.odata_rounds.specs.declared.answers.SlotState.TheVariants.{Free, Rests, Worked, Answered, Lost, Failed}
 use Rattle.odata_rounds.specs.Lives.{AreSettled, Deed, Lives, free_slot}
@@ -18,9 +18,11 @@ use Rattle.listen_sockets.specs.declared.slow.Due.TheVariants as due
 use Rattle.listen_sockets.specs.declared.slow.Limits.{Limits}
 use Rattle.listen_sockets.specs.declared.sockets.Wire.{Wire}
 use Rattle.listen_sockets.specs.Peer.{after_end, fresh_peer}
-use Rattle.listen_sockets.specs.Server.{EndsHopeless, EndsIfHopeless, IsDueAt, NotesWork}
+use Rattle.listen_sockets.specs.Server.{EndsHopeless, EndsIfHopeless, IsDueAt, NotesWork, has_waiting}
 use Rattle.listen_sockets.specs.Sights.{sight_of}
-use Rattle.listen_sockets.specs.Sockets.{ChangesPeer, EndsStream, IsPut, OthersStay, SocketsStay, TakesPeer}
+use Rattle.listen_sockets.specs.Sockets.{ChangesPeer, EndsStream, IsPut, OthersStay, SocketsStay, TakesPeer, sent_at}
+use Rattle.service_log.specs.declared.work.Work.{Work}
+use Rattle.service_log.specs.Work.{work_after_send}
 
 -- a life leads from the server as it was to the server as it is: what holds of each connection in every life holds there
 pub record RunsTo (old new : Server) : Type 0 where
@@ -80,6 +82,20 @@ Settles now Worked place old new = Notes now place old new
 Settles now Answered place old new = Frees place old new
 Settles now Lost place old new = Frees place old new
 Settles now Failed place old new = Frees place old new
+
+-- what a visit sent is counted, and its request where no more of the reply waits
+abbrev pub CountsSent : ℕ → Server → Work → Work → Type 0
+CountsSent place server old new = (h : HubOf) → Models server.hub h
+    → new ≡ work_after_send (sent_at server.sockets.wires.items place) (has_waiting (conn_at h place)) old
+
+-- so it is where something was done, and else nothing is counted
+abbrev pub CountsWork : SlotState → ℕ → Server → Work → Work → Type 0
+CountsWork Free place server old new = new ≡ old
+CountsWork Rests place server old new = new ≡ old
+CountsWork Worked place server old new = CountsSent place server old new
+CountsWork Answered place server old new = new ≡ old
+CountsWork Lost place server old new = new ≡ old
+CountsWork Failed place server old new = new ≡ old
 
 -- a stream is ended where that is due, and a place is given back where its connection is to be dropped, since its peer is slow or its query takes too long;
 -- both there alone

@@ -5,55 +5,72 @@ use Rattle.listen_sockets.specs.declared.server.Server.{Server}
 use Rattle.listen_sockets.specs.Peer.{after_charge}
 use Rattle.listen_sockets.specs.Server.{state_at}
 use Rattle.listen_sockets.specs.Sights.{sight_of}
-use Rattle.listen_sockets.specs.Sights.{sight_of}
 use Rattle.listen_sockets.specs.Sockets.{ChangesPeer, is_awake_at, is_heavy_at, is_lost_at}
 use Rattle.odata_listen.specs.declared.turns.Circle.{Circle}
 use Rattle.odata_listen.specs.declared.turns.Circles.{Circles}
-use Rattle.odata_listen.specs.Serving.{Frees, IsKept, Settles}
+use Rattle.odata_listen.specs.Serving.{CountsWork, Frees, IsKept, Settles}
+use Rattle.service_log.specs.declared.log.Log.{Log}
+use Rattle.service_log.specs.declared.work.Work.{Work}
+use Rattle.service_log.specs.Work.{work_after_charge, work_after_turn}
 
--- what the service worked for the connection at a place is added to what it worked before, whatever that is
-pub record Charges (place : ℕ) (old new : Server) : Type 0 where
+-- the server, and what it did in the minute
+pub record Served : Type 0 where
+  pub server : Server
+  pub work : Work
+
+abbrev pub served : Server → Log → Served
+served server log = record { server = server; work = log.tally.work }
+
+-- what the service worked for the connection at a place is added to what it worked before, whatever that is, and to the turn that goes on
+pub record Charges (place : ℕ) (old new : Served) : Type 0 where
   pub micros : ℕ
-  pub kept : IsKept old new
-  pub sockets : ChangesPeer place (after_charge micros) old.sockets.wires.items new.sockets.wires.items
+  pub kept : IsKept old.server new.server
+  pub sockets : ChangesPeer place (after_charge micros) old.server.sockets.wires.items new.server.sockets.wires.items
+  pub work : new.work ≡ work_after_charge micros old.work
 
--- one visit at a place: its connection is charged for it, and what became of the place is settled
-pub record Visited (now place : ℕ) (old new : Server) : Type 0 where
+-- one visit at a place: its connection is charged for it, what became of the place is settled, and what was sent is counted
+pub record Visited (now place : ℕ) (old new : Served) : Type 0 where
   pub mid : Server
-  pub visit : VisitsAt place (sight_of old) (sight_of mid)
-  pub charged : Server
-  pub charge : Charges place mid charged
-  pub settles : Settles now (state_at charged.slots.items place) place charged new
+  pub visit : VisitsAt place (sight_of old.server) (sight_of mid)
+  pub charged : Served
+  pub charge : Charges place (record { server = mid; work = old.work }) charged
+  pub settles : Settles now (state_at charged.server.slots.items place) place charged.server new.server
+  pub work : CountsWork (state_at charged.server.slots.items place) place charged.server charged.work new.work
 
 -- so many of them, one after another
-abbrev pub AreVisits : ℕ → ℕ → ℕ → Server → Server → Type 0
+abbrev pub AreVisits : ℕ → ℕ → ℕ → Served → Served → Type 0
 AreVisits zero now place old new = new ≡ old
-AreVisits (suc visits) now place old new = (mid : Server) × AreVisits visits now place old mid × Visited now place mid new
+AreVisits (suc visits) now place old new = (mid : Served) × AreVisits visits now place old mid × Visited now place mid new
 
 -- the most visits of one turn
 abbrev pub most_visits : ℕ
 most_visits = 5
 
 -- a place is visited at least once, and at most so often
-pub record IsVisited (now place : ℕ) (old new : Server) : Type 0 where
+pub record IsVisited (now place : ℕ) (old new : Served) : Type 0 where
   pub visits : ℕ
   pub some : 0 < visits
   pub few : visits ≤ most_visits
   pub are : AreVisits visits now place old new
 
+-- the turn that goes on is over
+abbrev pub turn_over : Served → Served
+turn_over s = record s { work = work_after_turn s.work }
+
 -- by whether a place is awake, and its connection lost
-abbrev pub HasTurnBy : Bool → Bool → ℕ → ℕ → Server → Server → Type 0
+abbrev pub HasTurnBy : Bool → Bool → ℕ → ℕ → Served → Served → Type 0
 HasTurnBy false lost now place old new = new ≡ old
-HasTurnBy true true now place old new = Frees place old new
-HasTurnBy true false now place old new = IsVisited now place old new
+HasTurnBy true true now place old new = Frees place old.server new.server × (new.work ≡ old.work)
+HasTurnBy true false now place old new = (mid : Served) × IsVisited now place old mid × (new ≡ turn_over mid)
 
 -- A turn: a place whose connection is lost is given back, another that is awake is visited, and nothing is done at one that is not.
-abbrev pub HasTurn : ℕ → ℕ → Server → Server → Type 0
-HasTurn now place old new = HasTurnBy (is_awake_at old.sockets.wires.items place) (is_lost_at old.sockets.wires.items place) now place old new
+abbrev pub HasTurn : ℕ → ℕ → Served → Served → Type 0
+HasTurn now place old new =
+    HasTurnBy (is_awake_at old.server.sockets.wires.items place) (is_lost_at old.server.sockets.wires.items place) now place old new
 
 -- those have their turn for whom much was done, or the others
-abbrev pub HasTurnOf : Bool → ℕ → ℕ → Server → Server → Type 0
-HasTurnOf heavy now place old new = MatchBool (is_heavy_at old.sockets.wires.items place)
+abbrev pub HasTurnOf : Bool → ℕ → ℕ → Served → Served → Type 0
+HasTurnOf heavy now place old new = MatchBool (is_heavy_at old.server.sockets.wires.items place)
     (MatchBool heavy (HasTurn now place old new) (new ≡ old)) (MatchBool heavy (new ≡ old) (HasTurn now place old new))
 
 -- the place whose turn it is, of so many in a circle: after the last comes the first
@@ -61,10 +78,10 @@ abbrev pub turn_at : ℕ → ℕ → ℕ
 turn_at places next = if nat_lt next places then next else 0
 
 -- so many places had their turn in order, from one on; and where it goes on
-abbrev pub Turns : ℕ → Bool → ℕ → ℕ → ℕ → ℕ → Server → Server → Type 0
+abbrev pub Turns : ℕ → Bool → ℕ → ℕ → ℕ → ℕ → Served → Served → Type 0
 Turns zero heavy now places from next old new = (next ≡ from) × (new ≡ old)
 Turns (suc turns) heavy now places from next old new =
-    (at : ℕ) × (mid : Server) × Turns turns heavy now places from at old mid × HasTurnOf heavy now (turn_at places at) mid new × (next ≡ turn_at places at + 1)
+    (at : ℕ) × (mid : Served) × Turns turns heavy now places from at old mid × HasTurnOf heavy now (turn_at places at) mid new × (next ≡ turn_at places at + 1)
 
 -- how many places have their turn until all had it: all, where a circle begins
 abbrev pub left_of : ℕ → ℕ → ℕ
@@ -78,7 +95,7 @@ pub record TookTurn (before after : Circle) : Type 0 where
   pub kind : after.heavy ≡ before.heavy
 
 -- the places of a circle have their turns from where it was left, each once, and those that had it are counted off
-pub record GoesRound (now : ℕ) (before after : Circle) (old new : Server) : Type 0 where
+pub record GoesRound (now : ℕ) (before after : Circle) (old new : Served) : Type 0 where
   pub turns : ℕ
   pub are : Turns turns before.heavy now before.places before.next after.next old new
   pub left : after.left + turns ≡ left_of before.places before.left
@@ -86,8 +103,8 @@ pub record GoesRound (now : ℕ) (before after : Circle) (old new : Server) : Ty
   pub kind : after.heavy ≡ before.heavy
 
 -- A round: the places of those who ask for little have their turns, and once all had theirs, the others.
-pub record IsRound (now : ℕ) (before after : Circles) (old new : Server) : Type 0 where
-  pub mid : Server
+pub record IsRound (now : ℕ) (before after : Circles) (old new : Served) : Type 0 where
+  pub mid : Served
   pub light : GoesRound now before.light after.light old mid
   pub heavy : MatchBool (after.light.left == 0) (GoesRound now before.heavy after.heavy mid new) ((after.heavy ≡ before.heavy) × (new ≡ mid))
 

@@ -1,7 +1,8 @@
 //! How connections end: over after a visit, lost or failed; since their peers are slow; or since the system says that they are lost. And how streams
 //! end before their peers end them: those that can bring no head any more, and those whose heads take too long.
+ghost use Rattle.std.specs.Prelude.{◌≡◌};
 ghost use Rattle.listen_sockets.specs.Server.{state_at};
-ghost use Rattle.odata_listen.specs.Serving.{DoesDue, EndsSlow, Frees, Notes, RunsOn, Settles};
+ghost use Rattle.odata_listen.specs.Serving.{CountsSent, CountsWork, DoesDue, EndsSlow, Frees, Notes, RunsOn, Settles};
 
 use listen_sockets::{Due, Limits, Poller, Server};
 use mio::Poll;
@@ -10,7 +11,8 @@ use service_log::{CloseReason, Log};
 
 /// Frees a place, and tells why.
 pub fn end(server: &mut Server, place: u32, reason: CloseReason, log: &mut Log<'_>)
-    ensures { Frees place server.old server.new }
+    ensures frees { Frees place server.old server.new }
+    ensures work { log.new.tally.work ≡ log.old.tally.work }
 {
     let _ = server.free(place);
     log.ended(place, reason);
@@ -18,29 +20,36 @@ pub fn end(server: &mut Server, place: u32, reason: CloseReason, log: &mut Log<'
 
 /// Frees a place whose connection is over. What its peer still sends is dropped for a while.
 fn linger(server: &mut Server, place: u32, poll: &Poll, log: &mut Log<'_>)
-    ensures { Frees place server.old server.new }
+    ensures frees { Frees place server.old server.new }
+    ensures work { log.new.tally.work ≡ log.old.tally.work }
 {
     let _ = server.linger(place, poll);
     log.ended(place, CloseReason::Answered);
 }
 
-/// Notes that something was done at a place, and ends its stream where what came can begin no head any more: its 400 need not wait for the seconds that
-/// a head may take.
-fn note(server: &mut Server, place: u32, now: u64)
-    ensures { Notes now place server.old server.new }
+/// Notes that something was done at a place, counts what was sent, and ends its stream where what came can begin no head any more: its 400 need not wait for the
+/// seconds that a head may take.
+fn note(server: &mut Server, place: u32, now: u64, log: &mut Log<'_>)
+    ensures notes { Notes now place server.old server.new }
+    ensures work { CountsSent place server.old log.old.tally.work log.new.tally.work }
 {
+    let count = server.sockets.sent(place);
+    let waits = server.has_waiting(place);
+    log.tally.work.sent(count, waits);
     server.note_work(place, now);
     server.end_hopeless(place, now);
 }
 
 /// Notes what the last visit did at `place`, and frees it if its connection is over, lost or failed.
 pub fn settle(server: &mut Server, place: u32, poller: &Poller, log: &mut Log<'_>)
-    ensures { Settles poller.now.second (state_at server.old.slots.items place) place
+    ensures settles { Settles poller.now.second (state_at server.old.slots.items place) place
         server.old server.new }
+    ensures work { CountsWork (state_at server.old.slots.items place) place
+        server.old log.old.tally.work log.new.tally.work }
 {
     match server.state(place) {
         SlotState::Free | SlotState::Rests => {}
-        SlotState::Worked => note(server, place, poller.second),
+        SlotState::Worked => note(server, place, poller.second, log),
         SlotState::Answered => linger(server, place, &poller.poll, log),
         SlotState::Lost => end(server, place, CloseReason::Lost, log),
         SlotState::Failed => end(server, place, CloseReason::NoMemory, log),

@@ -4,7 +4,7 @@ use std::rt::Clock;
 use std::time::{CpuClock, Duration, Instant};
 
 /// How long places are served before the system is asked again, in milliseconds.
-const ROUND: u64 = 5;
+const ROUND: u64 = 2;
 
 /// From how many microseconds on the processor's time is asked: that costs one.
 const LONG: u64 = 1_000;

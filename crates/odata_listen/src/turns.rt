@@ -1,7 +1,7 @@
 //! Turns: each place in a circle is served for a while, so that one reply is in hand at a time, and the system is asked again after a few milliseconds,
 //! however many places have work. Who asks for little has its turn before those for whom much was done already.
 ghost use Rattle.std.specs.Prelude.{◌≡◌, ◌-◌, ◌<◌, ◌^◌, false, true};
-ghost use Rattle.odata_listen.specs.Turns.{Charges, GoesRound, HasTurn, HasTurnOf, IsRound, IsVisited, TookTurn, HadTurns, Visited, left_of, turn_at};
+ghost use Rattle.odata_listen.specs.Turns.{Charges, GoesRound, HasTurn, HasTurnOf, IsRound, IsVisited, TookTurn, HadTurns, Visited, left_of, served, turn_at};
 
 use crate::endings::{end, settle};
 use crate::stopwatch::Stopwatch;
@@ -44,10 +44,11 @@ pub struct Circles {
 }
 
 /// Adds what the service worked for the connection at `place`.
-fn charge(server: &mut Server, place: u32, micros: u64)
-    ensures { Charges place server.old server.new }
+fn charge(server: &mut Server, place: u32, micros: u64, log: &mut Log<'_>)
+    ensures { Charges place (served server.old log.old) (served server.new log.new) }
 {
     server.sockets.charge(place, micros);
+    log.tally.work.charge(micros);
 }
 
 /// Visits `place` once, and settles what became of it. Returns whether something was done.
@@ -58,10 +59,11 @@ fn visit(
     place: u32,
     log: &mut Log<'_>,
 ) -> bool
-    ensures { Visited poller.now.second place server.old server.new }
+    ensures { Visited poller.now.second place
+        (served server.old log.old) (served server.new log.new) }
 {
     server.visit(place);
-    charge(server, place, watch.lap());
+    charge(server, place, watch.lap(), log);
     let worked = server.state(place) == SlotState::Worked;
     settle(server, place, poller, log);
     worked
@@ -75,7 +77,8 @@ fn visit_on(
     place: u32,
     log: &mut Log<'_>,
 ) -> bool
-    ensures { IsVisited poller.now.second place server.old server.new }
+    ensures { IsVisited poller.now.second place
+        (served server.old log.old) (served server.new log.new) }
 {
     for _visit in 0..VISITS {
         if !visit(watch, server, poller, place, log) {
@@ -97,7 +100,8 @@ fn serve_place(
     place: u32,
     log: &mut Log<'_>,
 ) -> bool
-    ensures { HasTurn poller.now.second place server.old server.new }
+    ensures { HasTurn poller.now.second place
+        (served server.old log.old) (served server.new log.new) }
 {
     if !server.sockets.is_awake(place) {
         return false;
@@ -106,7 +110,9 @@ fn serve_place(
         end(server, place, CloseReason::Lost, log);
         return false;
     }
-    visit_on(watch, server, poller, place, log)
+    let more = visit_on(watch, server, poller, place, log);
+    log.tally.work.end_turn();
+    more
 }
 
 /// Returns the place whose turn it is, of `places` in a circle, where that after the last one is the first.
@@ -133,7 +139,8 @@ fn take_turn(
     circle: &mut Circle,
 )
     ensures turn { HasTurnOf circle.old.heavy poller.now.second
-        (turn_at circle.old.places circle.old.next) server.old server.new }
+        (turn_at circle.old.places circle.old.next)
+        (served server.old log.old) (served server.new log.new) }
     ensures circle { TookTurn circle.old circle.new }
 {
     let place = turn_at(circle.places, circle.next);
@@ -153,7 +160,8 @@ fn go_round(
     log: &mut Log<'_>,
     circle: &mut Circle,
 )
-    ensures { GoesRound poller.now.second circle.old circle.new server.old server.new }
+    ensures { GoesRound poller.now.second circle.old circle.new
+        (served server.old log.old) (served server.new log.new) }
 {
     circle.busy &= circle.left > 0;
     circle.left = left_of(circle.places, circle.left);
@@ -195,7 +203,7 @@ pub fn run_round(
     circles: &mut Circles,
 ) -> bool
     ensures round { IsRound poller.now.second circles.old circles.new
-        server.old server.new }
+        (served server.old log.old) (served server.new log.new) }
     ensures whole { result ≡ false → HadTurns circles.old × HadTurns circles.new }
 {
     let was_whole = is_whole(circles);

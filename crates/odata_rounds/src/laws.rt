@@ -33,7 +33,7 @@ pub fn serves_socket()
 }
 
 /// No more than one reply waits at a place; a visit that did nothing leaves its place with nothing to do before its socket takes or has bytes; a place
-/// whose connection is over is told so; and what is at all other places is as it was.
+/// whose connection is over learns it; and what is at all other places is as it was.
 pub fn visit_leaves()
     ensures { VisitLeaves }
 {}

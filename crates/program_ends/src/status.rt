@@ -1,4 +1,4 @@
-//! How an end is told: what is said of a fault on standard error, and the exit status.
+//! How an end is reported: what is said of a fault on standard error, and the exit status.
 ghost use Rattle.std.specs.Prelude.{◌≡◌, ◌≢◌};
 ghost use Rattle.std.specs.IoError.{error_kind};
 ghost use Rattle.program_ends.specs.Status.{IsFaultStatus, IsNoScript};

@@ -24,7 +24,7 @@ front_of_file {R} remaining file t most old read cut limit inner none is h =
     subst (λ (f : R). IfSome (remaining f) (λ all. cut ≡ take most all)) inner
     (front_of_known (remaining t.inner) most t.limit old read cut limit none is h)
 
-joined : (xs ys : List SchemaOf) (fs gs : List FileOf) → AreFilesOf xs fs → AreFilesOf ys gs → AreFilesOf (xs ++ ys) (fs ++ gs)
+pub joined : (xs ys : List SchemaOf) (fs gs : List FileOf) → AreFilesOf xs fs → AreFilesOf ys gs → AreFilesOf (xs ++ ys) (fs ++ gs)
 joined [] ys fs gs h k = subst (λ (files : List FileOf). AreFilesOf ys (files ++ gs)) (sym h) k
 joined (schema ∷ xs) ys fs gs h k =
     elim h [

@@ -1,3 +1,4 @@
 pub mod DiskLemmas
 pub mod Disks
 pub mod FolderLemmas
+pub mod SizeLemmas

@@ -2,4 +2,5 @@ pub mod Folders
 pub mod Loads
 pub mod Disk
 pub mod Names
+pub mod Sizes
 pub mod Laws

@@ -24,7 +24,7 @@ pub enum FolderFault {
 
 /// Where folders are loaded from, by their names.
 pub trait Folders {
-    /// What the last load under a name took, where that is told; and the counts of loads and of two answers.
+    /// What the last load under a name took, if that is known, and the counts of loads and of two answers.
     ghost folders: { Self → FoldersOf };
 
     /// The catalog of the folder of that name: what `Catalog::load` answers of what was taken.

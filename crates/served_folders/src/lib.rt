@@ -5,6 +5,8 @@ mod disk;
 mod folders;
 mod names;
 mod plain;
+mod sizes;
+mod taken;
 
 pub use disk::Disk;
 pub use folders::{

@@ -33,10 +33,10 @@ pub fn look<R: Files>(files: &R, path: &str, follows: bool) -> io::Result<Metada
     }
 }
 
-/// Fails if what is at a path is no plain file.
-pub(crate) fn check_plain<R: Files>(files: &R, path: &str, follows: bool) -> io::Result<()> {
-    plain(look(files, path, follows)?)?;
-    Ok(())
+/// Returns how many bytes the plain file at a path has. What is none is an invalid input.
+pub(crate) fn plain_len<R: Files>(files: &R, path: &str, follows: bool) -> io::Result<u64> {
+    let found = plain(look(files, path, follows)?)?;
+    Ok(found.len())
 }
 
 /// Whether both tell of one file of one device.

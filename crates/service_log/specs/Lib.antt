@@ -1,3 +1,4 @@
 pub mod Lines
+pub mod Work
 pub mod Log
 pub mod Laws

@@ -3,6 +3,9 @@
 
 mod lines;
 mod log;
+mod texts;
+mod work;
 
 pub use lines::{Lines, MOST_WAITING};
 pub use log::{CloseReason, Loaded, Log, Tally, tells_lines};
+pub use work::{Work, worked_minute};

@@ -2,13 +2,17 @@
 //! and on standard error why a folder was not reloaded.
 ghost use Rattle.std.specs.Prelude.{◌≡◌, ℕ, List, IfOk, string_bytes};
 ghost use Rattle.service_log.specs.Laws.{TellsLines};
-ghost use Rattle.service_log.specs.Log.{age_text, as_line, counts_text, ended_text, minute_text, opened_text, refused_text, reloaded_text, reason_text};
+ghost use Rattle.service_log.specs.Log.{as_line, ended_text, opened_text, reason_text};
 
 use crate::lines::Lines;
+use crate::texts::{
+    NOT_RELOADED, ended_line, minute_line, opened_line, refused_line, reloaded_line,
+};
+use crate::work::Work;
 use libc::net::{POLLERR, POLLHUP, POLLNVAL, POLLOUT, poll};
 use libc::types::pollfd;
-use program_ends::{ProgramFault, fault_line};
-use std::alloc::{AllocError, Global};
+use program_ends::ProgramFault;
+use std::alloc::AllocError;
 use std::io::{self, ErrorKind, Write};
 use std::os::fd::AsRawFd;
 use std::rt::Clock;
@@ -66,88 +70,17 @@ pub struct Tally {
     /// The connections that are open, and those that were opened since the start.
     pub places: u64,
     pub opened: u64,
+    pub work: Work,
     pub reloads: u64,
     /// The seconds since the tables were loaded.
     pub age: u64,
 }
-
-/// What is told of a changed folder that was not taken up, where nothing more is known of it.
-const NOT_RELOADED: &str = "not reloaded: a device failed or memory ran out";
 
 /// Each line is one line.
 pub fn tells_lines()
     ensures { TellsLines }
 {
     program_ends::faults_are_one_line();
-}
-
-/// Returns the line of a connection that was opened at a place.
-fn opened_line(alloc: Global, place: u32) -> Result<String, AllocError>
-    ensures { IfOk result (λ line. string_bytes line ≡ as_line (opened_text place)) }
-{
-    format!(in alloc; "opened {place}\n")
-}
-
-/// Returns the line of a connection that ended.
-fn ended_line(alloc: Global, place: u32, reason: &str) -> Result<String, AllocError>
-    ensures { IfOk result (λ line. string_bytes line ≡ as_line (ended_text place reason.now)) }
-{
-    let mut line = format!(in alloc; "ended {place} ")?;
-    line.push_str(reason)?;
-    line.push_str("\n")?;
-    Ok(line)
-}
-
-/// Returns the line of a changed folder that was reloaded.
-fn reloaded_line(alloc: Global, loaded: &Loaded) -> Result<String, AllocError>
-    ensures { IfOk result (λ line. string_bytes line ≡ as_line (reloaded_text loaded.now)) }
-{
-    let (tables, rows, millis) = (loaded.tables, loaded.rows, loaded.millis);
-    let mut line = format!(in alloc; "reloaded {tables} tables, {rows} rows, {millis} ms")?;
-    line.push_str("\n")?;
-    Ok(line)
-}
-
-/// Returns what is counted of connections.
-fn counts_of(alloc: Global, tally: &Tally) -> Result<String, AllocError>
-    ensures { IfOk result (λ text. string_bytes text ≡ counts_text tally.now) }
-{
-    let (places, opened) = (tally.places, tally.opened);
-    let mut text = format!(in alloc; "minute: {places} places, {opened} ")?;
-    text.push_str("opened")?;
-    Ok(text)
-}
-
-/// Returns what is counted of tables.
-fn age_of(alloc: Global, tally: &Tally) -> Result<String, AllocError>
-    ensures { IfOk result (λ text. string_bytes text ≡ age_text tally.now) }
-{
-    let (reloads, age) = (tally.reloads, tally.age);
-    let mut text = format!(in alloc; ", {reloads} reloads, {age} ")?;
-    text.push_str("s old")?;
-    Ok(text)
-}
-
-/// Returns the line of what the service counts.
-fn minute_line(alloc: Global, tally: &Tally) -> Result<String, AllocError>
-    ensures { IfOk result (λ line. string_bytes line ≡ as_line (minute_text tally.now)) }
-{
-    let mut line = counts_of(alloc, tally)?;
-    let age = age_of(alloc, tally)?;
-    line.push_str(age.as_str())?;
-    line.push_str("\n")?;
-    Ok(line)
-}
-
-/// Returns the line of a changed folder that was not reloaded.
-fn refused_line(alloc: Global, fault: &ProgramFault) -> Result<String, AllocError>
-    ensures { IfOk result (λ line. string_bytes line ≡ refused_text fault.now) }
-{
-    let (line, _) = fault_line(alloc, fault)?;
-    if line.is_empty() {
-        return String::from_str(alloc, NOT_RELOADED);
-    }
-    Ok(line)
 }
 
 /// True if a write to a descriptor returns at once: it has room, or it fails.
@@ -168,16 +101,21 @@ pub struct Log<'a> {
     pub writes: bool,
     pub lines: Lines,
     pub tally: Tally,
-    /// When the tables were loaded, and the age that they had at the last line of the service's state.
+    /// When the tables were loaded.
     loaded: Option<Instant>,
-    minute: u64,
+    /// The age that the tables had when the minute began.
+    pub minute: u64,
 }
 
 impl<'a> Log<'a> {
-    ghost use Rattle.service_log.specs.Log.{Logs, LogsReload};
+    ghost use Rattle.service_log.specs.Log.{Logs, LogsMinute, LogsReload, tally_after_end, tally_after_open, aged, no_tally};
 
     /// Returns a log without lines, which takes some if `writes` is true.
-    pub fn new(rt: &'a HostRuntime, writes: bool) -> Log<'a> {
+    pub fn new(rt: &'a HostRuntime, writes: bool) -> Log<'a>
+        ensures writes { result.writes ≡ writes }
+        ensures tally { result.tally ≡ no_tally }
+        ensures minute { result.minute ≡ 0 }
+    {
         Log {
             rt,
             writes,
@@ -185,6 +123,7 @@ impl<'a> Log<'a> {
             tally: Tally {
                 places: 0,
                 opened: 0,
+                work: Work::new(),
                 reloads: 0,
                 age: 0,
             },
@@ -196,7 +135,7 @@ impl<'a> Log<'a> {
     /// Adds a line to those that wait, if there is a log, or counts it as left out.
     fn line(&mut self, line: Result<String, AllocError>)
         ensures { (text : List ℕ) → IfOk line (λ l. string_bytes l ≡ as_line text)
-            → Logs text self.old self.new }
+            → Logs text self.old.tally self.old.minute self.old self.new }
     {
         if !self.writes {
             return;
@@ -209,7 +148,8 @@ impl<'a> Log<'a> {
 
     /// Logs that a connection was opened at `place`.
     pub fn opened(&mut self, place: u32)
-        ensures { Logs (opened_text place) self.old self.new }
+        ensures { Logs (opened_text place) (tally_after_open self.old.tally) self.old.minute
+            self.old self.new }
     {
         self.tally.places = self.tally.places.saturating_add(1);
         self.tally.opened = self.tally.opened.saturating_add(1);
@@ -218,7 +158,8 @@ impl<'a> Log<'a> {
 
     /// Logs that the connection at `place` ended, and why.
     pub fn ended(&mut self, place: u32, reason: CloseReason)
-        ensures { Logs (ended_text place (reason_text reason)) self.old self.new }
+        ensures { Logs (ended_text place (reason_text reason)) (tally_after_end self.old.tally)
+            self.old.minute self.old self.new }
     {
         self.tally.places = self.tally.places.saturating_sub(1);
         self.line(ended_line(self.rt.alloc(), place, reason.text()));
@@ -231,6 +172,7 @@ impl<'a> Log<'a> {
         match end {
             Ok(loaded) => {
                 self.tally.reloads = self.tally.reloads.saturating_add(1);
+                self.tally.age = 0;
                 self.loaded = Instant::now(self.rt).ok();
                 self.minute = 0;
                 self.line(reloaded_line(self.rt.alloc(), &loaded));
@@ -250,24 +192,32 @@ impl<'a> Log<'a> {
         };
     }
 
+    /// Returns the seconds since the tables were loaded, if a clock tells them.
+    fn age(&self) -> Option<u64> {
+        let now = Instant::now(self.rt).ok()?;
+        Some(now.duration_since(self.loaded?).as_secs())
+    }
+
     /// Logs what the service counts, once a minute.
-    pub fn each_second(&mut self) {
-        let Some(loaded) = self.loaded else {
+    pub fn each_second(&mut self)
+        ensures { LogsMinute self.old self.new }
+    {
+        let Some(age) = self.age() else {
             return;
         };
-        let Ok(now) = Instant::now(self.rt) else {
-            return;
-        };
-        self.tally.age = now.duration_since(loaded).as_secs();
-        if self.tally.age >= u64::saturating_add(self.minute, MINUTE) {
-            self.minute = self.tally.age;
+        self.tally.age = age;
+        if age.saturating_sub(self.minute) >= MINUTE {
+            self.minute = age;
             let tally = self.tally;
             self.line(minute_line(self.rt.alloc(), &tally));
+            self.tally.work.begin_minute();
         }
     }
 
     /// Writes the first bytes that wait, if standard output has room. True if it took all of them.
-    fn write_piece(&mut self) -> bool {
+    fn write_piece(&mut self) -> bool
+        ensures { self.new.tally ≡ self.old.tally }
+    {
         if !has_room(self.rt.stdout().as_raw_fd()) {
             return false;
         }
@@ -284,7 +234,9 @@ impl<'a> Log<'a> {
     }
 
     /// Writes the lines that wait, as long as standard output has room.
-    pub fn flush(&mut self) {
+    pub fn flush(&mut self)
+        ensures { self.new.tally ≡ self.old.tally }
+    {
         for _piece in 0..PIECES {
             if !self.writes || (self.lines.waiting().is_empty() && self.lines.left_out == 0) {
                 return;

@@ -20,8 +20,8 @@ kept_then place old hub a b c same k e =
 ends_then : (now place : ℕ) (old hub : Hub) (b c : List Wire) → hub ≡ old → EndsIfHopeless now place hub b c → EndsIfHopeless now place old b c
 ends_then now place old hub b c same e = let P : Hub → Type 0 = λ x. EndsIfHopeless now place x b c in subst P same e
 
-pub returns : goal.returns
-returns c =
+pub returns-clause-notes : goal.returns-clause-notes
+returns-clause-notes c =
     let noted = c.note_work.ensures in
     let ended = c.end_hopeless.ensures in
     record {
@@ -33,3 +33,6 @@ returns c =
       sockets = record { mid = _; visit = noted.sockets; ends = ends_then c.args.now c.args.place _ _ _ _ noted.hub ended.sockets };
       streams = kept_then c.args.place _ _ _ _ _ noted.hub noted.streams ended.ends;
     }
+
+pub returns-clause-work : goal.returns-clause-work
+returns-clause-work c = λ h s. rw (c.sent-count.ensures, c.has_waiting-waits.ensures h s) at c.sent.ensures

@@ -1,5 +1,6 @@
 use Rattle.std.proofs.Common.{refl}
-use Rattle.odata_listen.proofs.ServingLemmas.{on_join, on_kept, on_round}
+use Rattle.odata_listen.proofs.RoundLemmas.{on_round}
+use Rattle.odata_listen.proofs.ServingLemmas.{on_join, on_kept}
 use Rattle.odata_listen.proofs.serving.tick.Goals as goal
 
 pub returns : goal.returns

@@ -6,4 +6,5 @@ returns c = record {
   micros = c.args.micros;
   kept = record { hub = refl; slots = refl; stay = c.charge.ensures.stay };
   sockets = c.charge.ensures.sockets;
+  work = c.charge-2.ensures;
 }

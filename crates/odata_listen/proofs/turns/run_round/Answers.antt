@@ -1,11 +1,12 @@
 use Rattle.std.proofs.Common.{arith, refl}
+use Rattle.odata_listen.specs.Turns.{served}
 use Rattle.odata_listen.proofs.TurnLemmas.{heavy_after, heavy_not_yet}
 use Rattle.odata_listen.proofs.turns.run_round.Goals as goal
 
 pub returns-then-circles-gt0 : goal.returns-then-circles-gt0
 returns-then-circles-gt0 c = record {
   round = record {
-    mid = c.go_round.new.server;
+    mid = served c.go_round.new.server c.go_round.new.log;
     light = c.go_round.ensures;
     heavy = heavy_not_yet c.go_round.new.circle.left _ _ (omega arith) (refl, refl);
   };
@@ -15,7 +16,7 @@ returns-then-circles-gt0 c = record {
 pub returns-then-not-was_whole : goal.returns-then-not-was_whole
 returns-then-not-was_whole c = record {
   round = record {
-    mid = c.go_round.new.server;
+    mid = served c.go_round.new.server c.go_round.new.log;
     light = c.go_round.ensures;
     heavy = heavy_after c.go_round.new.circle.left _ _ (omega arith) c.go_round-2.ensures;
   };
@@ -25,7 +26,7 @@ returns-then-not-was_whole c = record {
 pub returns : goal.returns
 returns c = record {
   round = record {
-    mid = c.go_round.new.server;
+    mid = served c.go_round.new.server c.go_round.new.log;
     light = c.go_round.ensures;
     heavy = heavy_after c.go_round.new.circle.left _ _ (omega arith) c.go_round-2.ensures;
   };

@@ -1,10 +1,12 @@
+use Rattle.odata_listen.specs.Turns.{served}
 use Rattle.odata_listen.proofs.turns.visit.Goals as goal
 
 pub returns : goal.returns
 returns c = record {
   mid = c.visit.new.self;
   visit = c.visit.ensures.visit;
-  charged = c.charge.new.server;
+  charged = served c.charge.new.server c.charge.new.log;
   charge = c.charge.ensures;
-  settles = c.settle.ensures;
+  settles = c.settle.ensures.settles;
+  work = c.settle.ensures.work;
 }

@@ -45,11 +45,21 @@ returns c =
           (lines.printable (codes " rows, ") refl))
           (lines.printable (codes " ms") refl);
       minute = λ tally. lines.joined _ _
+          (lines.joined _ _
+          (lines.joined _ _
           (lines.joined _ (codes "opened")
           (number_line lines _ tally.opened (codes " ")
           (number_line lines (codes "minute: ") tally.places (codes " places, ") (lines.printable (codes "minute: ") refl) (lines.printable (codes " places, ") refl))
           (lines.printable (codes " ") refl))
           (lines.printable (codes "opened") refl))
+          (lines.joined _ (codes "bytes")
+          (number_line lines _ tally.work.bytes (codes " ")
+          (number_line lines (codes ", ") tally.work.requests (codes " requests, ") (lines.printable (codes ", ") refl) (lines.printable (codes " requests, ") refl))
+          (lines.printable (codes " ") refl))
+          (lines.printable (codes "bytes") refl)))
+          (lines.joined _ (codes "us")
+          (number_line lines (codes ", longest turn ") tally.work.longest (codes " ") (lines.printable (codes ", longest turn ") refl) (lines.printable (codes " ") refl))
+          (lines.printable (codes "us") refl)))
           (lines.joined _ (codes "s old")
           (number_line lines _ tally.age (codes " ")
           (number_line lines (codes ", ") tally.reloads (codes " reloads, ") (lines.printable (codes ", ") refl) (lines.printable (codes " reloads, ") refl))

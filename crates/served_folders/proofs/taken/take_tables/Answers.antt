@@ -5,8 +5,8 @@ use Rattle.csvw_meta.specs.Schema.{schema_view}
 use Rattle.table_store.specs.File.{FileOf, file_view}
 use Rattle.served_folders.specs.Disk.{IsFileOf}
 use Rattle.served_folders.proofs.DiskLemmas.{one_missing, one_found}
-use Rattle.served_folders.proofs.disk.take_tables.Goals as goal
-use Rattle.served_folders.proofs.disk.take_tables.Goals.{in-Some+in_ok-file+else-is_err, in_default}
+use Rattle.served_folders.proofs.taken.take_tables.Goals as goal
+use Rattle.served_folders.proofs.taken.take_tables.Goals.{in-Some+in_ok-file+else-is_err, in_default}
 
 pub loop-table-preserved : goal.loop-table-preserved
 loop-table-preserved g c =
