@@ -2,7 +2,8 @@
 
 
 class Checks:
-    def __init__(self):
+    def __init__(self, part=""):
+        self.part = part
         self.passed = self.failed = 0
 
     def equal(self, name, came, wanted):
@@ -10,7 +11,7 @@ class Checks:
             self.passed += 1
         else:
             self.failed += 1
-            print(f"{name}: {came!r:.400}, and not {wanted!r:.400}", flush=True)
+            print(f"{self.part}{name}: {came!r:.400}, and not {wanted!r:.400}", flush=True)
 
     def true(self, name, came):
         self.equal(name, bool(came), True)

@@ -7,6 +7,7 @@ from datetime import date, timedelta
 
 from page_filters import address
 from page_rows import groups_of, kept, tables_of, text_of
+from page_stage import SIZES
 from page_views import counted, shows_rows
 
 TABLES = 250
@@ -42,14 +43,14 @@ def makes_many(folder):
 
 def tries_many(browser, checks):
     """The list: few requests, counts of what is in sight, names on one line, and a search."""
-    for width, height in ((360, 740), (768, 1024), (1280, 800)):
+    for width, height in SIZES:
         browser.resize(width, height)
         browser.open()
         browser.wait("return [...document.querySelectorAll('#tables li')].filter(it => it.getBoundingClientRect().top < innerHeight).every(it => it.querySelector('.table-rows').textContent.includes('row'))")
         checks.equal(f"{width}: all tables are listed", len(browser.script(LISTED)), TABLES)
         requests = browser.requests()
         checks.true(f"{width}: {len(requests)} requests", len(requests) <= 20)
-        checks.true(f"{width}: as wide as the window", browser.script("return document.documentElement.scrollWidth <= innerWidth"))
+        checks.true(f"{width}: as wide as the window", browser.is_as_wide_as_its_window())
         heights = browser.script("return [...document.querySelectorAll('#tables a')].map(it => it.getBoundingClientRect().height)")
         checks.true(f"{width}: names are on one line", max(heights) < 30)
     browser.choose("#find-table", "long 24")

@@ -4,6 +4,7 @@ import time
 
 from selenium.webdriver.common.keys import Keys
 
+from page_stage import SIZES
 from page_views import fetched
 
 # Each view, by its address, and what is opened in it.
@@ -22,7 +23,6 @@ VIEWS = {
     "use": ("#table=arrivals&view=use&where=Flag%20is&value=Norway", None),
     "nothing": ("#table=arrivals&search=~~", None),
 }
-WIDTHS = ((360, 740), (768, 1024), (1280, 800))
 SLOW = 2000
 
 # The contrast of each text with what is behind it (WCAG 2.2, success criterion 1.4.3); buttons that lead nowhere have none.
@@ -205,13 +205,13 @@ def nameless(browser):
 def tries_looks(browser, checks):
     """Each view at each width, in light and dark: nothing is wider than the window, each text can be read, and all that can be worked has a name."""
     browser.command("Accessibility.enable")
-    for width, height in WIDTHS:
+    for width, height in SIZES:
         browser.resize(width, height)
         browser.open("#table=arrivals")
         for name in VIEWS:
             opened(browser, name)
             where = f"{name} at {width}"
-            checks.true(f"{where}: as wide as the window", browser.script("return document.documentElement.scrollWidth <= innerWidth"))
+            checks.true(f"{where}: as wide as the window", browser.is_as_wide_as_its_window())
             for scheme in ("light", "dark"):
                 browser.colours(scheme)
                 checks.equal(f"{where}, {scheme}: contrast", browser.script(CONTRASTS), [])
@@ -227,7 +227,7 @@ def tries_looks(browser, checks):
 
 def tries_still(browser, checks):
     """Little moves while rows come late, by Chromium's own measure."""
-    for width, height in WIDTHS:
+    for width, height in SIZES:
         browser.resize(width, height)
         browser.slow(SLOW // 5)
         for view in ("rows", "chips", "groups"):

@@ -6,9 +6,8 @@ import shutil
 import subprocess
 import tempfile
 
-from page_manners import WIDTHS
 from page_rows import NUMBERS, nameable, tables_of, text_of
-from page_stage import TOP, stage_of
+from page_stage import SIZES, TOP, stage_of
 from page_views import shows_rows
 
 DATASETS = os.environ.get("DATASETS", "/usr/lib/python3/dist-packages/vega_datasets/_data")
@@ -17,11 +16,11 @@ DRAFT = os.environ.get("DRAFT", os.path.join(TOP, "crates/csvw_draft/out/csvw_dr
 
 def tries_table(browser, checks, table):
     """The first rows at each width, and the profile of each column."""
-    for width, height in WIDTHS:
+    for width, height in SIZES:
         browser.resize(width, height)
         browser.open(f"#table={table.name}")
         shows_rows(browser, checks, f"{table.name} at {width}", table.rows)
-        checks.true(f"{table.name} at {width}: as wide as the window", browser.script("return document.documentElement.scrollWidth <= innerWidth"))
+        checks.true(f"{table.name} at {width}: as wide as the window", browser.is_as_wide_as_its_window())
     for column in filter(nameable, table.columns):
         browser.script("document.querySelector(arguments[0]).click()", f"[data-menu={column.name}]")
         browser.settle()

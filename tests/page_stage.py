@@ -19,6 +19,8 @@ TOP = os.path.dirname(os.path.dirname(os.path.abspath(__file__)))
 PROGRAM = os.environ.get("PROGRAM", os.path.join(TOP, "crates/odata_listen/out/odata_listen"))
 NAME = "data.example.org"
 PATIENCE = 20
+# The windows in which the page is tried: a telephone, a tablet, a screen.
+SIZES = ((360, 740), (768, 1024), (1280, 800))
 
 
 def free_port():
@@ -200,6 +202,9 @@ class Browser:
             input.dispatchEvent(new Event('change', { bubbles: true }));
         """, selector, value)
         self.settle()
+
+    def is_as_wide_as_its_window(self):
+        return self.script("return document.documentElement.scrollWidth <= innerWidth")
 
     def fragment(self):
         return self.script("return location.hash")
