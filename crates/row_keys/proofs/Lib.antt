@@ -1,5 +1,6 @@
 pub mod ListLaws
 pub mod KeyLemmas
-pub mod KeysLemmas
 pub mod AreKeysLemmas
-pub mod NumberLemmas
+pub mod SlotLemmas
+pub mod RowLemmas
+pub mod RisingLemmas

@@ -1,70 +1,51 @@
--- What the keys that a table keeps stand for, what is known of them while rows are read, and why rows have none.
-use Rattle.std.specs.Prelude.{◌≡◌, ◌<◌, ◌≤◌, ◌⊎◌, ℕ, ℤ, List, [], ◌∷◌, length, map, None, Some, All}
-use Rattle.std.specs.Int.{w64}
-use Rattle.std.specs.Int.RustNames.{FitsSigned}
+-- The keys of the rows of columns, how a table finds its rows by them, and why rows have none.
+use Rattle.std.specs.Prelude.{◌≡◌, ◌≢◌, ◌<◌, ◌^◌, ℕ, List, [], length, map, Option, None, Some, All, slice_index_or}
+use Rattle.std.specs.List.{range_with_len}
 use Rattle.cell_types.specs.Column.{ColumnOf}
-use Rattle.cell_types.specs.Value.{CellValue, null, integer, value_view}
+use Rattle.cell_types.specs.Value.{CellValue, null}
 use Rattle.row_keys.specs.declared.keys.Keys.{Keys}
-use Rattle.row_keys.specs.declared.keys.Keys.TheVariants.{Absent, Integers, Numbers, Values}
+use Rattle.row_keys.specs.declared.keys.Keys.TheVariants.{Rising, Slots}
 use Rattle.row_keys.specs.declared.keys.KeyFault.{KeyFault}
 use Rattle.row_keys.specs.declared.keys.KeyFault.TheVariants.{Null, Twice}
-use Rattle.row_keys.specs.declared.keys.KeyReader.{KeyReader}
-use Rattle.row_keys.specs.declared.keys.ReadKeys.{ReadKeys}
-use Rattle.row_keys.specs.declared.keys.ReadKeys.TheVariants as read
-use Rattle.row_keys.specs.Key.{null_row, repeated_row}
-use Rattle.row_keys.specs.Numbers.{integer_key}
-use Rattle.row_keys.specs.Values.{HasReadValues}
-
--- the keys of the rows, in order
-abbrev pub keys_view : Keys → List (List CellValue)
-keys_view Absent = []
-keys_view (Numbers numbers) = map integer_key numbers
-keys_view (Integers keys) = map integer_key keys.keys
-keys_view (Values keys) = map (λ key. map value_view key.items) keys.keys
+use Rattle.row_keys.specs.Key.{null_row, repeated_row, row_keys}
+use Rattle.row_keys.specs.Rising.{AreRising}
+use Rattle.row_keys.specs.Slots.{AreSeated}
+use Rattle.typed_columns.specs.ColumnCells.{ColumnCells}
 
 -- each place is that of a column
 abbrev pub AreColumns : List ℕ → List ColumnOf → Type 0
 AreColumns places columns = All (λ place. place < length columns) places
 
--- a value is null or an integer of 64 signed bits
-abbrev pub IsInteger : CellValue → Type 0
-IsInteger value = (value ≡ null) ⊎ ((z : ℤ) × FitsSigned w64 z × (value ≡ integer z))
+-- the cells of a row of columns
+abbrev pub typed_row : ℕ → List ColumnCells → List CellValue
+typed_row row columns = map (λ (column : ColumnCells). slice_index_or column.cells row null) columns
 
--- a key may come to those that are read: where they are integers it is one integer, or null
-abbrev pub Suits : ReadKeys → List CellValue → Type 0
-Suits read.Absent key = key ≡ []
-Suits (read.Numbers numbers) key = (value : CellValue) × IsInteger value × (key ≡ value ∷ [])
-Suits (read.Values values) key = Unit {0}
+-- the keys of the rows of columns; none, if there is no key
+abbrev pub typed_keys : List ℕ → List ColumnCells → ℕ → List (List CellValue)
+typed_keys places columns rows = row_keys places (map (λ row. typed_row row columns) (range_with_len 0 rows))
 
--- so many keys more may come before there has to be more room for them
-abbrev pub HasRoom : ReadKeys → ℕ → Type 0
-HasRoom read.Absent rows = Unit {0}
-HasRoom (read.Numbers numbers) rows = rows ≤ numbers.room
-HasRoom (read.Values values) rows = rows ≤ values.keys.room
+-- each row is in a slot by its key
+pub record AreInSlots (rows : ℕ) (slots : List ℕ) (of : List (List CellValue)) : Type 0 where
+  pub count : rows ≡ length of
+  pub room : length of < length slots
+  pub few : length slots < 2 ^ 32
+  pub seated : AreSeated (λ row. slice_index_or of row []) slots (length of)
 
--- so with a reader
-abbrev pub TakesKey : KeyReader → List CellValue → Type 0
-TakesKey reader key = Suits reader.keys key
+-- how the row of a key is found: the keys rise, or each row is in a slot
+abbrev pub AreByKey : Keys → List (List CellValue) → Type 0
+AreByKey (Rising rows) of = (rows ≡ length of) × AreRising (λ row. slice_index_or of row []) (length of)
+AreByKey (Slots rows slots) of = AreInSlots rows slots.items of
 
-abbrev pub HasRoomFor : KeyReader → ℕ → Type 0
-HasRoomFor reader rows = HasRoom reader.keys rows
-
--- those are the keys of the rows: none has a null, and no row has that of an earlier one
+-- those are the keys of rows: each row is found by its own, none has a null, and no row has that of an earlier one
 pub record AreKeysOf (keys : Keys) (of : List (List CellValue)) : Type 0 where
-  pub are : keys_view keys ≡ of
+  pub found : AreByKey keys of
   pub whole : null_row of ≡ None
   pub distinct : repeated_row of ≡ None
 
--- those keys were read; of integers all, and of lists of values those before the first that stands twice, which is known
-abbrev pub WereRead : ReadKeys → List (List CellValue) → Type 0
-WereRead read.Absent keys = keys ≡ []
-WereRead (read.Numbers numbers) keys = map integer_key numbers.numbers ≡ keys
-WereRead (read.Values values) keys = HasReadValues values keys
-
--- those keys were read: the first with a null is known, and all where there is none
-pub record HasRead (reader : KeyReader) (keys : List (List CellValue)) : Type 0 where
-  pub null : reader.null ≡ null_row keys
-  pub read : reader.null ≡ None → WereRead reader.keys keys
+-- the row below a count that has a key
+abbrev pub IsRowWithKey : ℕ → (ℕ → List CellValue) → List CellValue → Option ℕ → Type 0
+IsRowWithKey count key_at key (Some row) = (row < count) × (key ≡ key_at row)
+IsRowWithKey count key_at key None = (row : ℕ) → row < count → key ≢ key_at row
 
 -- this is the first thing wrong with the keys
 abbrev pub HasKeyFault : List (List CellValue) → KeyFault → Type 0

@@ -1,5 +1,6 @@
+pub mod Hashes
 pub mod Key
 pub mod Keys
 pub mod Laws
-pub mod Numbers
-pub mod Values
+pub mod Rising
+pub mod Slots

@@ -1,14 +1,17 @@
 -- The rows of columns, and the columns of rows.
-use Rattle.std.proofs.Common.{◌≡◌, ◌<◌, ℕ, zero, suc, List, [], ◌∷◌, length, map, drop, get_or, Some, option_map, option_and_then, slice_get, refl, ap, sym, ◌∙◌, arith}
-use Rattle.std.specs.List.{All, AllByRecursion}
+use Rattle.std.proofs.Common.{◌≡◌, ◌<◌, ℕ, zero, suc, ◌+◌, List, [], ◌∷◌, length, map, drop, get_or, Some, option_map, option_and_then, slice_get, refl, ap, sym, ◌∙◌, arith}
+use Rattle.std.specs.List.{range_with_len, All, AllByRecursion}
 use Rattle.std.proofs.Math.ListN.{get_or-map}
-use Rattle.std.proofs.lemmas.List.{ext_get_or, length-map}
+use Rattle.std.proofs.lemmas.List.{ext_get_or, get_or-map as get_or-map-at, length-map}
+use Rattle.std.proofs.lemmas.List.FromFn.{get_or-range_with_len, length-range_with_len}
 use Rattle.std.proofs.lemmas.List.Elements.{All-from_recursion}
 use Rattle.std.proofs.lemmas.Option.{get_or_from_slice_get, same_Some, slice_get-get_or, slice_get-map, slice_get_within}
 use Rattle.block_summary.specs.Ranges.{column_of}
 use Rattle.cell_types.specs.Column.{ColumnOf}
 use Rattle.cell_types.specs.Value.{CellValue, null}
 use Rattle.csvw_meta.specs.Schema.{SchemaOf}
+use Rattle.row_keys.specs.Key.{row_keys}
+use Rattle.row_keys.specs.Keys.{typed_keys, typed_row}
 use Rattle.table_store.specs.Inside.{rows_of_columns, table_of}
 use Rattle.table_store.specs.Summaries.{cells_by_column}
 use Rattle.table_store.specs.Table.{TableOf}
@@ -126,6 +129,20 @@ typed-rows columns rows typed n count wide are =
     ap (λ k. rows_of_columns k (cells_by_column typed)) count
     ∙ rows_of_columns-of rows (cells_by_column typed) (rw same wide)
     (λ col within. cells_by_column-at columns rows typed are col (omega (arith, within, same)))
+
+-- the keys of columns are those of their rows
+pub typed-keys : (places : List ℕ) (typed : List ColumnCells) (n : ℕ) → typed_keys places typed n ≡ row_keys places (rows_of_columns n (cells_by_column typed))
+typed-keys places typed n =
+    let range = range_with_len 0 n in
+    let line : ℕ → List CellValue = λ row. typed_row row typed in
+    let size : length (map line range) ≡ n = length-map range line ∙ length-range_with_len 0 n in
+    ap (row_keys places)
+    (ext_get_or [] (map line range) (rows_of_columns n (cells_by_column typed)) (size ∙ sym (length-rows_of_columns n (cells_by_column typed)))
+    (λ row within.
+    let inside : row < n = omega (arith, within, size) in
+    let here : 0 + row ≡ row = omega arith in
+    get_or-map-at line range row 0 [] (omega (arith, inside, length-range_with_len 0 n))
+    ∙ ap line (get_or-range_with_len 0 n row 0 inside ∙ here) ∙ row_of_columns n row typed inside))
 
 pub table-wide : (schema : SchemaOf) (n : ℕ) (typed : List ColumnCells) → length typed ≡ length schema.columns
     → AllByRecursion (λ values. length values ≡ length schema.columns) (table_of schema n typed).rows

@@ -8,6 +8,7 @@ use Rattle.csv_grammar.specs.Files.{IsTable, mark_len}
 use Rattle.csv_grammar.specs.Records.{Field, IsLast, Line, LineBreak, content, crlf, doubled, lf, print_break, print_field, print_last, print_line, print_record, print_text, quoted, unquoted}
 use Rattle.csv_grammar.specs.Raw.{RawField, field_of, raw_content}
 use Rattle.csv_grammar.specs.Raw.{RawTable}
+use Rattle.csv_index.specs.Index.{IsRawTable}
 use Rattle.cell_types.specs.declared.fault.CellFault.TheVariants.{Missing}
 use Rattle.cell_types.specs.Cell.{is_null_text, null_reading, text_or_default, typed_value, value_of}
 use Rattle.cell_types.specs.Column.{ColumnOf}
@@ -174,15 +175,15 @@ rows-fit law columns (fields ∷ rows) wide read short defaults =
     (rows-fit law columns rows wide.1 read.1 short.1 defaults)
 
 -- the rows of a table whose file is short
+pub rows-within : (bytes : List ℕ) (file : RawTable) → IsRawTable bytes file → length file.rows ≤ length bytes
+rows-within bytes file is =
+    omega (arith, table-count bytes (map field_of file.header) (map (map field_of) file.rows) is.is, length-map file.rows (map field_of))
+
 pub table-fits : ValuesFitColumns → (schema : SchemaOf) (bytes : List ℕ) (file : RawTable) → length bytes ≤ 2 ^ 30 → HasShortDefaults schema
     → IsTableAt schema.columns bytes file → HasTableRows (table_at schema file)
 table-fits law schema bytes file size defaults at =
     let rows = map (map field_of) file.rows in
     let within = table-within bytes (map field_of file.header) rows at.is.is in record {
       each = rows-fit law schema.columns file.rows at.fits.rows at.values (all_more (length bytes) (2 ^ 30) rows size within) defaults;
-      count =
-          let count = table-count bytes (map field_of file.header) rows at.is.is in
-          let raw = length-map file.rows (map field_of) in
-          let values = length-map file.rows (values_in schema.columns) in
-          omega (arith, size, count, raw, values);
+      count = omega (arith, size, rows-within bytes file at.is, length-map file.rows (values_in schema.columns));
     }

@@ -1,7 +1,7 @@
 -- The rows of a part, by its columns and row by row.
 use Rattle.std.proofs.Common.{◌≡◌, ◌<◌, ◌≤◌, inl, inr, ℕ, zero, suc, ◌+◌, ◌-◌, List, [], ◌∷◌, ◌++◌, length, length-drop, map, drop, take, take-append-drop, min, get_or, Some, None, IfSome, Result, Ok, Err, slice_get, set, refl, ap, sym, subst, ◌∙◌, arith}
 use Rattle.std.proofs.lemmas.Bool.{cases_order}
-use Rattle.std.proofs.lemmas.List.{drop_at, drop-drop, get_or-set_other, get_or-set_same, length-map, length-take, map-append, take_at}
+use Rattle.std.proofs.lemmas.List.{drop_at, drop-drop, length-map, length-take, map-append, take_at}
 use Rattle.std.proofs.lemmas.Option.{same_Some, slice_get-get_or}
 use Rattle.std.specs.Result.{result_err}
 use Rattle.block_summary.specs.Ranges.{column_of}
@@ -12,7 +12,6 @@ use Rattle.cell_types.specs.Value.{CellValue, null}
 use Rattle.raw_fields.specs.Rows.{cell_at}
 use Rattle.csv_grammar.specs.Raw.{RawField, raw_content, field_of}
 use Rattle.raw_fields.specs.Values.{rows_in, values_in, HasValue, HaveValues, AllHaveValues}
-use Rattle.row_keys.specs.Key.{row_key, row_keys}
 use Rattle.typed_columns.specs.ColumnReader.{ReaderOf, reader_at, with_cells, HaveRead}
 use Rattle.typed_columns.specs.Parts.{field_cell, part_cells, HasCellFault, PartHasValues}
 use Rattle.table_store.specs.Parts.{wrong_in_row, wrong_of, AllColumnsHaveValues, ArePartReadOn, HasPartReader, HavePartReaders}
@@ -175,35 +174,6 @@ wrong_of-here first row columns rows col fault within found =
     ap (wrong_of (first + row) columns) (drop-from_slice_get rows row (get_or rows row []) (slice_get-get_or rows row [] within))
     ∙ row_then-here (first + row) (values_from 0 columns (map field_of (get_or rows row []))) _ col fault found
 
--- ---- the values that a key asks for
-pub key_of_places : (places : List ℕ) (values row : List CellValue)
-    → ((k : ℕ) → k < length places → get_or values (get_or places k 0) null ≡ get_or row (get_or places k 0) null) → row_key places values ≡ row_key places row
-key_of_places [] values row agree = refl
-key_of_places (place ∷ places) values row agree =
-    ap (λ v. v ∷ row_key places values) (agree 0 (omega arith))
-    ∙ ap (λ vs. get_or row place null ∷ vs) (key_of_places places values row (λ k within. agree (suc k) (omega (arith, within))))
-
--- one more of them
-pub key_put : (places : List ℕ) (values row : List CellValue) (index place : ℕ) (value : CellValue) → place < length values → place ≡ get_or places index 0
-    → get_or row place null ≡ value
-    → ((k : ℕ) → k < index → get_or values (get_or places k 0) null ≡ get_or row (get_or places k 0) null)
-    → (k : ℕ) → k < index + 1 → get_or (set values place value) (get_or places k 0) null ≡ get_or row (get_or places k 0) null
-key_put places values row index place value size is there before k within =
-    elim (cases_order (get_or places k 0) place) [
-      | inl here ↦ ap (λ n. get_or (set values place value) n null) here ∙ get_or-set_same values place value null size ∙ sym there ∙ ap (λ n. get_or row n null) (sym here)
-      | inr (inl less) ↦ other (λ e. absurd (omega (arith, e, less)))
-      | inr (inr more) ↦ other (λ e. absurd (omega (arith, e, more)))
-    ]
-  where
-    other : (get_or places k 0 ≡ place → ⊥) → get_or (set values place value) (get_or places k 0) null ≡ get_or row (get_or places k 0) null
-    other apart =
-        get_or-set_other values place (get_or places k 0) value null apart
-        ∙ elim (cases_order k index) [
-          | inl last ↦ absurd (apart (ap (λ n. get_or places n 0) last ∙ sym is))
-          | inr (inl less) ↦ before k less
-          | inr (inr more) ↦ absurd (omega (arith, more, within))
-        ]
-
 -- ---- the part that is next
 pub record HasPart (rows : List (List RawField)) (first : ℕ) (part left : List (List RawField)) : Type 0 where
   pub whole : drop first rows ≡ part ++ left
@@ -234,13 +204,3 @@ rows_more columns [] part left (suc first) e within = absurd (omega arith)
 rows_more columns (fields ∷ rows) part left (suc first) e within =
     let more : suc first + length part ≡ suc (first + length part) = omega arith in
     rw more (ap (λ rs. values_in columns fields ∷ rs) (rows_more columns rows part left first e (omega arith)))
-
--- ---- the keys of the rows of a part
-
--- the last row counts by its key alone
-pub row_keys-last : (places : List ℕ) (rows : List (List CellValue)) (values row : List CellValue) → row_key places values ≡ row_key places row
-    → row_keys places (rows ++ values ∷ []) ≡ row_keys places (rows ++ row ∷ [])
-row_keys-last [] rows values row same = refl
-row_keys-last (place ∷ places) rows values row same =
-    map-append (row_key (place ∷ places)) rows (values ∷ []) ∙ ap (λ key. map (row_key (place ∷ places)) rows ++ key ∷ []) same
-    ∙ sym (map-append (row_key (place ∷ places)) rows (row ∷ []))

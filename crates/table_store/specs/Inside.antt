@@ -1,11 +1,11 @@
 -- What a table holds: a schema, so many rows, the cells of each column, and keys.
-use Rattle.std.specs.Prelude.{◌≡◌, ℕ, zero, suc, List, [], ◌∷◌, map, drop, slice_index_or}
+use Rattle.std.specs.Prelude.{ℕ, zero, suc, List, [], ◌∷◌, map, drop, slice_index_or}
 use Rattle.cell_types.specs.Value.{CellValue, null}
 use Rattle.csvw_meta.specs.Schema.{SchemaOf, schema_view}
 use Rattle.table_store.specs.declared.table.Table.TheInside.{Inside}
 use Rattle.table_store.specs.Table.{TableOf, keys_of}
 use Rattle.typed_columns.specs.TypedColumn.{AreTyped, ColumnCells}
-use Rattle.row_keys.specs.Keys.{keys_view}
+use Rattle.row_keys.specs.Keys.{AreColumns, AreKeysOf}
 use Rattle.table_store.specs.Fits.{HasTableRows}
 use Rattle.table_store.specs.Summaries.{cells_by_column, AreSummariesOf}
 
@@ -21,10 +21,11 @@ table_of schema rows columns = record { schema = schema; rows = rows_of_columns 
 abbrev pub table_view : Inside → TableOf
 table_view table = table_of (schema_view table.schema) table.count table.columns.items
 
--- there is a column for each of the schema's, of its datatype, with a cell for each row, the keys are those of the rows, the values fit
--- their columns, and each block has its summary
+-- there is a column for each of the schema's, of its datatype, with a cell for each row, the places of the key are those of columns, the keys are
+-- those of the rows, the values fit their columns, and each block has its summary
 pub record IsWhole (table : Inside) : Type 0 where
   pub columns : AreTyped (schema_view table.schema).columns (table_view table).rows table.columns.items
-  pub keys : keys_view table.keys ≡ keys_of (table_view table)
+  pub places : AreColumns (schema_view table.schema).key (schema_view table.schema).columns
+  pub keys : AreKeysOf table.keys (keys_of (table_view table))
   pub fit : HasTableRows (table_view table)
   pub summaries : AreSummariesOf (table_view table) table.summaries.items

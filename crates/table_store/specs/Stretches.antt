@@ -1,17 +1,12 @@
 -- What is read of the rows of a file from one on.
-use Rattle.std.specs.Prelude.{◌≡◌, ℕ, ◌+◌, List, ◌++◌, length, map, None, Some, Result, Ok, Err, Vec, slice_get, slice_index_or}
-use Rattle.std.specs.List.{AllByRecursion}
+use Rattle.std.specs.Prelude.{◌≡◌, ℕ, ◌+◌, List, ◌++◌, length, None, Some, Result, Ok, Err, Vec, slice_get}
 use Rattle.block_summary.specs.Reading.{packed_type_of}
 use Rattle.cell_types.specs.Column.{ColumnOf}
 use Rattle.csv_grammar.specs.Raw.{RawField}
 use Rattle.raw_fields.specs.Values.{rows_in}
 use Rattle.typed_columns.specs.TypedColumn.{AreTyped, AreWholeBlocks, ColumnCells}
-use Rattle.cell_types.specs.Value.{CellValue, null}
-use Rattle.csvw_meta.specs.Schema.{SchemaOf}
-use Rattle.table_store.specs.Inside.{rows_of_columns}
 use Rattle.table_store.specs.declared.loading.BadCell.{BadCell}
 use Rattle.table_store.specs.Parts.{wrong_of, IsFirstBadIn}
-use Rattle.table_store.specs.Summaries.{cells_by_column}
 
 -- the columns of rows in which nothing is wrong, the first of which has that number
 pub record HasColumns (first : ℕ) (columns : List ColumnOf) (rows : List (List RawField)) (read : List ColumnCells) : Type 0 where
@@ -47,18 +42,3 @@ joined_cells a b = record a { cells = a.cells ++ b.cells }
 pub record AreAppended (front after read : List ColumnCells) : Type 0 where
   pub count : length read ≡ length front
   pub each : (col : ℕ) (a b : ColumnCells) → slice_get front col ≡ Some a → slice_get after col ≡ Some b → slice_get read col ≡ Some (joined_cells a b)
-
--- columns of so many rows of fields
-pub record AreOfFields (schema : SchemaOf) (count : ℕ) (typed : List ColumnCells) : Type 0 where
-  pub fields : List (List RawField)
-  pub rows : length fields ≡ count
-  pub wide : AllByRecursion (λ row. length row ≡ length schema.columns) fields
-  pub cells : AreTyped schema.columns (rows_in schema.columns fields) typed
-
--- the rows of columns, cell by cell
-abbrev pub typed_rows : ℕ → List ColumnCells → List (List CellValue)
-typed_rows count columns = rows_of_columns count (cells_by_column columns)
-
--- the cells of a row of columns
-abbrev pub typed_row : ℕ → List ColumnCells → List CellValue
-typed_row row columns = map (λ (column : ColumnCells). slice_index_or column.cells row null) columns

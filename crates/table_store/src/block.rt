@@ -45,7 +45,7 @@ impl<'t> Model for Block<'t> {
 }
 
 impl Table {
-    /// The block of a number, counted from 0.
+    /// Returns the block of a number, counted from 0.
     pub fn block(&self, number: usize) -> Block<'_>
         requires { number < block_count (length self.now.rows) }
         ensures { result ≡ block_of self.now number }
@@ -68,14 +68,14 @@ impl<'t> Block<'t> {
         self.table.schema()
     }
 
-    /// How many rows the block has.
+    /// Returns how many rows the block has.
     pub fn rows(&self) -> usize
         ensures { result ≡ length self.now.rows }
     {
         self.rows
     }
 
-    /// The value of a row, counted from 0 in the block, and a column.
+    /// Returns the value of a row, counted from 0 in the block, and a column.
     pub fn value(&self, alloc: Global, row: usize, col: usize) -> Result<Value<'t>, AllocError>
         requires row { row < length self.now.rows }
         requires col { col < length self.now.schema.columns }
@@ -87,7 +87,7 @@ impl<'t> Block<'t> {
         self.table.value(alloc, self.first + row, col)
     }
 
-    /// The cells of a column in the block; nothing for a column of texts.
+    /// Returns the cells of a column in the block; nothing for a column of texts.
     pub fn packed(&self, col: usize) -> Option<&'t PackedColumn>
         requires { col < length self.now.schema.columns }
         ensures { option_copied result ≡ packed_cells self.now col }
@@ -95,7 +95,7 @@ impl<'t> Block<'t> {
         self.table.packed(self.first / BLOCK_ROWS, col)
     }
 
-    /// The cells of a column of texts in the block; nothing for another column.
+    /// Returns the cells of a column of texts in the block; nothing for another column.
     pub fn texts(&self, col: usize) -> Option<TextColumn<'t>>
         requires { col < length self.now.schema.columns }
         ensures { result ≡ text_cells self.now col }
@@ -103,7 +103,7 @@ impl<'t> Block<'t> {
         self.table.texts(self.first / BLOCK_ROWS, col)
     }
 
-    /// The cells of a column in the block, to be kept after the block: they are shared with the table, and not copied. It takes no memory.
+    /// Returns the cells of a column in the block, to be kept after the block: they are shared with the table, and not copied. It takes no memory.
     pub fn shared(&self, col: usize) -> Result<BlockCells, AllocError>
         requires { col < length self.now.schema.columns }
         ensures { IfOk result (λ cells. Some cells ≡ typed_cells_of self.now col) }
@@ -111,7 +111,7 @@ impl<'t> Block<'t> {
         self.table.shared(self.first / BLOCK_ROWS, col)
     }
 
-    /// The values of a column, one for each row.
+    /// Returns the values of a column, one for each row.
     pub fn values(&self, alloc: Global, col: usize) -> Result<Vec<Value<'t>>, AllocError>
         requires { col < length self.now.schema.columns }
         ensures { IfOk result
@@ -143,14 +143,14 @@ impl<'t> Block<'t> {
         column.unpack_nulls(nulls);
     }
 
-    /// The summary of the block: the range of each of its columns.
+    /// Returns the summary of the block: the range of each of its columns.
     pub fn summary(&self) -> &'t Summary
         ensures { IsSummaryOf self.now result.now }
     {
         &self.table.summary()[self.first / BLOCK_ROWS]
     }
 
-    /// The rows of the block, one after another, the first one first.
+    /// Returns the rows of the block, one after another, the first one first.
     pub fn cursor(&self) -> RowCursor<'t>
         ensures { result ≡ self.now.rows }
     {

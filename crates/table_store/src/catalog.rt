@@ -35,7 +35,7 @@ impl Model for Catalog {
 }
 
 impl Catalog {
-    /// The tables that a folder means, or the one cause why it is refused: the metadata's, or that of the first table, in the order of
+    /// Returns the tables that a folder means, or the one cause why it is refused: the metadata's, or that of the first table, in the order of
     /// the metadata, that is refused. Files that no table names are ignored; of two files with one name the first counts.
     pub fn load(
         alloc: Global,
@@ -48,7 +48,7 @@ impl Catalog {
         ensures fault { IfErr result
             (λ e. IfSome (load_cause e) (IsRefused (folder_view limits meta.items files.items))) }
 
-        // Only want of memory has no cause.
+        // Only out of memory has no cause.
         ensures memory { IfErr result (λ e. load_cause e ≡ None → e ≡ LoadFault.NoMemory) }
     {
         let schemas = match Schemas::read(alloc, meta.as_slice(), &limits) {
@@ -69,14 +69,14 @@ impl Catalog {
         &self.limits
     }
 
-    /// The tables, in the order of the metadata.
+    /// Returns the tables, in the order of the metadata.
     pub fn tables(&self) -> &[Table]
         ensures { result.now ≡ self.now.tables }
     {
         self.tables.as_slice()
     }
 
-    /// The first table of a name.
+    /// Returns the first table of a name.
     pub fn table(&self, name: &str) -> Option<&Table>
         ensures { option_copied result
             ≡ find (λ table. bytes_eq table.schema.name name.now) self.now.tables }
@@ -85,7 +85,7 @@ impl Catalog {
     }
 }
 
-/// The tables of schemas, in order, each of a file of at most as many bytes as the limit; or why the first that is refused is.
+/// Returns the tables of schemas, in order, each of a file of at most as many bytes as the limit; or why the first that is refused is.
 fn load_tables(
     alloc: Global,
     limit: u32,

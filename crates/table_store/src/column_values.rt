@@ -8,7 +8,7 @@ use std::alloc::{AllocError, Global};
 use text_columns::TextColumn;
 use typed_columns::TypedColumn;
 
-/// The values of the cells of a block that are none of texts.
+/// Returns the values of the cells of a block that are none of texts.
 pub fn packed_values<'t>(alloc: Global, column: &PackedColumn) -> Result<Vec<Value<'t>>, AllocError>
     ensures { IfOk result (λ values. map value_view values.items ≡ column.now) }
 {
@@ -19,7 +19,7 @@ pub fn packed_values<'t>(alloc: Global, column: &PackedColumn) -> Result<Vec<Val
     Ok(values)
 }
 
-/// The values of the texts of a block.
+/// Returns the values of the texts of a block.
 pub fn text_values<'t>(alloc: Global, texts: &TextColumn<'t>) -> Result<Vec<Value<'t>>, AllocError>
     ensures { IfOk result (λ values. map value_view values.items ≡ texts.now) }
 {
@@ -30,7 +30,7 @@ pub fn text_values<'t>(alloc: Global, texts: &TextColumn<'t>) -> Result<Vec<Valu
     Ok(values)
 }
 
-/// The values of a row, one for each column.
+/// Returns the values of a row, one for each column.
 pub fn row_values<'t>(
     alloc: Global,
     columns: &'t [TypedColumn],

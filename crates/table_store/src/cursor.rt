@@ -31,7 +31,7 @@ impl<'t> Model for RowCursor<'t> {
 }
 
 impl<'t> RowCursor<'t> {
-    /// The values of the next row. An error leaves the rows as they were.
+    /// Returns the values of the next row. An error leaves the rows as they were.
     pub fn next_row(&mut self, alloc: Global) -> Result<Option<Vec<Value<'t>>>, AllocError>
         ensures row { IfOk result (λ row. MatchOption row ((self.old ≡ []) × (self.new ≡ []))
             (λ values. self.old ≡ map value_view values.items ∷ self.new)) }

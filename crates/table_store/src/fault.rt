@@ -56,7 +56,7 @@ pub enum LoadFault {
 }
 
 impl LoadFault {
-    /// The file that is refused and why, as in `notes.csv: Header col 1`.
+    /// Returns the file that is refused and why, as in `notes.csv: Header col 1`.
     pub fn text(&self, alloc: Global) -> Result<String, AllocError>
         ensures { IfOk result (λ text. string_bytes text ≡ load_fault_text self.now) }
     {
@@ -88,7 +88,7 @@ impl LoadFault {
         }
     }
 
-    /// Whether memory ran out.
+    /// True if memory ran out.
     pub fn is_memory(&self) -> bool
         ensures { result ≡ is_none (load_cause self.now) }
     {
@@ -134,7 +134,7 @@ fn cell_text(
     file_text(alloc, table, cause.as_str())
 }
 
-/// A table, what is wrong with it, and the row or the header cell where it is.
+/// A table, what is wrong with it, and the row or the header cell if it is.
 fn text_at(alloc: Global, table: &str, cause: &str, place: usize) -> Result<String, AllocError>
     ensures { IfOk result
         (λ text. string_bytes text ≡ file_text_of table.now (cause.now ++ decimal place)) }

@@ -14,14 +14,14 @@ pub struct NamedFile {
     pub bytes: Vec<u8>,
 }
 
-/// The place of the first file of a name.
+/// Returns the place of the first file of a name.
 fn first_named(files: &[NamedFile], name: &str) -> Option<usize>
     ensures { result ≡ position (λ file. bytes_eq (string_bytes file.name) name.now) files.now }
 {
     files.iter().position(|file| file.name.as_str() == name)
 }
 
-/// The bytes of the first file of a name, which are moved out of it.
+/// Returns the bytes of the first file of a name, which are moved out of it.
 pub(crate) fn take_bytes(alloc: Global, files: &mut Vec<NamedFile>, name: &str) -> Option<Vec<u8>>
     ensures bytes { file_bytes result ≡ file_named name.now (files_view files.old.items) }
 

@@ -10,14 +10,14 @@ use cell_types::Column;
 use csv_index::IndexedText;
 use std::alloc::{AllocError, Global};
 
-/// Whether a text is among some titles.
+/// True if a text is among some titles.
 fn is_title(titles: &[String], text: &str) -> bool
     ensures { result ≡ list_any (λ title. bytes_eq (string_bytes title) text.now) titles.now }
 {
     titles.iter().any(|title| title.as_str() == text)
 }
 
-/// Whether a header cell of a column may be that text.
+/// True if a header cell of a column may be that text.
 fn is_called(column: &Column, text: &str) -> bool
     ensures { result ≡ is_called_by (column_view column.now) text.now }
 {

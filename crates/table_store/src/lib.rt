@@ -17,7 +17,6 @@ mod reading;
 mod stretches;
 mod summaries;
 mod table;
-mod table_keys;
 
 pub use block::Block;
 pub use catalog::Catalog;

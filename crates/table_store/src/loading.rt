@@ -1,12 +1,11 @@
 //! Reading the rows of a table, part by part.
-ghost use Rattle.std.specs.Prelude.{◌≡◌, None, IfOk, IfErr, IfSome, option_map};
+ghost use Rattle.std.specs.Prelude.{◌≡◌, ◌≤◌, ◌^◌, None, IfOk, IfErr, IfSome, length, option_map};
 ghost use Rattle.csvw_meta.specs.Schema.{schema_view};
 ghost use Rattle.table_store.specs.Fault.{bad_cell, cell_cause};
 ghost use Rattle.raw_fields.specs.Values.{FitsColumns};
 ghost use Rattle.table_store.specs.Loading.{bad_cell_of, table_cause, ArePartsOf, HasKeyColumns, HasRowsCause};
 
 use crate::stretches::read_columns_of;
-use crate::table_keys::keys_of_rows;
 use cell_types::CellFault;
 use csv_index::{IndexedText, TextFault};
 use csvw_meta::Schema;
@@ -51,6 +50,7 @@ pub fn read_rows(
 ) -> Result<TableParts, TableFault>
     requires fits { FitsColumns (schema_view schema.now).columns file }
     requires key { HasKeyColumns (schema_view schema.now) }
+    requires few { length file.rows ≤ 2 ^ 30 }
     ensures values { IfOk result (λ _. bad_cell_of (schema_view schema.now) file.rows ≡ None) }
     ensures parts { IfOk result (ArePartsOf (schema_view schema.now) file.rows) }
     ensures fault { IfErr result (λ e.
@@ -62,7 +62,7 @@ pub fn read_rows(
         Ok(columns) => columns,
         Err(bad) => return Err(fault_of(bad)),
     };
-    match keys_of_rows(alloc, schema, columns.as_slice(), rows) {
+    match Keys::of_rows(alloc, columns.as_slice(), schema.key.as_slice(), rows) {
         Ok(Ok(keys)) => Ok(TableParts {
             rows,
             columns,
@@ -73,7 +73,7 @@ pub fn read_rows(
     }
 }
 
-/// The fault of a table with that cell.
+/// Returns the fault of a table with that cell.
 fn fault_of(bad: BadCell) -> TableFault
     ensures cause { table_cause result
         ≡ option_map (bad_cell bad.row bad.col) (cell_cause bad.fault) }

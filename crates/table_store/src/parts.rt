@@ -57,7 +57,7 @@ fn bad_in_row(
     None
 }
 
-/// The first cell of a part, row by row, that has no value; the first row of the part has that number.
+/// Returns the first cell of a part, row by row, that has no value; the first row of the part has that number.
 fn first_bad_cell(alloc: Global, columns: &[Column], part: &Part<'_, '_>, first: usize) -> BadCell
     requires width { part.now.width ≡ length columns.now }
     requires bad { AllColumnsHaveValues (map column_view columns.now) part.now.rows → ⊥ }

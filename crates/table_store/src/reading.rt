@@ -1,5 +1,5 @@
 //! Loading a table from its file: the header against the columns, and then its rows.
-ghost use Rattle.std.specs.Prelude.{◌≡◌, None, IfOk, IfErr, IfSome};
+ghost use Rattle.std.specs.Prelude.{◌≡◌, ◌≤◌, ◌^◌, None, IfOk, IfErr, IfSome, length};
 ghost use Rattle.csvw_meta.specs.Schema.{schema_view};
 ghost use Rattle.csv_grammar.specs.Raw.{RawTable};
 ghost use Rattle.table_store.specs.Catalog.{HasTableCause};
@@ -15,7 +15,8 @@ use std::alloc::Global;
 /// The columns and the keys of a file that is the table of a schema; or the first thing that is wrong with it. The file and its index are let go
 /// when all of its rows are read.
 fn read_file(alloc: Global, schema: &Schema, bytes: Vec<u8>) -> Result<TableParts, TableFault>
-    requires { HasKeyColumns (schema_view schema.now) }
+    requires key { HasKeyColumns (schema_view schema.now) }
+    requires short { length bytes.items ≤ 2 ^ 30 }
     ensures parts { IfOk result (λ parts.
         (file : RawTable) × IsTableAt (schema_view schema.now).columns bytes.items file
         × ArePartsOf (schema_view schema.now) file.rows parts) }
@@ -43,7 +44,8 @@ pub fn read_table(
     schema: &Schema,
     file: Option<Vec<u8>>,
 ) -> Result<TableParts, TableFault>
-    requires { HasKeyColumns (schema_view schema.now) }
+    requires key { HasKeyColumns (schema_view schema.now) }
+    requires limit { limit ≤ 2 ^ 30 }
     ensures parts { IfOk result (λ parts. (raw : RawTable)
         × IsTableOf limit (file_bytes file) (schema_view schema.now) raw
         × ArePartsOf (schema_view schema.now) raw.rows parts) }

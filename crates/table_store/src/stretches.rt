@@ -32,7 +32,7 @@ fn no_memory(row: usize) -> BadCell
     }
 }
 
-/// The columns of the rows of a file from one on; or the first cell of them, row by row, that has no value.
+/// Returns the columns of the rows of a file from one on; or the first cell of them, row by row, that has no value.
 fn read_from(alloc: Global, columns: &[Column], file: &IndexedText, first: usize) -> ReadColumns
     requires fits { FitsColumns (map column_view columns.now) file.now }
     requires first { first ≤ length file.now.rows }
@@ -77,7 +77,7 @@ fn append_columns(front: Vec<TypedColumn>, after: Vec<TypedColumn>) -> ReadColum
     Ok(front)
 }
 
-/// The columns of the rows of a file from one on and of rows after the file, of which those columns, or that cell, were read. The first cell that has
+/// Returns the columns of the rows of a file from one on and of rows after the file, of which those columns, or that cell, were read. The first cell that has
 /// no value is one of the file, if it has one.
 fn read_before(
     alloc: Global,
@@ -109,7 +109,7 @@ fn stretch_of(rows: usize) -> usize
     rows.div_ceil(BLOCK_ROWS).div_ceil(STRETCHES).max(1) * BLOCK_ROWS
 }
 
-/// The columns of the rows of a file, each of whose cells has a value; or the first cell, row by row, that has none.
+/// Returns the columns of the rows of a file, each of whose cells has a value; or the first cell, row by row, that has none.
 pub fn read_columns_of(alloc: Global, columns: &[Column], file: IndexedText) -> ReadColumns
     requires { FitsColumns (map column_view columns.now) file }
     ensures columns { IfOk result

@@ -7,7 +7,7 @@ use block_summary::{BLOCK_ROWS, Summary};
 use std::alloc::{AllocError, Global};
 use typed_columns::TypedColumn;
 
-/// The summary of the block of a number: the range of each column.
+/// Returns the summary of the block of a number: the range of each column.
 fn summary_at(alloc: Global, columns: &[TypedColumn], number: usize) -> Result<Summary, AllocError>
     requires { All (λ column. number * BLOCK_ROWS < length column.cells) columns.now }
     ensures { IfOk result (AreRangesAt number columns.now) }

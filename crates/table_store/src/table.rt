@@ -56,7 +56,7 @@ impl Model for Table {
 impl Table {
     ghost use Rattle.table_store.specs.Block.{block_count, block_of, packed_cells, text_cells, typed_cells_of};
 
-    /// The name that targets have.
+    /// Returns the name that targets have.
     pub fn name(&self) -> &str
         ensures { result.now ≡ self.now.schema.name }
     {
@@ -69,14 +69,14 @@ impl Table {
         &self.schema
     }
 
-    /// How many rows the table has.
+    /// Returns how many rows the table has.
     pub fn rows(&self) -> usize
         ensures { result ≡ length self.now.rows }
     {
         self.count
     }
 
-    /// How many columns the table has, and values each row.
+    /// Returns how many columns the table has, and values each row.
     pub fn width(&self) -> usize
         ensures columns { result ≡ length self.now.schema.columns }
         ensures rows { AllByRecursion (λ values. length values ≡ result) self.now.rows }
@@ -84,7 +84,7 @@ impl Table {
         self.columns.len()
     }
 
-    /// The value of a row and a column, both counted from 0.
+    /// Returns the value of a row and a column, both counted from 0.
     pub fn value(&self, _alloc: Global, row: usize, col: usize) -> Result<Value<'_>, AllocError>
         requires row { row < length self.now.rows }
         requires col { col < length self.now.schema.columns }
@@ -96,7 +96,7 @@ impl Table {
         Ok(self.columns[col].value(row))
     }
 
-    /// The values of a row, one for each column.
+    /// Returns the values of a row, one for each column.
     pub(crate) fn row(&self, alloc: Global, row: usize) -> Result<Vec<Value<'_>>, AllocError>
         requires { row < length self.now.rows }
         ensures { IfOk result (λ values.
@@ -105,21 +105,21 @@ impl Table {
         row_values(alloc, self.columns.as_slice(), row)
     }
 
-    /// How many blocks the rows are, each of [`BLOCK_ROWS`] and the last perhaps of fewer.
+    /// Returns how many blocks the rows are, each of [`BLOCK_ROWS`] and the last perhaps of fewer.
     pub fn blocks(&self) -> usize
         ensures { result ≡ block_count (length self.now.rows) }
     {
         self.rows().div_ceil(BLOCK_ROWS)
     }
 
-    /// The summary of each block: the range of each of its columns.
+    /// Returns the summary of each block: the range of each of its columns.
     pub fn summary(&self) -> &[Summary]
         ensures { AreSummariesOf self.now result.now }
     {
         self.summaries.as_slice()
     }
 
-    /// The cells of a column in the block of a number; nothing for a column of texts.
+    /// Returns the cells of a column in the block of a number; nothing for a column of texts.
     pub(crate) fn packed(&self, number: usize, col: usize) -> Option<&PackedColumn>
         requires number { number < block_count (length self.now.rows) }
         requires col { col < length self.now.schema.columns }
@@ -128,7 +128,7 @@ impl Table {
         self.columns[col].packed(number)
     }
 
-    /// The cells of a column in the block of a number; nothing for a column that is none of texts.
+    /// Returns the cells of a column in the block of a number; nothing for a column that is none of texts.
     pub(crate) fn texts(&self, number: usize, col: usize) -> Option<TextColumn<'_>>
         requires number { number < block_count (length self.now.rows) }
         requires col { col < length self.now.schema.columns }
@@ -137,7 +137,7 @@ impl Table {
         self.columns[col].texts(number)
     }
 
-    /// The cells of a column in the block of a number, to be kept beside the table. It takes no memory.
+    /// Returns the cells of a column in the block of a number, to be kept beside the table. It takes no memory.
     pub(crate) fn shared(&self, number: usize, col: usize) -> Result<BlockCells, AllocError>
         requires number { number < block_count (length self.now.rows) }
         requires col { col < length self.now.schema.columns }
@@ -168,11 +168,12 @@ impl Table {
     }
 
     /// The row, counted from 0, whose values in the columns of the key are those, in the order of the key (Metadata Vocabulary for
-    /// Tabular Data, section 5.5); none, where no row has them or the table has no key.
+    /// Tabular Data, section 5.5); none, if no row has them or the table has no key.
     pub fn find(&self, key: &[Value<'_>]) -> Option<usize>
         ensures { result ≡ row_of (keys_of self.now) (map value_view key.now) }
     {
-        self.keys.find(key)
+        self.keys
+            .find(self.columns.as_slice(), self.schema.key.as_slice(), key)
     }
 
     /// Returns the table of a schema whose file has these bytes, at most as many as the limit; or why it is refused.
@@ -208,7 +209,7 @@ impl Table {
     }
 }
 
-/// The error of a folder that the fault of the table of that url is.
+/// Returns the error of a folder that the fault of the table of that url is.
 fn fault_of(table: String, fault: TableFault) -> LoadFault
     ensures cause { load_cause result
         ≡ option_map (bad_table (string_bytes table)) (table_cause fault) }

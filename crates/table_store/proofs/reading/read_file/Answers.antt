@@ -1,10 +1,11 @@
-use Rattle.std.proofs.Common.{sym, map}
+use Rattle.std.proofs.Common.{sym, map, arith}
 use Rattle.std.proofs.lemmas.Option.{IfSome_then}
 use Rattle.std.proofs.lemmas.Result.{IfErr-weaker}
 use Rattle.cell_types.specs.Column.{column_view}
 use Rattle.csvw_meta.specs.Schema.{schema_view}
 use Rattle.cell_types.proofs.CaseLaws.{IfOk-both}
 use Rattle.table_store.specs.Loading.{table_cause}
+use Rattle.table_store.proofs.FitLemmas.{rows-within}
 use Rattle.table_store.proofs.LoadingLemmas.{other_header, header_fits, is_table_at, rows_cause}
 use Rattle.table_store.proofs.reading.read_file.Goals as goal
 
@@ -17,6 +18,9 @@ pub read_rows-requires-clause-fits : goal.read_rows-requires-clause-fits
 read_rows-requires-clause-fits c =
     let first = rw (c.in-Ok-None.field-0-is, c.as_slice.ensures.value) at c.in-Ok-None.ensures in
     header_fits (map column_view c.args.schema.now.columns.items) c.args.bytes.items c.in-Ok.file c.in-Ok.ensures.table (sym first)
+
+pub read_rows-requires-clause-few : goal.read_rows-requires-clause-few
+read_rows-requires-clause-few c = omega (arith, rows-within c.args.bytes.items c.in-Ok.file c.in-Ok.ensures.table, c.requires.short)
 
 pub returns-clause-fault : goal.returns-clause-fault
 returns-clause-fault c =

@@ -1,35 +1,63 @@
-use Rattle.std.proofs.Common.{map, sym, ap, ◌∙◌}
-use Rattle.cell_types.specs.Value.{value_view}
-use Rattle.row_keys.specs.Key.{row_of}
-use Rattle.row_keys.specs.Keys.{keys_view}
-use Rattle.row_keys.specs.Numbers.{integer_key}
-use Rattle.row_keys.proofs.KeyLemmas.{position-view, values-row, int_eq-view, row_of-integers}
+use Rattle.std.proofs.Common.{ℕ, List, [], None, Some, get_or, length, map, subst, sym, arith}
+use Rattle.cell_types.specs.Value.{CellValue, value_view}
+use Rattle.row_keys.specs.Key.{row_key}
+use Rattle.row_keys.specs.Keys.{typed_keys, typed_row, AreByKey, AreInSlots, IsRowWithKey}
+use Rattle.row_keys.specs.declared.keys.Keys.TheVariants.{Rising}
+use Rattle.row_keys.specs.declared.slots.Met.TheVariants.{Row}
+use Rattle.row_keys.specs.Rising.{AreRising}
+use Rattle.row_keys.specs.Slots.{IsFirstMet, NoneHas}
+use Rattle.row_keys.proofs.RisingLemmas.{rising_same}
+use Rattle.row_keys.proofs.RowLemmas.{found_is, typed_key}
+use Rattle.row_keys.proofs.SlotLemmas.{none_has, none_met, seated_same}
 use Rattle.row_keys.proofs.keys.Keys.find.Goals as goal
 
-pub returns-in-Some : goal.returns-in-Some
-returns-in-Some c =
-    let key = map value_view c.args.key.now in
-    c.find.ensures ∙ position-view integer_key _ int_eq-view c.in-Some.number.now c.in-Numbers.keys
-    ∙ ap (row_of (map integer_key c.in-Numbers.keys)) (sym c.in-Some.ensures.some) ∙ ap (λ ks. row_of (keys_view ks) key) (sym c.in-Numbers.is)
+pub row_among-requires-clause-rising : goal.row_among-requires-clause-rising
+row_among-requires-clause-rising c =
+    let places = c.args.places.now in
+    let columns = c.args.columns.now in
+    let keys = typed_keys places columns c.requires.keys.0 in
+    let key_at : ℕ → List CellValue = λ row. row_key places (typed_row row columns) in
+    let found : AreByKey (Rising c.in-Rising.rows) keys = subst (λ k. AreByKey k keys) c.in-Rising.is c.requires.keys.1.found in
+    subst (AreRising key_at) (sym found.0)
+    (rising_same (λ row. get_or keys row []) key_at (length keys) (typed_key places columns c.requires.keys.0) found.1)
 
-pub returns-in-None : goal.returns-in-None
-returns-in-None c =
+pub returns-in-Rising : goal.returns-in-Rising
+returns-in-Rising c rows of =
+    let places = c.args.places.now in
+    let columns = c.args.columns.now in
+    let keys = typed_keys places columns rows in
+    let key_at : ℕ → List CellValue = λ row. row_key places (typed_row row columns) in
     let key = map value_view c.args.key.now in
-    sym (row_of-integers c.in-Numbers.keys key (c.integer_in.ensures.none c.in-None.is)) ∙ ap (λ ks. row_of (keys_view ks) key) (sym c.in-Numbers.is)
+    let found : AreByKey (Rising c.in-Rising.rows) keys = subst (λ k. AreByKey k keys) c.in-Rising.is of.found in
+    found_is c.values_are_ordered.ensures.equal keys key key_at c.row_among.result of.whole of.distinct (typed_key places columns rows)
+    (subst (λ n. IsRowWithKey n key_at key c.row_among.result) found.0 c.row_among.ensures)
 
-pub returns-in-Some-integer_in : goal.returns-in-Some-integer_in
-returns-in-Some-integer_in c =
+pub returns-in-Row : goal.returns-in-Row
+returns-in-Row c rows of =
+    let places = c.args.places.now in
+    let columns = c.args.columns.now in
+    let keys = typed_keys places columns rows in
+    let key_at : ℕ → List CellValue = λ row. row_key places (typed_row row columns) in
     let key = map value_view c.args.key.now in
-    c.place.ensures.place ∙ position-view integer_key _ int_eq-view c.in-Some-integer_in.number.now c.in-Integers.keys.keys
-    ∙ ap (row_of (map integer_key c.in-Integers.keys.keys)) (sym c.in-Some-integer_in.ensures.some) ∙ ap (λ ks. row_of (keys_view ks) key) (sym c.in-Integers.is)
+    let slots = c.as_slice.result.now in
+    let found : AreInSlots c.in-Slots.rows c.in-Slots.slots.items keys = subst (λ k. AreByKey k keys) c.in-Slots.is of.found in
+    let met : IsFirstMet slots c.in-Slots.rows key_at key (Row c.in-Row.row) = subst (IsFirstMet slots c.in-Slots.rows key_at key) c.in-Row.is c.walk.ensures in
+    found_is c.values_are_ordered.ensures.equal keys key key_at (Some c.in-Row.row) of.whole of.distinct (typed_key places columns rows)
+    (omega (arith, met.0, found.count), met.1)
 
-pub returns-in-None-integer_in : goal.returns-in-None-integer_in
-returns-in-None-integer_in c =
+pub returns-in_default : goal.returns-in_default
+returns-in_default c rows of =
+    let places = c.args.places.now in
+    let columns = c.args.columns.now in
+    let keys = typed_keys places columns rows in
+    let key_at : ℕ → List CellValue = λ row. row_key places (typed_row row columns) in
     let key = map value_view c.args.key.now in
-    sym (row_of-integers c.in-Integers.keys.keys key (c.integer_in-in-Integers.ensures.none c.in-None-integer_in.is)) ∙ ap (λ ks. row_of (keys_view ks) key) (sym c.in-Integers.is)
-
-pub returns-in-Values : goal.returns-in-Values
-returns-in-Values c =
-    let key = c.args.key.now in
-    c.place_of_list.ensures.place ∙ values-row value_view _ c.values_compare_as_their_views.ensures.equal (λ k. k.items) key c.in-Values.keys.keys
-    ∙ ap (λ ks. row_of (keys_view ks) (map value_view key)) (sym c.in-Values.is)
+    let slots = c.in-Slots.slots.items in
+    let found : AreInSlots c.in-Slots.rows slots keys = subst (λ k. AreByKey k keys) c.in-Slots.is of.found in
+    let none : NoneHas slots (length keys) key_at key =
+    subst (λ s. NoneHas s (length keys) key_at key) c.as_slice.ensures.value
+    (subst (λ n. NoneHas c.as_slice.result.now n key_at key) found.count
+    (none_met c.as_slice.result.now c.in-Slots.rows key_at key c.walk.result c.walk.ensures c.in_default.not-Row)) in
+    let seated = seated_same (λ row. get_or keys row []) key_at slots (length keys) (typed_key places columns rows) found.seated in
+    found_is c.values_are_ordered.ensures.equal keys key key_at None of.whole of.distinct (typed_key places columns rows)
+    (none_has key_at slots (length keys) key seated none)

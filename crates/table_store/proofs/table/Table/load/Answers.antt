@@ -1,7 +1,8 @@
-use Rattle.std.proofs.Common.{◌≡◌, ◌≤◌, ◌^◌, length, refl, string_bytes, sym, ap, subst, ◌∙◌, arith}
+use Rattle.std.proofs.Common.{◌≡◌, ◌≤◌, ◌^◌, length, refl, string_bytes, sym, subst, ◌∙◌, arith}
 use Rattle.std.specs.List.{All}
 use Rattle.csvw_meta.specs.Schema.{schema_view}
 use Rattle.raw_fields.specs.Values.{rows_in}
+use Rattle.row_keys.specs.Keys.{AreKeysOf}
 use Rattle.typed_columns.specs.TypedColumn.{AreTyped, ColumnCells}
 use Rattle.table_store.specs.Fault.{load_cause}
 use Rattle.table_store.specs.File.{file_bytes}
@@ -43,7 +44,8 @@ invariant_of-result c =
     let columns = subst (λ (t : TableOf). AreTyped schema.columns t.rows parts.columns.items) same read.2.columns in
     let by = rw c.as_slice.ensures.value at c.in-Ok-summaries_of.ensures in record {
       columns = columns;
-      keys = read.2.keys.are ∙ ap keys_of same;
+      places = c.requires.key;
+      keys = subst (λ (t : TableOf). AreKeysOf parts.keys (keys_of t)) same read.2.keys;
       fit = subst HasTableRows same (table-fits c.values_fit_columns.ensures schema at.0 read.0 size c.requires.defaults at.2);
       summaries = are_summaries table parts.columns.items parts.rows c.in-Ok-summaries_of.summaries.items columns (length-table schema parts.rows parts.columns.items) by;
     }
