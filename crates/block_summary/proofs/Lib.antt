@@ -1,6 +1,7 @@
 mod BoundLemmas
 mod BufferLemmas
 mod CellLemmas
+mod JoinLemmas
 mod MarkLemmas
 pub mod NumberLaws
 mod OrderLemmas

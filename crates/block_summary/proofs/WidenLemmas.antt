@@ -39,7 +39,7 @@ null-more (c ∷ cs) (suc i) = null-more cs i
 
 -- ---- the least and the greatest cell are the first in an order
 
-record IsFirst (Le : CellValue → CellValue → Type 0) (first : CellValue) (cells : List CellValue) : Type 0 where
+pub record IsFirst (Le : CellValue → CellValue → Type 0) (first : CellValue) (cells : List CellValue) : Type 0 where
   pub among : (i : ℕ) × (get_or cells i null ≡ first)
   pub value : is_null first ≡ false
   pub each : (i : ℕ) → is_null (get_or cells i null) ≡ false → Le first (get_or cells i null)
@@ -75,7 +75,7 @@ none-before Le v cells none i value = absurd (true≢false (ap is_null (sym (non
 
 -- ---- the order of values, and its reverse
 
-le_of : (r : Ordering) → is_gt r ≡ false → IsTrue (is_le r)
+pub le_of : (r : Ordering) → is_gt r ≡ false → IsTrue (is_le r)
 le_of Less e = refl
 le_of Equal e = refl
 le_of Greater e = absurd (true≢false e)
@@ -85,17 +85,17 @@ not_gt Less h = refl
 not_gt Equal h = refl
 not_gt Greater h = absurd (true≢false (sym h))
 
-reverse_le : (r : Ordering) → is_gt r ≡ true → IsTrue (is_le (ordering_reverse r))
+pub reverse_le : (r : Ordering) → is_gt r ≡ true → IsTrue (is_le (ordering_reverse r))
 reverse_le Less e = absurd (true≢false (sym e))
 reverse_le Equal e = absurd (true≢false (sym e))
 reverse_le Greater e = refl
 
-le-of_lt : (r : Ordering) → is_lt r ≡ true → IsTrue (is_le r)
+pub le-of_lt : (r : Ordering) → is_lt r ≡ true → IsTrue (is_le r)
 le-of_lt Less e = refl
 le-of_lt Equal e = refl
 le-of_lt Greater e = absurd (true≢false (sym e))
 
-reverse-not_lt : (r : Ordering) → is_lt r ≡ false → IsTrue (is_le (ordering_reverse r))
+pub reverse-not_lt : (r : Ordering) → is_lt r ≡ false → IsTrue (is_le (ordering_reverse r))
 reverse-not_lt Less e = absurd (true≢false e)
 reverse-not_lt Equal e = refl
 reverse-not_lt Greater e = refl
@@ -103,28 +103,28 @@ reverse-not_lt Greater e = refl
 le_itself : IsTotalOrder value_cmp → (a : CellValue) → IsAtMost a a
 le_itself o a = ap is_le (tied_itself o a)
 
-le_along : IsTotalOrder value_cmp → (a b c : CellValue) → IsAtMost a b → IsAtMost b c → IsAtMost a c
+pub le_along : IsTotalOrder value_cmp → (a b c : CellValue) → IsAtMost a b → IsAtMost b c → IsAtMost a c
 le_along o a b c p q = le_of (value_cmp a c) (upto o a b c (not_gt (value_cmp a b) p) (not_gt (value_cmp b c) q))
 
 rising : IsTotalOrder value_cmp → Order IsAtMost
 rising o = record { same = le_itself o; along = le_along o }
 
-abbrev IsAtLeast : CellValue → CellValue → Type 0
+abbrev pub IsAtLeast : CellValue → CellValue → Type 0
 IsAtLeast a b = IsAtMost b a
 
 falling : IsTotalOrder value_cmp → Order IsAtLeast
 falling o = record { same = le_itself o; along = λ a b c p q. le_along o c b a q p }
 
-first-least : (v : CellValue) (cells : List CellValue) → IsFirst IsAtMost v cells → IsLeast v cells
+pub first-least : (v : CellValue) (cells : List CellValue) → IsFirst IsAtMost v cells → IsLeast v cells
 first-least v cells is = record { among = is.among; value = is.value; below = is.each }
 
-least-first : (v : CellValue) (cells : List CellValue) → IsLeast v cells → IsFirst IsAtMost v cells
+pub least-first : (v : CellValue) (cells : List CellValue) → IsLeast v cells → IsFirst IsAtMost v cells
 least-first v cells is = record { among = is.among; value = is.value; each = is.below }
 
-first-greatest : (v : CellValue) (cells : List CellValue) → IsFirst IsAtLeast v cells → IsGreatest v cells
+pub first-greatest : (v : CellValue) (cells : List CellValue) → IsFirst IsAtLeast v cells → IsGreatest v cells
 first-greatest v cells is = record { among = is.among; value = is.value; above = is.each }
 
-greatest-first : (v : CellValue) (cells : List CellValue) → IsGreatest v cells → IsFirst IsAtLeast v cells
+pub greatest-first : (v : CellValue) (cells : List CellValue) → IsGreatest v cells → IsFirst IsAtLeast v cells
 greatest-first v cells is = record { among = is.among; value = is.value; each = is.above }
 
 least-by : IsTotalOrder value_cmp → (l v : CellValue) (cells : List CellValue) (b : Bool) → is_gt (value_cmp l v) ≡ b → is_null v ≡ false → IsLeast l cells

@@ -4,7 +4,7 @@ use Rattle.std.specs.Ordering.{int_cmp}
 use Rattle.cell_types.specs.Value.{CellValue, null, value_cmp}
 use Rattle.block_summary.specs.declared.number.PackedType.{PackedType}
 use Rattle.block_summary.specs.declared.test.Comparison.{Comparison}
-use Rattle.block_summary.specs.Ranges.{RangeOf, no_range, range_of, widened, AreRangesOf, IsRangeOf}
+use Rattle.block_summary.specs.Ranges.{RangeOf, no_range, joined_range, range_of, widened, AreRangesOf, IsRangeOf}
 use Rattle.block_summary.specs.Tests.{admits, test_passes}
 use Rattle.block_summary.specs.Types.{typed_cell, IsNumberOf}
 
@@ -28,6 +28,10 @@ SkipsNoRow = (op : Comparison) (ranges : List RangeOf) (rows : List (List CellVa
 pub record RangesWiden : Type 0 where
   pub start : IsRangeOf no_range []
   pub more : (range : RangeOf) (cells : List CellValue) (v : CellValue) → IsRangeOf range cells → IsRangeOf (widened range v) (cells ++ v ∷ [])
+
+-- the range of cells and of others after them
+abbrev pub RangesJoin : Type 0
+RangesJoin = (a b : RangeOf) (xs ys : List CellValue) → IsRangeOf a xs → IsRangeOf b ys → IsRangeOf (joined_range a b) (xs ++ ys)
 
 -- cells have a range, and no other
 pub record OneRange : Type 0 where

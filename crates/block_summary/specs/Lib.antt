@@ -4,7 +4,6 @@ pub mod Ranges
 pub mod Blocks
 pub mod Reading
 pub mod Rows
-pub mod TextRange
 pub mod Tests
 pub mod Passing
 pub mod Sums

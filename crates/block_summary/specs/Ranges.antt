@@ -84,3 +84,16 @@ widened range v =
 -- the range of cells: that of none, with one cell more for each
 abbrev pub range_of : List CellValue → RangeOf
 range_of cells = fold widened no_range cells
+
+-- the lesser of two leasts, and the greater of two greatests, of which either may be missing
+abbrev pub lesser_of : Option CellValue → Option CellValue → Option CellValue
+lesser_of bound None = bound
+lesser_of bound (Some v) = Some (lesser bound v)
+
+abbrev pub greater_of : Option CellValue → Option CellValue → Option CellValue
+greater_of bound None = bound
+greater_of bound (Some v) = Some (greater bound v)
+
+-- the range of cells of one range and of cells of another
+abbrev pub joined_range : RangeOf → RangeOf → RangeOf
+joined_range a b = record { least = lesser_of a.least b.least; greatest = greater_of a.greatest b.greatest; null_count = a.null_count + b.null_count }

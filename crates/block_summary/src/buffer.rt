@@ -19,7 +19,7 @@ use cell_types::{
 use std::alloc::{AllocError, Global};
 use std::marker::Model;
 
-/// What the numbers of a column of a datatype stand for; nothing for texts, which are not kept as numbers.
+/// Returns what the numbers of a column of a datatype stand for; nothing for texts, which are not kept as numbers.
 pub fn packed_type_of(datatype: &Datatype) -> Option<PackedType>
     ensures { result ≡ packed_type_of_datatype (datatype_view datatype.now) }
 {
@@ -62,7 +62,7 @@ impl Model for CellBuffer {
 }
 
 impl CellBuffer {
-    /// A buffer with room for so many cells.
+    /// Returns an empty buffer with room for `room` cells.
     pub fn new(
         alloc: Global,
         packed_type: PackedType,
@@ -81,7 +81,7 @@ impl CellBuffer {
         })
     }
 
-    /// How many cells there are.
+    /// Returns how many cells there are.
     pub fn len(&self) -> usize
         ensures { result ≡ length self.now.cells }
     {
@@ -119,7 +119,7 @@ impl CellBuffer {
     }
 }
 
-/// The number of a value that is none of a text; none of null.
+/// Returns the number of a value that is none of a text; none of null.
 fn number_of_value(packed_type: PackedType, value: &Value<'_>) -> Option<i64>
     requires { FitsType packed_type (value_view value.now) }
     ensures cell { cell_of packed_type result ≡ value_view value.now }
@@ -134,7 +134,7 @@ fn number_of_value(packed_type: PackedType, value: &Value<'_>) -> Option<i64>
     }
 }
 
-/// The number of the day of a text in a column of dates of a form, where it says one as it stands.
+/// Returns the number of the day of a text in a column of dates of a form, if it says one as it stands.
 #[inline(always)]
 fn plain_day(column: &Column, form: DateForm, text: &str) -> Option<i64>
     requires { datatype_view column.now.datatype ≡ datatype.date form }
@@ -148,7 +148,7 @@ fn plain_day(column: &Column, form: DateForm, text: &str) -> Option<i64>
     }
 }
 
-/// The number of the truth value of a text in a column of booleans of a form, where it says one as it stands.
+/// Returns 0 for false and 1 for true, for a text in a column of booleans that is one of its texts as it is.
 #[inline(always)]
 fn plain_truth(column: &Column, form: &BooleanForm, text: &str) -> Option<i64>
     requires { datatype_view column.now.datatype ≡ boolean_view form.now }
@@ -162,7 +162,7 @@ fn plain_truth(column: &Column, form: &BooleanForm, text: &str) -> Option<i64>
     }
 }
 
-/// The number of a text that says its value as it stands, in a column that is none of texts; none of another text. Of integers these are those of few
+/// Returns the number of a text that says its value as it stands, in a column that is none of texts; none of another text. Of integers these are those of few
 /// digits.
 #[inline(always)]
 fn plain_number(column: &Column, packed_type: PackedType, text: &str) -> Option<i64>
@@ -180,7 +180,7 @@ fn plain_number(column: &Column, packed_type: PackedType, text: &str) -> Option<
     }
 }
 
-/// The number of a text in a column that is none of texts, or null where the text is null.
+/// Returns the number of a text in a column that is none of texts, or null where the text is null.
 pub fn read_number(
     alloc: Global,
     column: &Column,

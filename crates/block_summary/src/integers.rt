@@ -50,7 +50,7 @@ impl Model for Integers {
         × (c.sum ≡ number_sum (cells_of c.nulls.items (sums c.least (offset_list c.offsets)))) };
 }
 
-/// The marks of nulls that are kept: none, where no row is null.
+/// Returns the marks of nulls that are kept: none, if no row is null.
 fn kept_nulls(alloc: Global, nulls: &[bool], null_count: usize) -> Result<Vec<bool>, AllocError>
     requires { null_count ≡ count_by (λ is_null. is_null) nulls.now }
     ensures { IfOk result (λ kept. AreMarks nulls.now kept.items) }
@@ -61,7 +61,7 @@ fn kept_nulls(alloc: Global, nulls: &[bool], null_count: usize) -> Result<Vec<bo
     Vec::from_slice(alloc, nulls)
 }
 
-/// Whether a row is null; none is, past the marks.
+/// True if a row is null; none is, past the marks.
 #[inline(always)]
 fn is_null_at(nulls: &[bool], row: usize) -> bool
     ensures { result ≡ slice_index_or nulls.now row false }
@@ -72,7 +72,7 @@ fn is_null_at(nulls: &[bool], row: usize) -> bool
     }
 }
 
-/// The offsets of values from a least one.
+/// Returns the offsets of values from a least one.
 fn kept(
     alloc: Global,
     bounds: Option<Bounds>,
@@ -120,14 +120,14 @@ impl Integers {
         }
     }
 
-    /// How many rows there are.
+    /// Returns how many rows there are.
     pub fn len(&self) -> usize
         ensures { result ≡ length self.now }
     {
         rows_of(&self.offsets)
     }
 
-    /// The number of a row, or null; null past the end.
+    /// Returns the number of a row, or null; null past the end.
     pub fn get(&self, row: usize) -> Option<i64>
         ensures { result ≡ slice_index_or self.now row None }
     {
@@ -168,14 +168,14 @@ impl Integers {
         self.bounds
     }
 
-    /// How many rows are null.
+    /// Returns how many rows are null.
     pub fn null_count(&self) -> usize
         ensures { result ≡ count_by is_none self.now }
     {
         self.null_count
     }
 
-    /// The sum of the numbers; nulls are passed over.
+    /// Returns the sum of the numbers; nulls are passed over.
     pub fn sum(&self) -> i128
         ensures { result ≡ number_sum self.now }
     {

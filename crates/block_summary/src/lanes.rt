@@ -7,7 +7,7 @@ ghost use Rattle.block_summary.specs.Sums.{number_sum};
 
 use crate::bounds::Bounds;
 
-/// The value of a row that is no null; at a null, another number.
+/// Returns the value of a row that is no null; at a null, another number.
 #[inline(always)]
 fn value_or(value: i64, is_null: bool, other: i64) -> i64
     ensures { result ≡ (if is_null then other else value) }
@@ -15,7 +15,7 @@ fn value_or(value: i64, is_null: bool, other: i64) -> i64
     if is_null { other } else { value }
 }
 
-/// The least and the greatest number; none of nulls alone.
+/// Returns the least and the greatest number; none of nulls alone.
 pub fn bounds_of(values: &[i64], nulls: &[bool]) -> Option<Bounds>
     requires { length nulls.now ≡ length values.now }
     ensures { HaveBounds result (cells_of nulls.now values.now) }
@@ -33,7 +33,7 @@ pub fn bounds_of(values: &[i64], nulls: &[bool]) -> Option<Bounds>
     }
 }
 
-/// How many rows are null.
+/// Returns how many rows are null.
 pub fn null_count_of(nulls: &[bool]) -> usize
     ensures { result ≡ count_by (λ is_null. is_null) nulls.now }
 {
@@ -44,7 +44,7 @@ pub fn null_count_of(nulls: &[bool]) -> usize
     count
 }
 
-/// The sum of the numbers; nulls are passed over.
+/// Returns the sum of the numbers; nulls are passed over.
 pub fn total_of(values: &[i64], nulls: &[bool]) -> i128
     requires { length nulls.now ≡ length values.now }
     ensures { result ≡ number_sum (cells_of nulls.now values.now) }

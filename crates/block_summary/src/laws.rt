@@ -1,5 +1,5 @@
 //! The laws of blocks: each function is a theorem, and does nothing.
-ghost use Rattle.block_summary.specs.Laws.{NumbersAreOrdered, OneRange, RangesWiden, SkipsNoRow, SkipsNothing};
+ghost use Rattle.block_summary.specs.Laws.{NumbersAreOrdered, OneRange, RangesJoin, RangesWiden, SkipsNoRow, SkipsNothing};
 
 /// The numbers of cells are in the order of the cells.
 pub fn numbers_are_ordered()
@@ -9,6 +9,13 @@ pub fn numbers_are_ordered()
 /// The range of no cells, and that of one cell more than some.
 pub fn ranges_widen()
     ensures { RangesWiden }
+{
+    cell_types::values_are_ordered();
+}
+
+/// The range of cells and of others after them is the two ranges joined.
+pub fn ranges_join()
+    ensures { RangesJoin }
 {
     cell_types::values_are_ordered();
 }

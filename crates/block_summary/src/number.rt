@@ -20,7 +20,7 @@ pub enum PackedType {
     Date,
 }
 
-/// The number of a day; of two days the later has the greater number.
+/// Returns the number of a day; of two days the later has the greater number.
 pub fn day_number(date: Date) -> i64
     ensures value { result ≡ day_number_of date.year date.month date.day }
     ensures stands { IsNumberOf PackedType.Date result }
@@ -28,7 +28,7 @@ pub fn day_number(date: Date) -> i64
     i64::from(date.year) * 512 + i64::from(date.month) * 32 + i64::from(date.day)
 }
 
-/// The day of a number.
+/// Returns the day of a number.
 fn day_of(number: i64) -> Date
     requires { IsNumberOf PackedType.Date number }
     ensures { number ≡ day_number_of result.year result.month result.day }
@@ -41,7 +41,7 @@ fn day_of(number: i64) -> Date
     }
 }
 
-/// The value that a number of a type stands for.
+/// Returns the value that a number of a type stands for.
 pub fn typed_value(packed_type: PackedType, number: i64) -> Value<'static>
     requires { IsNumberOf packed_type number }
     ensures { value_view result ≡ typed_cell packed_type number }

@@ -57,21 +57,21 @@ impl PackedColumn {
         })
     }
 
-    /// How many cells there are.
+    /// Returns how many cells there are.
     pub fn len(&self) -> usize
         ensures { result ≡ length self.now }
     {
         self.numbers.len()
     }
 
-    /// The number of a row; none where it is null, or past the end.
+    /// Returns the number of a row, or `None` if it is null, or past the end.
     pub fn number(&self, row: usize) -> Option<i64>
         ensures { result ≡ slice_index_or (numbers_of self.now) row None }
     {
         self.numbers.get(row)
     }
 
-    /// The value of a row; null past the end.
+    /// Returns the value of a row; null past the end.
     pub fn value(&self, row: usize) -> Value<'static>
         ensures { value_view result ≡ slice_index_or self.now row null }
     {
@@ -104,7 +104,7 @@ impl PackedColumn {
         self.numbers.bounds()
     }
 
-    /// The least and the greatest cell that are not null, where there are such.
+    /// The least and the greatest cell that are not null if there are such.
     pub fn ends(&self) -> (Option<Value<'static>>, Option<Value<'static>>)
         ensures least { HasLeast (option_map value_view result.0) self.now }
         ensures greatest { HasGreatest (option_map value_view result.1) self.now }
@@ -118,21 +118,21 @@ impl PackedColumn {
         }
     }
 
-    /// How many rows are null.
+    /// Returns how many rows are null.
     pub fn null_count(&self) -> usize
         ensures { result ≡ count_by is_null self.now }
     {
         self.numbers.null_count()
     }
 
-    /// What the numbers stand for; of nulls alone, any.
+    /// Returns what the numbers stand for; of nulls alone, any.
     pub fn packed_type(&self) -> PackedType
         ensures { cells_of_type result (numbers_of self.now) ≡ self.now }
     {
         self.packed_type
     }
 
-    /// The sum of the numbers; nulls are passed over.
+    /// Returns the sum of the numbers; nulls are passed over.
     pub fn sum(&self) -> i128
         ensures { result ≡ number_sum (numbers_of self.now) }
     {

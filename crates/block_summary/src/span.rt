@@ -38,7 +38,7 @@ fn span_below(literal: i64) -> Bounds
     }
 }
 
-/// Whether those pass that do not lie between the two numbers.
+/// True if those pass that do not lie between the two numbers.
 pub fn is_turned(op: Comparison) -> bool
     ensures { result ≡ is_turned_of op }
 {

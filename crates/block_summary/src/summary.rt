@@ -28,14 +28,14 @@ impl Model for Summary {
 }
 
 impl Summary {
-    /// The summary of a block whose columns have these ranges.
+    /// Returns the summary of a block whose columns have these ranges.
     pub fn of_ranges(ranges: Vec<Range>) -> Summary
         ensures { result ≡ ranges.items }
     {
         Summary { ranges }
     }
 
-    /// The summary of a block of rows of so many columns.
+    /// Returns the summary of a block of rows of `width` columns.
     pub fn build(
         alloc: Global,
         width: usize,
@@ -52,7 +52,15 @@ impl Summary {
         Ok(Summary { ranges })
     }
 
-    /// How many columns there are.
+    /// Returns the range of column `col`, counted from 0.
+    pub fn range(&self, col: usize) -> &Range
+        requires { col < length self.now }
+        ensures { result.now ≡ slice_index_or self.now col no_range }
+    {
+        &self.ranges[col]
+    }
+
+    /// Returns how many columns there are.
     pub fn width(&self) -> usize
         ensures { result ≡ length self.now }
     {
@@ -75,7 +83,7 @@ fn add_row(
     range.add(alloc, &row[col])
 }
 
-/// The range of a column of rows.
+/// Returns the range of a column of rows.
 fn column_range(alloc: Global, rows: &[Vec<Value<'_>>], col: usize) -> Result<Range, AllocError>
     requires { All (λ row. col < vec_len row) rows.now }
     ensures { IfOk result (λ range. IsRangeOf range (column_of (row_views rows.now) col)) }
@@ -88,7 +96,7 @@ fn column_range(alloc: Global, rows: &[Vec<Value<'_>>], col: usize) -> Result<Ra
     Ok(range)
 }
 
-/// Whether a block with this summary can have a row whose cell in a column passes the test.
+/// True if a block with this summary can have a row whose cell in a column passes the test.
 pub fn admits(summary: &Summary, col: usize, test: &Test<'_>) -> bool
     requires { col < length summary.now }
     ensures { result ≡ admits_test test.now.op (slice_index_or summary.now col no_range)

@@ -1,3 +1,4 @@
-pub mod BoundLemmas
-pub mod ShowLemmas
-pub mod SheetLemmas
+mod RangeLemmas
+mod ShowLemmas
+mod SheetLemmas
+mod LineLemmas

@@ -1,5 +1,5 @@
 -- What is added to a sheet, piece after piece.
-use Rattle.std.proofs.Common.{◌≡◌, ◌∙◌, ℕ, List, ◌++◌, Result, Ok, Err, OnOk, is_ok, true, false, append_assoc, ap}
+use Rattle.std.proofs.Common.{◌≡◌, ◌∙◌, ℕ, List, ◌++◌, append_assoc, ap}
 
 -- two texts one after the other
 pub added-both : (a b c s t : List ℕ) → b ≡ a ++ s → c ≡ b ++ t → c ≡ a ++ (s ++ t)
@@ -16,8 +16,3 @@ pub added-six : (a b c d e f g s t u v w x : List ℕ) → b ≡ a ++ s → c �
 added-six a b c d e f g s t u v w x first second third fourth fifth sixth =
     let before = added-both a e f (s ++ t ++ u ++ v) w (added-four a b c d e s t u v first second third fourth) fifth in
     added-both a f g (s ++ t ++ u ++ v ++ w) x before sixth
-
--- what holds where a call succeeds
-pub on_success : {T E : Type 0} (result : Result T E) (P : Type 0) → is_ok result ≡ true → OnOk result P → P
-on_success (Ok value) P e holds = holds
-on_success (Err error) P e holds = absurd (let f : false ≡ true = e in cc)

@@ -1,3 +1,2 @@
-pub mod Bounds
 pub mod Show
 pub mod Sheet

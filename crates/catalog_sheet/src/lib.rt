@@ -2,7 +2,7 @@
 //! each column its datatype, its nulls, its least and its greatest value.
 #![tactic(auto)]
 
-mod bounds;
+mod range;
 mod sheet;
 mod show;
 

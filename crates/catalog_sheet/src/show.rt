@@ -9,7 +9,7 @@ ghost use Rattle.catalog_sheet.specs.Sheet.{IsLongerBy};
 ghost use Rattle.folder_report.specs.Text.{quoted_text};
 ghost use Rattle.catalog_sheet.specs.Show.{bound_text, column_front, column_line, datatype_text, is_of_key, shown_table, table_text, tables_text};
 
-use crate::bounds::{Bounds, take_column};
+use crate::range::column_range;
 use crate::sheet::Sheet;
 use cell_types::{BooleanForm, Column, Datatype, Value};
 use csvw_meta::Schema;
@@ -17,7 +17,7 @@ use folder_report::{pattern_of, push_quoted};
 use std::alloc::{AllocError, Global};
 use table_store::{Catalog, Table};
 
-/// Appends the format of truth values of two texts.
+/// Appends the format of booleans of two texts.
 fn push_format(sheet: &mut Sheet, of_true: &str, of_false: &str)
     ensures { IsLongerBy sheet.old sheet.new
         (quoted_text (of_true.now ++ codes "|" ++ of_false.now)) }
@@ -31,7 +31,7 @@ fn push_format(sheet: &mut Sheet, of_true: &str, of_false: &str)
     }
 }
 
-/// Appends the name of a datatype, with its format where it has one.
+/// Appends the name of a datatype, with its format if it has one.
 fn push_datatype(sheet: &mut Sheet, datatype: &Datatype)
     ensures { IsLongerBy sheet.old sheet.new (datatype_text (datatype_view datatype.now)) }
 {
@@ -51,14 +51,14 @@ fn push_datatype(sheet: &mut Sheet, datatype: &Datatype)
     }
 }
 
-/// Appends a bound after its name, where there is one.
-fn push_bound(sheet: &mut Sheet, name: &str, bound: Option<Value<'_>>)
+/// Appends a bound after its name, if there is one.
+fn push_bound(sheet: &mut Sheet, name: &str, bound: Option<&Value<'static>>)
     ensures { IsLongerBy sheet.old sheet.new
-        (bound_text name.now (option_map value_view bound.entry)) }
+        (bound_text name.now (option_map (λ value. value_view value.now) bound.entry)) }
 {
     if let Some(value) = bound {
         sheet.push(name);
-        sheet.push_value(&value);
+        sheet.push_value(value);
     }
 }
 
@@ -74,7 +74,7 @@ fn push_front(sheet: &mut Sheet, column: &Column, nulls: usize)
     sheet.push_number(nulls);
 }
 
-/// What ends the line of a column, by whether it is one of the key.
+/// Returns what ends the line of a column, by whether it is one of the key.
 fn line_end(schema: &Schema, col: usize) -> &'static str
     ensures { result.now ≡ (if is_of_key (schema_view schema.now).key col
         then codes ", key\n" else codes "\n") }
@@ -87,21 +87,18 @@ fn line_end(schema: &Schema, col: usize) -> &'static str
 }
 
 /// Appends the line of a column of a table.
-fn push_column<'t>(sheet: &mut Sheet, table: &'t Table, col: usize, column: &Column)
+fn push_column(sheet: &mut Sheet, table: &Table, col: usize, column: &Column)
     requires { col < length table.now.schema.columns }
     ensures { IsLongerBy sheet.old sheet.new (column_line (column_view column.now)
         (range_of (column_of table.now.rows col)) (is_of_key table.now.schema.key col)) }
 {
-    let mut bounds: Bounds<'t> = Bounds {
-        nulls: 0,
-        least: None,
-        greatest: None,
+    let Ok(range) = column_range(sheet.alloc, table, col) else {
+        sheet.is_short = true;
+        return;
     };
-    let taken = take_column(&mut bounds, sheet.alloc, table, col);
-    sheet.keep(taken);
-    push_front(sheet, column, bounds.nulls);
-    push_bound(sheet, ", least ", bounds.least);
-    push_bound(sheet, ", greatest ", bounds.greatest);
+    push_front(sheet, column, range.null_count());
+    push_bound(sheet, ", least ", range.least());
+    push_bound(sheet, ", greatest ", range.greatest());
     sheet.push(line_end(table.schema(), col));
 }
 
@@ -129,7 +126,7 @@ fn push_table(sheet: &mut Sheet, table: &Table)
 }
 
 /// For each table a line, and after it a line for each of its columns: the name, the datatype with its format, how many cells are null, the least and the greatest
-/// value of all rows where there is one, and whether the column is one of the key.
+/// value of all rows, if there is one, and whether the column is one of the key.
 pub fn catalog_text(alloc: Global, catalog: &Catalog) -> Result<Vec<u8>, AllocError>
     ensures { IfOk result (λ text. text.items ≡ tables_text catalog.now.tables) }
 {

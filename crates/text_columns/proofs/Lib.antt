@@ -1,3 +1,4 @@
+mod BoundLemmas
 mod ListLemmas
 mod ContentLemmas
 mod QuoteLemmas

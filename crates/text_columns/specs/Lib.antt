@@ -3,3 +3,5 @@ pub mod Places
 pub mod Buffer
 pub mod Search
 pub mod Codes
+pub mod Bounds
+pub mod Plain

@@ -1,11 +1,37 @@
 //! The texts of a column of a block, as they are kept.
 ghost use Rattle.std.specs.Prelude.{◌≡◌, IfOk};
+ghost use Rattle.text_columns.specs.Bounds.{AreTextBounds};
+ghost use Rattle.text_columns.specs.Plain.{plain_cells, ArePlainTexts};
 
+use crate::bounds::{TextBounds, bounds_of};
 use crate::codes::{TextCodes, codes_of};
 use crate::column::TextColumn;
 use crate::places::Places;
 use std::alloc::{AllocError, Global};
 use std::marker::Model;
+
+/// The texts of a column of a block, of which nothing is known yet.
+#[derive(Drop)]
+pub(crate) struct PlainTexts {
+    pub bytes: String,
+    /// Where each text ends.
+    pub ends: Places,
+    /// Which rows are null; nothing where none is.
+    pub nulls: Vec<bool>,
+}
+
+/// Returns the cells of `texts`, to be read.
+fn column_of(texts: &PlainTexts) -> TextColumn<'_>
+    requires { ArePlainTexts texts.now }
+    ensures { result ≡ plain_cells texts.now }
+{
+    TextColumn {
+        bytes: texts.bytes.as_str(),
+        ends: &texts.ends,
+        nulls: texts.nulls.as_slice(),
+        codes: None,
+    }
+}
 
 /// The texts of a column of a block, in memory of their own.
 #[derive(Drop)]
@@ -17,6 +43,7 @@ pub struct TextBlock {
     pub(crate) nulls: Vec<bool>,
     /// The codes of the texts, where there are few different ones.
     pub(crate) codes: Option<TextCodes>,
+    bounds: TextBounds,
 }
 
 impl Model for TextBlock {
@@ -26,13 +53,16 @@ impl Model for TextBlock {
     ghost Value = { List CellValue };
 
     ghost use Rattle.text_columns.specs.Places.{place_list};
+    ghost use Rattle.text_columns.specs.Bounds.{AreTextBounds};
     ghost use Rattle.text_columns.specs.Codes.{AreCodedTexts};
     ghost use Rattle.text_columns.specs.Texts.{text_block_cells};
 
     ghost view = { λ b. text_block_cells b.nulls.items (place_list b.ends) (string_bytes b.bytes) };
 
     ghost invariant = { λ b. AreCodedTexts b.nulls.items (place_list b.ends)
-        (string_bytes b.bytes) b.codes };
+        (string_bytes b.bytes) b.codes
+        × AreTextBounds (text_block_cells b.nulls.items (place_list b.ends) (string_bytes b.bytes))
+        b.bounds };
 }
 
 impl TextBlock {
@@ -48,16 +78,28 @@ impl TextBlock {
             codes: self.codes.as_ref(),
         }
     }
-    /// The block with codes, where it has few different texts.
-    pub(crate) fn with_codes(self, alloc: Global) -> Result<TextBlock, AllocError>
-        ensures { IfOk result (λ block. block ≡ self) }
+
+    /// Returns the rows of the least and of the greatest text, and how many rows are null.
+    pub fn bounds(&self) -> TextBounds
+        ensures { AreTextBounds self.now result }
     {
-        let codes = codes_of(alloc, &self.column())?;
+        self.bounds
+    }
+
+    /// Returns the block of `texts`.
+    pub(crate) fn of_texts(alloc: Global, texts: PlainTexts) -> Result<TextBlock, AllocError>
+        requires { ArePlainTexts texts }
+        ensures { IfOk result (λ block. block ≡ plain_cells texts) }
+    {
+        let column = column_of(&texts);
+        let bounds = bounds_of(&column);
+        let codes = codes_of(alloc, &column)?;
         Ok(TextBlock {
-            bytes: self.bytes,
-            ends: self.ends,
-            nulls: self.nulls,
+            bytes: texts.bytes,
+            ends: texts.ends,
+            nulls: texts.nulls,
             codes,
+            bounds,
         })
     }
 }

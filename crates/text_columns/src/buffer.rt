@@ -4,7 +4,7 @@ ghost use Rattle.cell_types.specs.Value.{null, text as text_cell};
 ghost use Rattle.text_columns.specs.Buffer.{content_cell, field_content, with_text_cell};
 ghost use Rattle.text_columns.specs.Texts.{AreNullMarks};
 
-use crate::block::TextBlock;
+use crate::block::{PlainTexts, TextBlock};
 use crate::content::{copy_content, copy_text};
 use crate::places::places_of;
 use crate::room::make_room;
@@ -34,7 +34,7 @@ impl Model for TextBuffer {
     ghost invariant = { IsBuffer };
 }
 
-/// Whether a text of so many bytes is null, where an empty one may be.
+/// True if a text of `len` bytes is null, given whether an empty one is.
 #[inline(always)]
 fn is_null(empty_is_null: bool, len: usize) -> bool
     ensures { result ≡ (empty_is_null && len == 0) }
@@ -42,18 +42,16 @@ fn is_null(empty_is_null: bool, len: usize) -> bool
     empty_is_null && len == 0
 }
 
-/// A copy of a text.
+/// Returns a copy of bytes that are known to be UTF-8, as a text. They are not checked again.
 fn text_of(alloc: Global, bytes: &[u8]) -> Result<String, AllocError>
     requires { IsUtf8 bytes.now }
     ensures { IfOk result (λ text. string_bytes text ≡ bytes.now) }
 {
-    match simdutf8::basic::from_utf8(bytes) {
-        Ok(text) => String::from_str(alloc, text),
-        Err(_) => unreachable!(),
-    }
+    let copy = Vec::from_slice(alloc, bytes)?;
+    Ok(unsafe { String::from_utf8_unchecked(copy) })
 }
 
-/// The marks of nulls that are kept: none, where no row is null.
+/// Returns the marks of nulls that are kept: none, if no row is null.
 fn marks_of(alloc: Global, nulls: &[bool]) -> Result<Vec<bool>, AllocError>
     ensures { IfOk result (λ kept. AreNullMarks nulls.now kept.items) }
 {
@@ -65,7 +63,7 @@ fn marks_of(alloc: Global, nulls: &[bool]) -> Result<Vec<bool>, AllocError>
 }
 
 impl TextBuffer {
-    /// A buffer with room for so many cells.
+    /// Returns an empty buffer with room for `room` cells.
     pub fn new(alloc: Global, room: usize) -> Result<TextBuffer, AllocError>
         ensures { IfOk result (λ buffer. buffer ≡ record { room = room; cells = [] }) }
     {
@@ -78,7 +76,7 @@ impl TextBuffer {
         })
     }
 
-    /// How many cells there are.
+    /// Returns how many cells there are.
     #[inline(always)]
     pub fn len(&self) -> usize
         ensures { result ≡ length self.now.cells }
@@ -114,7 +112,7 @@ impl TextBuffer {
         Ok(())
     }
 
-    /// Adds what a field says, which is null where it is empty and an empty text stands for null. `rest` is the file from the field's bytes on:
+    /// Adds what a field says, which is null if it is empty and an empty text stands for null. `rest` is the file from the field's bytes on:
     /// where that is long enough, a short field is copied without a loop.
     #[inline(always)]
     pub fn push_field(
@@ -146,13 +144,8 @@ impl TextBuffer {
         let ends = places_of(alloc, &self.ends.as_slice()[..self.len], self.at)?;
         let nulls = marks_of(alloc, &self.nulls.as_slice()[..self.len])?;
         let bytes = text_of(alloc, &self.bytes.as_slice()[..self.at])?;
-        let plain = TextBlock {
-            bytes,
-            ends,
-            nulls,
-            codes: None,
-        };
-        let block = plain.with_codes(alloc)?;
+        let texts = PlainTexts { bytes, ends, nulls };
+        let block = TextBlock::of_texts(alloc, texts)?;
         Ok(block)
     }
 

@@ -33,7 +33,7 @@ enum Look {
     Nothing,
 }
 
-/// Whether both are the same text, or null.
+/// True if both are the same text, or null.
 #[inline(always)]
 fn are_same(left: Option<&str>, right: Option<&str>) -> bool
     ensures { result ≡ true
@@ -46,7 +46,7 @@ fn are_same(left: Option<&str>, right: Option<&str>) -> bool
     }
 }
 
-/// Whether two rows are both null, or have the same text.
+/// True if two rows are both null, or have the same text.
 #[inline(always)]
 fn have_same_text(column: &TextColumn<'_>, left: usize, right: usize) -> bool
     requires left { left < length column.now }
@@ -57,7 +57,7 @@ fn have_same_text(column: &TextColumn<'_>, left: usize, right: usize) -> bool
     are_same(column.text(left), column.text(right))
 }
 
-/// The slot at which a text is sought first. Texts may share it.
+/// Returns the slot at which a text is sought first. Texts may share it.
 #[inline(always)]
 fn slot_of(text: Option<&str>) -> usize
     ensures { result < SLOTS }
@@ -99,7 +99,7 @@ fn look_for(column: &TextColumn<'_>, row: usize, slots: &[u8], rows: &[usize]) -
     Look::Nothing
 }
 
-/// The code of the text of a row, which may be a new one; nothing where there is none left.
+/// Returns the code of the text of a row, which may be a new one; nothing if there is none left.
 #[inline(always)]
 fn code_of(
     column: &TextColumn<'_>,
@@ -127,7 +127,7 @@ fn code_of(
     }
 }
 
-/// The codes of the texts of a column; nothing where it has too many different ones. Slots propose a code, and the texts decide.
+/// Returns the codes of the texts of a column; nothing if it has too many different ones. Slots propose a code, and the texts decide.
 pub fn codes_of(alloc: Global, column: &TextColumn<'_>) -> Result<Option<TextCodes>, AllocError>
     ensures { IfOk result (λ codes. IfSome codes (λ codes. AreCodes codes column.now)) }
 {

@@ -38,7 +38,7 @@ impl<'t> Model for TextColumn<'t> {
         (option_copied c.codes) };
 }
 
-/// Whether a row is null; none is, past the end of the marks.
+/// True if a row is null; none is, past the end of the marks.
 #[inline(always)]
 pub(crate) fn is_marked(nulls: &[bool], row: usize) -> bool
     ensures { result ≡ slice_index_or nulls.now row false }
@@ -50,7 +50,7 @@ pub(crate) fn is_marked(nulls: &[bool], row: usize) -> bool
 }
 
 impl<'t> TextColumn<'t> {
-    /// How many rows there are.
+    /// Returns how many rows there are.
     #[inline(always)]
     pub fn len(&self) -> usize
         ensures { result ≡ length self.now }
@@ -58,7 +58,7 @@ impl<'t> TextColumn<'t> {
         count_of(self.ends)
     }
 
-    /// The codes of the texts, where there are few different ones.
+    /// Returns the codes of the texts, if there are few different ones.
     #[inline(always)]
     pub fn codes(&self) -> Option<&'t TextCodes>
         ensures { IfSome result (λ codes. AreCodes codes.now self.now) }
@@ -66,7 +66,7 @@ impl<'t> TextColumn<'t> {
         self.codes
     }
 
-    /// The text of a row; nothing where it is null.
+    /// Returns the text of a row, or `None` if it is null.
     #[inline(always)]
     pub fn text(&self, row: usize) -> Option<&'t str>
         requires { row < length self.now }
@@ -81,7 +81,7 @@ impl<'t> TextColumn<'t> {
         Some(&self.bytes[start..end])
     }
 
-    /// The value of a row.
+    /// Returns the value of a row.
     #[inline(always)]
     pub fn value(&self, row: usize) -> Value<'t>
         requires { row < length self.now }

@@ -11,7 +11,7 @@ use std::simd::prelude::*;
 /// How many bytes are looked at and written at once, so that short texts are copied without a loop.
 pub const LANES: usize = 16;
 
-/// Writes a text from a place on. Of a short one as many bytes as there are lanes are written, where what it begins has so many.
+/// Writes a text from a place on. Of a short one as many bytes as there are lanes are written, if the source has that many.
 #[inline(always)]
 #[tactic(auto, using(crate::proofs::ListLemmas::copied_over))]
 fn copy_piece(piece: &[u8], rest: &[u8], out: &mut [u8], at: usize)
@@ -28,7 +28,7 @@ fn copy_piece(piece: &[u8], rest: &[u8], out: &mut [u8], at: usize)
     }
 }
 
-/// How many of the bytes stand before the first double quote.
+/// Returns how many of the bytes stand before the first double quote.
 #[inline(always)]
 fn quote_at(lanes: u8x16) -> usize
     ensures { result ≡ position_or_len (λ byte. byte == double_quote) lanes }
@@ -41,7 +41,7 @@ fn quote_at(lanes: u8x16) -> usize
     }
 }
 
-/// Whether a double quote stands in a text.
+/// True if a double quote stands in a text.
 #[inline(always)]
 fn has_quote(piece: &[u8], rest: &[u8]) -> bool
     requires { take (length piece.now) rest.now ≡ piece.now }
@@ -53,7 +53,7 @@ fn has_quote(piece: &[u8], rest: &[u8]) -> bool
     piece.iter().any(|byte| *byte == b'"')
 }
 
-/// How many bytes of a text the next that is written stands for: a pair of double quotes is one.
+/// Returns how many bytes of a text the next that is written stands for: a pair of double quotes is one.
 #[inline(always)]
 #[tactic(auto, using(crate::proofs::ContentLemmas::step_last, crate::proofs::ContentLemmas::step_other, crate::proofs::ContentLemmas::step_apart, crate::proofs::ContentLemmas::step_pair))]
 fn step_at(piece: &[u8], from: usize) -> usize
@@ -92,7 +92,7 @@ fn copy_halves(piece: &[u8], out: &mut [u8], at: usize) -> usize
     end
 }
 
-/// Whether a double quote stands inside the quotes of a field.
+/// True if a double quote stands inside the quotes of a field.
 #[inline(always)]
 fn has_inner_quote(piece: &[u8], quoted: bool, rest: &[u8]) -> bool
     requires { take (length piece.now) rest.now ≡ piece.now }

@@ -4,6 +4,7 @@
 #![tactic(auto)]
 
 mod block;
+mod bounds;
 mod buffer;
 mod codes;
 mod column;
@@ -13,6 +14,7 @@ mod room;
 mod search;
 
 pub use block::TextBlock;
+pub use bounds::TextBounds;
 pub use buffer::TextBuffer;
 pub use codes::TextCodes;
 pub use column::TextColumn;

@@ -13,7 +13,7 @@ pub enum Places {
     Eights(Vec<usize>),
 }
 
-/// How many places there are.
+/// Returns how many places there are.
 #[inline(always)]
 pub fn count_of(places: &Places) -> usize
     ensures { result ≡ length (place_list places.now) }
@@ -25,7 +25,7 @@ pub fn count_of(places: &Places) -> usize
     }
 }
 
-/// The place of a number.
+/// Returns the place of a number.
 #[inline(always)]
 pub fn place_at(places: &Places, number: usize) -> usize
     requires { number < length (place_list places.now) }
@@ -38,7 +38,7 @@ pub fn place_at(places: &Places, number: usize) -> usize
     }
 }
 
-/// Where the text of a row begins: where the one before it ends.
+/// Returns where the text of a row begins: where the one before it ends.
 #[inline(always)]
 pub fn start_at(places: &Places, row: usize) -> usize
     requires { row < length (place_list places.now) }

@@ -5,7 +5,7 @@ ghost use Rattle.text_columns.specs.declared.content.TheConstants.{LANES};
 use crate::content::LANES;
 use std::alloc::AllocError;
 
-/// Makes room for so many bytes from a place on, and a few more.
+/// Makes room for `more` bytes from `at` on, and a few more.
 #[inline(always)]
 pub fn make_room(bytes: &mut Vec<u8>, at: usize, more: usize) -> Result<(), AllocError>
     requires { at ≤ length bytes.old.items }
@@ -20,7 +20,7 @@ pub fn make_room(bytes: &mut Vec<u8>, at: usize, more: usize) -> Result<(), Allo
     grow(bytes, at, more)
 }
 
-/// Makes the room where there is too little.
+/// Makes the room if there is too little.
 #[inline(never)]
 fn grow(bytes: &mut Vec<u8>, at: usize, more: usize) -> Result<(), AllocError>
     requires { at ≤ length bytes.old.items }

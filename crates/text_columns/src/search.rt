@@ -8,7 +8,7 @@ use crate::column::{TextColumn, is_marked};
 use crate::places::{Places, count_of, place_at};
 use memchr::memmem;
 
-/// The first row from one on whose text ends past a place; the number of rows, where none does.
+/// Returns the first row from one on whose text ends past a place; the number of rows, if none does.
 #[inline(always)]
 fn row_past(ends: &Places, first: usize, at: usize) -> usize
     requires { first ≤ length (place_list ends.now) }

@@ -1,11 +1,10 @@
 -- Blocks after blocks that are full.
-use Rattle.std.proofs.Common.{◌≡◌, ℕ, zero, suc, ◌+◌, ◌*◌, ◌<◌, ◌≤◌, Bool, true, false, if◌then◌else◌, List, [], ◌∷◌, ◌++◌, Option, length, length-append, map, refl, ap, sym, subst, ◌∙◌, arith}
+use Rattle.std.proofs.Common.{◌≡◌, ℕ, zero, suc, ◌+◌, ◌*◌, ◌<◌, ◌≤◌, Bool, true, false, if◌then◌else◌, List, [], ◌∷◌, ◌++◌, Option, length, length-append, ap, sym, subst, ◌∙◌, arith}
 use Rattle.std.proofs.lemmas.List.{append-nil, map-append}
 use Rattle.std.proofs.lemmas.Grind.{flat_map-append}
 use Rattle.block_summary.specs.declared.number.PackedType.{PackedType}
 use Rattle.cell_types.specs.Value.{CellValue}
 use Rattle.typed_columns.specs.TypedColumn.{ColumnCells, cells_in, cells_of_each, AreBlocks, AreFull, AreOfType}
-use Rattle.typed_columns.proofs.BlockLemmas.{cells_with}
 
 -- a last block that has as many cells as so many blocks is full
 last_full : (size count : ℕ) (last : List CellValue) → 0 < length last → length last ≤ size → length last ≡ count * size → length last ≡ size

@@ -5,10 +5,9 @@ ghost use Rattle.block_summary.specs.Ranges.{IsRangeOf};
 ghost use Rattle.cell_types.specs.Value.{null, value_view};
 ghost use Rattle.typed_columns.specs.TypedColumn.{blocks_of, cells_of_texts};
 
-use block_summary::{PackedColumn, PackedType, Range, TextRange};
+use block_summary::{PackedColumn, PackedType, Range};
 use cell_types::Value;
 use std::alloc::{AllocError, Global};
-use std::borrow::CowStr;
 use std::marker::Model;
 use std::rc::Rc;
 use text_columns::{TextBlock, TextColumn};
@@ -36,22 +35,7 @@ impl Model for BlockCells {
     ghost view = { λ c. kept_cells c.kept };
 }
 
-/// The range of the texts of a block.
-fn text_range(alloc: Global, column: &TextColumn<'_>) -> Result<Range, AllocError>
-    ensures { IfOk result (λ range. IsRangeOf range column.now) }
-{
-    block_summary::ranges_widen();
-    let mut range = TextRange::new();
-    for row in 0..column.len() {
-        match column.text(row) {
-            Some(text) => range.add(alloc, CowStr::Borrowed(text))?,
-            None => range.add_null(),
-        }
-    }
-    range.into_range(alloc)
-}
-
-/// The value of a row of texts; null past the end.
+/// Returns the value of a row of texts; null past the end.
 #[inline(always)]
 fn text_value<'t>(texts: &TextColumn<'t>, row: usize) -> Value<'t>
     ensures { value_view result ≡ slice_index_or texts.now row null }
@@ -62,8 +46,31 @@ fn text_value<'t>(texts: &TextColumn<'t>, row: usize) -> Value<'t>
     texts.value(row)
 }
 
+/// Returns the value of row `row` of `texts`, if a row is given.
+fn bound_value<'t>(texts: &TextColumn<'t>, row: Option<usize>) -> Option<Value<'t>>
+    ensures { option_map value_view result
+        ≡ option_map (λ row. slice_index_or texts.now row null) row }
+{
+    match row {
+        Some(row) => Some(text_value(texts, row)),
+        None => None,
+    }
+}
+
+/// Returns the range of `texts`.
+fn text_range(alloc: Global, texts: &TextBlock) -> Result<Range, AllocError>
+    ensures { IfOk result (λ range. IsRangeOf range texts.now) }
+{
+    let column = texts.column();
+    let bounds = texts.bounds();
+    let least = bound_value(&column, bounds.least);
+    let greatest = bound_value(&column, bounds.greatest);
+    let range = Range::of_values(alloc, least, greatest, bounds.null_count)?;
+    Ok(range)
+}
+
 impl BlockCells {
-    /// The value of a row; null past the end.
+    /// Returns the value of a row; null past the end.
     #[inline(always)]
     pub fn value(&self, row: usize) -> Value<'_>
         ensures { value_view result ≡ slice_index_or self.now.cells row null }
@@ -74,7 +81,7 @@ impl BlockCells {
         }
     }
 
-    /// The cells as they are packed; nothing for texts.
+    /// Returns the cells as they are packed; nothing for texts.
     #[inline(always)]
     pub fn packed(&self) -> Option<&PackedColumn>
         ensures { option_copied result ≡ option_map (λ type. self.now.cells) self.now.packed_type }
@@ -85,7 +92,7 @@ impl BlockCells {
         }
     }
 
-    /// The texts and nulls; nothing for numbers.
+    /// Returns the texts and nulls; nothing for numbers.
     #[inline(always)]
     pub fn texts(&self) -> Option<TextColumn<'_>>
         ensures { result ≡ cells_of_texts self.now.packed_type self.now.cells }
@@ -96,17 +103,17 @@ impl BlockCells {
         }
     }
 
-    /// The range of the cells.
+    /// Returns the range of the cells.
     pub fn range(&self, alloc: Global) -> Result<Range, AllocError>
         ensures { IfOk result (λ range. IsRangeOf range self.now.cells) }
     {
         match &self.kept {
             Kept::Numbers(_, numbers) => Ok(Range::of_column(numbers)),
-            Kept::Texts(texts) => text_range(alloc, &texts.column()),
+            Kept::Texts(texts) => text_range(alloc, texts),
         }
     }
 
-    /// The same cells, for another owner. It takes no memory.
+    /// Returns the same cells, for another owner. It takes no memory.
     pub fn shared(&self) -> Result<BlockCells, AllocError>
         ensures { IfOk result (λ shared. shared ≡ self.now) }
     {

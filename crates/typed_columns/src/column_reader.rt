@@ -38,7 +38,7 @@ impl Model for ColumnReader {
 }
 
 impl ColumnReader {
-    /// A reader of so many cells of a column, none of which is read.
+    /// Returns a reader of `rows` cells of a column, none of which is read.
     fn new(alloc: Global, column: &Column, rows: usize) -> Result<ColumnReader, AllocError>
         ensures { IfOk result (λ reader. reader ≡ reader_at rows (column_view column.now) []) }
     {
@@ -73,7 +73,7 @@ impl ColumnReader {
         }
     }
 
-    /// The cells that were read.
+    /// Returns the cells that were read.
     fn finish(self, alloc: Global) -> Result<TypedColumn, AllocError>
         ensures { IfOk result (λ column. column ≡ cells_read self) }
     {
@@ -97,7 +97,7 @@ impl ColumnReader {
     }
 }
 
-/// The readers of columns of so many rows.
+/// Returns the readers of columns of `rows` rows.
 pub fn column_readers(
     alloc: Global,
     columns: &[Column],
@@ -114,7 +114,7 @@ pub fn column_readers(
     Ok(readers)
 }
 
-/// The columns that were read.
+/// Returns the columns that were read.
 pub fn columns_read(
     alloc: Global,
     readers: Vec<ColumnReader>,

@@ -52,7 +52,7 @@ impl Model for NumberReader {
 }
 
 impl NumberReader {
-    /// A reader of so many cells, none of which is read.
+    /// Returns a reader of `rows` cells, none of which is read.
     pub fn new(
         alloc: Global,
         packed_type: PackedType,
@@ -138,7 +138,7 @@ impl NumberReader {
         Ok(())
     }
 
-    /// The blocks of the cells that were read.
+    /// Returns the blocks of the cells that were read.
     pub fn finish(self, alloc: Global) -> Result<Vec<PackedColumn>, AllocError>
         ensures cells { IfOk result (λ blocks. cells_in blocks.items ≡ self.cells) }
         ensures blocks { IfOk result (λ blocks. AreBlocks BLOCK_ROWS blocks.items) }
@@ -151,7 +151,7 @@ impl NumberReader {
     }
 }
 
-/// The number of the value of a field, or null.
+/// Returns the number of the value of a field, or null.
 #[inline(always)]
 fn field_number(
     alloc: Global,

@@ -51,7 +51,7 @@ impl Model for TextReader {
 }
 
 impl TextReader {
-    /// A reader of so many cells, none of which is read.
+    /// Returns a reader of `rows` cells, none of which is read.
     pub fn new(alloc: Global, rows: usize) -> Result<TextReader, AllocError>
         ensures { IfOk result (λ reader. reader ≡ record { rows = rows; cells = [] }) }
     {
@@ -101,7 +101,7 @@ impl TextReader {
         }
     }
 
-    /// Adds what a field says, or a null where that is empty. `rest` is the file from the field's bytes on.
+    /// Adds what a field says, or a null if that is empty. `rest` is the file from the field's bytes on.
     #[inline(always)]
     fn push_field(
         &mut self,
@@ -200,7 +200,7 @@ impl TextReader {
         Ok(())
     }
 
-    /// The blocks of the cells that were read.
+    /// Returns the blocks of the cells that were read.
     pub fn finish(self, alloc: Global) -> Result<Vec<TextBlock>, AllocError>
         ensures cells { IfOk result (λ blocks. cells_in blocks.items ≡ self.cells) }
         ensures blocks { IfOk result (λ blocks. AreBlocks BLOCK_ROWS blocks.items) }
@@ -213,7 +213,7 @@ impl TextReader {
     }
 }
 
-/// Whether the empty text alone is null, and no other text and no fault stands for it.
+/// True if the empty text alone is null, and no other text and no fault stands for it.
 fn empty_is_null(column: &Column) -> bool
     ensures { result ≡ true → EmptyIsNull (column_view column.now) }
 {
@@ -223,7 +223,7 @@ fn empty_is_null(column: &Column) -> bool
         && !column.required
 }
 
-/// The text of the value of a field in a column of texts; nothing for a null.
+/// Returns the text of the value of a field in a column of texts; nothing for a null.
 #[inline(always)]
 fn field_text<'a>(
     alloc: Global,

@@ -50,7 +50,7 @@ impl TypedColumn {
         self.blocks.append(&mut blocks)
     }
 
-    /// The value of a row; null past the end.
+    /// Returns the value of a row; null past the end.
     pub fn value(&self, row: usize) -> Value<'_>
         ensures { value_view result ≡ slice_index_or self.now.cells row null }
     {
@@ -61,7 +61,7 @@ impl TypedColumn {
         self.blocks[number].value(row % BLOCK_ROWS)
     }
 
-    /// The cells of the block of a number, counted from 0, as they are packed; nothing for texts.
+    /// Returns the cells of the block of a number, counted from 0, as they are packed; nothing for texts.
     pub fn packed(&self, number: usize) -> Option<&PackedColumn>
         requires { number * BLOCK_ROWS < length self.now.cells }
         ensures { option_copied result ≡ option_map (λ type.
@@ -70,7 +70,7 @@ impl TypedColumn {
         self.blocks[number].packed()
     }
 
-    /// The texts and nulls of the block of a number, counted from 0; nothing for numbers.
+    /// Returns the texts and nulls of the block of a number, counted from 0; nothing for numbers.
     pub fn texts(&self, number: usize) -> Option<TextColumn<'_>>
         requires { number * BLOCK_ROWS < length self.now.cells }
         ensures { result ≡ cells_of_texts self.now.packed_type
@@ -79,7 +79,7 @@ impl TypedColumn {
         self.blocks[number].texts()
     }
 
-    /// The cells of the block of a number, counted from 0, for another owner. It takes no memory.
+    /// Returns the cells of the block of a number, counted from 0, for another owner. It takes no memory.
     pub fn shared(&self, number: usize) -> Result<BlockCells, AllocError>
         requires { number * BLOCK_ROWS < length self.now.cells }
         ensures { IfOk result (λ shared. shared ≡ block_in self.now number) }
@@ -87,7 +87,7 @@ impl TypedColumn {
         self.blocks[number].shared()
     }
 
-    /// The range of the block of a number, counted from 0.
+    /// Returns the range of the block of a number, counted from 0.
     pub fn range(&self, alloc: Global, number: usize) -> Result<Range, AllocError>
         requires { number * BLOCK_ROWS < length self.now.cells }
         ensures { IfOk result (λ range. IsRangeOf range

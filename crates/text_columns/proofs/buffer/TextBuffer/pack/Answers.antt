@@ -10,8 +10,8 @@ text_of-requires c =
     let b = c.self.inside in
     subst (λ xs. IsUtf8 (take b.at xs)) (sym c.as_slice-3.ensures.value) c.self.invariant.read.utf8
 
-pub invariant_of-plain : goal.invariant_of-plain
-invariant_of-plain c =
+pub of_texts-requires : goal.of_texts-requires
+of_texts-requires c =
     let b = c.self.inside in
     let kept = c.in_ok-nulls.nulls in
     let ends : place_list c.in_ok-ends.ends ≡ take b.len b.ends.items = c.in_ok-ends.ensures ∙ ap (take b.len) c.as_slice.ensures.value in

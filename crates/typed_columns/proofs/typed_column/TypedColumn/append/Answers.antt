@@ -1,4 +1,4 @@
-use Rattle.std.proofs.Common.{◌≡◌, ap, sym, ◌∙◌, arith, length}
+use Rattle.std.proofs.Common.{ap, sym, ◌∙◌, arith, length}
 use Rattle.std.specs.Result.{is_ok}
 use Rattle.typed_columns.specs.TypedColumn.{ColumnCells}
 use Rattle.typed_columns.proofs.AppendLemmas.{column_after}
