@@ -276,10 +276,21 @@ class Writer:
             return ("call", draw.choice(["contains", "startswith", "endswith"]), [self.tree("Text", depth), self.tree("Text", depth)])
         kind = draw.choice(["Integer", "Integer", "Decimal", "Date", "Text", "Boolean"])
         other = draw.choice(["Integer", "Decimal"]) if kind in ("Integer", "Decimal") and draw.random() < 0.3 else kind
+        if what < 9 and draw.random() < 0.1:
+            return self.near()
         if what < 9:
             return (draw.choice(COMPARISONS), self.tree(kind, depth), self.tree(other, depth))
         count = draw.randrange(5, draw.choice([20, 60, 501])) if draw.random() < 0.2 else draw.randrange(1, 5)
         return ("in", self.tree(kind, depth), [self.item(draw.choice([kind, other])) for _ in range(count)])
+
+    def near(self):
+        """The year of a date, the length of a text or the place of a part in it, compared with a literal near it."""
+        draw = self.draw
+        function = draw.choice(["year", "year", "length", "indexof"])
+        arguments = [self.leaf("Date" if function == "year" else "Text")] + ([self.leaf("Text")] if function == "indexof" else [])
+        value = draw.choice([0, 1, 9999, 10000, 2**54, draw.randrange(1990, 2030)] if function == "year" else [-1, 0, 1, 2, 3])
+        text = str(value)
+        return (draw.choice(COMPARISONS), ("call", function, arguments), ("literal", "Integer", value, text))
 
     def item(self, kind):
         """A literal of a list, a number perhaps with `-` before it."""

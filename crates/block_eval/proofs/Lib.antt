@@ -7,3 +7,5 @@ pub mod ArithmeticLemmas
 pub mod BoundLemmas
 pub mod PackedLemmas
 pub mod PartLemmas
+pub mod MeasureLemmas
+pub mod SpanLemmas

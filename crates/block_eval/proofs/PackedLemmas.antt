@@ -1,36 +1,32 @@
 -- The numbers of a column as a block keeps them, compared with a literal.
-use Rattle.std.proofs.Common.{◌≡◌, ◌<◌, ℕ, zero, suc, Bool, false, List, [], ◌∷◌, ◌++◌, take, Option, None, Some, length, map, get_or, slice_get, refl, sym, subst, ap, ◌∙◌, arith, not}
-use Rattle.std.specs.Prelude.{ℤ, option_and_then}
+use Rattle.std.proofs.Common.{◌≡◌, ◌<◌, ℕ, zero, suc, Bool, true, false, List, [], ◌∷◌, ◌++◌, take, Option, None, Some, length, map, get_or, slice_get, refl, sym, subst, ap, ◌∙◌, arith, not}
+use Rattle.std.specs.Prelude.{ℤ, pos}
 use Rattle.std.specs.Ordering.{int_cmp, is_eq, is_ge, is_gt, is_le, is_lt}
 use Rattle.std.specs.declared.cmp.Ordering.{Ordering}
 use Rattle.std.specs.declared.cmp.Ordering.TheVariants.{Less, Equal, Greater}
-use Rattle.std.proofs.lemmas.List.{get_or-map}
+use Rattle.std.proofs.lemmas.List.{get_or-map, length-map}
 use Rattle.std.proofs.Math.Seq.{take-append_seam}
 use denote.Ref.{Bor}
-use Rattle.cell_types.specs.Value.{CellValue, null}
+use Rattle.cell_types.specs.Value.{CellValue, boolean, date, decimal, integer, null, text}
 use Rattle.typed_trees.specs.declared.operator.ComparisonOperator.{ComparisonOperator}
 use Rattle.typed_trees.specs.declared.operator.ComparisonOperator.TheVariants as operators
-use Rattle.typed_trees.specs.TypedTree as typed
-use Rattle.typed_trees.specs.TypedTree.{NumberExprOf}
-use Rattle.typed_trees.specs.declared.tree.NumberKind.{NumberKind}
+use Rattle.block_summary.specs.Cells.{AreUnpacked, HaveBounds}
 use Rattle.block_summary.specs.Passing.{number_passes}
-use Rattle.block_summary.specs.Types.{cell_of, cells_of_type, numbers_of}
+use Rattle.block_summary.specs.Ranges.{is_null}
+use Rattle.block_summary.specs.Types.{cell_of, cells_of_type, number_of, numbers_of}
+use Rattle.block_summary.specs.declared.bounds.Bounds.{Bounds}
 use Rattle.block_summary.specs.declared.number.PackedType.{PackedType}
 use Rattle.row_eval.specs.declared.truth.Truth.{Truth}
 use Rattle.row_eval.specs.declared.truth.Truth.TheVariants.{False}
 use Rattle.row_eval.specs.Comparison.{compared, holds, is_equal}
 use Rattle.row_eval.specs.Logic.{truth_of}
-use Rattle.row_eval.specs.Outcome.{both, number_outcome}
-use Rattle.row_eval.specs.Row.{cell, number_in}
 use Rattle.block_eval.specs.declared.columns.Column.{Column}
 use Rattle.block_eval.specs.declared.columns.Column.TheVariants.{Packed}
-use Rattle.block_eval.specs.Columns.{type_of_kind, IsRowAt}
-use Rattle.block_eval.specs.Lanes.{comparison, AreOutcomes, GivesTruths, HasTruths}
-use Rattle.block_eval.specs.declared.packed.ColumnTest.{ColumnTest}
-use Rattle.block_eval.specs.Packed.{ComparesPacked, HasNumbersAt, AreNumbersCompared}
-use Rattle.summary_eval.specs.Known.{comparison_of, IsConstantNumber}
-use Rattle.block_eval.proofs.LogicLemmas.{all-gives}
-use Rattle.block_eval.proofs.NumberLemmas.{kind-cell}
+use Rattle.block_eval.specs.declared.packed.Unpacked.{Unpacked}
+use Rattle.block_eval.specs.Bounds.{LiesWithin, IsWithinKnown}
+use Rattle.block_eval.specs.Columns.{number_at, unless_null}
+use Rattle.block_eval.specs.Packed.{HasNumbersAt, AreNumbersCompared, IsUnpackedAt}
+use Rattle.summary_eval.specs.Known.{comparison_of}
 
 -- ---- the numbers of a column at a place
 
@@ -46,10 +42,54 @@ packed-numbers columns place column type e typed = λ row cells at.
     ∙ ap (λ vs. Some (get_or vs row null)) (sym typed)
     ∙ ap (λ v. Some v) (cell-at type (numbers_of column.now) row)
 
-numbers-packed : (columns : List Column) (k : NumberKind) (place row : ℕ) (numbers : List (Option ℤ)) (cells : List CellValue) → HasNumbersAt columns place (type_of_kind k) numbers → IsRowAt columns row cells
-    → ◌≡◌ {A = Option (Option ℤ)} (Some (cell (number_in k) cells place)) (Some (get_or numbers row None))
-numbers-packed columns k place row numbers cells has at =
-    ap (λ v. Some (option_and_then (number_in k) v)) (has row cells at) ∙ ap (λ n. Some n) (kind-cell k (get_or numbers row None))
+not-null : (v : CellValue) (n : ℤ) → number_of v ≡ Some n → is_null v ≡ false
+not-null null n e = absurd (cc)
+not-null (integer z) n e = refl
+not-null (text t) n e = refl
+not-null (boolean b) n e = refl
+not-null (date y m d) n e = refl
+not-null (decimal z) n e = refl
+
+-- what is unpacked of a row, with a mark of null, is its number
+unpacked-number : (type : PackedType) (cells : List CellValue) (values : List ℤ) (nulls : List Bool) (row : ℕ) → row < length cells → cells_of_type type (numbers_of cells) ≡ cells
+    → AreUnpacked (numbers_of cells) values → nulls ≡ map is_null cells → number_at values nulls row ≡ get_or (numbers_of cells) row None
+unpacked-number type cells values nulls row h typed unpacked marks = by (get_or (numbers_of cells) row None) refl
+  where
+    v : CellValue
+    v = get_or cells row null
+
+    mark : get_or nulls row true ≡ is_null v
+    mark = ap (λ ns. get_or ns row true) marks ∙ get_or-map is_null cells row null true h
+
+    cell_is : v ≡ cell_of type (get_or (numbers_of cells) row None)
+    cell_is = ap (λ vs. get_or vs row null) (sym typed) ∙ cell-at type (numbers_of cells) row
+
+    by : (n : Option ℤ) → get_or (numbers_of cells) row None ≡ n → number_at values nulls row ≡ n
+    by None e = ap (λ b. unless_null b (get_or values row (pos 0))) (mark ∙ ap is_null (cell_is ∙ ap (cell_of type) e))
+    by (Some n) e =
+        ap (λ b. unless_null b (get_or values row (pos 0))) (mark ∙ not-null v n (sym (get_or-map number_of cells row null None h) ∙ e))
+        ∙ ap (λ z. Some z) (unpacked row n e)
+
+known-within : (bounds : Option Bounds) (numbers : List (Option ℤ)) (row : ℕ) → HaveBounds bounds numbers → IsWithinKnown bounds (get_or numbers row None)
+known-within None numbers row have = tt
+known-within (Some b) numbers row have = by (get_or numbers row None) refl
+  where
+    by : (n : Option ℤ) → get_or numbers row None ≡ n → LiesWithin b n
+    by None e = tt
+    by (Some n) e = have.between row n e
+
+pub unpacked-stand : (columns : List Column) (place : ℕ) (type : PackedType) (rows : ℕ) (cells : List CellValue) (made : Unpacked) → HasNumbersAt columns place type (numbers_of cells)
+    → cells_of_type type (numbers_of cells) ≡ cells → length cells ≡ rows → AreUnpacked (numbers_of cells) made.values.items → made.nulls.items ≡ map is_null cells → length made.values.items ≡ rows
+    → HaveBounds made.bounds (numbers_of cells) → IsUnpackedAt columns place type rows made
+unpacked-stand columns place type rows cells made has typed size unpacked marks long bounds =
+    let number : (row : ℕ) → row < rows → number_at made.values.items made.nulls.items row ≡ get_or (numbers_of cells) row None = λ row h.
+    unpacked-number type cells made.values.items made.nulls.items row (omega (arith, h, size)) typed unpacked marks in
+    record {
+      stand = λ row those h at. has row those at ∙ ap (λ n. Some (cell_of type n)) (sym (number row h));
+      within = λ row h. subst (IsWithinKnown made.bounds) (sym (number row h)) (known-within made.bounds (numbers_of cells) row bounds);
+      values_long = long;
+      nulls_long = ap length marks ∙ length-map cells is_null ∙ size;
+    }
 
 -- ---- what passes is what holds
 
@@ -116,25 +156,3 @@ packed-truths o numbers l n m out rest marks others given size rows size_of_mark
           ∙ ap truth_of (get_or-map passes numbers row None false h ∙ passes-holds o (get_or numbers row None) l);
       long = ap length whole ∙ rows;
     }
-
--- ---- the outcomes
-
-pub packed-gives : (o : ComparisonOperator) (f g : List CellValue → Option (Option ℤ)) (columns : List Column) (wanted : List Bool) (numbers : List (Option ℤ)) (l : ℤ) (ts : List Truth)
-    → length wanted ≡ length numbers → ((row : ℕ) (cells : List CellValue) → IsRowAt columns row cells → f cells ≡ Some (get_or numbers row None))
-    → ((cells : List CellValue) → g cells ≡ Some (Some l)) → AreNumbersCompared o numbers l ts → GivesTruths (λ cells. both (comparison o) (f cells) (g cells)) columns wanted ts
-packed-gives o f g columns wanted numbers l ts size left right has =
-    all-gives (λ cells. both (comparison o) (f cells) (g cells)) (λ row. comparison o (get_or numbers row None) (Some l)) columns wanted ts
-    (subst (λ n. HasTruths n (λ row. comparison o (get_or numbers row None) (Some l)) ts) (sym size) has)
-    (λ row cells h at.
-    ap (λ x. both (comparison o) x (g cells)) (left row cells at)
-    ∙ ap (both (comparison o) (Some (get_or numbers row None))) (right cells))
-
-pub numbers-outcomes : (o : ComparisonOperator) (a b : NumberExprOf) (k : NumberKind) (type : PackedType) (place : ℕ) (l : ℤ) (test : ColumnTest) (columns : List Column) (rows : ℕ) (wanted : List Bool) (ts : List Truth)
-    → a ≡ typed.number_column k place → IsConstantNumber b (Some l) → type ≡ type_of_kind k → ComparesPacked test columns rows ts → test ≡ record { operator = o; place = place; packed_type = type; number = l }
-    → length wanted ≡ rows → AreOutcomes (typed.compare_numbers o a b) columns wanted ts
-numbers-outcomes o a b k type place l test columns rows wanted ts e constant same given test_is size =
-    let is = subst (λ t. ComparesPacked t columns rows ts) test_is given in
-    let stand = subst (λ t. HasNumbersAt columns place t is.numbers) same is.stand in
-    subst (λ x. AreOutcomes (typed.compare_numbers o x b) columns wanted ts) (sym e)
-    (packed-gives o (number_outcome (typed.number_column k place)) (number_outcome b) columns wanted is.numbers l ts (size ∙ sym is.long)
-    (λ row cells at. numbers-packed columns k place row is.numbers cells stand at) constant is.passed)

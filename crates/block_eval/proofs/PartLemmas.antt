@@ -1,9 +1,7 @@
 -- The years, months and days of the dates of a column.
-use Rattle.std.proofs.Common.{◌≡◌, ◌<◌, ℕ, Bool, true, false, None, Some, List, length, get_or, slice_get, refl, sym, subst, ap, ◌∙◌, arith}
-use Rattle.std.specs.Prelude.{ℤ, pos, Vec, option_map}
+use Rattle.std.proofs.Common.{◌≡◌, ◌<◌, ℕ, Bool, true, false, None, Some, List, length, get_or, refl, sym, ap, ◌∙◌, arith}
+use Rattle.std.specs.Prelude.{ℤ, pos, Vec, option_and_then, option_map}
 use Rattle.std.specs.Global.{Global}
-use denote.Ref.{Bor}
-use Rattle.block_summary.specs.declared.bounds.Bounds.{Bounds}
 use Rattle.block_summary.specs.declared.number.PackedType.TheVariants.{Date}
 use Rattle.block_summary.specs.Types.{cell_of}
 use Rattle.typed_trees.specs.declared.tree.DatePart.{DatePart}
@@ -11,14 +9,13 @@ use Rattle.typed_trees.specs.declared.tree.DatePart.TheVariants.{Year, Month, Da
 use Rattle.row_eval.specs.Outcome.{part_in}
 use Rattle.row_eval.specs.Row.{cell, day_in}
 use Rattle.block_lanes.specs.declared.numbers.Numbers.TheVariants.{Computed}
-use Rattle.block_eval.specs.declared.bounded.Bounded.{Bounded}
 use Rattle.block_eval.specs.declared.columns.Column.{Column}
-use Rattle.block_eval.specs.declared.columns.Column.TheVariants.{Numbers}
+use Rattle.block_eval.specs.declared.packed.Unpacked.{Unpacked}
 use Rattle.block_eval.specs.Bounded.{GivesBounded}
 use Rattle.block_eval.specs.Columns.{unless_null}
+use Rattle.block_eval.specs.Packed.{IsUnpackedAt}
 use Rattle.block_eval.specs.Parts.{day_part}
 use Rattle.block_eval.proofs.LogicLemmas.{wanted_within}
-use Rattle.block_eval.proofs.NumberLemmas.{read-numbers}
 
 part-cell : (part : DatePart) (null : Bool) (n : ℤ) → option_map (part_in part) (day_in (cell_of Date (unless_null null n))) ≡ unless_null null (day_part part n)
 part-cell Year true n = refl
@@ -29,22 +26,20 @@ part-cell Month false n = refl
 part-cell Day false n = refl
 
 -- a part of each date of a column
-pub parts-give : (part : DatePart) (columns : List Column) (place : ℕ) (values : Bor (List ℤ)) (nulls : Bor (List Bool)) (bounds : Bounds) (wanted : List Bool) (v : Bounded) (parts : Vec ℤ Global) (marks : Vec Bool Global)
-    → slice_get columns place ≡ Some (Numbers Date values nulls bounds) → length values.now ≡ length wanted → length parts.items ≡ length values.now
-    → ((i : ℕ) → i < length values.now → get_or parts.items i (pos 0) ≡ day_part part (get_or values.now i (pos 0))) → marks.items ≡ nulls.now → length nulls.now ≡ length wanted
-    → v ≡ record { numbers = Computed parts marks; bounds = None } → GivesBounded (λ cells. Some (option_map (part_in part) (cell day_in cells place))) columns wanted v
-parts-give part columns place values nulls bounds wanted v parts marks found size long each same size_of_nulls is =
-    let n = λ (row : ℕ). get_or values.now row (pos 0) in
-    let null = λ (row : ℕ). get_or nulls.now row true in
-    subst (GivesBounded (λ cells. Some (option_map (part_in part) (cell day_in cells place))) columns wanted) (sym is) (record {
+pub parts-give : (part : DatePart) (columns : List Column) (place : ℕ) (wanted : List Bool) (made : Unpacked) (parts : Vec ℤ Global) → IsUnpackedAt columns place Date (length wanted) made
+    → length parts.items ≡ length made.values.items → ((i : ℕ) → i < length made.values.items → get_or parts.items i (pos 0) ≡ day_part part (get_or made.values.items i (pos 0)))
+    → GivesBounded (λ cells. Some (option_map (part_in part) (cell day_in cells place))) columns wanted (record { numbers = Computed parts made.nulls; bounds = None })
+parts-give part columns place wanted made parts is long each =
+    let n = λ (row : ℕ). get_or made.values.items row (pos 0) in
+    let null = λ (row : ℕ). get_or made.nulls.items row true in
+    record {
       numbers = record {
         each = λ row cells h at.
-            let within : row < length values.now = omega (arith, wanted_within wanted row h, size) in
-            ap (λ d. Some (option_map (part_in part) d)) (read-numbers day_in columns place row Date values nulls bounds cells found at)
+            let within : row < length wanted = wanted_within wanted row h in
+            ap (λ v. Some (option_map (part_in part) (option_and_then day_in v))) (is.stand row cells within at)
             ∙ ap (λ x. Some x) (part-cell part (null row) (n row))
-            ∙ ap (λ m. Some (unless_null (null row) m)) (sym (each row within))
-            ∙ ap (λ ms. Some (unless_null (get_or ms row true) (get_or parts.items row (pos 0)))) (sym same);
-        long = (long ∙ size, ap length same ∙ size_of_nulls);
+            ∙ ap (λ m. Some (unless_null (null row) m)) (sym (each row (omega (arith, within, is.values_long))));
+        long = (long ∙ is.values_long, is.nulls_long);
       };
       within = λ row cells h at. tt;
-    })
+    }

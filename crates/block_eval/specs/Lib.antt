@@ -10,6 +10,7 @@ pub mod Lanes
 pub mod Bounded
 pub mod Texts
 pub mod Packed
+pub mod Spans
 pub mod Items
 pub mod Parts
 pub mod Truths

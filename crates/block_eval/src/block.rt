@@ -15,7 +15,7 @@ use std::alloc::Global;
 use summary_eval::known_truth;
 use typed_trees::TruthExpr;
 
-/// The truths of a condition on the wanted rows of a block, where the ranges tell them.
+/// Returns the truths of a condition on the wanted rows of a block, where the ranges tell them.
 fn known_truths(
     alloc: Global,
     expr: &TruthExpr,
@@ -34,7 +34,7 @@ fn known_truths(
     }
 }
 
-/// The truths of a condition that has no condition as a part, with a look at its rows.
+/// Returns the truths of a condition that has no condition as a part, with a look at its rows.
 fn leaf_truths(
     alloc: Global,
     expr: &TruthExpr,
@@ -48,7 +48,7 @@ fn leaf_truths(
     Ok(truths)
 }
 
-/// The truths of a condition on the wanted rows of a block. Where it falls back, the rows are to be evaluated one by one; nothing says
+/// Returns the truths of a condition on the wanted rows of a block. If it falls back, the rows are to be evaluated one by one; nothing says
 /// when it does. The right side of `and` is evaluated on those rows alone whose left side is not false, that of `or` on those whose left
 /// side is not true. A condition whose truth the ranges of the block tell is not evaluated at all, and no column that it names is looked at.
 pub fn eval_block(

@@ -31,7 +31,7 @@ pub fn nulls<'a>() -> Bounded<'a>
     }
 }
 
-/// The same number on each row.
+/// Returns the same number on each row.
 pub fn constant<'a>(number: i64) -> Bounded<'a>
     ensures { IsSame (Some number) result }
 {
@@ -44,7 +44,7 @@ pub fn constant<'a>(number: i64) -> Bounded<'a>
     }
 }
 
-/// The same number on each row, where it fits.
+/// Returns the same number on each row, if it fits.
 pub fn same<'a>(number: i128) -> Result<Bounded<'a>, Fallback>
     ensures { IfOk result (IsSame (Some number)) }
 {
@@ -54,7 +54,7 @@ pub fn same<'a>(number: i128) -> Result<Bounded<'a>, Fallback>
     }
 }
 
-/// The bounds of what an operator makes of two vectors, where they fit 64 bits.
+/// Returns the bounds of what an operator makes of two vectors, if they fit 64 bits.
 fn bounds_between(
     operator: ArithmeticOperator,
     left: &Bounded<'_>,
@@ -68,7 +68,7 @@ fn bounds_between(
     }
 }
 
-/// Two vectors joined by an operator, on the wanted rows. Where the bounds of what it makes fit 64 bits, none is checked.
+/// Returns two vectors joined by an operator, on the wanted rows. If the bounds of what it makes fit 64 bits, none is checked.
 pub fn join_bounded<'a>(
     alloc: Global,
     operator: ArithmeticOperator,

@@ -6,7 +6,7 @@ ghost use Rattle.block_eval.specs.Bounds.{bounds_of, difference_bounds as differ
 use block_summary::Bounds;
 use typed_trees::ArithmeticOperator;
 
-/// The bounds of sums, where they fit.
+/// Returns the bounds of sums, if they fit.
 fn sum_bounds(left: Bounds, right: Bounds) -> Option<Bounds>
     ensures { SomeIff result (Fit (sum_bounds_of left right)) (sum_bounds_of left right) }
 {
@@ -15,7 +15,7 @@ fn sum_bounds(left: Bounds, right: Bounds) -> Option<Bounds>
     Some(Bounds { least, greatest })
 }
 
-/// The bounds of differences, where they fit.
+/// Returns the bounds of differences, if they fit.
 fn difference_bounds(left: Bounds, right: Bounds) -> Option<Bounds>
     ensures { SomeIff result (Fit (difference_bounds_of left right))
         (difference_bounds_of left right) }
@@ -25,7 +25,7 @@ fn difference_bounds(left: Bounds, right: Bounds) -> Option<Bounds>
     Some(Bounds { least, greatest })
 }
 
-/// The bounds of products, where they fit: among the products of the bounds are the least and the greatest.
+/// Returns the bounds of products, if they fit: among the products of the bounds are the least and the greatest.
 fn product_bounds(left: Bounds, right: Bounds) -> Option<Bounds>
     ensures { SomeIff result (Fit (product_bounds_of left right)) (product_bounds_of left right) }
 {
@@ -43,7 +43,7 @@ fn product_bounds(left: Bounds, right: Bounds) -> Option<Bounds>
     })
 }
 
-/// The bounds of what an operator makes of numbers between bounds, where they fit 64 bits.
+/// Returns the bounds of what an operator makes of numbers between bounds, if they fit 64 bits.
 pub fn joined_bounds(operator: ArithmeticOperator, left: Bounds, right: Bounds) -> Option<Bounds>
     ensures { AreFitting (bounds_of operator left right) result }
 {

@@ -1,19 +1,14 @@
 //! The columns of a block.
 
-use block_summary::{Bounds, PackedColumn, PackedType};
+use block_summary::PackedColumn;
 use text_columns::TextColumn;
 
-/// The cells of a column, one for each row of the block.
+/// The cells of a column, one for each row of the block, as they are retained.
 #[derive(Clone, Copy)]
 pub enum Column<'a> {
-    /// The column was not read: its cells may be any. What names it falls back.
-    Unread,
-    /// The numbers that stand for the cells of a type, which cells are null, and two numbers between which the others lie. At a null the number
-    /// may be any.
-    Numbers(PackedType, &'a [i64], &'a [bool], Bounds),
-    /// The cells of a column that has numbers, as they are kept. They are compared with a literal, and for all else it falls back.
+    /// The cells of a column that has numbers.
     Packed(&'a PackedColumn),
-    /// The texts of a column and its nulls, as they are kept.
+    /// The texts of a column and its nulls.
     Texts(&'a TextColumn<'a>),
 }
 

@@ -6,14 +6,13 @@ ghost use Rattle.block_eval.specs.Lanes.{AreOutcomesOf};
 
 use crate::columns::WantedRows;
 use crate::numbers::eval_numbers;
-use crate::packed::{ColumnTest, compare_packed, type_of_kind};
+use crate::spans::{column_and_span, compare_span};
 use block_lanes::{Fallback, compare};
 use row_eval::Truth;
 use std::alloc::Global;
-use summary_eval::constant_number;
 use typed_trees::{ComparisonOperator, NumberExpr};
 
-/// Whether a comparison holds between numbers, on the wanted rows of a block.
+/// Returns whether a comparison holds between numbers, on the wanted rows of a block.
 pub fn compare_numbers(
     alloc: Global,
     operator: ComparisonOperator,
@@ -26,16 +25,9 @@ pub fn compare_numbers(
         truths.items) }
 {
     let WantedRows { columns, wanted } = rows;
-    if let (NumberExpr::Column(kind, place), Some(Some(number))) = (left, constant_number(right)) {
-        let test = ColumnTest {
-            operator,
-            place: *place,
-            packed_type: type_of_kind(*kind),
-            number,
-        };
-        if let Some(truths) = compare_packed(alloc, test, columns, wanted.len())? {
-            return Ok(truths);
-        }
+    if let Some((column, span)) = column_and_span(left, right, columns, wanted.len()) {
+        let truths = compare_span(alloc, operator, column, span)?;
+        return Ok(truths);
     }
     let left = eval_numbers(alloc, left, columns, wanted)?;
     let right = eval_numbers(alloc, right, columns, wanted)?;

@@ -14,7 +14,7 @@ use row_eval::{Truth, truth_of};
 use std::alloc::Global;
 use typed_trees::TruthExpr;
 
-/// The truths of such a condition on the wanted rows of a block; for any other it falls back.
+/// Returns the truths of such a condition on the wanted rows of a block; for any other it falls back.
 pub fn eval_leaf(
     alloc: Global,
     expr: &TruthExpr,

@@ -10,10 +10,12 @@ mod comparison;
 mod items;
 mod leaf;
 mod lists;
+mod measures;
 mod numbers;
 mod packed;
 mod parts;
 mod relation;
+mod spans;
 mod texts;
 mod truths;
 

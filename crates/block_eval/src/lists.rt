@@ -15,7 +15,7 @@ use std::alloc::Global;
 use text_lanes::texts_among;
 use typed_trees::{NumberExpr, TextExpr};
 
-/// Whether numbers are in a list, on the wanted rows of a block.
+/// Returns whether numbers are in a list, on the wanted rows of a block.
 pub fn numbers_in(
     alloc: Global,
     operand: &NumberExpr,
@@ -31,7 +31,7 @@ pub fn numbers_in(
     Ok(truths)
 }
 
-/// Whether texts are in a list, on the wanted rows of a block.
+/// Returns whether texts are in a list, on the wanted rows of a block.
 pub fn texts_in(
     alloc: Global,
     operand: &TextExpr,

@@ -9,15 +9,17 @@ ghost use Rattle.block_eval.specs.Lanes.{AreNumbers};
 
 use crate::bounded::{Bounded, constant, join_bounded, nulls, same};
 use crate::columns::Column;
-use crate::packed::{are_same, type_of_kind};
+use crate::measures::{lengths_in, places_in};
+use crate::packed::{Unpacked, type_of_kind, unpacked_at};
 use crate::parts::parts_in;
-use block_lanes::{Fallback, Numbers, cells};
+use block_lanes::{Fallback, Numbers};
 use std::alloc::Global;
 use typed_trees::{ArithmeticOperator, MILLIONTHS, NumberExpr, NumberKind};
 
-/// The numbers of a column of a kind.
+/// Returns the numbers of a column of a kind.
 fn numbers_at<'a>(
-    columns: &[Column<'a>],
+    alloc: Global,
+    columns: &[Column<'_>],
     kind: NumberKind,
     place: usize,
     wanted: &[bool],
@@ -25,20 +27,19 @@ fn numbers_at<'a>(
     ensures { IfOk result
         (GivesBounded (λ cells. Some (cell (number_in kind) cells place)) columns.now wanted.now) }
 {
-    let Some(Column::Numbers(packed_type, values, marks, bounds)) = columns.get(place) else {
-        return Err(Fallback::Rows);
-    };
-    if !are_same(*packed_type, type_of_kind(kind)) {
-        return Err(Fallback::Rows);
-    }
-    let numbers = cells(values, marks, wanted.len())?;
+    let packed_type = type_of_kind(kind);
+    let Unpacked {
+        values,
+        nulls,
+        bounds,
+    } = unpacked_at(alloc, columns, place, packed_type, wanted.len())?;
     Ok(Bounded {
-        numbers,
-        bounds: Some(*bounds),
+        numbers: Numbers::Computed(values, nulls),
+        bounds,
     })
 }
 
-/// The numbers of an expression on the wanted rows of a block, with their bounds.
+/// Returns the numbers of an expression on the wanted rows of a block, with their bounds.
 pub fn bounded_numbers<'a>(
     alloc: Global,
     expr: &NumberExpr,
@@ -50,7 +51,7 @@ pub fn bounded_numbers<'a>(
 {
     match expr {
         NumberExpr::Null => Ok(nulls()),
-        NumberExpr::Column(kind, place) => numbers_at(columns, *kind, *place, wanted),
+        NumberExpr::Column(kind, place) => numbers_at(alloc, columns, *kind, *place, wanted),
         NumberExpr::Literal(number) => {
             let numbers = same(*number)?;
             Ok(numbers)
@@ -73,12 +74,13 @@ pub fn bounded_numbers<'a>(
             let scaled = join_bounded(alloc, ArithmeticOperator::Mul, &numbers, &unit, wanted)?;
             Ok(scaled)
         }
+        NumberExpr::Length(text) => lengths_in(alloc, text, columns, wanted),
+        NumberExpr::IndexOf(text, part) => places_in(alloc, text, part, columns, wanted),
         NumberExpr::PartOf(part, date) => parts_in(alloc, *part, date, columns, wanted),
-        _ => Err(Fallback::Rows),
     }
 }
 
-/// The numbers of an expression on the wanted rows of a block.
+/// Returns the numbers of an expression on the wanted rows of a block.
 pub fn eval_numbers<'a>(
     alloc: Global,
     expr: &NumberExpr,

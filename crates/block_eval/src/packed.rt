@@ -1,30 +1,21 @@
-//! The numbers of a column as a block keeps them, compared with a literal: none is unpacked.
+//! The numbers of a column as a block retains them: unpacked, or compared with a literal where they are.
 
 ghost use Rattle.std.specs.Prelude.{◌≡◌, ◌<◌, ℕ, false, IfOk, IfSome, IsTrue, length, slice_index_or};
-ghost use Rattle.block_summary.specs.Types.{numbers_of};
+ghost use Rattle.block_summary.specs.Types.{cells_of_type, numbers_of};
 ghost use Rattle.row_eval.specs.Logic.{truth_of};
 ghost use Rattle.block_eval.specs.Columns.{type_of_kind as type_of_number_kind};
 ghost use Rattle.block_eval.specs.Lanes.{truth_lane};
-ghost use Rattle.block_eval.specs.Packed.{ComparesPacked, HasNumbersAt, AreNumbersCompared};
+ghost use Rattle.block_eval.specs.Packed.{AreNumbersCompared, HasNumbersAt, IsUnpackedAt};
 
 use crate::columns::Column;
 use block_lanes::Fallback;
-use block_summary::{PackedColumn, PackedType};
+use block_summary::{Bounds, PackedColumn, PackedType};
 use row_eval::{Truth, truth_of};
 use std::alloc::Global;
 use summary_eval::comparison_of;
 use typed_trees::{ComparisonOperator, NumberKind};
 
-/// A column of numbers of a type, compared with a number.
-#[derive(Clone, Copy)]
-pub struct ColumnTest {
-    pub operator: ComparisonOperator,
-    pub place: usize,
-    pub packed_type: PackedType,
-    pub number: i128,
-}
-
-/// The type of the packed numbers of a kind.
+/// Returns the type of the packed numbers of a kind.
 pub fn type_of_kind(kind: NumberKind) -> PackedType
     ensures { result ≡ type_of_number_kind kind }
 {
@@ -35,20 +26,20 @@ pub fn type_of_kind(kind: NumberKind) -> PackedType
     }
 }
 
-/// Whether these are the same type, of those that are compared with a literal.
-pub fn are_same(given: PackedType, asked: PackedType) -> bool
+/// True if a type is the one that is asked for.
+fn are_same(given: PackedType, asked: PackedType) -> bool
     ensures { IsTrue result → given ≡ asked }
 {
     match asked {
         PackedType::Integer => matches!(given, PackedType::Integer),
         PackedType::Decimal => matches!(given, PackedType::Decimal),
         PackedType::Date => matches!(given, PackedType::Date),
-        PackedType::Boolean => false,
+        PackedType::Boolean => matches!(given, PackedType::Boolean),
     }
 }
 
 /// Returns the column at a place if it is packed, has numbers of this type and `rows` rows.
-fn packed_in<'a>(
+pub fn packed_in<'a>(
     columns: &[Column<'a>],
     place: usize,
     packed_type: PackedType,
@@ -56,6 +47,8 @@ fn packed_in<'a>(
 ) -> Option<&'a PackedColumn>
     ensures numbers { IfSome result (λ column.
         HasNumbersAt columns.now place packed_type (numbers_of column.now)) }
+    ensures typed { IfSome result (λ column.
+        cells_of_type packed_type (numbers_of column.now) ≡ column.now) }
     ensures long { IfSome result (λ column. length column.now ≡ rows) }
 {
     let Some(Column::Packed(column)) = columns.get(place) else {
@@ -65,6 +58,38 @@ fn packed_in<'a>(
         return None;
     }
     Some(column)
+}
+
+/// The numbers of a column with its nulls, and two numbers between which the others lie, where such are known.
+#[derive(Drop)]
+pub struct Unpacked {
+    pub values: Vec<i64>,
+    pub nulls: Vec<bool>,
+    pub bounds: Option<Bounds>,
+}
+
+/// Returns the numbers of the column at a place, if it has numbers of this type and `rows` rows.
+pub fn unpacked_at(
+    alloc: Global,
+    columns: &[Column<'_>],
+    place: usize,
+    packed_type: PackedType,
+    rows: usize,
+) -> Result<Unpacked, Fallback>
+    ensures { IfOk result (IsUnpackedAt columns.now place packed_type rows) }
+{
+    let Some(column) = packed_in(columns, place, packed_type, rows) else {
+        return Err(Fallback::Rows);
+    };
+    let mut values = Vec::from_elem(alloc, 0i64, rows)?;
+    column.unpack(values.as_mut_slice());
+    let mut nulls = Vec::from_elem(alloc, true, rows)?;
+    column.unpack_nulls(nulls.as_mut_slice());
+    Ok(Unpacked {
+        values,
+        nulls,
+        bounds: column.bounds(),
+    })
 }
 
 /// The truths that marks are.
@@ -78,8 +103,8 @@ fn truth_each(marks: &[bool], out: &mut [Truth])
     }
 }
 
-/// Whether a comparison holds between the numbers of a column and a number, row by row.
-fn truths_of_column(
+/// Returns for each number of a column whether a comparison holds between it and a number.
+pub fn compare_packed(
     alloc: Global,
     operator: ComparisonOperator,
     column: &PackedColumn,
@@ -93,24 +118,4 @@ fn truths_of_column(
     let mut truths = Vec::from_elem(alloc, Truth::False, column.len())?;
     truth_each(marks.as_slice(), truths.as_mut_slice());
     Ok(truths)
-}
-
-/// Returns whether a test holds on each row; `None` if its column is not packed, has numbers of another type, or its number has no 64 bits.
-pub fn compare_packed(
-    alloc: Global,
-    test: ColumnTest,
-    columns: &[Column<'_>],
-    rows: usize,
-) -> Result<Option<Vec<Truth>>, Fallback>
-    ensures { IfOk result (λ made. IfSome made
-        (λ truths. ComparesPacked test columns.now rows truths.items)) }
-{
-    let Ok(number) = i64::try_from(test.number) else {
-        return Ok(None);
-    };
-    let Some(column) = packed_in(columns, test.place, test.packed_type, rows) else {
-        return Ok(None);
-    };
-    let truths = truths_of_column(alloc, test.operator, column, number)?;
-    Ok(Some(truths))
 }

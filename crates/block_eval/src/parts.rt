@@ -9,6 +9,7 @@ ghost use Rattle.block_eval.specs.Parts.{day_part};
 
 use crate::bounded::Bounded;
 use crate::columns::Column;
+use crate::packed::{Unpacked, unpacked_at};
 use block_lanes::{Fallback, Numbers};
 use block_summary::PackedType;
 use std::alloc::Global;
@@ -27,14 +28,13 @@ fn part_of(part: DatePart, number: i64) -> i64
     }
 }
 
-/// Writes a part of each day.
-fn part_each(part: DatePart, numbers: &[i64], out: &mut [i64])
-    requires { length out.old ≡ length numbers.now }
-    ensures { (i : ℕ) → i < length out.new → slice_index_or out.new i (pos 0)
-        ≡ day_part part (slice_index_or numbers.now i (pos 0)) }
+/// Writes a part of each day in its place.
+fn part_each(part: DatePart, days: &mut [i64])
+    ensures { (i : ℕ) → i < length days.new → slice_index_or days.new i (pos 0)
+        ≡ day_part part (slice_index_or days.old i (pos 0)) }
 {
-    for i in 0..out.len() {
-        out[i] = part_of(part, numbers[i]);
+    for i in 0..days.len() {
+        days[i] = part_of(part, days[i]);
     }
 }
 
@@ -43,24 +43,21 @@ fn parts_at<'a>(
     alloc: Global,
     part: DatePart,
     place: usize,
-    columns: &[Column<'a>],
+    columns: &[Column<'_>],
     wanted: &[bool],
 ) -> Result<Bounded<'a>, Fallback>
     ensures { IfOk result (GivesBounded
         (λ cells. Some (option_map (part_in part) (cell day_in cells place)))
         columns.now wanted.now) }
 {
-    let Some(Column::Numbers(PackedType::Date, values, nulls, _)) = columns.get(place) else {
-        return Err(Fallback::Rows);
-    };
-    if values.len() != wanted.len() || nulls.len() != wanted.len() {
-        return Err(Fallback::Rows);
-    }
-    let mut parts = Vec::from_elem(alloc, 0i64, values.len())?;
-    part_each(part, values, parts.as_mut_slice());
-    let nulls = Vec::from_slice(alloc, nulls)?;
+    let Unpacked {
+        mut values,
+        nulls,
+        ..
+    } = unpacked_at(alloc, columns, place, PackedType::Date, wanted.len())?;
+    part_each(part, values.as_mut_slice());
     Ok(Bounded {
-        numbers: Numbers::Computed(parts, nulls),
+        numbers: Numbers::Computed(values, nulls),
         bounds: None,
     })
 }
@@ -70,7 +67,7 @@ pub fn parts_in<'a>(
     alloc: Global,
     part: DatePart,
     date: &DateExpr,
-    columns: &[Column<'a>],
+    columns: &[Column<'_>],
     wanted: &[bool],
 ) -> Result<Bounded<'a>, Fallback>
     ensures { IfOk result (GivesBounded

@@ -12,7 +12,7 @@ use std::alloc::Global;
 use text_lanes::{TextRelation, relate};
 use typed_trees::{ComparisonOperator, TextExpr, TextTest};
 
-/// Whether a comparison holds between texts, on the wanted rows of a block.
+/// Returns whether a comparison holds between texts, on the wanted rows of a block.
 pub fn compare_texts(
     alloc: Global,
     operator: ComparisonOperator,
@@ -32,7 +32,7 @@ pub fn compare_texts(
     Ok(truths)
 }
 
-/// What `contains`, `startswith` and `endswith` say of texts, on the wanted rows of a block.
+/// Returns what `contains`, `startswith` and `endswith` say of texts, on the wanted rows of a block.
 pub fn test_texts(
     alloc: Global,
     test: TextTest,

@@ -1,10 +1,9 @@
 //! The texts of expressions on the rows of a block.
 
-ghost use Rattle.std.specs.Prelude.{◌≡◌, ℕ, Option, IfOk, option_and_then};
-ghost use Rattle.cell_types.specs.Value.{CellValue};
+ghost use Rattle.std.specs.Prelude.{◌≡◌, ℕ, IfOk};
 ghost use Rattle.typed_trees.specs.TypedTree.{text_view};
 ghost use Rattle.row_eval.specs.Row.{cell, text_in as text_in_cell};
-ghost use Rattle.block_eval.specs.Columns.{IsCell};
+ghost use Rattle.block_eval.specs.Columns.{cell_in_column};
 ghost use Rattle.text_lanes.specs.Texts.{text_lane, AreTextsLong};
 ghost use Rattle.block_eval.specs.Texts.{AreTexts, GivesTexts};
 
@@ -13,10 +12,10 @@ use block_lanes::Fallback;
 use text_lanes::Texts;
 use typed_trees::TextExpr;
 
-/// The texts of a column of that many rows.
+/// Returns the texts of a column of that many rows.
 fn texts_of<'a>(column: Column<'a>, rows: usize) -> Result<Texts<'a>, Fallback>
-    ensures each { IfOk result (λ v. (row : ℕ) (cells : Option CellValue)
-        → IsCell column.entry row cells → option_and_then text_in_cell cells ≡ text_lane v row) }
+    ensures each { IfOk result (λ v. (row : ℕ)
+        → text_in_cell (cell_in_column column.entry row) ≡ text_lane v row) }
     ensures long { IfOk result (AreTextsLong rows) }
 {
     match column {
@@ -25,7 +24,7 @@ fn texts_of<'a>(column: Column<'a>, rows: usize) -> Result<Texts<'a>, Fallback>
     }
 }
 
-/// The texts of a column.
+/// Returns the texts of a column.
 fn texts_in<'a>(
     columns: &[Column<'a>],
     place: usize,
@@ -41,7 +40,7 @@ fn texts_in<'a>(
     Ok(texts)
 }
 
-/// The texts of an expression on the wanted rows of a block.
+/// Returns the texts of an expression on the wanted rows of a block.
 pub fn eval_texts<'a>(
     expr: &'a TextExpr,
     columns: &[Column<'a>],

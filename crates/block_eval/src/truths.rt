@@ -12,6 +12,7 @@ ghost use Rattle.block_eval.specs.Truths.{number_of_truth, truth_comparison, Are
 use crate::bounded::Bounded;
 use crate::columns::Column;
 use crate::items::among;
+use crate::packed::{Unpacked, unpacked_at};
 use block_lanes::{Fallback, Numbers, compare, truths_of};
 use block_summary::PackedType;
 use row_eval::Truth;
@@ -49,7 +50,7 @@ fn truth_numbers<'a>(alloc: Global, truths: &[Truth]) -> Result<Numbers<'a>, Fal
     Ok(Numbers::Computed(values, nulls))
 }
 
-/// The number of an item.
+/// Returns the number of an item.
 fn truth_item(item: Option<bool>) -> Option<i128>
     ensures { result ≡ option_map number_of_truth item }
 {
@@ -59,7 +60,7 @@ fn truth_item(item: Option<bool>) -> Option<i128>
     }
 }
 
-/// The numbers of the items.
+/// Returns the numbers of the items.
 fn truth_items(alloc: Global, items: &[Option<bool>]) -> Result<Vec<Option<i128>>, AllocError>
     ensures { IfOk result (λ numbers. numbers.items ≡ map (option_map number_of_truth) items.now) }
 {
@@ -70,7 +71,7 @@ fn truth_items(alloc: Global, items: &[Option<bool>]) -> Result<Vec<Option<i128>
     Ok(numbers)
 }
 
-/// Whether a comparison holds between truths, row by row.
+/// Returns whether a comparison holds between truths, row by row.
 pub fn compare_truths(
     alloc: Global,
     operator: ComparisonOperator,
@@ -89,7 +90,7 @@ pub fn compare_truths(
     Ok(truths)
 }
 
-/// Whether truths are in a list, row by row.
+/// Returns whether truths are in a list, row by row.
 pub fn truths_among(
     alloc: Global,
     truths: &[Truth],
@@ -109,7 +110,7 @@ pub fn truths_among(
     Ok(found)
 }
 
-/// The truths of a column.
+/// Returns the truths of a column.
 pub fn truths_in(
     alloc: Global,
     columns: &[Column<'_>],
@@ -120,14 +121,13 @@ pub fn truths_in(
         (λ cells. Some (truth_of_option (cell boolean_in cells place))) columns.now wanted.now
         truths.items) }
 {
-    match columns.get(place) {
-        Some(Column::Numbers(PackedType::Boolean, values, nulls, _)) => {
-            if values.len() != wanted.len() || nulls.len() != wanted.len() {
-                return Err(Fallback::Rows);
-            }
-            let truths = truths_of(alloc, values, nulls)?;
-            Ok(truths)
-        }
-        _ => Err(Fallback::Rows),
-    }
+    let Unpacked { values, nulls, .. } = unpacked_at(
+        alloc,
+        columns,
+        place,
+        PackedType::Boolean,
+        wanted.len(),
+    )?;
+    let truths = truths_of(alloc, values.as_slice(), nulls.as_slice())?;
+    Ok(truths)
 }

@@ -1,26 +1,19 @@
 -- The first of the rows that pass.
-use Rattle.std.proofs.Common.{◌≡◌, ℕ, zero, suc, ◌<◌, ◌≤◌, Bool, true, false, Option, List, [], ◌∷◌, length, take, refl, sym, ap, ◌∙◌, subst, arith}
+use Rattle.std.proofs.Common.{◌≡◌, ℕ, ◌<◌, ◌≤◌, Bool, true, false, Option, List, [], ◌∷◌, length, take, refl, sym, ap, ◌∙◌, subst, arith}
 use Rattle.std.specs.Prelude.{count_by, option_map}
 use Rattle.std.specs.List.{All}
 use Rattle.cell_types.specs.Value.{CellValue}
 use Rattle.typed_trees.specs.TypedTree.{TruthExprOf}
 use Rattle.query_meaning.specs.Meaning.{first_rows}
 use Rattle.row_columns.specs.Picked.{numbered}
+use Rattle.row_selection.specs.Marks.{marked_numbers}
 use Rattle.block_filter.specs.declared.block.Passed.{Passed}
 use Rattle.block_filter.specs.declared.passing.Narrowed.{Narrowed}
 use Rattle.block_filter.specs.Marks.{is_marked, marked}
 use Rattle.block_filter.specs.Passing.{unless_faulted, IsNarrowedBy, ArePassing}
-use Rattle.block_filter.proofs.PassingLemmas.{marked_count}
+use Rattle.block_filter.proofs.PassingLemmas.{marked_count, numbered_first}
 
 -- ---- rows that are marked
-
--- what the first marks leave is what comes first
-pub marked_front : {X : Type 0} (marks : List Bool) (xs : List X) (i : ℕ) → take (length (marked (take i marks) xs)) (marked marks xs) ≡ marked (take i marks) xs
-marked_front marks xs zero = refl
-marked_front [] xs (suc i) = refl
-marked_front (m ∷ marks) [] (suc i) = refl
-marked_front (true ∷ marks) (x ∷ xs) (suc i) = ap (λ ys. x ∷ ys) (marked_front marks xs i)
-marked_front (false ∷ marks) (x ∷ xs) (suc i) = marked_front marks xs i
 
 marked_few : {X : Type 0} (marks : List Bool) (xs : List X) → length (marked marks xs) ≤ length xs
 marked_few [] xs = omega arith
@@ -36,15 +29,15 @@ first_some most false rows = refl
 
 pub first_marked : (es : List TruthExprOf) (rows : List (List CellValue)) (most : Option ℕ) (limit : ℕ) (left : Narrowed) (found : Passed) → IsNarrowedBy es rows left
     → ((xs : List (List CellValue)) → length xs ≤ length rows → take limit xs ≡ first_rows most xs)
-    → numbered found.numbers.items rows ≡ take limit (marked left.wanted.items rows) → All (λ n. n < length left.wanted.items) found.numbers.items
+    → found.rows ≡ take limit (marked_numbers 0 left.wanted.items) → All (λ n. n < length left.wanted.items) found.rows
     → found.count ≡ count_by is_marked left.wanted.items → found.faulted ≡ left.faulted → ArePassing es most rows found
 first_marked es rows most limit left found are limited numbers within count faulted =
     let xs = marked left.wanted.items rows in
     record {
       passed =
           ap (option_map (first_rows most)) are.passed ∙ first_some most left.faulted xs
-          ∙ ap (unless_faulted left.faulted) (sym (limited xs (marked_few left.wanted.items rows)) ∙ sym numbers)
-          ∙ ap (λ b. unless_faulted b (numbered found.numbers.items rows)) (sym faulted);
-      within = subst (λ n. All (λ k. k < n) found.numbers.items) are.long within;
+          ∙ ap (unless_faulted left.faulted) (sym (limited xs (marked_few left.wanted.items rows)) ∙ sym (numbered_first left.wanted.items rows limit found.rows are.long numbers))
+          ∙ ap (λ b. unless_faulted b (numbered found.rows rows)) (sym faulted);
+      within = subst (λ n. All (λ k. k < n) found.rows) are.long within;
       count = count ∙ sym (marked_count left.wanted.items rows are.long) ∙ sym are.count;
     }

@@ -1,19 +1,17 @@
 -- The numbers of a column stand for its cells.
 use Rattle.std.proofs.Common.{◌≡◌, inl, inr, ℕ, zero, suc, ◌+◌, ◌*◌, ◌/◌, ◌%◌, ◌<◌, ◌≤◌, Bool, true, false, Option, Some, None, List, [], ◌∷◌, ◌++◌, length, map, get_or, refl, sym, ap, ◌∙◌, subst, arith}
-use Rattle.std.specs.Prelude.{ℤ, pos, ◌+ℤ◌, ◌*ℤ◌, MatchOption, set, option_and_then, option_map, if◌then◌else◌, slice_get, unsigned_abs}
+use Rattle.std.specs.Prelude.{ℤ, pos, ◌+ℤ◌, ◌*ℤ◌, MatchOption, option_and_then, option_map, if◌then◌else◌, slice_get, unsigned_abs}
 use Rattle.std.specs.Int.{int_div_euclid, int_rem_euclid}
 use Rattle.std.proofs.lemmas.Bool.{cases_eq, cases_lt}
-use Rattle.std.proofs.lemmas.List.{get_or_past, get_or_push, get_or_append_left, get_or-map, get_or-set_other, get_or-set_same, length-map, length_push, length-set}
+use Rattle.std.proofs.lemmas.List.{get_or_past, get_or_push, get_or_append_left, get_or-map, length-map, length_push}
 use Rattle.std.proofs.lemmas.Option.{slice_get-get_or}
 use Rattle.block_eval.specs.declared.columns.Column.{Column}
-use Rattle.block_eval.specs.declared.columns.Column.TheVariants.{Numbers, Packed, Texts}
-use Rattle.block_eval.specs.Bounds.{LiesWithin}
-use Rattle.block_eval.specs.Columns.{number_at, unless_null, IsCell}
-use Rattle.block_summary.specs.declared.bounds.Bounds.{Bounds}
+use Rattle.block_eval.specs.declared.columns.Column.TheVariants.{Packed}
+use Rattle.block_eval.specs.Columns.{cell_in_column, unless_null}
 use denote.Ref.{Bor}
 use Rattle.block_summary.specs.declared.number.PackedType.{PackedType}
 use Rattle.block_summary.specs.declared.number.PackedType.TheVariants.{Date}
-use Rattle.block_summary.specs.Cells.{AreBetween, AreBounds, AreUnpacked}
+use Rattle.block_summary.specs.Cells.{AreUnpacked}
 use Rattle.block_summary.specs.Ranges.{column_of, is_null}
 use Rattle.block_summary.specs.Reading.{packed_type_of}
 use Rattle.block_summary.specs.Types.{cell_of, day_number, number_of, numbers_of, place_in_year, typed_cell}
@@ -28,8 +26,7 @@ use Rattle.odata_types.specs.Laws.{TablesAreInputs}
 use Rattle.table_store.specs.Block.{packed_cells, text_cells}
 use Rattle.table_store.specs.Fits.{HasTableRows, IsTableRow}
 use Rattle.table_store.specs.Table.{TableOf}
-use Rattle.block_filter.specs.declared.lanes.Lane.{Lane}
-use Rattle.block_filter.specs.Lanes.{AreColumnsOf, AreLanesOf, AreTextsOf, AreValuesOf, IsColumnOf, IsLaneOf, IsMadeOf, LieBetween, StandAt}
+use Rattle.block_filter.specs.Lanes.{AreColumnsOf, AreTextsOf, AreValuesOf, IsColumnOf, StandAt}
 
 -- ---- the cell that a number stands for
 
@@ -121,108 +118,45 @@ column_stands law block col column type numbers nulls fit at p unpacked marks ro
     ∙ ap (λ v. Some v) (sym (cell_stands column type (cell values) (get_or numbers row (pos 0)) (get_or nulls row true) typed.fits typed.type p mark
     (λ n e. unpacked row n (number ∙ e))))
 
--- ---- bounds
-
-pub bounds_lie : (rows : List (List CellValue)) (col : ℕ) (cells : List CellValue) (b : Bounds) → cells ≡ column_of rows col → AreBounds b.least b.greatest (numbers_of cells) → LieBetween rows col b
-bounds_lie rows col cells b is are = subst (λ cs. AreBetween b.least b.greatest (numbers_of cs)) is are.between
+-- ---- the columns of a block
 
 got : {X : Type 0} (xs : List X) (i : ℕ) (x : X) → slice_get xs i ≡ Some x → (i < length xs) × (get_or xs i x ≡ x)
 got [] i x e = absurd (cc)
 got (y ∷ xs) zero x e = (omega arith, cc)
 got (y ∷ xs) (suc i) x e = let is = got xs i x e in (omega (arith, is.0), is.1)
 
-cell_within : (rows : List (List CellValue)) (place row : ℕ) (bounds : Bounds) (v : CellValue) (m : Option ℤ) → m ≡ number_of v → row < length rows → LieBetween rows place bounds
-    → slice_get (get_or rows row []) place ≡ Some v → LiesWithin bounds m
-cell_within rows place row bounds v None e h lie is = tt
-cell_within rows place row bounds v (Some n) e h lie is =
-    let values = get_or rows row [] in
-    let cell : List CellValue → CellValue = λ vs. get_or vs place null in
-    let long = length-map rows cell in
-    let there = got values place v is in
-    let value : get_or (column_of rows place) row null ≡ cell values = get_or-map cell rows row [] null h in
-    let number : get_or (numbers_of (column_of rows place)) row None ≡ number_of (cell values) =
-    get_or-map number_of (column_of rows place) row null None (omega (arith, h, long)) ∙ ap number_of value in
-    let some : Some (cell values) ≡ Some v = sym (slice_get-get_or values place null there.0) ∙ is in
-    let same : cell values ≡ v = cc in
-    lie row n (number ∙ ap number_of same ∙ sym e)
-
--- a column of numbers is made of a lane
-pub numbers_made : (lane : Lane) (kept : Column) (type : PackedType) (numbers : Bor (List ℤ)) (nulls : Bor (List Bool)) → lane.packed_type ≡ Some type
-    → numbers.now ≡ lane.numbers.items → nulls.now ≡ lane.nulls.items → IsMadeOf lane kept (Numbers type numbers nulls lane.bounds)
-numbers_made lane kept type numbers nulls p ns ms rows place is those row h =
-    let at = with_type lane.packed_type type (λ t. StandAt rows place t lane.numbers.items lane.nulls.items × LieBetween rows place lane.bounds) p is in
-    let stands : slice_get (get_or rows row []) place ≡ Some (cell_of type (number_at numbers.now nulls.now row)) =
-    at.0 row h ∙ ap (λ xs. Some (cell_of type (number_at xs lane.nulls.items row))) (sym ns) ∙ ap (λ ys. Some (cell_of type (number_at numbers.now ys row))) (sym ms) in
-    (stands, cell_within rows place row lane.bounds (cell_of type (number_at numbers.now nulls.now row)) _ refl h at.1 stands)
-
 -- a column is as a block keeps it
-pub packed_kept : (rows : List (List CellValue)) (packed : List (Option (List CellValue))) (place : ℕ) (column : Bor (List CellValue)) → AreTextsOf rows packed
-    → get_or packed place None ≡ Some column.now → IsColumnOf rows place (Packed column)
-packed_kept rows packed place column are e = λ row h. subst (AreValuesOf rows place) e (are place) row h
+pub packed_kept : (rows : List (List CellValue)) (place : ℕ) (column : Bor (List CellValue)) → AreValuesOf rows place (Some column.now) → IsColumnOf rows place (Packed column)
+packed_kept rows place column are = λ row h. are row h
 
-pub texts_kept : (rows : List (List CellValue)) (texts : List (Option (List CellValue))) (place : ℕ) (column : Bor (List CellValue)) → AreTextsOf rows texts
-    → get_or texts place None ≡ Some column.now → IsColumnOf rows place (Texts column)
-texts_kept rows texts place column are e = λ row h. subst (AreValuesOf rows place) e (are place) row h
-
--- ---- the columns of a block
-
--- the first columns were read
-abbrev pub AreRead : List (List CellValue) → List Lane → ℕ → Type 0
-AreRead rows lanes i = (place : ℕ) (lane : Lane) → place < i → place < length lanes → IsLaneOf rows place (get_or lanes place lane)
-
-pub one_read : (rows : List (List CellValue)) (lanes : List Lane) (i : ℕ) (y : Lane) → IsLaneOf rows i y → AreRead rows lanes i → AreRead rows (set lanes i y) (i + 1)
-one_read rows lanes i y is so_far place lane h inside =
-    let len = length-set lanes i y in
-    elim (cases_eq place i) [
-      | inl same ↦
-          let at : y ≡ get_or (set lanes i y) i lane = sym (get_or-set_same lanes i y lane (omega arith)) in
-          subst (λ j. IsLaneOf rows j (get_or (set lanes i y) j lane)) (sym same) (subst (IsLaneOf rows i) at is)
-      | inr other ↦ rw (get_or-set_other lanes i place y lane other) (so_far place lane (omega arith) (omega arith))
-    ]
-
--- one more was read
-pub lane_more : (rows : List (List CellValue)) (lanes : List Lane) (i : ℕ) (y : Lane) → IsLaneOf rows i y → AreLanesOf rows lanes → AreLanesOf rows (set lanes i y)
-lane_more rows lanes i y is are place lane inside =
-    let len = length-set lanes i y in
-    elim (cases_eq place i) [
-      | inl same ↦
-          let at : y ≡ get_or (set lanes i y) i lane = sym (get_or-set_same lanes i y lane (omega (arith, inside, len, same))) in
-          subst (λ j. IsLaneOf rows j (get_or (set lanes i y) j lane)) (sym same) (subst (IsLaneOf rows i) at is)
-      | inr other ↦ rw (get_or-set_other lanes i place y lane other) (are place lane (omega (arith, inside, len)))
-    ]
-
--- the columns so far are those of the first lanes, or of the texts
-pub record AreOfLanes (lanes : List Lane) (packed texts : List (Option (List CellValue))) (columns : List Column) (i : ℕ) : Type 0 where
+-- the first columns
+pub record AreFirstColumns (rows : List (List CellValue)) (columns : List Column) (i : ℕ) : Type 0 where
   pub long : length columns ≡ i
-  pub each : (rows : List (List CellValue)) → AreLanesOf rows lanes → AreTextsOf rows packed → AreTextsOf rows texts → (place : ℕ) (column : Column) → place < i → IsColumnOf rows place (get_or columns place column)
+  pub each : (place : ℕ) (column : Column) → place < i → IsColumnOf rows place (get_or columns place column)
 
-pub none_of_lanes : (lanes : List Lane) (packed texts : List (Option (List CellValue))) → AreOfLanes lanes packed texts [] 0
-none_of_lanes lanes packed texts = record { long = refl; each = λ rows are these those place column h. absurd (omega arith) }
+pub no_columns_yet : (rows : List (List CellValue)) → AreFirstColumns rows [] 0
+no_columns_yet rows = record { long = refl; each = λ place column h. absurd (omega arith) }
 
-pub one_of_lanes : (lanes : List Lane) (packed texts : List (Option (List CellValue))) (columns : List Column) (i : ℕ) (lane : Lane) (kept column : Column)
-    → i < length lanes → lane ≡ get_or lanes i lane → ((rows : List (List CellValue)) → AreTextsOf rows packed → AreTextsOf rows texts → IsColumnOf rows i kept)
-    → IsMadeOf lane kept column
-    → AreOfLanes lanes packed texts columns i → AreOfLanes lanes packed texts (columns ++ column ∷ []) (i + 1)
-one_of_lanes lanes packed texts columns i lane kept column h at read is so_far = record {
+pub one_column_more : (rows : List (List CellValue)) (columns : List Column) (i : ℕ) (column : Column) → IsColumnOf rows i column → AreFirstColumns rows columns i
+    → AreFirstColumns rows (columns ++ column ∷ []) (i + 1)
+one_column_more rows columns i column is so_far = record {
   long = length_push columns column ∙ ap (λ k. k + 1) so_far.long;
-  each = λ rows are these those place d within. elim (cases_eq place i) [
+  each = λ place d within. elim (cases_eq place i) [
     | inl same ↦
         let new : column ≡ get_or (columns ++ column ∷ []) i d = sym (get_or_push columns column d i so_far.long) in
-        let here : IsColumnOf rows i column = is rows i (subst (IsLaneOf rows i) (sym at) (are i lane h)) (read rows these those) in
-        subst (λ j. IsColumnOf rows j (get_or (columns ++ column ∷ []) j d)) (sym same) (subst (IsColumnOf rows i) new here)
+        subst (λ j. IsColumnOf rows j (get_or (columns ++ column ∷ []) j d)) (sym same) (subst (IsColumnOf rows i) new is)
     | inr other ↦
         let inside : place < length columns = omega (arith, so_far.long) in
-        subst (IsColumnOf rows place) (sym (get_or_append_left columns (column ∷ []) d place inside)) (so_far.each rows are these those place d (omega arith))
+        subst (IsColumnOf rows place) (sym (get_or_append_left columns (column ∷ []) d place inside)) (so_far.each place d (omega arith))
   ];
 }
 
-pub columns_are : (rows : List (List CellValue)) (lanes : List Lane) (packed texts : List (Option (List CellValue))) (columns : List Column) (i : ℕ) → AreOfLanes lanes packed texts columns i
-    → AreLanesOf rows lanes → AreTextsOf rows packed → AreTextsOf rows texts → AreColumnsOf rows columns
-columns_are rows lanes packed texts columns i is are these those row h =
+pub columns_are : (rows : List (List CellValue)) (columns : List Column) (i : ℕ) → AreFirstColumns rows columns i → AreColumnsOf rows columns
+columns_are rows columns i is row h =
     record {
       each = λ place column at.
           let there = got columns place column at in
-          subst (λ k. IsCell k row (slice_get (get_or rows row []) place)) there.1 (is.each rows are these those place column (omega (arith, there.0, is.long)) row h);
+          is.each place column (omega (arith, there.0, is.long)) row h ∙ ap (λ c. Some (cell_in_column c row)) there.1;
     }
 
 -- ---- the texts of a block

@@ -1,12 +1,9 @@
--- The columns of a block that are read for a condition.
+-- The columns of a block, for conditions and for an order.
 use Rattle.std.specs.Prelude.{◌≡◌, ◌<◌, ℕ, ℤ, Bool, List, [], MatchOption, None, Option, Some, length, option_and_then, slice_get, slice_index_or}
 use Rattle.block_eval.specs.declared.columns.Column.{Column}
-use Rattle.block_eval.specs.Columns.{number_at, IsCell, IsRowAt}
-use Rattle.block_summary.specs.Cells.{AreBetween}
-use Rattle.block_summary.specs.Ranges.{column_of}
+use Rattle.block_eval.specs.Columns.{cell_in_column, number_at, IsRowAt}
 use Rattle.block_summary.specs.Reading.{packed_type_of}
-use Rattle.block_summary.specs.Types.{cell_of, numbers_of}
-use Rattle.block_summary.specs.declared.bounds.Bounds.{Bounds}
+use Rattle.block_summary.specs.Types.{cell_of}
 use Rattle.block_summary.specs.declared.number.PackedType.{PackedType}
 use Rattle.block_summary.specs.declared.number.PackedType.TheVariants.{Decimal, Integer}
 use Rattle.cell_types.specs.Value.{CellValue, null}
@@ -18,7 +15,7 @@ use Rattle.block_filter.specs.declared.lanes.Lanes.{Lanes}
 
 -- a column has the cells of rows at a place
 abbrev pub IsColumnOf : List (List CellValue) → ℕ → Column → Type 0
-IsColumnOf rows place column = (row : ℕ) → row < length rows → IsCell column row (slice_get (slice_index_or rows row []) place)
+IsColumnOf rows place column = (row : ℕ) → row < length rows → slice_get (slice_index_or rows row []) place ≡ Some (cell_in_column column row)
 
 -- columns have the cells of rows
 abbrev pub AreColumnsOf : List (List CellValue) → List Column → Type 0
@@ -28,17 +25,10 @@ AreColumnsOf rows columns = (row : ℕ) → row < length rows → IsRowAt column
 abbrev pub StandAt : List (List CellValue) → ℕ → PackedType → List ℤ → List Bool → Type 0
 StandAt rows place type numbers nulls = (row : ℕ) → row < length rows → slice_get (slice_index_or rows row []) place ≡ Some (cell_of type (number_at numbers nulls row))
 
--- the numbers of the cells of rows at a place lie between bounds
-abbrev pub LieBetween : List (List CellValue) → ℕ → Bounds → Type 0
-LieBetween rows place bounds = AreBetween bounds.least bounds.greatest (numbers_of (column_of rows place))
-
 -- what was read of a column, if it was read
 abbrev pub IsLaneOf : List (List CellValue) → ℕ → Lane → Type 0
 IsLaneOf rows place lane =
-    MatchOption lane.packed_type (Unit {0}) (λ type. StandAt rows place type lane.numbers.items lane.nulls.items × LieBetween rows place lane.bounds)
-
-abbrev pub AreLanesOf : List (List CellValue) → List Lane → Type 0
-AreLanesOf rows lanes = (place : ℕ) (lane : Lane) → place < length lanes → IsLaneOf rows place (slice_index_or lanes place lane)
+    MatchOption lane.packed_type (Unit {0}) (λ type. StandAt rows place type lane.numbers.items lane.nulls.items)
 
 -- the values of a column, if there are such
 abbrev pub AreValuesOf : List (List CellValue) → ℕ → Option (List CellValue) → Type 0
@@ -47,14 +37,6 @@ AreValuesOf rows place values = MatchOption values (Unit {0}) (λ vs. (row : ℕ
 -- and of each column
 abbrev pub AreTextsOf : List (List CellValue) → List (Option (List CellValue)) → Type 0
 AreTextsOf rows texts = (place : ℕ) → AreValuesOf rows place (slice_index_or texts place None)
-
--- of each column of numbers, and of each of texts
-abbrev pub AreAsKept : List (List CellValue) → List (Option (List CellValue)) → List (Option (List CellValue)) → Type 0
-AreAsKept rows packed texts = AreTextsOf rows packed × AreTextsOf rows texts
-
--- a column is made of what was read, numbers and nulls, or is as the block keeps it
-abbrev pub IsMadeOf : Lane → Column → Column → Type 0
-IsMadeOf lane kept column = (rows : List (List CellValue)) (place : ℕ) → IsLaneOf rows place lane → IsColumnOf rows place kept → IsColumnOf rows place column
 
 -- the numbers of a column as keys of so many rows
 pub record AreKeysIn (lane : Lane) (column : KeyColumn) (rows : ℕ) (keys : Keys) : Type 0 where

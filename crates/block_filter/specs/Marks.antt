@@ -1,5 +1,5 @@
 -- Rows that are marked.
-use Rattle.std.specs.Prelude.{◌≡◌, ◌<◌, ◌≤◌, ℕ, Bool, true, false, List, [], ◌∷◌, length, slice_index_or}
+use Rattle.std.specs.Prelude.{◌≡◌, ◌<◌, ℕ, Bool, true, false, List, [], ◌∷◌, length, slice_index_or}
 use Rattle.cell_types.specs.Value.{CellValue}
 use Rattle.row_eval.specs.declared.truth.Truth.{Truth}
 use Rattle.row_eval.specs.declared.truth.Truth.TheVariants.{True}
@@ -23,10 +23,3 @@ marked (false ∷ marks) (x ∷ xs) = marked marks xs
 -- a fact holds of each row that is marked
 abbrev pub HoldsOnMarked : (List CellValue → Type 0) → List Bool → List (List CellValue) → Type 0
 HoldsOnMarked P marks rows = (row : ℕ) → row < length rows → slice_index_or marks row false ≡ true → P (slice_index_or rows row [])
-
--- the first place from one on that is marked, or the end
-pub record IsFirstMarked (marks : List Bool) (from first : ℕ) : Type 0 where
-  pub from_there : from ≤ first
-  pub within : first ≤ length marks
-  pub none_before : (k : ℕ) → from ≤ k → k < first → slice_index_or marks k false ≡ false
-  pub marked_there : first < length marks → slice_index_or marks first false ≡ true

@@ -7,8 +7,8 @@ ghost use Rattle.query_meaning.specs.Meaning.{first_rows};
 ghost use Rattle.block_filter.specs.Conditions.{ConditionsFit};
 ghost use Rattle.block_filter.specs.Passing.{ArePassing};
 
-use crate::lanes::Lanes;
-use crate::passing::{Narrowed, count_of, numbers_of, passing_rows};
+use crate::passing::{Narrowed, count_of, passing_rows};
+use row_selection::Selection;
 use std::alloc::{AllocError, Global};
 use table_store::Block;
 use typed_trees::TruthExpr;
@@ -16,8 +16,8 @@ use typed_trees::TruthExpr;
 /// What conditions make of the rows of a block.
 #[derive(Drop)]
 pub struct Passed {
-    /// The numbers of the first of the rows on which all of them are true, counted from 0.
-    pub numbers: Vec<usize>,
+    /// The first of the rows on which all of them are true.
+    pub rows: Selection,
     /// How many rows there are on which all of them are true.
     pub count: usize,
     /// Whether one of them, in turn, divides by zero on a row.
@@ -35,25 +35,25 @@ fn limit_of(most: Option<u64>, rows: usize) -> usize
     }
 }
 
-/// Returns what conditions make of the rows of a block, with the numbers of the first `most` rows that pass, or of all if `most` is `None`. Each condition is
+/// Returns what conditions make of the rows of a block, with the first `most` rows that pass, or all of them if `most` is `None`. Each condition is
 /// evaluated column by column if possible, else one by one on the rows that the conditions before it left.
 pub fn filter_block(
     alloc: Global,
     conditions: &[Box<TruthExpr>],
     block: &Block<'_>,
     most: Option<u64>,
-    lanes: &mut Lanes,
 ) -> Result<Passed, AllocError>
     requires { All (ConditionsFit (map boxed_truth conditions.now)) block.now.rows }
     ensures { IfOk result (ArePassing (map boxed_truth conditions.now) most block.now.rows) }
 {
+    block.rows_are_few();
     let limit = limit_of(most, block.rows());
     let all = Vec::from_elem(alloc, true, block.rows())?;
-    let Narrowed { wanted, faulted } = passing_rows(alloc, conditions, block, lanes, all)?;
-    let numbers = numbers_of(alloc, &wanted, limit)?;
+    let Narrowed { wanted, faulted } = passing_rows(alloc, conditions, block, all)?;
     let count = count_of(&wanted);
+    let rows = Selection::of_marks(alloc, &wanted, count, limit)?;
     Ok(Passed {
-        numbers,
+        rows,
         count,
         faulted,
     })

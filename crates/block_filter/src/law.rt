@@ -3,7 +3,7 @@ ghost use Rattle.block_filter.specs.Conditions.{ConditionsInTurn};
 
 use query_meaning::true_rows_pass;
 
-/// What passes of rows is what passes of a first part, and then what passes of the rows behind it.
+/// What passes of rows is what passes of a first part, and then what passes of the rows after it.
 pub fn conditions_in_turn()
     ensures { ConditionsInTurn }
 {

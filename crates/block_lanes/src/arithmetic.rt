@@ -26,7 +26,7 @@ pub enum ExactOperator {
     Mul,
 }
 
-/// A sum, difference or product; where it does not fit, any number.
+/// A sum, difference or product; if it does not fit, any number.
 #[inline(always)]
 fn exact(operator: ExactOperator, left: i64, right: i64) -> i64
     ensures { FitsSigned w64 (exact_of operator left right)
@@ -39,7 +39,7 @@ fn exact(operator: ExactOperator, left: i64, right: i64) -> i64
     }
 }
 
-/// Whether the size of each number is below the limit.
+/// True if the size of each number is below the limit.
 #[inline(always)]
 fn each_below(operand: Operand<'_>, rows: usize, limit: u64) -> bool
     requires { IsLong rows operand }
@@ -52,7 +52,7 @@ fn each_below(operand: Operand<'_>, rows: usize, limit: u64) -> bool
     below
 }
 
-/// The same, with a loop of its own for the numbers of a column.
+/// Returns the same, with a loop of its own for the numbers of a column.
 fn are_below(operand: Operand<'_>, rows: usize, limit: u64) -> bool
     requires { IsLong rows operand }
     ensures { IsTrue result → (i : ℕ) → i < rows → unsigned_abs (lane_value operand.entry i) < limit }
@@ -149,7 +149,7 @@ fn exact_each(operator: ExactOperator, left: Operand<'_>, right: Operand<'_>, ou
     }
 }
 
-/// Whether the numbers of each row are so small that their sum, difference or product fits.
+/// True if the numbers of each row are so small that their sum, difference or product fits.
 fn are_small(operator: ExactOperator, left: Operand<'_>, right: Operand<'_>, rows: usize) -> bool
     requires left { IsLong rows left }
     requires right { IsLong rows right }
@@ -162,7 +162,7 @@ fn are_small(operator: ExactOperator, left: Operand<'_>, right: Operand<'_>, row
     are_below(left, rows, limit) && are_below(right, rows, limit)
 }
 
-/// Which rows have a null on a side.
+/// Returns which rows have a null on a side.
 pub fn nulls_of(
     alloc: Global,
     left: Operand<'_>,
@@ -195,7 +195,7 @@ fn exact_values(
     Ok(values)
 }
 
-/// The sums, differences or products of numbers on the wanted rows, where they fit; null beside a null. None is checked.
+/// Returns the sums, differences or products of numbers on the wanted rows, where they fit; null beside a null. None is checked.
 pub fn compute_fitting<'a>(
     alloc: Global,
     operator: ExactOperator,
@@ -215,7 +215,7 @@ pub fn compute_fitting<'a>(
     Ok(Numbers::Computed(values, nulls))
 }
 
-/// The sums, differences or products of numbers on the wanted rows; null beside a null. Where one may not fit, it falls back.
+/// Returns the sums, differences or products of numbers on the wanted rows; null beside a null. If one may not fit, it falls back.
 pub fn compute<'a>(
     alloc: Global,
     operator: ExactOperator,

@@ -15,7 +15,7 @@ use row_eval::{Truth, truth_of};
 use std::alloc::Global;
 use typed_trees::ComparisonOperator;
 
-/// Whether a comparison holds between two numbers, each with a mark that it is null.
+/// True if a comparison holds between two numbers, each with a mark that it is null.
 #[inline(always)]
 fn holds(
     operator: ComparisonOperator,
@@ -126,7 +126,7 @@ fn compare_by(
     }
 }
 
-/// Whether a comparison holds between two sides, row by row.
+/// Returns whether a comparison holds between two sides, row by row.
 fn truths_between(
     alloc: Global,
     operator: ComparisonOperator,
@@ -145,7 +145,7 @@ fn truths_between(
     Ok(truths)
 }
 
-/// Whether a comparison holds between numbers.
+/// Returns whether a comparison holds between numbers.
 pub fn compare(
     alloc: Global,
     operator: ComparisonOperator,

@@ -19,7 +19,7 @@ pub enum QuotientOperator {
     Mod,
 }
 
-/// A quotient or a remainder; none where the divisor is zero, and where it may not fit.
+/// A quotient or a remainder, or `None` if the divisor is zero, and if it may not fit.
 fn quotient(operator: QuotientOperator, left: i64, right: i64) -> Option<i64>
     ensures { IfSome result (λ n. operation (operator_of_quotient operator) left right ≡ Some n) }
 {
@@ -87,7 +87,7 @@ fn quotients(
     Ok(values)
 }
 
-/// The quotients or remainders of numbers on the wanted rows; null beside a null.
+/// Returns the quotients or remainders of numbers on the wanted rows; null beside a null.
 pub fn divide<'a>(
     alloc: Global,
     operator: QuotientOperator,

@@ -53,7 +53,7 @@ fn close_each(wanted: &mut [bool], truths: &[Truth], closed: Truth)
     }
 }
 
-/// The wanted rows whose truth is another than this one.
+/// Returns the wanted rows whose truth is another than this one.
 pub fn open_rows(
     alloc: Global,
     wanted: &[bool],
@@ -97,14 +97,14 @@ pub fn negation(mut truths: Vec<Truth>) -> Vec<Truth>
     truths
 }
 
-/// The same truth on each row.
+/// Returns the same truth on each row.
 pub fn same_truth(alloc: Global, truth: Truth, wanted: &[bool]) -> Result<Vec<Truth>, Fallback>
     ensures { IfOk result (λ truths. HasTruths (length wanted.now) (λ row. truth) truths.items) }
 {
     Ok(Vec::from_elem(alloc, truth, wanted.len())?)
 }
 
-/// The truth that a number stands for, with a mark that it is null.
+/// Returns the truth that a number stands for, with a mark that it is null.
 #[inline(always)]
 fn truth_at(null: bool, number: i64) -> Truth
     ensures { result ≡ truth_in null number }
@@ -125,7 +125,7 @@ fn truth_each(values: &[i64], nulls: &[bool], out: &mut [Truth])
     }
 }
 
-/// The truths that numbers stand for.
+/// Returns the truths that numbers stand for.
 pub fn truths_of(alloc: Global, values: &[i64], nulls: &[bool]) -> Result<Vec<Truth>, Fallback>
     requires { length nulls.now ≡ length values.now }
     ensures { IfOk result (λ truths. HasTruths (length values.now)

@@ -21,7 +21,7 @@ pub enum Numbers<'a> {
 }
 
 impl<'a> Numbers<'a> {
-    /// The numbers as one side of an operator.
+    /// Returns the numbers as one side of an operator.
     pub(crate) fn operand(&self) -> Operand<'_>
         ensures { IsOperandOf self.now result }
     {
@@ -34,7 +34,7 @@ impl<'a> Numbers<'a> {
     }
 }
 
-/// The numbers of a column of that many rows.
+/// Returns the numbers of a column of that many rows.
 pub fn cells<'a>(values: &'a [i64], nulls: &'a [bool], rows: usize) -> Result<Numbers<'a>, Fallback>
     ensures value { IfOk result (λ v. v ≡ Numbers.Cells values.entry nulls.entry) }
     ensures long { IfOk result (AreLong rows) }

@@ -24,7 +24,7 @@ impl<'v> Operand<'v> {
         }
     }
 
-    /// The number; of a null, any.
+    /// Returns the number; of a null, any.
     #[inline(always)]
     pub fn value(self, row: usize) -> i64
         requires { (rows : ℕ) × (row < rows) × IsLong rows self }

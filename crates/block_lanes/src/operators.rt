@@ -9,7 +9,7 @@ use crate::numbers::Numbers;
 use std::alloc::Global;
 use typed_trees::ArithmeticOperator;
 
-/// Two vectors joined by an operator, on the wanted rows.
+/// Returns two vectors joined by an operator, on the wanted rows.
 pub fn join<'a>(
     alloc: Global,
     operator: ArithmeticOperator,

@@ -105,7 +105,7 @@ selected_none : (places : Option (List ℕ)) → selected_rows places [] ≡ []
 selected_none None = refl
 selected_none (Some places) = refl
 
-pub none_pushed : (s : AggregateSink) (rows : List (List CellValue)) (found : Passed) → found.numbers.items ≡ [] → PushesOn (sink.Aggregate s) (sink.Aggregate s) rows found
+pub none_pushed : (s : AggregateSink) (rows : List (List CellValue)) (found : Passed) → found.rows ≡ [] → PushesOn (sink.Aggregate s) (sink.Aggregate s) rows found
 none_pushed s rows found none = record {
   nodes = refl;
   columns = record { places = refl; names = refl; kinds = refl };
@@ -118,7 +118,7 @@ none_pushed s rows found none = record {
 -- the rows of a block join them, and none is kept
 pub aggregate_pushed : (old new : AggregateSink) (rows more : List (List CellValue)) (found : Passed) → new.places ≡ old.places → new.aggregates ≡ old.aggregates → new.all ≡ old.all
     → HasSameColumns old.kept new.kept → new.kept.columns.rows ≡ []
-    → more ≡ selected_rows (kept_places old.kept) (numbered found.numbers.items rows) → Adjoins old.gathering new.gathering more → PushesOn (sink.Aggregate old) (sink.Aggregate new) rows found
+    → more ≡ selected_rows (kept_places old.kept) (numbered found.rows rows) → Adjoins old.gathering new.gathering more → PushesOn (sink.Aggregate old) (sink.Aggregate new) rows found
 aggregate_pushed old new rows more found places aggregates all_is columns none more_is joins =
     let node_is : aggregate_node (optional_numbers new.places) (aggregates_view new.aggregates) ≡ aggregate_node (optional_numbers old.places) (aggregates_view old.aggregates) =
     ap (λ (ps : _). aggregate_node (optional_numbers ps) (aggregates_view new.aggregates)) places ∙ ap (λ (as_many : _). aggregate_node (optional_numbers old.places) (aggregates_view as_many)) aggregates in
@@ -157,20 +157,20 @@ module _ (old : AggregateSink) (kept : Kept) (block : TableOf) (found : Passed) 
       has.rows ∙ ap (λ rs. rs ++ selected_rows (kept_places old.kept) (numbered numbers block.rows)) may.pushed.none
       ∙ ap (selected_rows (kept_places old.kept)) (all_numbered numbers block.rows all)
 
-  pub found_within : All (λ n. n < length kept.columns.rows) found.numbers.items
+  pub found_within : All (λ n. n < length kept.columns.rows) found.rows
   found_within =
-      subst (λ k. All (λ n. n < k) found.numbers.items) (sym (ap length kept_rows ∙ selected_long (kept_places old.kept) block.rows)) may.are_found.within
+      subst (λ k. All (λ n. n < k) found.rows) (sym (ap length kept_rows ∙ selected_long (kept_places old.kept) block.rows)) may.are_found.within
 
-  pub block_rows : numbered found.numbers.items kept.columns.rows ≡ selected_rows (kept_places old.kept) (numbered found.numbers.items block.rows)
+  pub block_rows : numbered found.rows kept.columns.rows ≡ selected_rows (kept_places old.kept) (numbered found.rows block.rows)
   block_rows =
-      ap (numbered found.numbers.items) kept_rows
-      ∙ selected_numbered (kept_places old.kept) block.rows found.numbers.items
-      (recursion_from_All (λ n. n < length block.rows) found.numbers.items may.are_found.within)
+      ap (numbered found.rows) kept_rows
+      ∙ selected_numbered (kept_places old.kept) block.rows found.rows
+      (recursion_from_All (λ n. n < length block.rows) found.rows may.are_found.within)
 
-  pub block_may_join : MayJoin old.gathering (length kept.columns.kinds) (numbered found.numbers.items kept.columns.rows)
+  pub block_may_join : MayJoin old.gathering (length kept.columns.kinds) (numbered found.rows kept.columns.rows)
   block_may_join =
       let more = selected_rows (kept_places old.kept) may.passing in
-      let rows_are : numbered found.numbers.items kept.columns.rows ≡ more = block_rows ∙ ap (selected_rows (kept_places old.kept)) may.are_found.first in
+      let rows_are : numbered found.rows kept.columns.rows ≡ more = block_rows ∙ ap (selected_rows (kept_places old.kept)) may.are_found.first in
       subst (MayJoin old.gathering (length kept.columns.kinds)) (sym rows_are)
       (may_join (optional_numbers old.places) (aggregates_view old.aggregates) old.gathering may.before more (kept_names old.kept) (length kept.columns.kinds) may.pushed.gathers
       (sym (as_many old.kept block.schema may.columns) ∙ sym (ap length has.same.kinds)) may.few may.fits.0)

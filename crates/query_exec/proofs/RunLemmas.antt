@@ -147,7 +147,7 @@ some_first most (Some all) kept is = (all, refl, cc)
 found_of : (es : List TruthExprOf) (most : Option ℕ) (rows : List (List CellValue)) (found : Passed) → ArePassing es most rows found → found.faulted ≡ false
     → (passing : List (List CellValue)) × (passing_all es rows ≡ Some passing) × AreFound most rows found passing
 found_of es most rows found are works =
-    let some = some_first most (passing_all es rows) (numbered found.numbers.items rows) (are.passed ∙ ap (λ b. unless_faulted b (numbered found.numbers.items rows)) works) in (
+    let some = some_first most (passing_all es rows) (numbered found.rows rows) (are.passed ∙ ap (λ b. unless_faulted b (numbered found.rows rows)) works) in (
       some.0,
       some.1,
       record { within = are.within; first = sym some.2; count = are.count ∙ sym (passed_count es rows some.0 some.1) },
@@ -198,7 +198,7 @@ joined_none (Some rows) = refl
 pub fault_found : (old : Run) (most : Option ℕ) (rows : List (List CellValue)) (found : Passed) → ArePassing (conditions_of old) most rows found → found.faulted ≡ true
     → (before : Option (List (List CellValue))) → HasPassed old before → rows_joined before (passed_rows old rows) ≡ None
 fault_found old most rows found are faults before has =
-    let none = none_first most (passing_all (conditions_of old) rows) (are.passed ∙ ap (λ f. unless_faulted f (numbered found.numbers.items rows)) faults) in
+    let none = none_first most (passing_all (conditions_of old) rows) (are.passed ∙ ap (λ f. unless_faulted f (numbered found.rows rows)) faults) in
     ap (λ passed. rows_joined before (option_map (selected_rows (places_of old)) passed)) none ∙ joined_none before
 
 pub faulted_taken : (old new : Run) (rows : List (List CellValue)) → new ≡ record old { left = new.left; room = new.room; lanes = new.lanes; faulted = new.faulted } → new.faulted ≡ true → new.left.items ≡ drop 1 old.left.items

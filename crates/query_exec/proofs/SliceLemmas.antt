@@ -112,7 +112,7 @@ slice_count old rows before passing found are has few =
 
 -- those of the rows that were found that are in the piece join those that are kept, and all are counted
 pub slice_pushed : (old new : SliceSink) (rows : List (List CellValue)) (found : Passed) (numbers : List ℕ) → new.slice ≡ old.slice → new.count ≡ old.count + found.count
-    → old.count + found.count < 2 ^ 64 → numbered numbers rows ≡ drop (old.slice.skip - old.count) (numbered found.numbers.items rows)
+    → old.count + found.count < 2 ^ 64 → numbered numbers rows ≡ drop (old.slice.skip - old.count) (numbered found.rows rows)
     → HasKept old.kept new.kept (selected_rows (kept_places old.kept) (numbered numbers rows)) → PushesOn (sink.Slice old) (sink.Slice new) rows found
 slice_pushed old new rows found numbers slice_is count_is few behind kept = record {
   nodes = ap (λ s. slicing (slice_view s) ∷ []) slice_is;

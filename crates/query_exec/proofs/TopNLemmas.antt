@@ -207,13 +207,13 @@ cut_to law s kept numbers fit best has = record {
 
 -- what the items compute on rows of a block that may be among the first fits, behind rows where it does
 pub block_fits : (old : TopNSink) (mid : Kept) (block : TableOf) (found : Passed) (numbers : List ℕ) → MayPush (sink.TopN old) block found
-    → AreTimely old block.rows found.numbers.items numbers → HasKept old.kept mid (selected_rows (kept_places old.kept) (numbered numbers block.rows))
+    → AreTimely old block.rows found.rows numbers → HasKept old.kept mid (selected_rows (kept_places old.kept) (numbered numbers block.rows))
     → ItemsFit (sink_items old) mid.columns.rows
 block_fits old mid block found numbers may timely kept =
     let P : List CellValue → Type 0 = λ row. All (λ item. NumbersFit item.0 row) (sink_items old) in
     let more = selected_rows (kept_places old.kept) may.passing in
     let new : ItemsFit (sink_items old) more = back_fits P may.before more may.fits.0.numbers in
-    let found_fit : ItemsFit (sink_items old) (selected_rows (kept_places old.kept) (numbered found.numbers.items block.rows)) =
+    let found_fit : ItemsFit (sink_items old) (selected_rows (kept_places old.kept) (numbered found.rows block.rows)) =
     subst (λ rs. ItemsFit (sink_items old) (selected_rows (kept_places old.kept) rs)) (sym may.are_found.first) new in
     subst (ItemsFit (sink_items old)) (sym kept.rows)
     (All-append P old.kept.columns.rows (selected_rows (kept_places old.kept) (numbered numbers block.rows)) may.pushed.fit (timely.fit found_fit))
@@ -225,7 +225,7 @@ block_fits old mid block found numbers may timely kept =
 
 -- rows of a block that may be among the first join them, and then rows that are not are let go
 pub top_n_pushed : FaultsAreForeseen → BestInPieces → (old new : TopNSink) (mid : Kept) (rows : List (List CellValue)) (found : Passed) (numbers : List ℕ) → none_can_fault (sink_items old) ≡ true
-    → AreTimely old rows found.numbers.items numbers → HasKept old.kept mid (selected_rows (kept_places old.kept) (numbered numbers rows))
+    → AreTimely old rows found.rows numbers → HasKept old.kept mid (selected_rows (kept_places old.kept) (numbered numbers rows))
     → HasCutRows (record old { kept = mid }) new → PushesOn (sink.TopN old) (sink.TopN new) rows found
 top_n_pushed faults law old new mid rows found numbers safe timely kept cut = record {
   nodes =

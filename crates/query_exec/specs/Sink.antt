@@ -85,8 +85,8 @@ spare_of sink = None
 
 -- of these rows of a block the first ones were found by their numbers, so many where that is limited, and how many they are
 pub record AreFound (spare : Option ℕ) (rows : List (List CellValue)) (found : Passed) (passing : List (List CellValue)) : Type 0 where
-  pub within : All (λ n. n < length rows) found.numbers.items
-  pub first : numbered found.numbers.items rows ≡ first_rows spare passing
+  pub within : All (λ n. n < length rows) found.rows
+  pub first : numbered found.rows rows ≡ first_rows spare passing
   pub count : found.count ≡ length passing
 
 -- the rows that were found in a block may be pushed after others: the step fits all of them

@@ -63,18 +63,19 @@ impl AggregateSink {
         ensures { OnOk result
             (PushesOn (sink.Aggregate self.old) (sink.Aggregate self.new) block.now.rows found) }
     {
-        if found.numbers.is_empty() {
+        if found.rows.len() == 0 {
             return Ok(());
         }
         block.rows_are_few();
         self.kept.take(alloc, block, &self.all[..block.rows()])?;
-        let numbers = found.numbers.as_slice();
-        self.gathering.join(alloc, &self.kept.columns, numbers)?;
+        let numbers = found.rows.to_vec(alloc)?;
+        self.gathering
+            .join(alloc, &self.kept.columns, numbers.as_slice())?;
         self.kept.columns.clear();
         Ok(())
     }
 
-    /// The row of aggregates, or a row for each group, of all rows that joined.
+    /// Returns the row of aggregates, or a row for each group, of all rows that joined.
     pub(crate) fn finish(self, alloc: Global) -> Result<Intermediate, AllocError>
         requires { MayFinish (sink.Aggregate self) }
         ensures { IfOk result (SinkMakes (sink.Aggregate self)) }

@@ -47,7 +47,7 @@ pub(crate) fn are_all(numbers: &[usize], len: usize) -> bool
 }
 
 impl Intermediate {
-    /// All rows of columns.
+    /// Returns all rows of columns.
     pub(crate) fn whole(
         alloc: Global,
         names: Vec<String>,
@@ -71,7 +71,7 @@ impl Intermediate {
         })
     }
 
-    /// The rows in columns of their own.
+    /// Returns the rows in columns of their own.
     pub(crate) fn into_rows(self, alloc: Global) -> Result<Rows, AllocError>
         requires { IsIntermediate self }
         ensures { IfOk result (λ rows. rows ≡ intermediate_view self) }

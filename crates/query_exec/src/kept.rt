@@ -25,7 +25,7 @@ pub(crate) struct Kept {
 }
 
 impl Kept {
-    /// No columns, and no rows.
+    /// Returns no columns, and no rows.
     pub(crate) fn none(alloc: Global) -> Kept {
         Kept {
             places: None,
@@ -34,7 +34,7 @@ impl Kept {
         }
     }
 
-    /// No rows yet.
+    /// Returns no rows yet.
     pub(crate) fn new(
         alloc: Global,
         schema: &Schema,
@@ -99,7 +99,7 @@ impl Kept {
         self.columns.put_in_order(alloc, numbers)
     }
 
-    /// The names and the rows.
+    /// Returns the names and the rows.
     pub(crate) fn lent(&self) -> FirstRows<'_>
         ensures { AreKeptRows self.now result }
     {
@@ -135,7 +135,7 @@ impl Kept {
         Intermediate::whole(alloc, names, columns, count)
     }
 
-    /// The rows with these numbers, and a count.
+    /// Returns the rows with these numbers, and a count.
     pub(crate) fn with_numbers(self, numbers: Vec<usize>, count: Option<u64>) -> Intermediate
         requires within { All (λ n. n < length self.columns.rows) numbers.items }
         requires width { length self.columns.kinds ≡ length (kept_names self) }

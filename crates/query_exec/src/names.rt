@@ -25,7 +25,7 @@ fn with_aliases(
     Ok(names)
 }
 
-/// The names of the columns that rows are grouped by, if so, and after them the aliases of aggregates.
+/// Returns the names of the columns that rows are grouped by, if so, and after them the aliases of aggregates.
 pub(crate) fn aggregate_names(
     alloc: Global,
     names: &[String],

@@ -20,7 +20,7 @@ pub(crate) struct Parts {
     pub(crate) steps: Vec<Node>,
 }
 
-/// The parts of the plan of these steps.
+/// Returns the parts of the plan of these steps.
 #[tactic(auto, using(crate::proofs::PartsLemmas::leading_are))]
 pub(crate) fn split(alloc: Global, nodes: Vec<Node>) -> Result<Parts, AllocError>
     ensures parts { IfOk result (λ p. map node_view nodes.items

@@ -67,7 +67,7 @@ pub struct Run {
 }
 
 impl Run {
-    /// The number of the next block that is needed, where there is one.
+    /// Returns the number of the next block that is needed if there is one.
     fn wanted(&self) -> Option<usize>
         ensures { result ≡ wanted_block self.now }
     {
@@ -77,7 +77,7 @@ impl Run {
         }
     }
 
-    /// What the steps make of the rows that passed the conditions, once every block that is needed was handed in. A division by zero, of a
+    /// Returns what the steps make of the rows that passed the conditions, once every block that is needed was handed in. A division by zero, of a
     /// condition too, is reported here.
     fn go_on(&mut self, alloc: Global) -> Result<Option<Rows>, ExecFault>
         requires { wanted_block self.old ≡ None → IsReady self.old }
@@ -121,7 +121,7 @@ impl Run {
             return Ok(());
         }
         let most = self.sink.spare();
-        let found = found_rows(alloc, &self.conditions, block, most, &mut self.lanes)?;
+        let found = found_rows(alloc, &self.conditions, block, most)?;
         self.room = room_behind(self.room, found.count as u64);
         if self.faulted || found.faulted {
             self.faulted = true;
@@ -150,7 +150,7 @@ impl Run {
         self.go_on(alloc)
     }
 
-    /// A run of the plan on a table of that schema with those summaries, one for each block.
+    /// Returns a run of the plan on a table of that schema with those summaries, one for each block.
     pub fn start(
         alloc: Global,
         schema: &Schema,
@@ -188,7 +188,7 @@ impl Run {
         })
     }
 
-    /// The number of the block that is needed next: none where none is needed, and none once the run is done or was refused.
+    /// Returns the number of the block that is needed next: none if none is needed, and none once the run is done or was refused.
     pub fn next(&self) -> Option<usize>
         ensures needed { (plan : PlanOf) (table : TableOf) (handed : ℕ)
             → StandsFor self.now plan table handed → result ≡ next_block plan table handed }
@@ -201,7 +201,7 @@ impl Run {
         }
     }
 
-    /// The names of the answer, and those of its first rows that passed so far, where it has the rows as they pass: in no order and in no groups.
+    /// Returns the names of the answer, and those of its first rows that passed so far, if it has the rows as they pass: in no order and in no groups.
     pub fn front(&self) -> Option<FirstRows<'_>>
         ensures { (plan : PlanOf) (table : TableOf) (handed : ℕ)
             → StandsFor self.now plan table handed → IfSome result (AreFirstRows plan table) }
@@ -216,7 +216,7 @@ impl Run {
         }
     }
 
-    /// Takes in the block that is needed next, or none where none is needed. A division by zero is reported by the call that would answer
+    /// Takes in the block that is needed next, or none if none is needed. A division by zero is reported by the call that would answer
     /// Done, and by no other. After Done it answers Done, and after a refusal Failed.
     pub fn advance(&mut self, alloc: Global, block: Option<Block<'_>>) -> Result<Step, ExecFault>
         requires { MayBeHanded self.old block }
@@ -246,7 +246,7 @@ impl Run {
         }
     }
 
-    /// The rows of a run that answered Done. It takes no memory.
+    /// Returns the rows of a run that answered Done. It takes no memory.
     pub fn finish(self) -> Rows
         requires { RunIsDone self }
         ensures { (rows : RowsOf) → RunGives self rows → result ≡ rows }

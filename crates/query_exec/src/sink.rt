@@ -26,7 +26,7 @@ pub(crate) enum Sink {
 }
 
 impl Sink {
-    /// The sink that does the first of some steps, where there is one, and the steps after it.
+    /// Returns the sink that does the first of some steps, if there is one, and the steps after it.
     pub(crate) fn of(
         alloc: Global,
         kept: Kept,
@@ -69,7 +69,7 @@ impl Sink {
         }
     }
 
-    /// How many more rows it takes in by their numbers, where that is limited: of the others it takes in how many they are.
+    /// Returns how many more rows it takes in by their numbers, if that is limited: of the others it takes in how many they are.
     pub(crate) fn spare(&self) -> Option<u64>
         ensures { result ≡ spare_of self.now }
     {
@@ -91,7 +91,10 @@ impl Sink {
         ensures { OnOk result (PushesOn self.old self.new block.now.rows found) }
     {
         match self {
-            Sink::Collect(kept) => kept.take(alloc, block, found.numbers.as_slice()),
+            Sink::Collect(kept) => {
+                let numbers = found.rows.to_vec(alloc)?;
+                kept.take(alloc, block, numbers.as_slice())
+            }
             Sink::Slice(sink) => sink.push(alloc, block, found),
             Sink::TopN(sink) => sink.push(alloc, block, found, lanes),
             Sink::Aggregate(sink) => sink.push(alloc, block, found),
@@ -109,7 +112,7 @@ impl Sink {
         }
     }
 
-    /// The rows that it keeps, where these are what its step makes of the rows that it took in.
+    /// Returns the rows that it keeps, where these are what its step makes of the rows that it took in.
     pub(crate) fn front(&self) -> Option<FirstRows<'_>>
         ensures { LendsKept self.now result }
     {
@@ -120,7 +123,7 @@ impl Sink {
         }
     }
 
-    /// What its step makes of all rows that it took in, as an answer. Where it keeps that, it takes no memory.
+    /// Returns what its step makes of all rows that it took in, as an answer. If it keeps that, it takes no memory.
     pub(crate) fn into_rows(self, alloc: Global) -> Result<Rows, AllocError>
         requires { MayFinish self }
         ensures { IfOk result (SinkGives self) }
@@ -135,7 +138,7 @@ impl Sink {
         }
     }
 
-    /// What its step makes of all rows that it took in.
+    /// Returns what its step makes of all rows that it took in.
     pub(crate) fn finish(self, alloc: Global) -> Result<Intermediate, AllocError>
         requires { MayFinish self }
         ensures { IfOk result (SinkMakes self) }

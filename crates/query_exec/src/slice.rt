@@ -31,7 +31,7 @@ pub(crate) struct SliceSink {
 }
 
 impl SliceSink {
-    /// How many more rows it is of, where that is limited: those up to its end, which come before it too.
+    /// Returns how many more rows it is of, if that is limited: those up to its end, which come before it too.
     pub(crate) fn spare(&self) -> Option<u64>
         ensures { result ≡ spare_of (sink.Slice self.now) }
     {
@@ -42,7 +42,7 @@ impl SliceSink {
         room_behind(uncounted.room(), self.count)
     }
 
-    /// The rows of a block that were found join those before them.
+    /// Returns the rows of a block that were found join those before them.
     #[tactic(auto, using(crate::proofs::SliceLemmas::slice_count))]
     pub(crate) fn push(
         &mut self,
@@ -56,12 +56,13 @@ impl SliceSink {
     {
         let skip = self.slice.skip.saturating_sub(self.count);
         self.count += found.count as u64;
-        let numbers = piece(found.numbers, skip, None);
+        let all = found.rows.to_vec(alloc)?;
+        let numbers = piece(all, skip, None);
         self.kept.take(alloc, block, numbers.as_slice())?;
         Ok(())
     }
 
-    /// What is kept, and the number of the rows, where that is asked for.
+    /// Returns what is kept, and the number of the rows, if that is asked for.
     fn parts(self) -> (Kept, Option<u64>)
         ensures kept { result.0 ≡ self.kept }
         ensures count { result.1 ≡ (if self.slice.counts then Some self.count else None) }
@@ -71,7 +72,7 @@ impl SliceSink {
         (kept, count)
     }
 
-    /// The piece of all rows that joined, as an answer. It takes no memory.
+    /// Returns the piece of all rows that joined, as an answer. It takes no memory.
     pub(crate) fn into_rows(self) -> Rows
         requires { MayFinish (sink.Slice self) }
         ensures { SinkGives (sink.Slice self) result }
@@ -80,7 +81,7 @@ impl SliceSink {
         kept.into_rows(count)
     }
 
-    /// The piece of all rows that joined.
+    /// Returns the piece of all rows that joined.
     #[tactic(auto, using(crate::proofs::SliceLemmas::slice_finishes))]
     pub(crate) fn finish(self, alloc: Global) -> Result<Intermediate, AllocError>
         requires { MayFinish (sink.Slice self) }

@@ -20,7 +20,7 @@ use row_order::{best_numbers, passing_numbers, piece, sorted_numbers};
 use std::alloc::{AllocError, Global};
 use std::mem;
 
-/// The values of some columns.
+/// Returns the values of some columns.
 fn project(
     alloc: Global,
     input: &Intermediate,
@@ -38,7 +38,7 @@ fn project(
     Intermediate::whole(alloc, names, columns, input.count)
 }
 
-/// One row of aggregates, or a row for each group.
+/// Returns one row of aggregates, or a row for each group.
 fn aggregate(
     alloc: Global,
     input: &Intermediate,
@@ -84,7 +84,7 @@ fn sort(
     }
 }
 
-/// What a step makes of a result.
+/// Returns what a step makes of a result.
 fn apply(alloc: Global, node: &Node, input: Intermediate) -> Result<Intermediate, EvalFault>
     requires input { IsIntermediate input }
     requires fits { IsFitNode (node_view node.now) (intermediate_view input) }
@@ -116,7 +116,7 @@ fn apply(alloc: Global, node: &Node, input: Intermediate) -> Result<Intermediate
     }
 }
 
-/// What the steps in turn make of a result.
+/// Returns what the steps in turn make of a result.
 #[tactic(auto, using(crate::proofs::StepLemmas::begins, crate::proofs::StepLemmas::step_fits, crate::proofs::StepLemmas::step_made, crate::proofs::StepLemmas::step_faults, crate::proofs::StepLemmas::all_through))]
 pub(crate) fn apply_all(
     alloc: Global,

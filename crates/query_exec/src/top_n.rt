@@ -19,7 +19,7 @@ use std::alloc::{AllocError, Global};
 use table_store::Block;
 use typed_trees::can_fault;
 
-/// Whether no item may divide by zero.
+/// True if no item may divide by zero.
 pub(crate) fn none_can_fault(items: &[OrderBy]) -> bool
     ensures { result ≡ none_can_fault (map order_view items.now) }
 {
@@ -40,7 +40,7 @@ pub(crate) struct TopNSink {
 }
 
 impl TopNSink {
-    /// The place in a block of the column that is kept in a place.
+    /// Returns the place in a block of the column that is kept in a place.
     fn source_of(&self, place: usize) -> Option<usize>
         ensures { IfSome result (IsSourceOf (kept_places self.now.kept) place) }
     {
@@ -50,7 +50,7 @@ impl TopNSink {
         }
     }
 
-    /// Of the rows of a block with these numbers those that may be among the first, after the rows that are kept. Where the items are columns alone, it is
+    /// Of the rows of a block with these numbers those that may be among the first, after the rows that are kept. If the items are columns alone, it is
     /// told by the numbers of the first.
     fn timely(
         &self,
@@ -85,7 +85,7 @@ impl TopNSink {
         may_reach_top(alloc, &self.kept.columns, keys, numbers, top)
     }
 
-    /// The numbers of the first of the rows that are kept.
+    /// Returns the numbers of the first of the rows that are kept.
     fn best(&self, alloc: Global) -> Result<Vec<usize>, AllocError>
         requires safe { none_can_fault (sink_items self.now) ≡ true }
         requires fit { ItemsFit (sink_items self.now) self.now.kept.columns.rows }
@@ -115,7 +115,7 @@ impl TopNSink {
         Ok(())
     }
 
-    /// The rows of a block that were found join those before them.
+    /// Returns the rows of a block that were found join those before them.
     pub(crate) fn push(
         &mut self,
         alloc: Global,
@@ -129,13 +129,14 @@ impl TopNSink {
     {
         best_in_pieces();
         faults_are_foreseen();
-        let numbers = self.timely(alloc, block, found.numbers, lanes)?;
+        let all = found.rows.to_vec(alloc)?;
+        let numbers = self.timely(alloc, block, all, lanes)?;
         self.kept.take(alloc, block, numbers.as_slice())?;
         self.cut(alloc)?;
         Ok(())
     }
 
-    /// The first of all rows that joined, in their order.
+    /// Returns the first of all rows that joined, in their order.
     #[tactic(auto, using(crate::proofs::TopNLemmas::top_n_finishes))]
     pub(crate) fn finish(self, alloc: Global) -> Result<Intermediate, AllocError>
         requires { MayFinish (sink.TopN self) }

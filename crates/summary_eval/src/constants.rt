@@ -10,7 +10,7 @@ use cell_types::Value;
 use std::borrow::CowStr;
 use typed_trees::{MILLIONTHS, NumberExpr, TextExpr};
 
-/// A number with the other sign, where it fits.
+/// Returns a number with the other sign, if it fits.
 fn opposite_number(number: Option<i128>) -> Option<Option<i128>>
     ensures { IfSome result (λ opposite. opposite ≡ option_map neg_ℤ number) }
 {
@@ -20,7 +20,7 @@ fn opposite_number(number: Option<i128>) -> Option<Option<i128>>
     }
 }
 
-/// An integer as a decimal, where it fits.
+/// Returns an integer as a decimal, if it fits.
 fn scaled_number(number: Option<i128>) -> Option<Option<i128>>
     ensures { IfSome result (λ scaled. scaled ≡ option_map (λ n. n *ℤ pos MILLIONTHS) number) }
 {
@@ -30,7 +30,7 @@ fn scaled_number(number: Option<i128>) -> Option<Option<i128>>
     }
 }
 
-/// The number of an expression on each row.
+/// Returns the number of an expression on each row.
 pub fn constant_number(expr: &NumberExpr) -> Option<Option<i128>>
     ensures { IfSome result (IsConstantNumber (number_view expr.now)) }
 {
@@ -43,7 +43,7 @@ pub fn constant_number(expr: &NumberExpr) -> Option<Option<i128>>
     }
 }
 
-/// A text, or null.
+/// Returns a text, or null.
 pub fn constant_text(expr: &TextExpr) -> Option<Value<'_>>
     ensures { IfSome result (λ value. IsConstantText (text_view expr.now) (value_view value)) }
 {

@@ -18,7 +18,7 @@ pub enum Kind {
     Decimal,
 }
 
-/// A test.
+/// Returns a test.
 fn test(op: Comparison, literal: Value<'static>) -> Test<'static>
     ensures op { result.op ≡ op }
     ensures literal { result.literal ≡ literal.entry }
@@ -32,7 +32,7 @@ fn text(text: &'static str) -> Value<'static>
     Value::Text(CowStr::Borrowed(text))
 }
 
-/// Two tests: all values of the kinds before this one pass the first, and all of the kinds behind it pass the second.
+/// Returns two tests: all values of the kinds before this one pass the first, and all of the kinds after it pass the second.
 pub fn tests_around(kind: Kind) -> (Test<'static>, Test<'static>)
     ensures { Encloses kind result.0 result.1 }
 {

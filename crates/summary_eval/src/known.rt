@@ -13,7 +13,7 @@ use cell_types::{Value, dates_read_back};
 use row_eval::{Truth, dates_are_compared, greatest, least, opposite, truth_of};
 use typed_trees::{ComparisonOperator, NumberExpr, TextExpr, TruthExpr};
 
-/// A column of numbers, compared with a number.
+/// Returns a column of numbers, compared with a number.
 fn known_numbers(
     summary: &Summary,
     operator: ComparisonOperator,
@@ -33,7 +33,7 @@ fn known_numbers(
     known_comparison(summary, kind_of(*kind), operator, *place, literal)
 }
 
-/// A column of texts, compared with a literal.
+/// Returns a column of texts, compared with a literal.
 fn known_texts(
     summary: &Summary,
     operator: ComparisonOperator,
@@ -50,7 +50,7 @@ fn known_texts(
     known_comparison(summary, Kind::Text, operator, *place, literal)
 }
 
-/// A column of truths.
+/// Returns a column of truths.
 fn known_column(summary: &Summary, place: usize) -> Option<Truth>
     ensures { IfSome result (IsKnown (truth_column place) summary.now) }
 {
@@ -65,7 +65,7 @@ fn known_column(summary: &Summary, place: usize) -> Option<Truth>
     }
 }
 
-/// The truth on each row of a condition that has no condition as a part.
+/// Returns the truth on each row of a condition that has no condition as a part.
 fn known_leaf(expr: &TruthExpr, summary: &Summary) -> Option<Truth>
     ensures { IfSome result (IsKnown (truth_view expr.now) summary.now) }
 {
@@ -83,7 +83,7 @@ fn known_leaf(expr: &TruthExpr, summary: &Summary) -> Option<Truth>
     }
 }
 
-/// The truth that a condition has on each row of a block with these ranges; none where the ranges do not tell. Nothing says when they do.
+/// Returns the truth that a condition has on each row of a block with these ranges, or `None` if the ranges do not tell. Nothing says when they do.
 pub fn known_truth(expr: &TruthExpr, summary: &Summary) -> Option<Truth>
     ensures { IfSome result (IsKnown (truth_view expr.now) summary.now) }
 {

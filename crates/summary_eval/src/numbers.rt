@@ -15,7 +15,7 @@ const FIRST_YEAR: i128 = 512;
 
 const PAST_YEARS: i128 = 5_120_000;
 
-/// The day with a number, where the calendar has it.
+/// Returns the day with a number, if the calendar has it.
 fn day_at(number: u32) -> Option<Value<'static>>
     requires first { 512 ≤ number }
     requires last { number < 5_120_000 }
@@ -31,7 +31,7 @@ fn day_at(number: u32) -> Option<Value<'static>>
     }
 }
 
-/// The day that a number stands for, where the calendar has it in the years 1 to 9999.
+/// Returns the day that a number stands for, if the calendar has it in the years 1 to 9999.
 fn day_value(number: i128) -> Option<Value<'static>>
     ensures { option_map value_view result ≡ day_cell number }
 {
@@ -42,7 +42,7 @@ fn day_value(number: i128) -> Option<Value<'static>>
     day_at(number as u32)
 }
 
-/// The value that a number of a kind stands for, or null.
+/// Returns the value that a number of a kind stands for, or null.
 pub fn number_value(kind: NumberKind, number: Option<i128>) -> Option<Value<'static>>
     ensures { option_map value_view result ≡ number_cell kind number }
 {
@@ -56,7 +56,7 @@ pub fn number_value(kind: NumberKind, number: Option<i128>) -> Option<Value<'sta
     }
 }
 
-/// The kind of the values that numbers of a kind stand for.
+/// Returns the kind of the values that numbers of a kind stand for.
 pub fn kind_of(kind: NumberKind) -> Kind
     ensures { result ≡ kind_of_number kind }
 {

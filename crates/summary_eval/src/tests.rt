@@ -11,7 +11,7 @@ use cell_types::{Value, values_are_ordered};
 use row_eval::{Truth, truth_of};
 use typed_trees::ComparisonOperator;
 
-/// An operator as a comparison of a column with a literal.
+/// Returns an operator as a comparison of a column with a literal.
 pub fn comparison_of(operator: ComparisonOperator) -> Comparison
     ensures { result ≡ comparison_of_operator operator }
 {
@@ -38,7 +38,7 @@ fn opposite_of(comparison: Comparison) -> Comparison
     }
 }
 
-/// Whether the range of a column tells that no row passes a test.
+/// True if the range of a column tells that no row passes a test.
 fn fails_each(summary: &Summary, place: usize, test: &Test<'_>) -> bool
     ensures { IsTrue result → Says summary.now place test.now false }
 {
@@ -46,7 +46,7 @@ fn fails_each(summary: &Summary, place: usize, test: &Test<'_>) -> bool
     place < summary.width() && !admits(summary, place, test)
 }
 
-/// Whether the range of a column tells that each cell is a value.
+/// True if the range of a column tells that each cell is a value.
 pub fn is_each(summary: &Summary, place: usize, value: Value<'_>) -> bool
     ensures { IsTrue result → HaveCellAlone (value_view value.entry) summary.now place }
 {
@@ -58,7 +58,7 @@ pub fn is_each(summary: &Summary, place: usize, value: Value<'_>) -> bool
     fails_each(summary, place, &test)
 }
 
-/// Whether the range of a column tells that no row is null.
+/// True if the range of a column tells that no row is null.
 fn has_no_null(summary: &Summary, place: usize) -> bool
     ensures { IsTrue result → (cells : List CellValue) → IsRowWithin summary.now cells
         → is_null (cell_at_place cells place) ≡ false }
@@ -70,7 +70,7 @@ fn has_no_null(summary: &Summary, place: usize) -> bool
     fails_each(summary, place, &test)
 }
 
-/// Whether the opposite of a test holds just where the test does not: not of an order, where there is null.
+/// True if the opposite of a test holds just where the test does not: not of an order, if there is null.
 fn has_opposite(summary: &Summary, place: usize, test: &Test<'_>) -> bool
     ensures { IsTrue result → HasOpposite summary.now place test.now }
 {
@@ -80,7 +80,7 @@ fn has_opposite(summary: &Summary, place: usize, test: &Test<'_>) -> bool
     }
 }
 
-/// Whether the range of a column tells that each row passes a test.
+/// True if the range of a column tells that each row passes a test.
 fn passes_each(summary: &Summary, place: usize, test: Test<'_>) -> bool
     ensures { IsTrue result → Says summary.now place test.entry true }
 {
@@ -94,7 +94,7 @@ fn passes_each(summary: &Summary, place: usize, test: Test<'_>) -> bool
     fails_each(summary, place, &opposite)
 }
 
-/// What a test says of each row alike; none where the range does not tell.
+/// Returns what a test says of each row alike, or `None` if the range does not tell.
 fn known_test(summary: &Summary, place: usize, test: Test<'_>) -> Option<bool>
     ensures { IfSome result (λ b. Says summary.now place test.entry b) }
 {
@@ -107,7 +107,7 @@ fn known_test(summary: &Summary, place: usize, test: Test<'_>) -> Option<bool>
     None
 }
 
-/// Whether the range of a column tells that each cell is null or of a kind.
+/// True if the range of a column tells that each cell is null or of a kind.
 fn are_of_kind(summary: &Summary, place: usize, kind: Kind) -> bool
     ensures { IsTrue result → AreOfKind kind summary.now place }
 {
@@ -115,7 +115,7 @@ fn are_of_kind(summary: &Summary, place: usize, kind: Kind) -> bool
     fails_each(summary, place, &before) && fails_each(summary, place, &behind)
 }
 
-/// The truth that a comparison of a column with a literal has on each row alike; none where the range does not tell.
+/// Returns the truth that a comparison of a column with a literal has on each row alike, or `None` if the range does not tell.
 pub fn known_comparison(
     summary: &Summary,
     kind: Kind,

@@ -1,3 +1,4 @@
 pub mod TextLemmas
 pub mod PartLemmas
 pub mod CodeLemmas
+pub mod MeasureLemmas

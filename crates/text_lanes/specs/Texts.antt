@@ -1,5 +1,5 @@
 -- Texts on the rows of a block that are wanted.
-use Rattle.std.specs.Prelude.{◌≡◌, ◌<◌, ℕ, Bool, Option, None, Some, List, length, map, option_map, slice_index_or}
+use Rattle.std.specs.Prelude.{◌≡◌, ◌<◌, ℕ, ℤ, Bool, Option, None, Some, List, length, map, option_map, slice_index_or}
 use Rattle.std.specs.Cmp.Lexicographic.{slice_cmp}
 use Rattle.std.specs.Ordering.{nat_cmp}
 use Rattle.cell_types.specs.Value.{CellValue, null}
@@ -9,8 +9,11 @@ use Rattle.row_eval.specs.Comparison.{compared, holds, is_among}
 use Rattle.row_eval.specs.Logic.{truth_of, truth_of_option}
 use Rattle.row_eval.specs.Outcome.{joined}
 use Rattle.row_eval.specs.Row.{text_in}
-use Rattle.row_eval.specs.Text.{text_passes}
-use Rattle.block_lanes.specs.Lanes.{truth_lane, IsWanted}
+use Rattle.row_eval.specs.Text.{index_in, length_in, text_passes}
+use Rattle.block_lanes.specs.declared.numbers.Numbers.{Numbers}
+use Rattle.block_lanes.specs.Lanes.{number_lane, truth_lane, AreLong, IsWanted}
+use Rattle.text_lanes.specs.declared.measures.TextMeasure.{TextMeasure}
+use Rattle.text_lanes.specs.declared.measures.TextMeasure.TheVariants.{IndexOf, Length}
 use Rattle.text_lanes.specs.declared.question.TextQuestion.{TextQuestion}
 use Rattle.text_lanes.specs.declared.question.TextQuestion.TheVariants.{Among, Related}
 use Rattle.text_lanes.specs.declared.relation.TextRelation.{TextRelation}
@@ -65,3 +68,20 @@ pub record HasAnswers (f : Option (List ℕ) → Truth) (v : Texts) (wanted : Li
 -- on each wanted row, whether the text of a vector is one of a list
 abbrev pub AreAmong : Texts → List (Option (List ℕ)) → List Bool → List Truth → Type 0
 AreAmong v items wanted truths = HasAnswers (found_among items) v wanted truths
+
+-- ---- numbers of texts
+
+-- what parts there are, are there for all rows
+abbrev pub AreMeasuresLong : ℕ → TextMeasure → Type 0
+AreMeasuresLong rows Length = Unit {0}
+AreMeasuresLong rows (IndexOf parts) = AreTextsLong rows parts
+
+-- the number of a text, beside the part of a row; null beside a null
+abbrev pub measured : TextMeasure → Option (List ℕ) → ℕ → Option ℤ
+measured Length text row = option_map length_in text
+measured (IndexOf parts) text row = joined index_in text (text_lane parts row)
+
+-- on each wanted row, the number of the text of a vector
+pub record AreMeasured (m : TextMeasure) (texts : Texts) (wanted : List Bool) (v : Numbers) : Type 0 where
+  pub each : (row : ℕ) → row < length wanted → IsWanted wanted row → number_lane v row ≡ measured m (text_lane texts row) row
+  pub long : AreLong (length wanted) v

@@ -18,7 +18,7 @@ use std::alloc::Global;
 use text_columns::{TextCodes, TextColumn};
 use typed_trees::{ComparisonOperator, TextTest};
 
-/// What is said of the text of a row, where it is wanted.
+/// Returns what is said of the text of a row, if it is wanted.
 #[inline(always)]
 fn answer_at(is_wanted: bool, question: TextQuestion<'_>, texts: Texts<'_>, row: usize) -> Truth
     requires { (rows : ℕ) × (row < rows) × AreTextsLong rows texts }
@@ -42,7 +42,7 @@ fn answer_each(question: TextQuestion<'_>, texts: Texts<'_>, wanted: &[bool], ou
     }
 }
 
-/// What is said of the texts of the wanted rows, in a list of its own, one text after another.
+/// Returns what is said of the texts of the wanted rows, in a list of its own, one text after another.
 fn answer_texts(
     alloc: Global,
     question: TextQuestion<'_>,
@@ -58,7 +58,7 @@ fn answer_texts(
     Ok(truths)
 }
 
-/// What is said of the texts of a block with codes. It is asked once for each code.
+/// Returns what is said of the texts of a block with codes. It is asked once for each code.
 fn answer_codes<'a>(
     alloc: Global,
     question: TextQuestion<'_>,
@@ -76,7 +76,7 @@ fn answer_codes<'a>(
     Ok(truths)
 }
 
-/// What is said of the texts of a column, on the wanted rows. Without codes a part is sought in all texts at once, and a text is
+/// Returns what is said of the texts of a column, on the wanted rows. Without codes a part is sought in all texts at once, and a text is
 /// compared with all, also where few rows are wanted: to pass over the others costs as much.
 pub(crate) fn answer_column<'a>(
     alloc: Global,
@@ -108,7 +108,7 @@ pub(crate) fn answer_column<'a>(
     }
 }
 
-/// Which texts of the wanted rows are in a list.
+/// Returns which texts of the wanted rows are in a list.
 pub fn texts_among(
     alloc: Global,
     texts: Texts<'_>,

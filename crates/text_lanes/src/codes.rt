@@ -20,7 +20,7 @@ fn spread_each(codes: &[u8], answers: &[Truth], out: &mut [Truth])
     }
 }
 
-/// The answer of each row, which is that of its code.
+/// Returns the answer of each row, which is that of its code.
 pub fn spread(alloc: Global, codes: &[u8], answers: &[Truth]) -> Result<Vec<Truth>, Fallback>
     requires { (row : ℕ) → row < length codes.now
         → slice_index_or codes.now row 0 < length answers.now }

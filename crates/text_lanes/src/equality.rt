@@ -12,7 +12,7 @@ use row_eval::{Truth, truth_of};
 use std::alloc::Global;
 use text_columns::TextColumn;
 
-/// Whether a text is the same as another; null is not.
+/// Returns whether a text is the same as another; null is not.
 #[inline(always)]
 fn equality_of(text: Option<&str>, other: &str) -> Truth
     ensures { result ≡ related (Comparison Equal) (option_map (λ t. t.now) text.entry)
@@ -32,7 +32,7 @@ fn equal_each(texts: &TextColumn<'_>, other: &str, out: &mut [Truth])
     }
 }
 
-/// Whether the texts of a column are the same as one; no null is.
+/// Returns whether the texts of a column are the same as one; no null is.
 pub fn equal(alloc: Global, texts: &TextColumn<'_>, other: &str) -> Result<Vec<Truth>, Fallback>
     ensures { IfOk result (λ truths. HasTruths (length texts.now)
         (λ row. related (Comparison Equal) (text_at texts.now row) (Some other.now)) truths.items) }

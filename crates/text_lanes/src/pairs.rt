@@ -12,7 +12,7 @@ use block_lanes::Fallback;
 use row_eval::Truth;
 use std::alloc::Global;
 
-/// What a relation says of the texts of a row, where it is wanted.
+/// Returns what a relation says of the texts of a row, if it is wanted.
 #[inline(always)]
 fn relation_at(
     is_wanted: bool,
@@ -52,7 +52,7 @@ fn relate_each(
     }
 }
 
-/// What a relation says of texts, on the wanted rows, in a list of its own, one pair after another.
+/// Returns what a relation says of texts, on the wanted rows, in a list of its own, one pair after another.
 fn relate_texts(
     alloc: Global,
     relation: TextRelation,
@@ -70,7 +70,7 @@ fn relate_texts(
     Ok(truths)
 }
 
-/// What a relation says of texts, on the wanted rows, in a list of its own.
+/// Returns what a relation says of texts, on the wanted rows, in a list of its own.
 pub fn relate(
     alloc: Global,
     relation: TextRelation,

@@ -19,7 +19,7 @@ pub enum TextQuestion<'a> {
     Among(&'a [Option<String>]),
 }
 
-/// The text of an item.
+/// Returns the text of an item.
 fn item_text(item: &Option<String>) -> Option<&str>
     ensures { option_map (λ t. t.now) result ≡ optional_text item.now }
 {
@@ -29,7 +29,7 @@ fn item_text(item: &Option<String>) -> Option<&str>
     }
 }
 
-/// Whether a text is one of the items.
+/// True if a text is one of the items.
 fn is_item(text: Option<&str>, items: &[Option<String>]) -> bool
     ensures { result ≡ is_among (slice_cmp nat_cmp) (option_map (λ t. t.now) text.entry)
         (map optional_text items.now) }
@@ -42,7 +42,7 @@ fn is_item(text: Option<&str>, items: &[Option<String>]) -> bool
     false
 }
 
-/// What is said of a text.
+/// Returns what is said of a text.
 pub(crate) fn answer_of(question: TextQuestion<'_>, text: Option<&str>) -> Truth
     ensures { result ≡ answered question.entry (option_map (λ t. t.now) text.entry) }
 {

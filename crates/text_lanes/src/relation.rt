@@ -18,7 +18,7 @@ pub enum TextRelation {
     Test(TextTest),
 }
 
-/// The order of texts.
+/// Returns the order of texts.
 fn text_order(left: Option<&str>, right: Option<&str>) -> Option<Ordering>
     ensures { result ≡ compared (slice_cmp nat_cmp) (option_map (λ t. t.now) left.entry)
         (option_map (λ t. t.now) right.entry) }
@@ -30,7 +30,7 @@ fn text_order(left: Option<&str>, right: Option<&str>) -> Option<Ordering>
     }
 }
 
-/// Whether two texts are the same. Of texts of different lengths no byte is looked at.
+/// True if two texts are the same. Of texts of different lengths no byte is looked at.
 #[inline(always)]
 fn is_same_text(left: &str, right: &str) -> bool
     ensures { result ≡ bytes_eq left.now right.now }
@@ -41,7 +41,7 @@ fn is_same_text(left: &str, right: &str) -> bool
     left == right
 }
 
-/// Whether both are the same text, or null.
+/// True if both are the same text, or null.
 #[inline(always)]
 pub(crate) fn are_same(left: Option<&str>, right: Option<&str>) -> bool
     ensures { result ≡ is_equal (compared (slice_cmp nat_cmp) (option_map (λ t. t.now) left.entry)
@@ -54,7 +54,7 @@ pub(crate) fn are_same(left: Option<&str>, right: Option<&str>) -> bool
     }
 }
 
-/// Whether a comparison holds of two texts.
+/// True if a comparison holds of two texts.
 fn texts_hold(operator: ComparisonOperator, left: Option<&str>, right: Option<&str>) -> bool
     ensures { result ≡ holds_of operator (compared (slice_cmp nat_cmp)
         (option_map (λ t. t.now) left.entry) (option_map (λ t. t.now) right.entry)) }
@@ -77,7 +77,7 @@ fn test_of(test: TextTest, text: Option<&str>, part: Option<&str>) -> Truth
     }
 }
 
-/// What a relation says of two texts.
+/// Returns what a relation says of two texts.
 pub(crate) fn relation_of(relation: TextRelation, left: Option<&str>, right: Option<&str>) -> Truth
     ensures { result ≡ related relation (option_map (λ t. t.now) left.entry)
         (option_map (λ t. t.now) right.entry) }

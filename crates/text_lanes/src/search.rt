@@ -11,7 +11,7 @@ use row_eval::{Truth, truth_of};
 use std::alloc::Global;
 use text_columns::TextColumn;
 
-/// What a mark says of a text; null of null.
+/// Returns what a mark says of a text; null of null.
 #[inline(always)]
 fn truth_by_mark(text: Option<&str>, is_marked: bool) -> Truth
     ensures { result ≡ marked_truth is_marked (option_map (λ t. t.now) text.entry) }
@@ -34,7 +34,7 @@ fn truth_each(texts: &TextColumn<'_>, marks: &[bool], out: &mut [Truth])
     }
 }
 
-/// Whether a part stands in the texts of a column; null where a text is null.
+/// Returns whether a part stands in the texts of a column; null where a text is null.
 pub fn contain(alloc: Global, texts: &TextColumn<'_>, part: &str) -> Result<Vec<Truth>, Fallback>
     ensures { IfOk result (λ truths. HasTruths (length texts.now)
         (λ row. related (Test Contains) (text_at texts.now row) (Some part.now)) truths.items) }

@@ -19,7 +19,7 @@ pub enum Texts<'a> {
 }
 
 impl<'a> Texts<'a> {
-    /// The text of a row.
+    /// Returns the text of a row.
     #[inline(always)]
     pub(crate) fn at(self, row: usize) -> Option<&'a str>
         requires { (rows : ℕ) × (row < rows) × AreTextsLong rows self }

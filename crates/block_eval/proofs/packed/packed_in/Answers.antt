@@ -11,3 +11,8 @@ returns-clause-numbers c =
     let is = found-column columns c.args.place step.field-0.now _ step.ensures.lookup.3.0 step.ensures.lookup.1 step.field-0-is in
     let type = c.are_same.ensures c.if-not-are_same.false in
     packed-numbers columns c.args.place _ c.args.packed_type is (subst (λ t. cells_of_type t (numbers_of step.column.now) ≡ step.column.now) type c.packed_type.ensures)
+
+pub returns-clause-typed : goal.returns-clause-typed
+returns-clause-typed c =
+    let type = c.are_same.ensures c.if-not-are_same.false in
+    subst (λ t. cells_of_type t (numbers_of c.in-Some-Packed.column.now) ≡ c.in-Some-Packed.column.now) type c.packed_type.ensures

@@ -1,16 +1,16 @@
-use Rattle.std.proofs.Common.{◌≡◌, length, ap, ◌∙◌, arith}
-use Rattle.block_eval.specs.declared.columns.Column.TheVariants.{Numbers}
-use Rattle.block_summary.specs.declared.number.PackedType.TheVariants.{Boolean}
-use Rattle.block_eval.proofs.NumberLemmas.{found-column, truths-give}
+use Rattle.std.proofs.Common.{get_or, length, subst, true}
+use Rattle.std.specs.Prelude.{pos}
+use Rattle.block_eval.specs.Lanes.{truth_in, HasTruths}
+use Rattle.block_eval.proofs.NumberLemmas.{truths-give}
 use Rattle.block_eval.proofs.truths.truths_in.Goals as goal
 
-pub returns-in_ok-truths-in-Some-Numbers-Boolean-default-default-default :
-    goal.returns-in_ok-truths-in-Some-Numbers-Boolean-default-default-default
-returns-in_ok-truths-in-Some-Numbers-Boolean-default-default-default c =
-    let step = c.in-Some-Numbers-Boolean-default-default-default in
-    let columns = c.args.columns.now in
-    let is = found-column columns c.args.place step.field-0.now (Numbers Boolean step.values step.nulls step.field-0-3) step.ensures.lookup.3.0 step.ensures.lookup.1
-    (step.field-0-is ∙ ap (λ t. Numbers t step.values step.nulls step.field-0-3) step.field-0-0-is) in
-    let size : length step.values.now ≡ length c.args.wanted.now = omega (arith, c.if-values-wanted.false) in
-    truths-give columns c.args.place step.values step.nulls step.field-0-3 c.args.wanted.now c.in_ok-truths-in-Some-Numbers-Boolean-default-default-default.truths.items is size
-    c.in_ok-truths-in-Some-Numbers-Boolean-default-default-default.ensures
+pub returns : goal.returns
+returns c =
+    let made = c.in_ok-values.field-0 in
+    let is = c.in_ok-values.ensures in
+    let ts = c.in_ok-truths.truths.items in
+    let nulls = c.as_slice-2.result.now in
+    let of_values = subst (λ vs. HasTruths (length vs) (λ row. truth_in (get_or nulls row true) (get_or vs row (pos 0))) ts) c.as_slice.ensures.value c.in_ok-truths.ensures in
+    let of_both = subst (λ ns. HasTruths (length made.values.items) (λ row. truth_in (get_or ns row true) (get_or made.values.items row (pos 0))) ts) c.as_slice-2.ensures.value of_values in
+    truths-give c.args.columns.now c.args.place c.args.wanted.now made ts is
+    (subst (λ n. HasTruths n (λ row. truth_in (get_or made.nulls.items row true) (get_or made.values.items row (pos 0))) ts) is.values_long of_both)

@@ -1,4 +1,4 @@
-use Rattle.std.proofs.Common.{◌≡◌, ◌∙◌, ◌+◌, ◌++◌, ◌||◌, [], ap, arith, drop, eqb-true, false, get_or, length, map, option_copied, subst, sym, take, true}
+use Rattle.std.proofs.Common.{◌≡◌, ◌∙◌, ◌+◌, ◌++◌, ◌||◌, [], ap, arith, drop, eqb-true, false, get_or, length, map, subst, sym, take, true}
 use Rattle.std.specs.Prelude.{count_by}
 use Rattle.std.proofs.lemmas.List.{drop_all, length-replicate, nil_from_length}
 use Rattle.std.proofs.Math.Seq.{take-append_seam}
@@ -24,7 +24,6 @@ loop-condition-init c =
     record {
       long = ap length c.requires.wanted ∙ length-replicate (length rows) true;
       left = all_left (map boxed_truth c.args.conditions.now) rows c.args.wanted.items c.requires.wanted c.requires.fits;
-      lanes = c.forget.ensures rows;
     }
 
 pub returns-then-count_of-eq0 : goal.returns-then-count_of-eq0
@@ -34,12 +33,11 @@ returns-then-count_of-eq0 c =
     none_wanted (map boxed_truth c.args.conditions.now) (map boxed_truth (drop c.loop-condition.condition-index c.args.conditions.now)) c.args.block.now.rows _ none
     c.loop-condition.invariant.long c.loop-condition.invariant.left
 
+pub block_columns-requires : goal.block_columns-requires
+block_columns-requires c = subst (AreTextsOf c.args.block.now.rows) (sym c.as_slice.ensures.value) c.in_ok-texts.ensures
+
 pub narrow_by-requires-clause-columns : goal.narrow_by-requires-clause-columns
-narrow_by-requires-clause-columns c =
-    let rows = c.args.block.now.rows in
-    let packed : AreTextsOf rows (map option_copied c.as_slice.result.now) = subst (λ xs. AreTextsOf rows (map option_copied xs)) (sym c.as_slice.ensures.value) c.in_ok-packed.ensures in
-    let texts : AreTextsOf rows c.as_slice-in-loop-condition.result.now = subst (AreTextsOf rows) (sym c.as_slice-in-loop-condition.ensures.value) c.in_ok-texts.ensures in
-    subst (AreColumnsOf rows) (sym c.deref-in-loop-condition-3.ensures.value) (c.in_ok-columns.ensures rows c.in_ok-read_named.ensures (packed, texts))
+narrow_by-requires-clause-columns c = subst (AreColumnsOf c.args.block.now.rows) (sym c.deref-in-loop-condition-2.ensures.value) c.in_ok-columns.ensures
 
 pub narrow_by-requires-clause-fits : goal.narrow_by-requires-clause-fits
 narrow_by-requires-clause-fits c = λ row h m.
@@ -49,7 +47,7 @@ narrow_by-requires-clause-fits c = λ row h m.
     let next = next_condition c.args.conditions.now c.loop-condition.condition-index c.condition-item.result c.loop-condition-test.true c.condition-item.is in
     let left = subst (λ ls. AreLeftTo es ls rows wanted c.loop-condition.faulted) next c.loop-condition.invariant.left in
     let marked_is = subst (λ ms. get_or ms row false ≡ true) c.as_mut_slice.ensures.value m in
-    rw c.deref-in-loop-condition-2.ensures ((left.fits row h marked_is).0)
+    rw c.deref-in-loop-condition.ensures ((left.fits row h marked_is).0)
 
 pub loop-condition-preserved : goal.loop-condition-preserved
 loop-condition-preserved c =
@@ -69,13 +67,12 @@ loop-condition-preserved c =
     let whole : take c.loop-condition.wanted.len (now ++ rest) ≡ now = ap (λ k. take k (now ++ rest)) size ∙ take-append_seam now rest in
     let same : length now ≡ length rows = as_long ∙ c.loop-condition.invariant.long in
     let narrows : Narrows (boxed_truth condition) rows was now faults =
-    subst (λ t. Narrows (truth_view t) rows was now faults) c.deref-in-loop-condition-2.ensures
-    (subst (λ ms. Narrows (truth_view c.deref-in-loop-condition-2.result.now) rows ms now faults) c.as_mut_slice.ensures.value c.in_ok-faults.ensures) in
+    subst (λ t. Narrows (truth_view t) rows was now faults) c.deref-in-loop-condition.ensures
+    (subst (λ ms. Narrows (truth_view c.deref-in-loop-condition.result.now) rows ms now faults) c.as_mut_slice.ensures.value c.in_ok-faults.ensures) in
     record {
       long = ap length whole ∙ same;
       left = subst (λ ws. AreLeftTo es behind rows ws (faulted || faults)) (sym whole)
           (next_left es (boxed_truth condition) behind rows was now faults c.loop-condition.invariant.long same narrows faulted left);
-      lanes = c.in_ok-read_named.ensures;
     }
 
 pub returns : goal.returns

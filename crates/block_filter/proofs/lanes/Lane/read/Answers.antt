@@ -33,11 +33,9 @@ returns c =
     omega (arith, c.numbers.auto.numbers, c.as_mut_slice.ensures.len, ap length c.as_mut_slice.ensures.value, c.in_ok-fit.ensures.numbers, c.rows.ensures) in
     let nulls_long : length nulls ≡ length c.args.block.now.rows =
     omega (arith, c.numbers.auto.nulls, c.as_mut_slice-2.ensures.len, ap length c.as_mut_slice-2.ensures.value, c.in_ok-fit.ensures.nulls, c.rows.ensures) in record {
-      lane = (
-        rw (numbers_stay, nulls_stay) (column_stands c.tables_are_inputs.ensures c.args.block.now c.args.col (column_view c.index.result.now) c.in-Some.packed_type numbers nulls
-            c.values_fit.ensures at (sym c.in-Some.ensures) c.numbers.ensures.numbers c.numbers.ensures.nulls),
-        c.bounds_of-self.ensures,
-      );
+      lane =
+          rw (numbers_stay, nulls_stay) (column_stands c.tables_are_inputs.ensures c.args.block.now c.args.col (column_view c.index.result.now) c.in-Some.packed_type numbers nulls
+          c.values_fit.ensures at (sym c.in-Some.ensures) c.numbers.ensures.numbers c.numbers.ensures.nulls);
       read = λ type same. (sym is ∙ same, ap length numbers_stay ∙ numbers_long, ap length nulls_stay ∙ nulls_long);
     }
 

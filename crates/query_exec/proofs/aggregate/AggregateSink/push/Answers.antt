@@ -14,7 +14,7 @@ join-requires-clause-joins c =
     let few : c.rows.result ≤ BLOCK_ROWS = omega (arith, c.rows.ensures, c.rows_are_few.ensures) in
     let all : AreAllNumbers c.deref.result.now BLOCK_ROWS = subst (λ ns. AreAllNumbers ns BLOCK_ROWS) (sym c.deref.ensures.value) c.requires.pushed.all in
     let front : AreAllNumbers numbers (length c.args.block.now.rows) = subst (AreAllNumbers numbers) c.rows.ensures (block_numbers c.deref.result.now c.rows.result all few) in
-    subst (λ ns. MayJoin old.gathering (length kept.columns.kinds) (numbered ns kept.columns.rows)) (sym c.as_slice-numbers.ensures.value)
+    subst (λ ns. MayJoin old.gathering (length kept.columns.kinds) (numbered ns kept.columns.rows)) (sym (c.as_slice.ensures.value ∙ c.in_ok-numbers.ensures))
     (block_may_join old kept c.args.block.now c.args.found numbers c.requires c.in_ok-take.ensures front)
 
 pub returns : goal.returns
@@ -26,8 +26,8 @@ returns c =
     let all : AreAllNumbers c.deref.result.now BLOCK_ROWS = subst (λ ns. AreAllNumbers ns BLOCK_ROWS) (sym c.deref.ensures.value) c.requires.pushed.all in
     let front : AreAllNumbers numbers (length c.args.block.now.rows) = subst (AreAllNumbers numbers) c.rows.ensures (block_numbers c.deref.result.now c.rows.result all few) in
     let same = c.in_ok-take.ensures.same in
-    let joins : Adjoins old.gathering c.join.new.self (numbered c.args.found.numbers.items kept.columns.rows) =
-    subst (λ ns. Adjoins old.gathering c.join.new.self (numbered ns kept.columns.rows)) c.as_slice-numbers.ensures.value c.in_ok-join.ensures in
-    aggregate_pushed old _ c.args.block.now.rows (numbered c.args.found.numbers.items kept.columns.rows) c.args.found refl refl refl
+    let joins : Adjoins old.gathering c.join.new.self (numbered c.args.found.rows kept.columns.rows) =
+    subst (λ ns. Adjoins old.gathering c.join.new.self (numbered ns kept.columns.rows)) (c.as_slice.ensures.value ∙ c.in_ok-numbers.ensures) c.in_ok-join.ensures in
+    aggregate_pushed old _ c.args.block.now.rows (numbered c.args.found.rows kept.columns.rows) c.args.found refl refl refl
     (record { places = same.places; names = same.names; kinds = c.clear.ensures.kinds ∙ same.kinds }) c.clear.ensures.rows
     (block_rows old kept c.args.block.now c.args.found numbers c.requires c.in_ok-take.ensures front) joins

@@ -13,5 +13,5 @@ returns c =
     let skip_is : c.saturating_sub-skip.result ≡ old.slice.skip - old.count = search rules in
     slice_pushed old _ rows found c.piece-numbers.result.items refl refl
     (slice_count old rows c.requires.before c.requires.passing found c.requires.are_found c.requires.pushed c.requires.few)
-    (c.piece-numbers.ensures.rows rows ∙ ap (λ k. drop k (numbered found.numbers.items rows)) skip_is)
+    (c.piece-numbers.ensures.rows rows ∙ ap (λ ns. drop c.saturating_sub-skip.result (numbered ns rows)) c.in_ok-all.ensures ∙ ap (λ k. drop k (numbered found.rows rows)) skip_is)
     (subst (λ ns. HasKept old.kept c.take.new.self (selected_rows (kept_places old.kept) (numbered ns rows))) c.as_slice.ensures.value c.in_ok-take.ensures)

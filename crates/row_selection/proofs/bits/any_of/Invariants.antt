@@ -1,0 +1,6 @@
+use Rattle.std.proofs.Common.{◌≡◌, ℕ, ◌<◌, false, get_or}
+use Rattle.row_selection.proofs.bits.any_of.Given as goal
+
+-- if none was true so far, none of the marks before a place is
+abbrev pub invariant-loop-place : goal.invariant-loop-place
+invariant-loop-place l = l.any ≡ false → (k : ℕ) → k < l.place → get_or l.marks k false ≡ false

@@ -1,0 +1,5 @@
+pub mod Numbers
+pub mod Marks
+pub mod Bits
+pub mod Selection
+pub mod Worked

@@ -1,0 +1,19 @@
+-- Numbers that are marked: by a boolean each, or by the bits of words of 64.
+use Rattle.std.specs.Prelude.{◌+◌, ◌==◌, ℕ, zero, suc, Bool, true, false, List, [], ◌∷◌, ◌++◌, if◌then◌else◌}
+use Rattle.std.specs.Int.{bit_at}
+
+-- the numbers whose marks are true, of which the first mark is that of a number
+abbrev pub marked_numbers : ℕ → List Bool → List ℕ
+marked_numbers start [] = []
+marked_numbers start (true ∷ marks) = start ∷ marked_numbers (suc start) marks
+marked_numbers start (false ∷ marks) = marked_numbers (suc start) marks
+
+-- those of the first so many bits of a word that are set, each as its place after a number
+unfoldable pub bit_numbers : ℕ → ℕ → ℕ → List ℕ
+bit_numbers start word zero = []
+bit_numbers start word (suc count) = bit_numbers start word count ++ (if bit_at word count == 1 then (start + count) ∷ [] else [])
+
+-- those of words, one after another
+abbrev pub word_numbers : ℕ → List ℕ → List ℕ
+word_numbers start [] = []
+word_numbers start (word ∷ words) = bit_numbers start word 64 ++ word_numbers (start + 64) words

@@ -1,0 +1,136 @@
+//! Rows of a block that are selected.
+ghost use Rattle.std.specs.Prelude.{◌≡◌, ◌<◌, ◌≤◌, ◌^◌, IfOk, length, take};
+ghost use Rattle.std.specs.List.{All};
+ghost use Rattle.row_selection.specs.Marks.{marked_numbers};
+ghost use Rattle.row_selection.specs.Numbers.{rising_from};
+
+use crate::bits::Bits;
+use std::alloc::{AllocError, Global};
+use std::marker::Model;
+
+/// Up to this many rows are listed. Of more a bit for each row of the block is kept.
+const FEW: usize = 256;
+
+/// The forms in which rows are selected.
+#[derive(Drop)]
+enum Rows {
+    /// The first ones.
+    All(usize),
+    Bits(Bits),
+    Few(Vec<u16>),
+}
+
+/// Rows of a block by their numbers, which are counted from 0 and rise. They are seen as the list of the numbers.
+#[derive(Drop)]
+pub struct Selection {
+    rows: Rows,
+}
+
+impl Model for Selection {
+    ghost use Rattle.std.specs.Prelude.{ℕ, List};
+    ghost use Rattle.row_selection.specs.Selection.{selected_view};
+
+    ghost Value = { List ℕ };
+
+    ghost view = { selected_view };
+}
+
+/// Returns the first `count` numbers.
+fn first_numbers(alloc: Global, count: usize) -> Result<Vec<usize>, AllocError>
+    ensures { IfOk result (λ made. made.items ≡ rising_from 0 count) }
+{
+    let mut numbers = Vec::with_capacity(alloc, count)?;
+    for number in 0..count {
+        numbers.push(number)?;
+    }
+    Ok(numbers)
+}
+
+/// Returns the numbers of a list.
+fn wide(alloc: Global, rows: &[u16]) -> Result<Vec<usize>, AllocError>
+    ensures { IfOk result (λ made. made.items ≡ rows.now) }
+{
+    let mut numbers = Vec::with_capacity(alloc, rows.len())?;
+    for row in rows {
+        numbers.push(usize::from(*row))?;
+    }
+    Ok(numbers)
+}
+
+impl Selection {
+    /// Selects the first `count` rows. It takes no memory.
+    pub fn all(count: usize) -> Selection
+        ensures { result ≡ rising_from 0 count }
+    {
+        Selection {
+            rows: Rows::All(count),
+        }
+    }
+
+    /// Selects the rows with these numbers, one by one.
+    fn few(alloc: Global, numbers: &[usize]) -> Result<Selection, AllocError>
+        requires { All (λ number. number < 2 ^ 16) numbers.now }
+        ensures { IfOk result (λ made. made ≡ numbers.now) }
+    {
+        let mut rows = Vec::with_capacity(alloc, numbers.len())?;
+        for number in numbers {
+            rows.push(*number as u16)?;
+        }
+        Ok(Selection {
+            rows: Rows::Few(rows),
+        })
+    }
+
+    /// Selects the first `most` of the rows whose marks are true, of which there are `count`.
+    pub fn of_marks(
+        alloc: Global,
+        marks: &[bool],
+        count: usize,
+        most: usize,
+    ) -> Result<Selection, AllocError>
+        requires few { length marks.now ≤ 2 ^ 16 }
+        requires count { count ≡ length (marked_numbers 0 marks.now) }
+        ensures rows { IfOk result (λ made. made ≡ take most (marked_numbers 0 marks.now)) }
+        ensures within { IfOk result (λ made. All (λ row. row < length marks.now) made) }
+    {
+        let len = count.min(most);
+        if count == marks.len() {
+            return Ok(Selection::all(len));
+        }
+        if len == 0 {
+            return Ok(Selection::all(0));
+        }
+        let bits = Bits::of_marks(alloc, marks, count)?;
+        if len == count && len > FEW {
+            return Ok(Selection {
+                rows: Rows::Bits(bits),
+            });
+        }
+        let numbers = bits.to_vec(alloc)?;
+        let rows = Selection::few(alloc, &numbers[..len])?;
+        Ok(rows)
+    }
+
+    /// Returns how many rows are selected.
+    #[inline(always)]
+    pub fn len(&self) -> usize
+        ensures { result ≡ length self.now }
+    {
+        match &self.rows {
+            Rows::All(count) => *count,
+            Rows::Bits(bits) => bits.len(),
+            Rows::Few(rows) => rows.len(),
+        }
+    }
+
+    /// Returns the numbers of the rows, one by one.
+    pub fn to_vec(&self, alloc: Global) -> Result<Vec<usize>, AllocError>
+        ensures { IfOk result (λ made. made.items ≡ self.now) }
+    {
+        match &self.rows {
+            Rows::All(count) => first_numbers(alloc, *count),
+            Rows::Bits(bits) => bits.to_vec(alloc),
+            Rows::Few(rows) => wide(alloc, rows.as_slice()),
+        }
+    }
+}
