@@ -30,7 +30,7 @@ fn one_more(n: u64) -> u64
 }
 
 impl<T> Counted<T> {
-    /// The reader or the writer, with nothing counted yet.
+    /// Returns the reader or the writer, with nothing counted yet.
     pub fn new(inner: T) -> Counted<T>
         ensures { result ≡ record { inner = inner; reads = 0; ends = 0; failed = 0 } }
     {

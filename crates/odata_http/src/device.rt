@@ -1,4 +1,4 @@
-//! Sources and sinks of bytes, which may fail. Contracts see each as one record: what it tells of its bytes, and what it counts.
+//! Sources and sinks of bytes, which may fail. Contracts see each as one record: what it reports of its bytes, and what it counts.
 ghost use Rattle.std.specs.Prelude.{◌≤◌, ℕ, OnOk, OnErr, length, take};
 ghost use Rattle.std.specs.Io.{ReadsAtMost, WritesAtMost};
 ghost use Rattle.std.specs.Io.KnownBytes.{Appends, ReadConsumes, WriteAppends};
@@ -10,7 +10,7 @@ pub struct DeviceFault;
 
 /// What bytes are read from.
 pub trait Source {
-    /// The bytes that are left, where the device tells them, and its counts.
+    /// The bytes that are left, if the device reports them, and its counts.
     ghost source: { Self → SourceOf };
 
     /// Moves the next bytes into the front of the buffer, and answers how many: 0 only at the end, or where the buffer has no room.
@@ -25,7 +25,7 @@ pub trait Source {
 
 /// What bytes are written to.
 pub trait Sink {
-    /// The bytes that were taken, where the device tells them, and its count.
+    /// The bytes that were taken, if the device reports them, and its count.
     ghost sink: { Self → SinkOf };
 
     /// Takes a front of the bytes, and answers how long it is: of a nonempty piece at least one byte.

@@ -36,7 +36,7 @@ impl Exchange {
         Exchange::begin_with(alloc, catalog, &head.method, &head.target, checks)
     }
 
-    /// The same for a head that was checked before.
+    /// Returns the same for a head that was checked before.
     pub fn begin_checked(
         alloc: Global,
         catalog: &Catalog,
@@ -48,7 +48,7 @@ impl Exchange {
         Exchange::begin_with(alloc, catalog, head.method(), head.target(), head.checks())
     }
 
-    /// The same for a head of that method and target, with its checks.
+    /// Returns the same for a head of that method and target, with its checks.
     fn begin_with(
         alloc: Global,
         catalog: &Catalog,
@@ -104,7 +104,7 @@ impl Exchange {
     }
 
     /// Reads one block of the table at most. It answers Done at the call of the length that a head has, when the reply is there, and after that
-    /// always; and where memory ran out, in this call or before, it says so.
+    /// always; and if memory ran out, in this call or before, it says so.
     pub fn advance(&mut self, alloc: Global, catalog: &Catalog) -> Result<Step, AllocError>
         requires { MayGoOn catalog.now self.old }
         ensures goes_on { (head : HeadOf) (left : ℕ) → Answers catalog.now head left self.old
@@ -123,7 +123,7 @@ impl Exchange {
         }
     }
 
-    /// The reply of an exchange that answered Done. It takes no memory.
+    /// Returns the reply of an exchange that answered Done. It takes no memory.
     pub fn reply(self) -> Vec<u8>
         requires { IsDone self }
         ensures { (reply : List ℕ) → GivesReply self reply → result.items ≡ reply }

@@ -29,7 +29,7 @@ pub(crate) struct Finding {
     pub(crate) format: Format,
 }
 
-/// The values of a row.
+/// Returns the values of a row.
 fn row_values<'t>(alloc: Global, table: &'t Table, row: usize) -> Result<Vec<Value<'t>>, AllocError>
     requires { row < length table.now.rows }
     ensures row { IfOk result
@@ -46,7 +46,7 @@ fn row_values<'t>(alloc: Global, table: &'t Table, row: usize) -> Result<Vec<Val
 }
 
 impl Finding {
-    /// The numbers of the columns that are asked for, where not all are.
+    /// Returns the numbers of the columns that are asked for, where not all are.
     fn selected(&self) -> Option<&[usize]>
         ensures { option_map (λ places. places.now) result ≡ optional_numbers self.now.select }
     {

@@ -16,7 +16,7 @@ pub fn cuts_are_small()
     http_heads::head_limits();
 }
 
-/// Under some tables a head has one reply at most. That it has one is not said here: whether tokens have a tree is known where they are parsed.
+/// Under some tables a head has one reply at most. That it has one is not said here: whether tokens have a tree is known if they are parsed.
 pub fn one_reply()
     ensures { UnderTables OneReply }
 {
@@ -32,7 +32,7 @@ pub fn one_reading()
 }
 
 /// Unless the connection closed, what follows a stream is answered as what follows its rest; where it closed, what follows is not answered. So
-/// the replies do not hang on how a stream is cut into pieces.
+/// the replies do not depend on how a stream is cut into pieces.
 pub fn joins()
     ensures { UnderTables Joins }
 {
@@ -47,7 +47,7 @@ pub fn hopeless_ends()
     http_heads::hopeless_rests();
 }
 
-/// The exchange of a head takes one number of calls before its reply: one at least, and no more than its table has blocks, or one where it has none.
+/// The exchange of a head takes one number of calls before its reply: one at least, and no more than its table has blocks, or one if it has none.
 pub fn one_length()
     ensures { OneLength }
 {

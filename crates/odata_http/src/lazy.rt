@@ -36,7 +36,7 @@ impl LazyExchange {
     }
 
     /// Reads one block of the table at most. It answers Done at the call of the length that a head has, when the reply is there, and after that
-    /// always; and where memory ran out, in this call or before, it says so.
+    /// always; and if memory ran out, in this call or before, it says so.
     pub fn advance(&mut self, alloc: Global, catalog: &Catalog) -> Result<Step, AllocError>
         requires { MayGoOnLazily catalog.now self.old }
         ensures goes_on { (head : HeadOf) (left : ℕ)
@@ -50,7 +50,7 @@ impl LazyExchange {
         self.exchange.go_on(alloc, catalog)
     }
 
-    /// The reply of an exchange that answered Done. It takes no memory, nor does a take from it.
+    /// Returns the reply of an exchange that answered Done. It takes no memory, nor does a take from it.
     pub fn reply(self) -> Reply
         requires { IsLazilyDone self }
         ensures { (reply : List ℕ) → GivesLazily self reply → result ≡ reply }
@@ -62,7 +62,7 @@ impl LazyExchange {
     }
 }
 
-/// The reply to a head: what the engine calls, head by head.
+/// Returns the reply to a head: what the engine calls, head by head.
 pub(crate) fn lazy_reply_to(
     alloc: Global,
     catalog: &Catalog,

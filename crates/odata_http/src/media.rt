@@ -26,7 +26,7 @@ impl Media {
         }
     }
 
-    /// Its name.
+    /// Returns its name.
     pub(crate) fn name(self) -> &'static [u8]
         ensures { result.now ≡ media_type self }
     {

@@ -40,7 +40,7 @@ pub(crate) enum Reached {
     Over(Response),
 }
 
-/// The block of its table that a run needs next, where it needs one.
+/// Returns the block of its table that a run needs next, if it needs one.
 fn next_block<'t>(run: &Run, table: &'t Table) -> Option<Block<'t>>
     requires { NeedsBlocksOf run.now table.now }
     ensures { (plan : PlanOf) (handed : ℕ) → StandsFor run.now plan table.now handed
@@ -53,7 +53,7 @@ fn next_block<'t>(run: &Run, table: &'t Table) -> Option<Block<'t>>
     }
 }
 
-/// The sizes with those of the rows that a run knows to be the first of its answer.
+/// Returns the sizes with those of the rows that a run knows to be the first of its answer.
 fn counted(sizes: RowSizes, run: &Run, format: Format) -> RowSizes
     requires { NeedsBlocks run.now }
     ensures { CountsOn run.now format sizes result }
@@ -104,7 +104,7 @@ impl Reading {
         }
     }
 
-    /// Reads the next block, where one is needed.
+    /// Reads the next block, if one is needed.
     pub(crate) fn read_on(self, alloc: Global, catalog: &Catalog) -> Result<Reached, AllocError>
         requires { MayRead catalog.now self }
         ensures reads { (asked : RowsRequestOf) (left : ℕ)

@@ -8,7 +8,7 @@ use http::StatusCode;
 use reply_text::{Code, error_body, push_number};
 use std::alloc::{AllocError, Global};
 
-/// The phrase that the HTTP standards give a status.
+/// Returns the phrase that the HTTP standards give a status.
 fn phrase_of(status: u16) -> &'static str
     requires { IsStatusCode status }
     ensures { result.now ≡ unwrap_or (reason_phrase status) (codes "") }
@@ -62,7 +62,7 @@ fn push_length(out: &mut Vec<u8>, size: usize) -> Result<(), AllocError>
     out.extend_from_slice(b"\r\n")
 }
 
-/// Appends the field that says that the connection closes, where it does.
+/// Appends the field that says that the connection closes, if it does.
 fn push_closing(out: &mut Vec<u8>, closes: bool) -> Result<(), AllocError>
     ensures { OnOk result (out.new.items ≡ out.old.items ++ closing_line closes) }
 {
@@ -103,7 +103,7 @@ pub(crate) fn lines_before(
     Ok(head)
 }
 
-/// The reply to a rest of a stream that is no head. It closes.
+/// Returns the reply to a rest of a stream that is no head. It closes.
 #[tactic(auto, unfolding(crate::specs::Reply::rest_reply))]
 pub fn reply_to_rest(alloc: Global) -> Result<Vec<u8>, AllocError>
     ensures { IfOk result (λ reply. reply.items ≡ rest_reply) }

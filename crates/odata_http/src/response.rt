@@ -1,5 +1,5 @@
 //! What requests are answered with.
-ghost use Rattle.std.specs.Prelude.{◌≡◌, ℕ, List, IfOk, length};
+ghost use Rattle.std.specs.Prelude.{◌≡◌, ℕ, List, IfOk, IfSome, length};
 ghost use Rattle.cell_types.specs.Value.{CellValue};
 ghost use Rattle.http.specs.StatusCode.{IsStatusCode};
 ghost use Rattle.query_plan.specs.Plan.{answer_of};
@@ -27,7 +27,20 @@ pub(crate) struct Response {
     pub(crate) body: BodyCursor,
 }
 
-/// The status of an error.
+impl Response {
+    /// Returns the response that has what was asked for.
+    fn ok(media: Media, body: BodyCursor) -> Response
+        ensures { result ≡ record { status = OK; media = media; body = body } }
+    {
+        Response {
+            status: OK,
+            media,
+            body,
+        }
+    }
+}
+
+/// Returns the status of an error.
 fn error_status(code: Code) -> u16
     ensures status { result ≡ status_of code }
     ensures known { IsStatusCode result }
@@ -35,7 +48,7 @@ fn error_status(code: Code) -> u16
     code.status()
 }
 
-/// The response that tells an error.
+/// Returns the response that reports an error.
 pub(crate) fn error_response(alloc: Global, code: Code) -> Result<Response, AllocError>
     ensures response { IfOk result (λ response. response_view response ≡ error_response code) }
     ensures known { IfOk result (λ response. IsStatusCode response.status) }
@@ -48,21 +61,23 @@ pub(crate) fn error_response(alloc: Global, code: Code) -> Result<Response, Allo
     })
 }
 
-/// The service document.
+/// Returns the service document.
 pub(crate) fn service_response(alloc: Global, catalog: &Catalog) -> Result<Response, AllocError>
     ensures response { IfOk result
         (λ response. response_view response ≡ service_response catalog.now) }
     ensures known { IfOk result (λ response. IsStatusCode response.status) }
 {
     let body = service_body(alloc, catalog)?;
-    Ok(Response {
-        status: OK,
-        media: Media::Json,
-        body: BodyCursor::of_bytes(body),
-    })
+    Ok(Response::ok(Media::Json, BodyCursor::of_bytes(body)))
 }
 
-/// The body of rows in a format, of which some first ones were counted.
+/// The most rows of a body that is written before it is counted.
+const SHORT_ROWS: usize = 512;
+
+/// The most bytes of such a body.
+const SHORT_BYTES: usize = 65_536;
+
+/// Returns the body of rows in a format, of which some first ones were counted. A short one is written in one pass, and its length is taken.
 fn rows_body(
     alloc: Global,
     rows: Rows,
@@ -72,26 +87,20 @@ fn rows_body(
     requires { HaveSizesIn format counted rows }
     ensures { IfOk result (λ body. body.bytes ≡ rows_body rows format) }
 {
-    match format {
-        Format::Json => BodyCursor::json_counted(alloc, rows, counted),
-        Format::Csv => BodyCursor::csv_counted(rows, counted),
+    let is_short = rows.len() <= SHORT_ROWS;
+    let most = if is_short { SHORT_BYTES } else { 0 };
+    let short = match format {
+        Format::Json => reply_text::short_json_body(alloc, &rows, most)?,
+        Format::Csv => reply_text::short_csv_body(alloc, &rows, most)?,
+    };
+    match (short, format) {
+        (Some(bytes), _) => Ok(BodyCursor::of_bytes(bytes)),
+        (None, Format::Json) => BodyCursor::json_counted(alloc, rows, counted),
+        (None, Format::Csv) => BodyCursor::csv_counted(rows, counted),
     }
 }
 
-/// A number, as plain text.
-fn number_response(alloc: Global, number: u64) -> Result<Response, AllocError>
-    ensures response { IfOk result (λ response. response_view response ≡ number_response number) }
-    ensures known { IfOk result (λ response. IsStatusCode response.status) }
-{
-    let body = number_body(alloc, number)?;
-    Ok(Response {
-        status: OK,
-        media: Media::Plain,
-        body: BodyCursor::of_bytes(body),
-    })
-}
-
-/// What the rows of a run answer, of which some first ones were counted: where their number alone is asked for, it is their count.
+/// Returns what the rows of a run answer, of which some first ones were counted: where their number alone is asked for, it is their count.
 pub(crate) fn answer_response(
     alloc: Global,
     rows: Rows,
@@ -105,17 +114,14 @@ pub(crate) fn answer_response(
     ensures known { IfOk result (λ response. IsStatusCode response.status) }
 {
     if counting {
-        return number_response(alloc, rows.count().unwrap_or(0));
+        let body = number_body(alloc, rows.count().unwrap_or(0))?;
+        return Ok(Response::ok(Media::Plain, BodyCursor::of_bytes(body)));
     }
     let body = rows_body(alloc, rows, format, counted)?;
-    Ok(Response {
-        status: OK,
-        media: Media::of(format),
-        body,
-    })
+    Ok(Response::ok(Media::of(format), body))
 }
 
-/// The body of one row in a format.
+/// Returns the body of one row in a format.
 fn single_body(alloc: Global, rows: Rows, format: Format) -> Result<BodyCursor, AllocError>
     requires { length rows.rows ≡ 1 }
     ensures { IfOk result (λ body. (names : List (List ℕ)) (row : List CellValue)
@@ -127,7 +133,7 @@ fn single_body(alloc: Global, rows: Rows, format: Format) -> Result<BodyCursor, 
     }
 }
 
-/// One row in a format.
+/// Returns one row in a format.
 pub(crate) fn row_response(
     alloc: Global,
     rows: Rows,
@@ -139,11 +145,7 @@ pub(crate) fn row_response(
     ensures known { IfOk result (λ response. IsStatusCode response.status) }
 {
     let body = single_body(alloc, rows, format)?;
-    Ok(Response {
-        status: OK,
-        media: Media::of(format),
-        body,
-    })
+    Ok(Response::ok(Media::of(format), body))
 }
 
 /// The body, which is left out if the method is HEAD (RFC 9110, section 9.3.2).
@@ -156,7 +158,7 @@ fn body_for(alloc: Global, method: Option<Method>, body: BodyCursor) -> BodyCurs
     }
 }
 
-/// The reply with that response, to a request of that method. Counts the bytes of its body; they are written as they are taken.
+/// Returns the reply with that response, to a request of that method. Counts the bytes of its body; they are written as they are taken.
 pub(crate) fn reply_of(
     alloc: Global,
     method: Option<Method>,

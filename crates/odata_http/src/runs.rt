@@ -40,7 +40,7 @@ impl From<AnswerFault> for RunFault {
 }
 
 /// Answers a stream: before each read the replies to all whole heads that were read are written, and at the end of the stream the
-/// reply to a rest. It ends behind a reply that closes, makes at most `limit` reads, and holds one reply at a time.
+/// reply to a rest. It ends after a reply that closes, makes at most `limit` reads, and holds one reply at a time.
 pub fn run<R: Source, W: Sink>(
     alloc: Global,
     catalog: &Catalog,

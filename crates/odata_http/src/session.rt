@@ -61,7 +61,7 @@ impl Session {
         }
     }
 
-    /// Whether it takes what comes, or why not.
+    /// Returns whether it takes what comes, or why not.
     fn check_live(&self) -> Result<(), SessionFault>
         ensures { IsLiveOr self.now result }
     {
@@ -97,7 +97,7 @@ impl Session {
         }
     }
 
-    /// The end of the stream: adds the reply to a rest, where the rest is not empty. It closes.
+    /// Returns the end of the stream: adds the reply to a rest, if the rest is not empty. It closes.
     pub fn end(&mut self, alloc: Global) -> Result<(), SessionFault>
         ensures { IsEnded self.old self.new result }
     {
@@ -122,7 +122,7 @@ impl Session {
         self.output.take(buf)
     }
 
-    /// Whether a reply closed: that to a head, or that to a rest at the end.
+    /// True if a reply closed: that to a head, or that to a rest at the end.
     pub fn closed(&self) -> bool
         ensures { result ≡ self.now.closed }
     {

@@ -39,7 +39,7 @@ pub(crate) enum Work {
 pub(crate) fn let_go(_work: Work) {}
 
 impl Work {
-    /// The work for a query: the row of a key is found in one call, and any other query is a run.
+    /// Returns the work for a query: the row of a key is found in one call, and any other query is a run.
     fn for_query(alloc: Global, catalog: &Catalog, asked: RowsRequest) -> Result<Work, AllocError>
         requires asked { IsAskedFor catalog.now (rows (rows_request_view asked)) }
         requires inside { IsRowsInside catalog.now (rows_request_view asked) }
@@ -61,7 +61,7 @@ impl Work {
         }
     }
 
-    /// The work for a request.
+    /// Returns the work for a request.
     pub(crate) fn start(
         alloc: Global,
         catalog: &Catalog,
@@ -78,7 +78,7 @@ impl Work {
         }
     }
 
-    /// What a call answers that leaves this work.
+    /// Returns what a call answers that leaves this work.
     pub(crate) fn step(&self) -> Step
         ensures { result ≡ step_of self.now }
     {
@@ -100,7 +100,7 @@ impl Work {
         }
     }
 
-    /// One call's part of the work for a request of that method.
+    /// Returns one call's part of the work for a request of that method.
     pub(crate) fn go_on(
         self,
         alloc: Global,

@@ -31,7 +31,7 @@ piece_joined f xs x start before after place so_far within at is =
     piece_more f xs x start before (before ++ comma_before place) after place so_far within at refl (is ∙ sym (append_assoc before (comma_before place) (f x)))
 
 -- the first so many are no longer than all
-first_are_short : {X : Type 0} (f : X → List ℕ) (xs : List X) (n : ℕ) → n ≤ length xs
+pub first_are_short : {X : Type 0} (f : X → List ℕ) (xs : List X) (n : ℕ) → n ≤ length xs
     → length (join_with_byte 44 (map f (take n xs))) ≤ length (join_with_byte 44 (map f xs))
 first_are_short f xs n within =
     let parts : length (flat_map f xs) ≡ length (flat_map f (take n xs)) + length (flat_map f (drop n xs)) =

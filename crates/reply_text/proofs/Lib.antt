@@ -2,6 +2,7 @@ pub mod JsonLemmas
 pub mod MemberLemmas
 pub mod HeadLemmas
 pub mod CsvLemmas
+mod ShortLemmas
 pub mod RecordLemmas
 pub mod TableLemmas
 pub mod NumberLemmas

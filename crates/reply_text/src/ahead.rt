@@ -14,7 +14,7 @@ pub(crate) fn none_seen(rows: usize) -> Option<u8> {
     if rows > NEAR { Some(0) } else { None }
 }
 
-/// A byte that a value has, or tells. None is asked for; to tell it the cell is read.
+/// Returns a byte that a value has, or tells. None is asked for; to tell it the cell is read.
 #[inline(always)]
 fn byte_of(value: &Value<'_>) -> u8 {
     match value {

@@ -1,5 +1,5 @@
 //! The bodies of replies.
-ghost use Rattle.std.specs.Prelude.{◌≡◌, ◌++◌, OnOk, IfOk, length, map};
+ghost use Rattle.std.specs.Prelude.{◌≡◌, ◌<◌, ◌++◌, OnOk, IfNone, IfOk, IfSome, length, map};
 ghost use Rattle.std.specs.Fmt.{decimal};
 ghost use Rattle.std.specs.List.{join_with_byte};
 ghost use Rattle.reply_text.specs.Body.{entry_text, error_text, named_text, row_text, rows_text, service_text};
@@ -17,7 +17,7 @@ pub fn push_json(out: &mut Vec<u8>, rows: &Rows) -> Result<(), AllocError>
     ensures { OnOk result (out.new.items ≡ out.old.items ++ rows_text rows.now) }
 {
     push_opening(out, rows.count())?;
-    push_rows(out, rows)?;
+    push_rows(out, rows, usize::MAX)?;
     out.extend_from_slice(b"]}")
 }
 
@@ -30,6 +30,25 @@ pub fn json_body(alloc: Global, rows: &Rows) -> Result<Vec<u8>, AllocError>
     Ok(body)
 }
 
+/// Returns rows as JSON, as [`json_body`] does, or `None` if that has more than `most` bytes.
+pub fn short_json_body(
+    alloc: Global,
+    rows: &Rows,
+    most: usize,
+) -> Result<Option<Vec<u8>>, AllocError>
+    ensures body { IfOk result (λ body. IfSome body (λ bytes. bytes.items ≡ rows_text rows.now)) }
+    ensures long { IfOk result (λ body. IfNone body (most < length (rows_text rows.now))) }
+{
+    let mut body = Vec::new(alloc);
+    push_opening(&mut body, rows.count())?;
+    let count = push_rows(&mut body, rows, most)?;
+    if count < rows.len() {
+        return Ok(None);
+    }
+    body.extend_from_slice(b"]}")?;
+    Ok(Some(body))
+}
+
 /// Appends the one row as a JSON object (OData 4.01 JSON Format, section 6).
 pub fn push_row(out: &mut Vec<u8>, rows: &Rows) -> Result<(), AllocError>
     requires { length rows.now.rows ≡ 1 }
@@ -38,7 +57,7 @@ pub fn push_row(out: &mut Vec<u8>, rows: &Rows) -> Result<(), AllocError>
     push_row_at(out, rows, 0)
 }
 
-/// The one row as a JSON object (OData 4.01 JSON Format, section 6).
+/// Returns the one row as a JSON object (OData 4.01 JSON Format, section 6).
 pub fn row_body(alloc: Global, rows: &Rows) -> Result<Vec<u8>, AllocError>
     requires { length rows.now.rows ≡ 1 }
     ensures { IfOk result (λ body. body.items ≡ row_text rows.now) }
@@ -48,7 +67,7 @@ pub fn row_body(alloc: Global, rows: &Rows) -> Result<Vec<u8>, AllocError>
     Ok(body)
 }
 
-/// A number of rows as plain text, in decimal digits (OData 4.01 URL Conventions, section 4.8).
+/// Returns a number of rows as plain text, in decimal digits (OData 4.01 URL Conventions, section 4.8).
 pub fn number_body(alloc: Global, number: u64) -> Result<Vec<u8>, AllocError>
     ensures { IfOk result (λ body. body.items ≡ decimal number) }
 {
@@ -116,20 +135,11 @@ pub fn push_error(out: &mut Vec<u8>, code: Code) -> Result<(), AllocError>
     out.extend_from_slice(b"}}")
 }
 
-/// An error as a JSON object with its code and message (OData 4.01 JSON Format, section 21.1).
+/// Returns an error as a JSON object with its code and message (OData 4.01 JSON Format, section 21.1).
 pub fn error_body(alloc: Global, code: Code) -> Result<Vec<u8>, AllocError>
     ensures { IfOk result (λ body. body.items ≡ error_text code) }
 {
     let mut body = Vec::new(alloc);
     push_error(&mut body, code)?;
     Ok(body)
-}
-
-/// How many bytes an error takes.
-pub fn error_size(code: Code) -> usize
-    ensures { result ≡ told (length (error_text code)) }
-{
-    text_member_size(b"code", code.name().as_bytes())
-        .saturating_add(text_member_size(b"message", code.message().as_bytes()))
-        .saturating_add(13)
 }

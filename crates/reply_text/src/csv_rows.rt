@@ -1,5 +1,5 @@
 //! Rows as CSV (RFC 4180, section 2), appended to one buffer.
-ghost use Rattle.std.specs.Prelude.{◌≡◌, ◌+◌, ◌<◌, ◌≤◌, ◌++◌, [], IfOk, OnErr, OnOk, get_or, length, map, string_bytes, vec_capacity, vec_len};
+ghost use Rattle.std.specs.Prelude.{◌≡◌, ◌+◌, ◌<◌, ◌≤◌, ◌++◌, [], IfNone, IfOk, IfSome, OnErr, OnOk, get_or, length, map, string_bytes, take, vec_capacity, vec_len};
 ghost use Rattle.std.specs.List.{flat_map, join_with_byte};
 ghost use Rattle.cell_types.specs.Value.{value_view};
 ghost use Rattle.reply_text.specs.Csv.{csv_line, csv_text, row_line};
@@ -91,14 +91,20 @@ pub fn push_line(out: &mut Vec<u8>, rows: &Rows, row: usize) -> Result<(), Alloc
     out.extend_from_slice(b"\r\n")
 }
 
-/// Appends rows, each with its line break.
-fn push_lines(out: &mut Vec<u8>, rows: &Rows) -> Result<(), AllocError>
-    ensures { OnOk result (out.new.items ≡ out.old.items ++ flat_map row_line rows.now.rows) }
+/// Appends rows, each with its line break, until there are more than `most` bytes. Returns how many rows it appended.
+fn push_lines(out: &mut Vec<u8>, rows: &Rows, most: usize) -> Result<usize, AllocError>
+    ensures bytes { IfOk result (λ count. out.new.items
+        ≡ out.old.items ++ flat_map row_line (take count rows.now.rows)) }
+    ensures all { IfOk result (λ count. vec_len out.new ≤ most
+        → length rows.now.rows ≤ count) }
 {
     for row in 0..rows.len() {
+        if out.len() > most {
+            return Ok(row);
+        }
         push_line(out, rows, row)?;
     }
-    Ok(())
+    Ok(rows.len())
 }
 
 /// Appends rows as CSV: a line of the names, and a line for each row, each ended by CR LF.
@@ -106,7 +112,8 @@ pub fn push_csv(out: &mut Vec<u8>, rows: &Rows) -> Result<(), AllocError>
     ensures { OnOk result (out.new.items ≡ out.old.items ++ csv_text rows.now) }
 {
     push_name_line(out, rows.names())?;
-    push_lines(out, rows)
+    push_lines(out, rows, usize::MAX)?;
+    Ok(())
 }
 
 /// Rows as CSV: a line of the names, and a line for each row, each ended by CR LF.
@@ -116,4 +123,22 @@ pub fn csv_body(alloc: Global, rows: &Rows) -> Result<Vec<u8>, AllocError>
     let mut body = Vec::new(alloc);
     push_csv(&mut body, rows)?;
     Ok(body)
+}
+
+/// Returns rows as CSV, as [`csv_body`] does, or `None` if that has more than `most` bytes.
+pub fn short_csv_body(
+    alloc: Global,
+    rows: &Rows,
+    most: usize,
+) -> Result<Option<Vec<u8>>, AllocError>
+    ensures body { IfOk result (λ body. IfSome body (λ bytes. bytes.items ≡ csv_text rows.now)) }
+    ensures long { IfOk result (λ body. IfNone body (most < length (csv_text rows.now))) }
+{
+    let mut body = Vec::new(alloc);
+    push_name_line(&mut body, rows.names())?;
+    let count = push_lines(&mut body, rows, most)?;
+    if count < rows.len() {
+        return Ok(None);
+    }
+    Ok(Some(body))
 }

@@ -14,7 +14,7 @@ use query_rows::Rows;
 use reply_values::csv_value_size;
 use row_columns::Columns;
 
-/// How many bytes names take.
+/// Returns how many bytes names take.
 fn names_size(names: &[String]) -> usize
     ensures { result ≡ told (length (flat_map string_bytes names.now)) }
 {
@@ -25,7 +25,7 @@ fn names_size(names: &[String]) -> usize
     size
 }
 
-/// How many bytes the line of the names takes.
+/// Returns how many bytes the line of the names takes.
 fn name_line_size(names: &[String]) -> usize
     ensures { result ≡ told (length (csv_line (map string_bytes names.now))) }
 {
@@ -34,7 +34,7 @@ fn name_line_size(names: &[String]) -> usize
         .saturating_add(2)
 }
 
-/// How many bytes the values of the row with a number take.
+/// Returns how many bytes the values of the row with a number take.
 fn values_size(columns: &Columns, row: usize) -> usize
     requires { row < length columns.now.rows }
     ensures { result ≡ told (length (flat_map csv_value (get_or columns.now.rows row []))) }
@@ -48,7 +48,7 @@ fn values_size(columns: &Columns, row: usize) -> usize
     size
 }
 
-/// How many bytes the row with a number takes, with its commas and its line break.
+/// Returns how many bytes the row with a number takes, with its commas and its line break.
 fn line_size(columns: &Columns, row: usize) -> usize
     requires { row < length columns.now.rows }
     ensures { result ≡ told (length (row_line (get_or columns.now.rows row []))) }
@@ -59,7 +59,7 @@ fn line_size(columns: &Columns, row: usize) -> usize
         .saturating_add(2)
 }
 
-/// The sizes with those of the rows from a number on, as lines.
+/// Returns the sizes with those of the rows from a number on, as lines.
 pub fn with_lines(before: Sizes, columns: &Columns, first: usize) -> Sizes
     requires { first ≤ length columns.now.rows }
     ensures { let lines = map row_line columns.now.rows in
@@ -74,7 +74,7 @@ pub fn with_lines(before: Sizes, columns: &Columns, first: usize) -> Sizes
     Sizes { seen, ..sizes }
 }
 
-/// How many bytes the lines of rows take as CSV, of which some first rows were counted.
+/// Returns how many bytes the lines of rows take as CSV, of which some first rows were counted.
 pub fn csv_sizes(rows: &Rows, counted: RowSizes) -> Sizes
     requires { HaveCsvSizes counted rows.now }
     ensures { AreSizesOf (csv_pieces rows.now) result.all result.longest }
@@ -82,11 +82,4 @@ pub fn csv_sizes(rows: &Rows, counted: RowSizes) -> Sizes
     let mut counted = counted;
     counted.count_csv(rows.columns());
     counted.sizes.with(name_line_size(rows.names()))
-}
-
-/// How many bytes rows take as CSV.
-pub fn csv_size(rows: &Rows) -> usize
-    ensures { result ≡ told (length (csv_text rows.now)) }
-{
-    csv_sizes(rows, RowSizes::none()).all
 }

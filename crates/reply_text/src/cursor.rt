@@ -74,7 +74,7 @@ impl BodyCursor {
         BodyCursor::json_counted(alloc, rows, RowSizes::none())
     }
 
-    /// The same of rows of which some first ones were counted.
+    /// Returns the same of rows of which some first ones were counted.
     pub fn json_counted(
         alloc: Global,
         rows: Rows,
@@ -99,7 +99,7 @@ impl BodyCursor {
         BodyCursor::csv_counted(rows, RowSizes::none())
     }
 
-    /// The same of rows of which some first ones were counted.
+    /// Returns the same of rows of which some first ones were counted.
     pub fn csv_counted(rows: Rows, counted: RowSizes) -> Result<BodyCursor, AllocError>
         requires { HaveCsvSizes counted rows }
         ensures bytes { IfOk result (λ body. body.bytes ≡ csv_text rows) }
@@ -110,7 +110,7 @@ impl BodyCursor {
         Ok(body)
     }
 
-    /// The one row as a JSON object (OData 4.01 JSON Format, section 6).
+    /// Returns the one row as a JSON object (OData 4.01 JSON Format, section 6).
     pub fn row(alloc: Global, rows: &Rows) -> Result<BodyCursor, AllocError>
         requires { length rows.now.rows ≡ 1 }
         ensures bytes { IfOk result (λ body. body.bytes ≡ row_text rows.now) }
@@ -135,21 +135,21 @@ impl BodyCursor {
         }
     }
 
-    /// How many bytes are left.
+    /// Returns how many bytes are left.
     pub fn size(&self) -> usize
         ensures { result ≡ length self.now.bytes }
     {
         self.size
     }
 
-    /// Whether no byte is left.
+    /// True if no byte is left.
     pub fn is_empty(&self) -> bool
         ensures { result ≡ (length self.now.bytes == 0) }
     {
         self.size == 0
     }
 
-    /// A number of bytes that no piece passes.
+    /// Returns a number of bytes that no piece passes.
     pub fn longest(&self) -> usize
         ensures { result ≡ self.now.longest }
     {

@@ -1,5 +1,5 @@
 //! Rows as JSON (RFC 8259), appended to one buffer.
-ghost use Rattle.std.specs.Prelude.{◌≡◌, ◌+◌, ◌++◌, [], ◌<◌, ◌≤◌, IfOk, OnErr, OnOk, get_or, length, map, string_bytes, vec_capacity, vec_len};
+ghost use Rattle.std.specs.Prelude.{◌≡◌, ◌+◌, ◌++◌, [], ◌<◌, ◌≤◌, IfOk, OnErr, OnOk, get_or, length, map, string_bytes, take, vec_capacity, vec_len};
 ghost use Rattle.std.specs.List.{join_with_byte};
 ghost use Rattle.cell_types.specs.Value.{value_view};
 ghost use Rattle.reply_text.specs.Json.{comma_before, json_count, json_members, json_row, member_head, AreHeads};
@@ -25,7 +25,7 @@ pub fn push_comma(out: &mut Vec<u8>, place: usize) -> Result<(), AllocError>
     }
 }
 
-/// What stands before the value of a member with that place: a comma, but before the first, the name and a colon.
+/// Returns what stands before the value of a member with that place: a comma, but before the first, the name and a colon.
 fn head_of(alloc: Global, place: usize, name: &str) -> Result<Vec<u8>, AllocError>
     ensures { IfOk result (λ head. head.items ≡ member_head place name.now) }
 {
@@ -36,7 +36,7 @@ fn head_of(alloc: Global, place: usize, name: &str) -> Result<Vec<u8>, AllocErro
     Ok(head)
 }
 
-/// What stands before the value of each member of a row.
+/// Returns what stands before the value of each member of a row.
 pub fn heads_of(alloc: Global, names: &[String]) -> Result<Vec<Vec<u8>>, AllocError>
     ensures { IfOk result (λ heads. AreHeads (map string_bytes names.now) heads.items) }
 {
@@ -130,19 +130,24 @@ pub fn push_row(out: &mut Vec<u8>, rows: &Rows, row: usize) -> Result<(), AllocE
     push_object(out, rows, row, heads.as_slice())
 }
 
-/// Appends rows, with a comma between each two.
-pub fn push_rows(out: &mut Vec<u8>, rows: &Rows) -> Result<(), AllocError>
-    ensures { OnOk result (out.new.items ≡ out.old.items
-        ++ join_with_byte 44 (map (json_row rows.now.names) rows.now.rows)) }
+/// Appends rows, with a comma between each two, until there are more than `most` bytes. Returns how many rows it appended.
+pub fn push_rows(out: &mut Vec<u8>, rows: &Rows, most: usize) -> Result<usize, AllocError>
+    ensures bytes { IfOk result (λ count. out.new.items ≡ out.old.items
+        ++ join_with_byte 44 (map (json_row rows.now.names) (take count rows.now.rows))) }
+    ensures all { IfOk result (λ count. vec_len out.new ≤ most
+        → length rows.now.rows ≤ count) }
 {
     let heads = heads_of(*out.allocator(), rows.names())?;
     for row in 0..rows.len() {
+        if out.len() > most {
+            return Ok(row);
+        }
         push_item(out, rows, row, heads.as_slice())?;
     }
-    Ok(())
+    Ok(rows.len())
 }
 
-/// Appends the number of rows, where it was asked for.
+/// Appends the number of rows, if it was asked for.
 fn push_count(out: &mut Vec<u8>, count: Option<u64>) -> Result<(), AllocError>
     ensures bytes { OnOk result (out.new.items ≡ out.old.items ++ json_count count) }
     ensures room { vec_capacity out.old ≤ vec_capacity out.new }

@@ -16,7 +16,7 @@ use query_rows::Rows;
 use reply_values::{json_value_size, number_size, text_size};
 use row_columns::Columns;
 
-/// How many bytes names take, each with its colon.
+/// Returns how many bytes names take, each with its colon.
 fn names_size(names: &[String]) -> usize
     ensures { result ≡ told (length (flat_map member_name (map string_bytes names.now))) }
 {
@@ -29,7 +29,7 @@ fn names_size(names: &[String]) -> usize
     size
 }
 
-/// How many bytes a row takes without its values: the names and colons, the commas and the braces.
+/// Returns how many bytes a row takes without its values: the names and colons, the commas and the braces.
 pub(crate) fn frame_size(names: &[String]) -> usize
     ensures { result ≡ told (length (row_frame (map string_bytes names.now))) }
 {
@@ -53,7 +53,7 @@ fn object_size(columns: &Columns, row: usize, frame: usize) -> usize
     size
 }
 
-/// The same with the comma before it.
+/// Returns the same with the comma before it.
 pub(crate) fn item_size(columns: &Columns, row: usize, frame: usize) -> usize
     requires { row < length columns.now.rows }
     ensures { result ≡ told (frame
@@ -68,7 +68,7 @@ pub(crate) fn item_size(columns: &Columns, row: usize, frame: usize) -> usize
     }
 }
 
-/// The sizes with those of the rows from a number on, as objects under these names.
+/// Returns the sizes with those of the rows from a number on, as objects under these names.
 pub fn with_objects(before: Sizes, names: &[String], columns: &Columns, first: usize) -> Sizes
     requires width { length columns.now.kinds ≡ length names.now }
     requires first { first ≤ length columns.now.rows }
@@ -86,7 +86,7 @@ pub fn with_objects(before: Sizes, names: &[String], columns: &Columns, first: u
     Sizes { seen, ..sizes }
 }
 
-/// How many bytes the number of rows takes, where it was asked for.
+/// Returns how many bytes the number of rows takes, if it was asked for.
 fn count_size(count: Option<u64>) -> usize
     ensures { result ≡ told (length (json_count count)) }
 {
@@ -96,14 +96,14 @@ fn count_size(count: Option<u64>) -> usize
     }
 }
 
-/// How many bytes stand before the rows of an object whose member `value` has them.
+/// Returns how many bytes stand before the rows of an object whose member `value` has them.
 fn opening_size(count: Option<u64>) -> usize
     ensures { result ≡ told (length (json_opening count)) }
 {
     count_size(count).saturating_add(10)
 }
 
-/// How many bytes the pieces of rows take as a JSON object, of which some first rows were counted.
+/// Returns how many bytes the pieces of rows take as a JSON object, of which some first rows were counted.
 pub fn json_sizes(rows: &Rows, counted: RowSizes) -> Sizes
     requires { HaveJsonSizes counted rows.now }
     ensures { AreSizesOf (json_pieces rows.now) result.all result.longest }
@@ -111,21 +111,4 @@ pub fn json_sizes(rows: &Rows, counted: RowSizes) -> Sizes
     let mut counted = counted;
     counted.count_json(rows.names(), rows.columns());
     counted.sizes.with(opening_size(rows.count())).with(2)
-}
-
-/// How many bytes rows take as a JSON object.
-pub fn json_size(rows: &Rows) -> usize
-    ensures { result ≡ told (length (rows_text rows.now)) }
-{
-    json_sizes(rows, RowSizes::none()).all
-}
-
-/// How many bytes the one row takes as a JSON object.
-pub fn row_size(rows: &Rows) -> usize
-    requires { length rows.now.rows ≡ 1 }
-    ensures { result ≡ told (length (row_text rows.now)) }
-{
-    let columns = rows.columns();
-    columns.rows_are_wide();
-    object_size(columns, 0, frame_size(rows.names()))
 }

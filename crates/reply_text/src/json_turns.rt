@@ -16,7 +16,7 @@ use std::alloc::{AllocError, Global};
 /// Rows of so few columns are counted as they stand: their order costs more than their cells.
 const FEW_COLUMNS: usize = 2;
 
-/// The sizes of all rows as objects under these names, counted in these turns.
+/// Returns the sizes of all rows as objects under these names, counted in these turns.
 fn sizes_in_turns(names: &[String], columns: &Columns, turns: &[usize]) -> Sizes
     requires width { length columns.now.kinds ≡ length names.now }
     requires turns { IsPermutation (numbers_from 0 (length columns.now.rows)) turns.now }
@@ -33,7 +33,7 @@ fn sizes_in_turns(names: &[String], columns: &Columns, turns: &[usize]) -> Sizes
     Sizes { seen, ..sizes }
 }
 
-/// The sizes of rows, of which some first ones were counted: of all of them, where they stand in another order than their table and are many.
+/// Returns the sizes of rows, of which some first ones were counted: of all of them, where they stand in another order than their table and are many.
 pub(crate) fn counted_in_turns(
     alloc: Global,
     rows: &Rows,

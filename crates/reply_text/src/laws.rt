@@ -24,7 +24,7 @@ pub fn json_reads_back()
     ensures { JsonReadsBack }
 {}
 
-/// A number of bytes that is counted is the number of bytes that are written, where it is less than the greatest that 64 bits tell.
+/// A number of bytes that is counted is the number of bytes that are written, if it is less than the greatest that 64 bits tell.
 pub fn counts_are_lengths()
     ensures { CountsAreLengths }
 {}

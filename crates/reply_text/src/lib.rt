@@ -19,18 +19,16 @@ mod row_sizes;
 mod sizes;
 
 pub use body::{
-    error_body, error_size, json_body, number_body, push_error, push_json, push_row, row_body,
-    service_body,
+    error_body, json_body, number_body, push_error, push_json, push_row, row_body, service_body,
+    short_json_body,
 };
-pub use csv_rows::{csv_body, push_csv};
-pub use csv_sizes::csv_size;
+pub use csv_rows::{csv_body, push_csv, short_csv_body};
 pub use cursor::BodyCursor;
-pub use json_sizes::{json_size, row_size};
 pub use laws::{
     counts_are_lengths, csv_reads_back, json_reads_back, pieces_are_bodies, tables_fit_csv,
 };
 pub use output::Output;
 pub use reply::Reply;
 pub use reply_codes::Code;
-pub use reply_values::{number_size, push_number};
+pub use reply_values::push_number;
 pub use row_sizes::RowSizes;

@@ -77,14 +77,14 @@ impl Output {
         }
     }
 
-    /// Whether nothing waits.
+    /// True if nothing waits.
     pub fn is_empty(&self) -> bool
         ensures { result ≡ (length self.now == 0) }
     {
         self.first.is_empty()
     }
 
-    /// Adds the bytes of a whole reply behind those that wait. At an `Err` memory ran out, and none of them was added.
+    /// Adds the bytes of a whole reply after those that wait. At an `Err` memory ran out, and none of them was added.
     pub fn add(&mut self, reply: &[u8]) -> Result<(), AllocError>
         ensures { self.new ≡ (if is_ok result then self.old ++ reply.now else self.old) }
     {
@@ -92,7 +92,7 @@ impl Output {
         self.give(bytes)
     }
 
-    /// Adds a whole reply behind the bytes that wait, in its own buffer. Where none wait no memory is taken. At an `Err` memory ran out, and
+    /// Adds a whole reply after the bytes that wait, in its own buffer. If none wait, no memory is taken. At an `Err` memory ran out, and
     /// none of it was added.
     pub fn give(&mut self, reply: Vec<u8>) -> Result<(), AllocError>
         ensures added { self.new ≡ (if is_ok result then self.old ++ reply.items else self.old) }
@@ -101,7 +101,7 @@ impl Output {
         self.give_reply(Reply::of_bytes(self.alloc, reply))
     }
 
-    /// Adds a reply behind the bytes that wait. Where none wait no memory is taken. At an `Err` memory ran out, and none of it was added.
+    /// Adds a reply after the bytes that wait. If none wait, no memory is taken. At an `Err` memory ran out, and none of it was added.
     pub fn give_reply(&mut self, reply: Reply) -> Result<(), AllocError>
         ensures added { self.new ≡ (if is_ok result then self.old ++ reply else self.old) }
         ensures memory { IsErr result → self.old ≢ [] }

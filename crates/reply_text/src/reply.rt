@@ -55,13 +55,18 @@ impl Reply {
         }
     }
 
-    /// The lines and the body after them. All memory that it takes is taken here.
+    /// Returns the lines and the body after them. All memory that it takes is taken here.
     pub fn start(lines: Vec<u8>, body: BodyCursor) -> Result<Reply, AllocError>
         ensures { IfOk result (λ reply. reply ≡ lines.items ++ body.bytes) }
     {
         let mut laid = lines;
         let mut body = body;
-        laid.reserve(body.longest().saturating_add(body.size().min(ROOM)))?;
+        let others = if body.size() == body.longest() {
+            0
+        } else {
+            body.size().min(ROOM)
+        };
+        laid.reserve(body.longest().saturating_add(others))?;
         fill(&mut laid, &mut body);
         Ok(Reply { laid, at: 0, body })
     }
@@ -84,7 +89,7 @@ impl Reply {
         Ok(laid)
     }
 
-    /// Whether nothing waits.
+    /// True if nothing waits.
     pub fn is_empty(&self) -> bool
         ensures { result ≡ (length self.now == 0) }
     {

@@ -12,7 +12,7 @@ pub struct Sizes {
 }
 
 impl Sizes {
-    /// No pieces.
+    /// Returns no pieces.
     pub fn none() -> Sizes
         ensures all { result.all ≡ 0 }
         ensures longest { result.longest ≡ 0 }
