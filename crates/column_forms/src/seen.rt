@@ -1,4 +1,7 @@
 //! The cells of a column, as far as they are read.
+ghost use Rattle.std.specs.Prelude.{◌≡◌, [], IfOk, IfSome, MatchOption};
+ghost use Rattle.column_forms.specs.Seen.{BeginsWithSpace, HasPlainSpaces, IsPlainByte, IsSeen};
+
 use crate::candidates::candidates_of;
 use std::alloc::{AllocError, Global};
 use value_forms::{Form, made_by};
@@ -25,24 +28,48 @@ pub struct Seen {
     pub is_even: bool,
 }
 
-/// Returns a cell with plain spaces, and without spaces at its ends.
-pub fn seen_text(alloc: Global, cell: &[u8]) -> Result<Vec<u8>, AllocError> {
+/// Returns what comes after a space of another width; `None` if a text does not begin with one.
+fn after_space(text: &[u8]) -> Option<&[u8]>
+    ensures { IfSome result (λ rest. BeginsWithSpace text.now rest.now) }
+{
+    match text {
+        [0xC2, 0xA0, rest @ ..] => Some(rest),
+        [0xE2, 0x80, 0xAF, rest @ ..] => Some(rest),
+        [0xE2, 0x80, 0x89, rest @ ..] => Some(rest),
+        _ => None,
+    }
+}
+
+/// Returns the first byte of a text, or a plain space in the place of another one, and what comes after it.
+fn plain_byte(text: &[u8]) -> Option<(u8, &[u8])>
+    ensures { MatchOption result (text.now ≡ [])
+        (λ parts. IsPlainByte text.now parts.0 parts.1.now) }
+{
+    if let Some(rest) = after_space(text) {
+        return Some((b' ', rest));
+    }
+    let (first, rest) = text.split_first()?;
+    Some((*first, rest))
+}
+
+/// Returns a cell with plain spaces.
+fn plain_spaces(alloc: Global, cell: &[u8]) -> Result<Vec<u8>, AllocError>
+    ensures { IfOk result (λ made. HasPlainSpaces cell.now made.items) }
+{
     let mut made = Vec::with_capacity(alloc, cell.len())?;
     let mut left = cell;
-    while let [byte, rest @ ..] = left {
-        left = match left {
-            [0xC2, 0xA0, rest @ ..]
-            | [0xE2, 0x80, 0xAF, rest @ ..]
-            | [0xE2, 0x80, 0x89, rest @ ..] => {
-                made.push(b' ')?;
-                rest
-            }
-            _ => {
-                made.push(*byte)?;
-                rest
-            }
-        };
+    while let Some((byte, rest)) = plain_byte(left) {
+        left = rest;
+        made.push(byte)?;
     }
+    Ok(made)
+}
+
+/// Returns a cell with plain spaces, and without spaces at its ends.
+pub fn seen_text(alloc: Global, cell: &[u8]) -> Result<Vec<u8>, AllocError>
+    ensures { IfOk result (λ made. IsSeen cell.now made.items) }
+{
+    let made = plain_spaces(alloc, cell)?;
     Vec::from_slice(alloc, made.as_slice().trim_ascii())
 }
 

@@ -110,7 +110,7 @@ fn convert_file(
     let bytes = read_plain(rt.alloc(), rt, path.as_str(), true)?;
     let rules = rules_of(rt.alloc(), rules, table_of(name))?;
     let asked = asks_of(asks, rules.as_slice());
-    match convert(rt.alloc(), &asked, bytes.as_slice()) {
+    match convert(rt.alloc(), &asked, bytes) {
         Ok(converted) => add_converted(rt, folder, names, converted),
         Err(ConvertFault::NoMemory) => Err(io::Error::from(io::ErrorKind::OutOfMemory)),
         Err(fault) => {

@@ -1,4 +1,5 @@
 //! An entry of a report.
+use csv_records::RecordFault;
 use file_convert::ConvertFault;
 use message_text::escaped;
 use std::alloc::{AllocError, Global};
@@ -106,6 +107,17 @@ fn ragged_refusal(alloc: Global, lines: &[usize], count: usize) -> Result<Entry,
     Ok(refusal(message, Some(option), count))
 }
 
+/// Returns what is wrong with the record of a line.
+fn cause_text(fault: RecordFault) -> &'static str {
+    match fault {
+        RecordFault::BareReturn => "a CR without an LF after it",
+        RecordFault::StrayQuote => "a double quote inside a cell that has none at its front",
+        RecordFault::AfterQuote => "text after the closing double quote of a cell",
+        RecordFault::Unfinished => "no double quote closes a cell",
+        RecordFault::NoMemory => "out of memory",
+    }
+}
+
 /// Returns why a file is not converted; an error if memory ran out.
 pub fn refusal_of(alloc: Global, fault: &ConvertFault) -> Result<Entry, AllocError> {
     let message = match fault {
@@ -114,9 +126,8 @@ pub fn refusal_of(alloc: Global, fault: &ConvertFault) -> Result<Entry, AllocErr
         ConvertFault::Empty => "it is empty",
         ConvertFault::NoMemory => return Err(AllocError),
         ConvertFault::Text { fault, line } => {
-            let cause = fault.text(alloc)?;
-            let cause = cause.as_str();
-            let message = format!(in alloc; "line {line}: {cause}: its quotes do not match")?;
+            let cause = cause_text(*fault);
+            let message = format!(in alloc; "line {line}: {cause}")?;
             return Ok(refusal(message, None, 1));
         }
         ConvertFault::Ragged { lines, count } => {

@@ -1,1 +1,3 @@
-pub mod DoubledLemmas
+mod RecordLemmas
+mod RowLemmas
+mod TableLemmas

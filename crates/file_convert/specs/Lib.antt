@@ -1,2 +1,2 @@
-pub mod Exchange
-pub mod Written
+pub mod Conversion
+pub mod Rows

@@ -1,80 +1,109 @@
 //! The conversion of a file.
+ghost use Rattle.std.specs.Prelude.{◌≡◌, [], IfOk};
+ghost use Rattle.file_convert.specs.Conversion.{IsConversion};
+
 use crate::asks::Asks;
 use crate::fault::ConvertFault;
-use crate::report::Converted;
+use crate::report::{ColumnReport, Converted};
 use crate::reports::reports_of;
-use crate::rows::{Output, write_header, write_rows};
+use crate::sight::{Sight, see_text};
 use crate::source::{Source, source_of};
-use csv_index::{IndexedText, TextFault};
+use crate::table::{Output, Reading, write_table};
+use crate::titles::{short_lines, title_lines};
 use std::alloc::Global;
 use text_encodings::text_of;
 
-/// Returns a table as it is written, and what is changed in it.
-fn written(
-    alloc: Global,
-    asks: &Asks<'_>,
-    encoding: text_encodings::Encoding,
-    mut source: Source,
-) -> Result<Converted, ConvertFault> {
-    let bytes = std::mem::replace(&mut source.bytes, Vec::new(alloc));
-    let table = IndexedText::build(alloc, bytes)?;
-    let mut columns = reports_of(alloc, asks, &table, source.separator)?;
-    let mut out = Output {
-        alloc,
-        bytes: Vec::new(alloc),
-        guess: Vec::new(alloc),
-        differs: false,
-        begun: false,
-    };
-    write_header(&mut out, columns.as_mut_slice())?;
-    write_rows(&mut out, &table, &source, columns.as_mut_slice())?;
-    Ok(Converted {
-        encoding,
-        separator: source.separator,
-        skipped: source.skipped,
-        returns: source.returns,
-        blank: source.blank,
-        padded: source.padded,
-        columns,
-        rows: table.rows(),
-        bytes: out.bytes,
-        guess: if out.differs { Some(out.guess) } else { None },
-    })
+/// Returns the fault of lines that look like a title, if there are such.
+fn title_fault(lines: usize, skipped: usize) -> Option<ConvertFault> {
+    if lines == 0 {
+        return None;
+    }
+    let lines = lines.saturating_add(skipped);
+    Some(ConvertFault::Title { lines })
 }
 
-/// Returns the line of a fault, counted from 1.
-fn line_at(bytes: &[u8], fault: TextFault) -> usize {
-    let at = match fault {
-        TextFault::BareCr { at }
-        | TextFault::StrayQuote { at }
-        | TextFault::AfterQuote { at }
-        | TextFault::NotUtf8 { at } => at,
-        _ => return 1,
-    };
-    let mut line: usize = 1;
-    for byte in bytes.iter().take(at) {
-        if *byte == b'\n' {
-            line = line.saturating_add(1);
+/// Returns what is seen of a text, or why it is not converted.
+fn sight_of(alloc: Global, asks: &Asks<'_>, source: &Source) -> Result<Sight, ConvertFault> {
+    let text = source.text.as_slice();
+    let skipped = asks.skip_lines;
+    let sight = match see_text(alloc, source.separator, text, skipped) {
+        Err(ConvertFault::Text { fault, line }) => {
+            let title = title_fault(short_lines(text), skipped);
+            return Err(title.unwrap_or(ConvertFault::Text { fault, line }));
         }
+        other => other?,
+    };
+    let lines = if sight.ragged > 0 {
+        short_lines(text)
+    } else {
+        title_lines(text)
+    };
+    if let Some(title) = title_fault(lines, skipped) {
+        return Err(title);
     }
-    line
+    if sight.ragged > 0 && !asks.pads {
+        return Err(ConvertFault::Ragged {
+            lines: sight.ragged_lines,
+            count: sight.ragged,
+        });
+    }
+    Ok(sight)
+}
+
+/// Returns true if a text that a draft does not know stands for null in a column.
+fn has_guess(column: &ColumnReport) -> bool {
+    let nulls = column.nulls.as_slice();
+    [2, 7].iter().any(|place: &usize| nulls.get(*place).is_some_and(|count| *count > 0))
+}
+
+/// Returns what is written so far of these columns: nothing.
+fn no_output(alloc: Global, columns: &[ColumnReport]) -> Output
+    ensures { result.bytes.items ≡ [] }
+{
+    let guess = if columns.iter().any(has_guess) {
+        Some(Vec::new(alloc))
+    } else {
+        None
+    };
+    Output {
+        alloc,
+        bytes: Vec::new(alloc),
+        guess,
+    }
 }
 
 /// Returns a file as a table of RFC 4180 in UTF-8 whose cells have forms that CSVW reads, and all that is changed in it; or why it is none.
-pub fn convert(alloc: Global, asks: &Asks<'_>, bytes: &[u8]) -> Result<Converted, ConvertFault> {
-    let decoded = text_of(alloc, bytes)?;
+pub fn convert(alloc: Global, asks: &Asks<'_>, bytes: Vec<u8>) -> Result<Converted, ConvertFault>
+    ensures { IfOk result (IsConversion asks.now bytes.items) }
+{
+    let decoded = text_of(alloc, bytes.as_slice())?;
+    drop(bytes);
     if decoded.text.as_bytes().contains(&0) {
         return Err(ConvertFault::NoText);
     }
-    let text = decoded.text.as_bytes();
-    let source = source_of(alloc, asks, text)?;
-    match written(alloc, asks, decoded.encoding, source) {
-        Err(ConvertFault::Text { fault, .. }) => {
-            let source = source_of(alloc, asks, text)?;
-            let line = line_at(source.bytes.as_slice(), fault);
-            let line = line.saturating_add(source.skipped);
-            Err(ConvertFault::Text { fault, line })
-        }
-        made => made,
-    }
+    let encoding = decoded.encoding;
+    let source = source_of(alloc, asks.skip_lines, decoded.text)?;
+    let sight = sight_of(alloc, asks, &source)?;
+    let mut columns = reports_of(alloc, asks, &sight, source.separator)?;
+    let how = Reading {
+        separator: source.separator,
+        width: 0,
+        pads: asks.pads,
+    };
+    let line = asks.skip_lines.saturating_add(1);
+    let none = no_output(alloc, columns.as_slice());
+    let text = source.text.as_slice();
+    let out = write_table(none, columns.as_mut_slice(), how, text, line)?;
+    Ok(Converted {
+        encoding,
+        separator: source.separator,
+        skipped: asks.skip_lines,
+        returns: source.returns,
+        blank: sight.blank,
+        padded: sight.short,
+        columns,
+        rows: sight.rows,
+        bytes: out.bytes,
+        guess: out.guess,
+    })
 }

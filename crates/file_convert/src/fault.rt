@@ -1,5 +1,5 @@
 //! Why a file is not converted.
-use csv_index::TextFault;
+use csv_records::RecordFault;
 use std::alloc::AllocError;
 use text_encodings::EncodingFault;
 
@@ -13,7 +13,7 @@ pub enum ConvertFault {
     /// It has no record.
     Empty,
     /// Its fields do not have the form of RFC 4180, in this line, counted from 1.
-    Text { fault: TextFault, line: usize },
+    Text { fault: RecordFault, line: usize },
     /// Rows have fewer fields than the header, or more that are not empty: the lines of the first of them, and how many they are.
     Ragged { lines: Vec<usize>, count: usize },
     /// These lines before the header look like a title or comments.
@@ -33,16 +33,6 @@ impl From<EncodingFault> for ConvertFault {
         match error {
             EncodingFault::NotUtf16 => ConvertFault::NotUtf16,
             EncodingFault::NoMemory => ConvertFault::NoMemory,
-        }
-    }
-}
-
-impl From<TextFault> for ConvertFault {
-    fn from(error: TextFault) -> ConvertFault {
-        match error {
-            TextFault::NoMemory => ConvertFault::NoMemory,
-            TextFault::NoHeader => ConvertFault::Empty,
-            fault => ConvertFault::Text { fault, line: 0 },
         }
     }
 }

@@ -3,20 +3,22 @@
 #![tactic(auto)]
 
 mod asks;
+mod cells;
 mod conversion;
-mod exchanges;
 mod fault;
+mod made;
 mod records;
 mod report;
 mod reports;
 mod rows;
 mod separator;
+mod sight;
 mod source;
-mod write;
+mod table;
+mod titles;
 
 pub use asks::{Asks, Rule, What};
 pub use column_forms::NULLS;
 pub use conversion::convert;
-pub use exchanges::{exchange, exchanged_text};
 pub use fault::ConvertFault;
 pub use report::{ColumnReport, Converted, Kind};

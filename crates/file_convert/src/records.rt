@@ -1,4 +1,4 @@
-//! The records of a text that may be uneven, for a look at their widths. What is read is read by the index of the text.
+//! The records of a text that may be uneven, for a look at their widths.
 
 /// A record: the line in which it begins, counted from 1, its number of fields, its first byte and the byte after its last one.
 #[derive(Clone, Copy)]

@@ -1,39 +1,11 @@
 //! What is found in the columns of a table.
 use crate::asks::Asks;
-use crate::exchanges::exchange;
+use crate::cells::cell_at;
+use crate::made::{has_time, is_dropped};
 use crate::report::{ColumnReport, Kind};
+use crate::sight::Sight;
 use column_forms::{Choice, Point, Seen, Wants, choice_of, point_of};
-use csv_index::{IndexedText, Raw};
 use std::alloc::{AllocError, Global};
-
-/// Returns what a field says, with the comma and the separator exchanged back.
-pub(crate) fn cell_of(alloc: Global, separator: u8, raw: Raw<'_>) -> Result<Vec<u8>, AllocError> {
-    let text = raw.text(alloc)?;
-    let bytes = text.as_str().as_bytes();
-    bytes
-        .iter()
-        .map(|byte| exchange(separator, *byte))
-        .collect(alloc)
-}
-
-/// Reads all cells of a table into what is known of its columns.
-fn see_columns(alloc: Global, table: &IndexedText, separator: u8) -> Result<Vec<Seen>, AllocError> {
-    let mut columns = Vec::new(alloc);
-    for _column in 0..table.width() {
-        let seen = Seen::new(alloc)?;
-        columns.push(seen)?;
-    }
-    let mut fields = table.fields(0);
-    for _row in 0..table.rows() {
-        for seen in &mut columns {
-            if let Some(raw) = fields.next_field() {
-                let cell = cell_of(alloc, separator, raw)?;
-                seen.read(cell.as_slice())?;
-            }
-        }
-    }
-    Ok(columns)
-}
 
 /// Returns which point the numbers of a file have, where its columns agree.
 fn file_point(columns: &[Seen]) -> Point {
@@ -94,17 +66,14 @@ fn kind_of(seen: &Seen, wants: Wants<'_>, file: Point, separator: u8) -> Kind {
 pub(crate) fn reports_of(
     alloc: Global,
     asks: &Asks<'_>,
-    table: &IndexedText,
+    sight: &Sight,
     separator: u8,
 ) -> Result<Vec<ColumnReport>, AllocError> {
-    let columns = see_columns(alloc, table, separator)?;
-    let file = file_point(columns.as_slice());
+    let columns = sight.columns.as_slice();
+    let file = file_point(columns);
     let mut reports = Vec::new(alloc);
-    for (col, seen) in columns.as_slice().iter().enumerate() {
-        if col >= table.width() {
-            break;
-        }
-        let title = cell_of(alloc, separator, table.header(col))?;
+    for (place, seen) in columns.iter().enumerate() {
+        let title = Vec::from_slice(alloc, cell_at(sight.titles.as_slice(), place))?;
         let name = std::str::from_utf8(title.as_slice()).unwrap_or("");
         let wants = asks.wants(name);
         let kind = kind_of(seen, wants, file, separator);
@@ -118,7 +87,8 @@ pub(crate) fn reports_of(
         report.is_text = wants.text || matches!(kind, Kind::TwoPoints | Kind::TwoOrders);
         reports.push(report).or(Err(AllocError))?;
     }
-    drop_columns(columns.as_slice(), reports.as_mut_slice());
+    drop_columns(columns, reports.as_mut_slice());
+    place_columns(reports.as_mut_slice());
     Ok(reports)
 }
 
@@ -129,5 +99,17 @@ fn drop_columns(columns: &[Seen], reports: &mut [ColumnReport]) {
             return;
         }
         report.kind = Kind::Empty;
+    }
+}
+
+/// Numbers the columns that are written.
+fn place_columns(reports: &mut [ColumnReport]) {
+    let mut place: usize = 0;
+    for report in reports {
+        report.place = place;
+        let count = 1 + usize::from(has_time(report.kind));
+        if !is_dropped(report.kind) {
+            place = place.saturating_add(count);
+        }
     }
 }

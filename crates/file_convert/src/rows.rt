@@ -1,78 +1,12 @@
 //! The rows of a table as they are written.
+ghost use Rattle.std.specs.Prelude.{◌≡◌, IfOk, length, map};
+ghost use Rattle.file_convert.specs.Rows.{AppendsCells, AreTitled, AreWritten, plan_of};
+
+use crate::cells::cell_at;
+use crate::made::{made_in, push_made, push_titles};
 use crate::report::{ColumnReport, Kind};
-use crate::reports::cell_of;
-use crate::source::Source;
-use crate::write::push_field;
-use column_forms::{is_plain, null_place, seen_text};
-use csv_index::IndexedText;
 use std::alloc::{AllocError, Global};
-use value_forms::{Form, Made, NumberForm, made_by, rounded_text};
-
-/// The end of the name of a column with the times of day of another.
-const TIME: &[u8] = b"_time";
-
-/// What is written so far.
-#[derive(Drop)]
-pub(crate) struct Output {
-    pub(crate) alloc: Global,
-    pub(crate) bytes: Vec<u8>,
-    pub(crate) guess: Vec<u8>,
-    /// The texts differ.
-    pub(crate) differs: bool,
-    /// A cell of the row is written.
-    pub(crate) begun: bool,
-}
-
-impl Output {
-    /// Writes a cell.
-    fn put(&mut self, cell: &[u8]) -> Result<(), AllocError> {
-        if self.begun {
-            self.bytes.push(b',')?;
-            self.guess.push(b',')?;
-        }
-        self.begun = true;
-        push_field(&mut self.bytes, cell)?;
-        if matches!(null_place(cell), Some(2 | 7)) {
-            self.differs = true;
-            return Ok(());
-        }
-        push_field(&mut self.guess, cell)
-    }
-
-    /// Ends a row.
-    fn end_row(&mut self) -> Result<(), AllocError> {
-        self.begun = false;
-        self.bytes.push(b'\n')?;
-        self.guess.push(b'\n')?;
-        Ok(())
-    }
-}
-
-/// Returns the value of a cell by what is found in its column.
-fn made_in(alloc: Global, report: &ColumnReport, cell: &[u8]) -> Result<Option<Made>, AllocError> {
-    let Kind::Form(form) = report.kind else {
-        return Ok(None);
-    };
-    if null_place(cell).is_some() {
-        return Ok(None);
-    }
-    if is_plain(form) {
-        return if report.rounds {
-            made_by(alloc, Form::Round, cell)
-        } else {
-            Ok(None)
-        };
-    }
-    let text = seen_text(alloc, cell)?;
-    let form = match form {
-        Form::Number(number) => Form::Number(NumberForm {
-            rounds: report.rounds,
-            ..number
-        }),
-        other => other,
-    };
-    made_by(alloc, form, text.as_slice())
-}
+use value_forms::{Form, Made, rounded_text};
 
 impl ColumnReport {
     /// Counts a cell that is changed.
@@ -82,7 +16,9 @@ impl ColumnReport {
         line: usize,
         cell: &[u8],
         made: &Made,
-    ) -> Result<(), AllocError> {
+    ) -> Result<(), AllocError>
+        ensures { plan_of self.new ≡ plan_of self.old }
+    {
         if made.text.as_slice() == cell && made.time.is_none() {
             return Ok(());
         }
@@ -96,7 +32,9 @@ impl ColumnReport {
     }
 
     /// Counts a number with more than six decimal places.
-    fn count_fine(&mut self, alloc: Global, line: usize, number: &[u8]) -> Result<(), AllocError> {
+    fn count_fine(&mut self, alloc: Global, line: usize, number: &[u8]) -> Result<(), AllocError>
+        ensures { plan_of self.new ≡ plan_of self.old }
+    {
         if let Some(rounded) = rounded_text(alloc, number)? {
             self.add_fine(line, rounded.difference);
         }
@@ -104,7 +42,9 @@ impl ColumnReport {
     }
 
     /// Counts one.
-    fn add_fine(&mut self, line: usize, difference: u64) {
+    fn add_fine(&mut self, line: usize, difference: u64)
+        ensures { plan_of self.new ≡ plan_of self.old }
+    {
         if self.fine == 0 {
             self.fine_line = line;
         }
@@ -117,86 +57,94 @@ impl ColumnReport {
         matches!(self.kind, Kind::Form(Form::Number(_)))
     }
 
-    /// Writes a cell of the column by its value, or as it is.
-    fn write(&mut self, out: &mut Output, line: usize, cell: &[u8]) -> Result<(), AllocError> {
-        if matches!(self.kind, Kind::Empty) {
-            return Ok(());
-        }
-        let alloc = out.alloc;
-        if let Some(null) = &self.asked_null
-            && null.as_slice() == cell
-        {
-            self.asked_cells = self.asked_cells.saturating_add(1);
-        }
-        let made = made_in(alloc, self, cell)?;
+    /// Counts what is changed in a cell, or found in it.
+    fn note(
+        &mut self,
+        alloc: Global,
+        line: usize,
+        cell: &[u8],
+        made: &Option<Made>,
+    ) -> Result<(), AllocError>
+        ensures { plan_of self.new ≡ plan_of self.old }
+    {
         let Some(made) = made else {
             if self.is_number() {
                 self.count_fine(alloc, line, cell)?;
             }
-            out.put(cell)?;
-            if matches!(self.kind, Kind::Form(Form::DayAndTime(_))) {
-                out.put(b"")?;
-            }
             return Ok(());
         };
-        self.count(alloc, line, cell, &made)?;
+        self.count(alloc, line, cell, made)?;
         if made.difference > 0 {
             self.add_fine(line, made.difference);
         } else if self.is_number() {
             self.count_fine(alloc, line, made.text.as_slice())?;
         }
-        out.put(made.text.as_slice())?;
-        match &made.time {
-            Some(time) => out.put(time.as_slice()),
-            None => Ok(()),
+        Ok(())
+    }
+
+    /// Counts a cell that is the text that was asked to stand for null.
+    fn note_null(&mut self, cell: &[u8])
+        ensures { plan_of self.new ≡ plan_of self.old }
+    {
+        if let Some(null) = &self.asked_null
+            && null.as_slice() == cell
+        {
+            self.asked_cells = self.asked_cells.saturating_add(1);
         }
+    }
+
+    /// Appends what the column writes for a cell to a row, and counts what is changed.
+    fn write(
+        &mut self,
+        alloc: Global,
+        row: &mut Vec<Vec<u8>>,
+        line: usize,
+        cell: &[u8],
+    ) -> Result<(), AllocError>
+        ensures plan { plan_of self.new ≡ plan_of self.old }
+        ensures cells { IfOk result (λ _. AppendsCells (plan_of self.old) cell.now
+            (map (λ cell. cell.items) row.old.items) (map (λ cell. cell.items) row.new.items)) }
+    {
+        let kind = self.kind;
+        self.note_null(cell);
+        let made = made_in(alloc, kind, self.rounds, cell)?;
+        self.note(alloc, line, cell, &made)?;
+        push_made(alloc, row, kind, cell, made)
     }
 }
 
-/// Writes the header.
-pub(crate) fn write_header(
-    out: &mut Output,
+/// Returns the row that the columns write for the cells of a record.
+pub(crate) fn row_of(
+    alloc: Global,
     reports: &mut [ColumnReport],
-) -> Result<(), AllocError> {
-    let mut place: usize = 0;
-    for report in reports {
-        report.place = place;
-        if matches!(report.kind, Kind::Empty) {
-            continue;
-        }
-        out.put(report.title.as_slice())?;
-        place = place.saturating_add(1);
-        if matches!(report.kind, Kind::Form(Form::DayAndTime(_))) {
-            let mut title = Vec::from_slice(out.alloc, report.title.as_slice())?;
-            title.extend_from_slice(TIME)?;
-            out.put(title.as_slice())?;
-            place = place.saturating_add(1);
-        }
+    line: usize,
+    cells: &[Vec<u8>],
+) -> Result<Vec<Vec<u8>>, AllocError>
+    ensures plans { map plan_of reports.new ≡ map plan_of reports.old }
+    ensures row { IfOk result (λ row. AreWritten (map plan_of reports.old)
+        (map (λ cell. cell.items) cells.now) (length reports.old)
+        (map (λ cell. cell.items) row.items)) }
+{
+    let mut row = Vec::new(alloc);
+    for (place, report) in reports.iter_mut().enumerate() {
+        report.write(alloc, &mut row, line, cell_at(cells, place))?;
     }
-    out.end_row()
+    Ok(row)
 }
 
-/// Writes the rows.
-pub(crate) fn write_rows(
-    out: &mut Output,
-    table: &IndexedText,
-    source: &Source,
-    reports: &mut [ColumnReport],
-) -> Result<(), AllocError> {
-    let mut fields = table.fields(0);
-    for row in 0..table.rows() {
-        let line = source
-            .lines
-            .get(row.saturating_add(1))
-            .copied()
-            .unwrap_or(0);
-        for report in reports.iter_mut() {
-            if let Some(raw) = fields.next_field() {
-                let cell = cell_of(out.alloc, source.separator, raw)?;
-                report.write(out, line, cell.as_slice())?;
-            }
-        }
-        out.end_row()?;
+/// Returns the header that the columns write.
+pub(crate) fn header_of(
+    alloc: Global,
+    reports: &[ColumnReport],
+    titles: &[Vec<u8>],
+) -> Result<Vec<Vec<u8>>, AllocError>
+    ensures { IfOk result (λ row. AreTitled (map plan_of reports.now)
+        (map (λ cell. cell.items) titles.now) (length reports.now)
+        (map (λ cell. cell.items) row.items)) }
+{
+    let mut row = Vec::new(alloc);
+    for (place, report) in reports.iter().enumerate() {
+        push_titles(alloc, &mut row, report.kind, cell_at(titles, place))?;
     }
-    Ok(())
+    Ok(row)
 }

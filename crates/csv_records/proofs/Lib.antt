@@ -1,0 +1,3 @@
+mod DoubledLemmas
+mod ReadLemmas
+mod WrittenLemmas

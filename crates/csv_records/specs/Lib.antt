@@ -1,0 +1,4 @@
+pub mod Exchange
+pub mod Lines
+pub mod Worked
+pub mod Written

@@ -1,0 +1,87 @@
+-- What the columns of a table write for the cells of its records.
+use Rattle.std.specs.Prelude.{◌≡◌, ◌⊎◌, ℕ, suc, Bool, true, false, List, [], ◌∷◌, ◌++◌, codes, if◌then◌else◌, slice_get, slice_index_or, Option, Some, None, unwrap_or}
+use Rattle.value_forms.specs.declared.form.Form.{Form}
+use Rattle.value_forms.specs.declared.form.Form.TheVariants.{Number, Round, DayAndTime}
+use Rattle.value_forms.specs.Forms.{CellMade, IsMadeBy}
+use Rattle.column_forms.specs.Seen.{IsSeen}
+use Rattle.file_convert.specs.declared.report.ColumnReport.{ColumnReport}
+use Rattle.file_convert.specs.declared.report.Kind.{Kind}
+use Rattle.file_convert.specs.declared.report.Kind.TheVariants.{Form as OfForm, Empty}
+
+-- what is found in a column, and whether its numbers are rounded
+pub record Plan : Type 0 where
+  pub kind : Kind
+  pub rounds : Bool
+
+abbrev pub plan_of : ColumnReport → Plan
+plan_of report = record { kind = report.kind; rounds = report.rounds }
+
+-- a cell by its number; an empty one after the last
+abbrev pub nth_cell : List (List ℕ) → ℕ → List ℕ
+nth_cell cells place = slice_index_or cells place []
+
+-- an empty line has one cell, which is empty
+abbrev pub is_empty_line : List (List ℕ) → Bool
+is_empty_line ([] ∷ []) = true
+is_empty_line _ = false
+
+abbrev pub is_dropped : Kind → Bool
+is_dropped Empty = true
+is_dropped _ = false
+
+-- the times of day get a column of their own
+abbrev pub has_time : Kind → Bool
+has_time (OfForm (DayAndTime form)) = true
+has_time _ = false
+
+-- numbers are rounded, if this is asked
+abbrev pub rounding : Bool → Form → Form
+rounding rounds (Number form) = Number (record form { rounds = rounds })
+rounding rounds form = form
+
+-- the value is that of the cell, without spaces at its ends and with plain spaces, in the form of the column; or the cell in six decimal places, if this is asked
+abbrev pub IsMadeIn : Kind → Bool → List ℕ → CellMade → Type 0
+IsMadeIn kind rounds cell made =
+    (form : Form) × (kind ≡ OfForm form)
+    × (((rounds ≡ true) × IsMadeBy Round cell made) ⊎ ((text : List ℕ) × IsSeen cell text × IsMadeBy (rounding rounds form) text made))
+
+abbrev pub cell_text : List ℕ → Option CellMade → List ℕ
+cell_text cell None = cell
+cell_text cell (Some made) = made.text
+
+abbrev pub time_text : Option CellMade → List ℕ
+time_text None = []
+time_text (Some made) = unwrap_or made.time []
+
+-- what is written for a cell with a value, or for one that is left as it is
+abbrev pub out_cells : Kind → List ℕ → Option CellMade → List (List ℕ)
+out_cells kind cell made =
+    if is_dropped kind then [] else cell_text cell made ∷ (if has_time kind then time_text made ∷ [] else [])
+
+abbrev pub title_cells : Kind → List ℕ → List (List ℕ)
+title_cells kind title =
+    if is_dropped kind then [] else title ∷ (if has_time kind then (title ++ codes "_time") ∷ [] else [])
+
+-- what a column writes for a cell: its value, or the cell as it is
+pub record IsWritten (plan : Plan) (cell : List ℕ) (outs : List (List ℕ)) : Type 0 where
+  pub made : Option CellMade
+  pub is : (value : CellMade) → made ≡ Some value → IsMadeIn plan.kind plan.rounds cell value
+  pub outs_are : outs ≡ out_cells plan.kind cell made
+
+-- cells, and after them what a column writes for a cell
+pub record AppendsCells (plan : Plan) (cell : List ℕ) (before after : List (List ℕ)) : Type 0 where
+  pub outs : List (List ℕ)
+  pub written : IsWritten plan cell outs
+  pub after_is : after ≡ before ++ outs
+
+-- what the first columns write for the cells of a record
+pub data AreWritten (plans : List Plan) (cells : List (List ℕ)) : ℕ → List (List ℕ) → Type 0 where
+  no_column : AreWritten plans cells 0 []
+  next_column : (count : ℕ) (plan : Plan) (outs more : List (List ℕ)) → AreWritten plans cells count outs → slice_get plans count ≡ Some plan
+      → IsWritten plan (nth_cell cells count) more → AreWritten plans cells (suc count) (outs ++ more)
+
+-- what the first columns write as the header
+pub data AreTitled (plans : List Plan) (titles : List (List ℕ)) : ℕ → List (List ℕ) → Type 0 where
+  no_title : AreTitled plans titles 0 []
+  next_title : (count : ℕ) (plan : Plan) (outs : List (List ℕ)) → AreTitled plans titles count outs → slice_get plans count ≡ Some plan
+      → AreTitled plans titles (suc count) (outs ++ title_cells plan.kind (nth_cell titles count))

@@ -1,0 +1,51 @@
+//! The cells of a record.
+ghost use Rattle.std.specs.Prelude.{◌≡◌, ◌==◌, ◌&&◌, IfOk, [], ◌∷◌, length, map, slice_index_or};
+ghost use Rattle.csv_records.specs.Exchange.{IsFirstRecord};
+ghost use Rattle.file_convert.specs.Rows.{is_empty_line, nth_cell};
+
+use crate::fault::ConvertFault;
+use csv_records::{Record, RecordFault, read_record};
+use std::alloc::Global;
+
+/// Returns the record at the front of a text that is not empty; or why there is none, with its line.
+pub(crate) fn record_at(
+    alloc: Global,
+    separator: u8,
+    text: &[u8],
+    line: usize,
+) -> Result<Record<'_>, ConvertFault>
+    ensures { IfOk result (λ read. IsFirstRecord separator text.now
+        (map (λ cell. cell.items) read.cells.items) read.rest.now) }
+{
+    match read_record(alloc, separator, text) {
+        Ok(read) => Ok(read),
+        Err(RecordFault::NoMemory) => Err(ConvertFault::NoMemory),
+        Err(fault) => Err(ConvertFault::Text { fault, line }),
+    }
+}
+
+/// Returns a cell of a record by its number; an empty one after the last.
+pub(crate) fn cell_at(cells: &[Vec<u8>], place: usize) -> &[u8]
+    ensures { result.now ≡ nth_cell (map (λ cell. cell.items) cells.now) place }
+{
+    match cells.get(place) {
+        Some(cell) => cell.as_slice(),
+        None => &[],
+    }
+}
+
+/// Returns true if cells are one that is empty, as an empty line has it.
+pub(crate) fn is_blank(cells: &[Vec<u8>]) -> bool
+    ensures { result ≡ is_empty_line (map (λ cell. cell.items) cells.now) }
+{
+    match cells {
+        [cell] => cell.is_empty(),
+        _ => false,
+    }
+}
+
+/// Returns the number of line breaks before the rest of a text.
+pub(crate) fn lines_before(text: &[u8], rest: &[u8]) -> usize {
+    let (front, _) = text.split_at(text.len().saturating_sub(rest.len()));
+    front.iter().filter(|byte| **byte == b'\n').count()
+}

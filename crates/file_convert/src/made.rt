@@ -1,0 +1,112 @@
+//! What is written for a cell.
+ghost use Rattle.std.specs.Prelude.{◌≡◌, ◌++◌, IfOk, IfSome, OnOk, map, option_map};
+ghost use Rattle.value_forms.specs.Forms.{cell_made};
+ghost use Rattle.file_convert.specs.Rows.{IsMadeIn, has_time, is_dropped, out_cells, rounding, title_cells};
+
+use crate::report::Kind;
+use column_forms::{is_plain, null_place, seen_text};
+use csv_records::push_cell;
+use std::alloc::{AllocError, Global};
+use value_forms::{Form, Made, NumberForm, made_by};
+
+/// The end of the name of a column with the times of day of another.
+const TIME: &[u8] = b"_time";
+
+/// Returns true if the times of day of a column get one of their own.
+pub(crate) fn has_time(kind: Kind) -> bool
+    ensures { result ≡ has_time kind }
+{
+    matches!(kind, Kind::Form(Form::DayAndTime(_)))
+}
+
+/// Returns true if a column is left out.
+pub(crate) fn is_dropped(kind: Kind) -> bool
+    ensures { result ≡ is_dropped kind }
+{
+    matches!(kind, Kind::Empty)
+}
+
+/// Returns a form with the rounding that is asked for.
+fn rounding(rounds: bool, form: Form<'static>) -> Form<'static>
+    ensures { result ≡ rounding rounds form.entry }
+{
+    match form {
+        Form::Number(number) => Form::Number(NumberForm { rounds, ..number }),
+        other => other,
+    }
+}
+
+/// Returns the value of a cell by what is found in its column.
+pub(crate) fn made_in(
+    alloc: Global,
+    kind: Kind,
+    rounds: bool,
+    cell: &[u8],
+) -> Result<Option<Made>, AllocError>
+    ensures { IfOk result (λ made. IfSome made
+        (λ made. IsMadeIn kind rounds cell.now (cell_made made))) }
+{
+    let Kind::Form(form) = kind else {
+        return Ok(None);
+    };
+    if null_place(cell).is_some() {
+        return Ok(None);
+    }
+    if is_plain(form) {
+        return if rounds {
+            made_by(alloc, Form::Round, cell)
+        } else {
+            Ok(None)
+        };
+    }
+    let text = seen_text(alloc, cell)?;
+    made_by(alloc, rounding(rounds, form), text.as_slice())
+}
+
+/// Appends what is written for a cell: its value, or the cell as it is, and a time of day.
+pub(crate) fn push_made(
+    alloc: Global,
+    row: &mut Vec<Vec<u8>>,
+    kind: Kind,
+    cell: &[u8],
+    made: Option<Made>,
+) -> Result<(), AllocError>
+    ensures { OnOk result (map (λ cell. cell.items) row.new.items
+        ≡ map (λ cell. cell.items) row.old.items
+        ++ out_cells kind cell.now (option_map cell_made made)) }
+{
+    if is_dropped(kind) {
+        return Ok(());
+    }
+    let (text, time) = match made {
+        Some(made) => (made.text, made.time),
+        None => (Vec::from_slice(alloc, cell)?, None),
+    };
+    push_cell(row, text)?;
+    if has_time(kind) {
+        push_cell(row, time.unwrap_or(Vec::new(alloc)))?;
+    }
+    Ok(())
+}
+
+/// Appends the header cells of a column.
+pub(crate) fn push_titles(
+    alloc: Global,
+    row: &mut Vec<Vec<u8>>,
+    kind: Kind,
+    title: &[u8],
+) -> Result<(), AllocError>
+    ensures { OnOk result (map (λ cell. cell.items) row.new.items
+        ≡ map (λ cell. cell.items) row.old.items ++ title_cells kind title.now) }
+{
+    if is_dropped(kind) {
+        return Ok(());
+    }
+    push_cell(row, Vec::from_slice(alloc, title)?)?;
+    if has_time(kind) {
+        let mut name = Vec::from_slice(alloc, title)?;
+        name.extend_from_slice(TIME)?;
+        push_cell(row, name)?;
+    }
+    Ok(())
+}
