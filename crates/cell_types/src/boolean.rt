@@ -8,7 +8,7 @@ use crate::datatype::BooleanForm;
 use crate::fault::CellFault;
 use crate::value::Value;
 
-/// The truth value of a text; none of a text that is none of those of true and false.
+/// Returns the boolean of a text, or `None` if the text is none of those of true and false.
 pub fn truth_of(form: &BooleanForm, text: &str) -> Option<bool>
     ensures { truth_reading result ≡ typed_value (boolean_view form.now) text.now }
 {
@@ -30,7 +30,7 @@ pub fn truth_of(form: &BooleanForm, text: &str) -> Option<bool>
     }
 }
 
-/// The value of a text in a form.
+/// Returns the value of a text in a form.
 pub fn read_boolean<'a>(form: &BooleanForm, text: &str) -> Result<Value<'a>, CellFault>
     ensures { reading_view result ≡ typed_value (boolean_view form.now) text.now }
 {

@@ -23,21 +23,21 @@ use crate::white_space::{is_normal, normal_copy};
 use std::alloc::Global;
 use std::borrow::CowStr;
 
-/// Whether a text is among some.
+/// True if a text is among some.
 fn is_among(texts: &[String], text: &str) -> bool
     ensures { result ≡ list_any (λ other. bytes_eq (string_bytes other) text.now) texts.now }
 {
     texts.iter().any(|other| other.as_str() == text)
 }
 
-/// Whether a text stands for null in a column.
+/// True if a text stands for null in a column.
 pub fn is_null_text(column: &Column, text: &str) -> bool
     ensures { result ≡ is_null_text_of (column_view column.now) text.now }
 {
     is_among(column.nulls.as_slice(), text)
 }
 
-/// What a null is in a column.
+/// Returns what a null is in a column.
 fn null_value<'a>(column: &Column) -> Result<Value<'a>, CellFault>
     ensures { reading_view result ≡ null_reading (column_view column.now) }
 {
@@ -48,7 +48,7 @@ fn null_value<'a>(column: &Column) -> Result<Value<'a>, CellFault>
     }
 }
 
-/// A text, or the column's default in the place of an empty one.
+/// Returns a text, or the column's default in the place of an empty one.
 fn text_or_default<'a>(column: &'a Column, text: &'a str) -> &'a str
     ensures { result.now ≡ text_or_default_of (column_view column.now) text.now }
 {
@@ -59,7 +59,7 @@ fn text_or_default<'a>(column: &'a Column, text: &'a str) -> &'a str
     }
 }
 
-/// The value of a text in a column of texts. Memory is taken only where a default that is no null stands in for an empty text.
+/// Returns the value of a text in a column of texts. Memory is taken only if a default that is no null stands in for an empty text.
 fn read_string<'a>(alloc: Global, column: &Column, text: CowStr<'a>) -> Result<Value<'a>, CellFault>
     requires { datatype_view column.now.datatype ≡ datatype.text }
     ensures value { IfOk result (λ value.
@@ -81,7 +81,7 @@ fn read_string<'a>(alloc: Global, column: &Column, text: CowStr<'a>) -> Result<V
     Ok(Value::Text(text))
 }
 
-/// The value of a normal text in a column of another datatype.
+/// Returns the value of a normal text in a column of another datatype.
 fn read_content<'a>(column: &Column, text: &str) -> Result<Value<'a>, CellFault>
     requires { datatype_view column.now.datatype ≢ datatype.text }
     ensures { reading_view result ≡ content_value (column_view column.now) text.now }
@@ -111,7 +111,7 @@ fn string_or_default<'a>(column: &'a Column, text: CowStr<'a>) -> CowStr<'a>
     }
 }
 
-/// The value of a text in a column of texts, and none where it stands for null. It takes no memory.
+/// Returns the value of a text in a column of texts, or `None` if it stands for null. It takes no memory.
 pub fn string_of<'a>(column: &'a Column, text: CowStr<'a>) -> Option<CowStr<'a>>
     requires { datatype_view column.now.datatype ≡ datatype.text }
     ensures { MatchOption result (value_of (column_view column.now) (cow_str_bytes text.entry)
@@ -125,7 +125,7 @@ pub fn string_of<'a>(column: &'a Column, text: CowStr<'a>) -> Option<CowStr<'a>>
     Some(string)
 }
 
-/// The number of a sign and at most eighteen digits in a column of integers, where they don't stand for null; none of another text. They are read in
+/// Returns the number of a sign and at most eighteen digits in a column of integers, if they don't stand for null; none of another text. They are read in
 /// one pass.
 pub fn read_short_integer(column: &Column, text: &str) -> Option<i64>
     requires { datatype_view column.now.datatype ≡ datatype.integer }
@@ -141,7 +141,7 @@ pub fn read_short_integer(column: &Column, text: &str) -> Option<i64>
     Some(number)
 }
 
-/// The value of a text in a column (Model for Tabular Data and Metadata on the Web, section 6.4). Memory is taken only where a text
+/// Returns the value of a text in a column (Model for Tabular Data and Metadata on the Web, section 6.4). Memory is taken only if a text
 /// must be normalized, or where a default that is no null stands in for an empty `string`.
 pub fn read_text<'a>(
     alloc: Global,

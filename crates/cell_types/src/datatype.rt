@@ -3,7 +3,7 @@ ghost use Rattle.std.specs.Prelude.{◌≡◌, ◌≢◌, MatchOption};
 ghost use Rattle.cell_types.specs.declared.datatype.DateForm.{DateForm};
 ghost use Rattle.cell_types.specs.Datatype.{pattern_of};
 
-/// The texts of the truth values.
+/// The texts of true and false.
 #[derive(PartialEq, Eq, Drop)]
 pub enum BooleanForm {
     /// `true` or `1`, and `false` or `0`.
@@ -28,7 +28,7 @@ pub enum DateForm {
 }
 
 impl DateForm {
-    /// The form of a pattern, of these five.
+    /// Returns the form of a pattern, of these five.
     pub fn of_pattern(pattern: &str) -> Option<DateForm>
         ensures { MatchOption result ((form : DateForm) → pattern_of form ≢ pattern.now)
             (λ form. pattern_of form ≡ pattern.now) }
@@ -51,7 +51,7 @@ pub enum Datatype {
     Integer,
     /// `string`: any text.
     Text,
-    /// `boolean`: a truth value.
+    /// `boolean`: true or false.
     Boolean(BooleanForm),
     /// `date`: a day of the years 1 to 9999, in no time zone.
     Date(DateForm),

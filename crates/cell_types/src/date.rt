@@ -9,7 +9,7 @@ use crate::fault::CellFault;
 use crate::value::Value;
 use jiff_core::civil::Date;
 
-/// The digits of the year, the month and the day in a text of a form.
+/// Returns the digits of the year, the month and the day in a text of a form.
 fn parts(form: DateForm, text: &[u8]) -> Option<([u8; 4], [u8; 2], [u8; 2])>
     ensures { MatchOption result (HasNoParts form text.now)
         (λ p. HasParts form text.now p.0 p.1 p.2) }
@@ -28,7 +28,7 @@ fn parts(form: DateForm, text: &[u8]) -> Option<([u8; 4], [u8; 2], [u8; 2])>
     }
 }
 
-/// The number that two digits write.
+/// Returns the number that two digits write.
 fn two_digit_number(digits: [u8; 2]) -> Option<u8>
     ensures { MatchOption result ((n : ℕ) → n < 100 → digits ≢ two_digits n) (λ n. (n < 100)
         × (digits ≡ two_digits n)) }
@@ -41,7 +41,7 @@ fn two_digit_number(digits: [u8; 2]) -> Option<u8>
     }
 }
 
-/// The number that four digits write.
+/// Returns the number that four digits write.
 fn four_digit_number(digits: [u8; 4]) -> Option<u16>
     ensures { MatchOption result ((n : ℕ) → n < 10_000 → digits ≢ four_digits n) (λ n. (n < 10_000)
         × (digits ≡ four_digits n)) }
@@ -64,7 +64,7 @@ fn numbers(form: DateForm, text: &[u8]) -> Option<(u16, u8, u8)>
     Some((year, month, day))
 }
 
-/// The day that a text writes in a form.
+/// Returns the day that a text writes in a form.
 pub fn date_in(form: DateForm, text: &str) -> Option<Date>
     ensures { MatchOption result (HasNoDate form text.now)
         (λ date. HasDate form text.now date.year date.month date.day) }
@@ -76,7 +76,7 @@ pub fn date_in(form: DateForm, text: &str) -> Option<Date>
     Date::new(year as i16, month as i8, day as i8).ok()
 }
 
-/// The value of a text in a form.
+/// Returns the value of a text in a form.
 pub fn read_date<'a>(form: DateForm, text: &str) -> Result<Value<'a>, CellFault>
     ensures { reading_view result ≡ date_of form text.now }
 {

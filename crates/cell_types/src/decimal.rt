@@ -10,7 +10,7 @@ use crate::fault::CellFault;
 use crate::integer::{are_digits, is_negative, without_sign};
 use crate::value::Value;
 
-/// How many bytes stand before the first point.
+/// Returns how many bytes stand before the first point.
 fn whole_len(text: &[u8]) -> usize
     ensures within { result ≤ length text.now }
     ensures place { result ≡ position_or_len is_point text.now }
@@ -18,7 +18,7 @@ fn whole_len(text: &[u8]) -> usize
     text.iter().take_while(|byte| **byte != b'.').count()
 }
 
-/// What stands before the first point, and what stands behind it.
+/// Splits a text at its first point: what is before it, and what is after it.
 fn parts(text: &[u8]) -> (&[u8], &[u8])
     ensures whole { result.0.now ≡ before_first is_point text.now }
     ensures fraction { result.1.now ≡ after_first is_point text.now }
@@ -30,7 +30,7 @@ fn parts(text: &[u8]) -> (&[u8], &[u8])
     }
 }
 
-/// The number that digits write behind those of another number, where it is one of 64 bits.
+/// Appends digits to those of a number, or returns `None` if the result exceeds 64 bits.
 fn number_after(start: u64, digits: &[u8]) -> Option<u64>
     requires { AllDigits 10 digits.now }
     ensures { let after = digits_value_after 10 start digits.now in SomeIff result
@@ -45,7 +45,7 @@ fn number_after(start: u64, digits: &[u8]) -> Option<u64>
     Some(number)
 }
 
-/// The number that digits before the point and at most six behind it write with six decimal places, where it is one of 64 bits.
+/// Returns the millionths that digits before the point and at most six after it write, or `None` if they exceed 64 bits.
 fn number_of_millionths(whole: &[u8], places: &[u8]) -> Option<u64>
     requires short { length places.now ≤ 6 }
     requires whole_digits { AllDigits 10 whole.now }
@@ -59,7 +59,7 @@ fn number_of_millionths(whole: &[u8], places: &[u8]) -> Option<u64>
     number_after(number, &zeros[..6 - places.len()])
 }
 
-/// Whether what stands before a point and behind it is digits, and at least one.
+/// True if the texts before and after a point are digits, and at least one digit.
 fn are_parts(whole: &[u8], fraction: &[u8]) -> bool
     ensures { result ≡ are_parts_of_decimal (whole.now ++ fraction.now) }
 {
@@ -69,14 +69,14 @@ fn are_parts(whole: &[u8], fraction: &[u8]) -> bool
     are_digits(whole) && are_digits(fraction)
 }
 
-/// Whether each digit is 0.
+/// True if each digit is 0.
 fn are_zeros(digits: &[u8]) -> bool
     ensures { result ≡ list_all is_zero digits.now }
 {
     digits.iter().all(|digit| *digit == b'0')
 }
 
-/// A number of millionths, where it is one of 64 signed bits.
+/// Returns a number of millionths, if it is one of 64 signed bits.
 fn number_in_range(is_negative: bool, number: u64) -> Result<i64, CellFault>
     ensures { decimal_reading result ≡ value_of_millionths (signed is_negative number) }
 {
@@ -88,7 +88,7 @@ fn number_in_range(is_negative: bool, number: u64) -> Result<i64, CellFault>
     }
 }
 
-/// The number of a text's millionths.
+/// Returns the number of a text's millionths.
 pub fn millionths_of(text: &str) -> Result<i64, CellFault>
     ensures { decimal_reading result ≡ decimal_of text.now }
 {
@@ -107,7 +107,7 @@ pub fn millionths_of(text: &str) -> Result<i64, CellFault>
     }
 }
 
-/// The value of a text.
+/// Returns the value of a text.
 pub fn read_decimal<'a>(text: &str) -> Result<Value<'a>, CellFault>
     ensures { reading_view result ≡ decimal_of text.now }
 {

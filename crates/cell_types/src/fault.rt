@@ -15,9 +15,9 @@ pub enum CellFault {
     NotDate,
     /// The value is null, and the column requires one.
     Missing,
-    /// The text of a decimal is not an optional sign and digits with at most one point before, among or behind them.
+    /// The text of a decimal is not an optional sign and digits with at most one point before, among or after them.
     NotDecimal,
-    /// A decimal has a digit other than 0 behind the sixth decimal place.
+    /// A decimal has a digit other than 0 after the sixth decimal place.
     TooFine,
     /// Memory ran out.
     NoMemory,

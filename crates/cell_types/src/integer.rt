@@ -10,10 +10,10 @@ ghost use Rattle.cell_types.specs.Integer.{integer_of, is_integer as is_integer_
 use crate::fault::CellFault;
 use crate::value::Value;
 
-/// Any number of so many digits fits 64 signed bits.
+/// A number of at most this many digits fits 64 signed bits.
 const SHORT: usize = 18;
 
-/// A text without its sign.
+/// Returns a text without its sign.
 #[inline(always)]
 pub fn without_sign(text: &[u8]) -> &[u8]
     ensures { result.now ≡ without_leading_sign text.now }
@@ -24,7 +24,7 @@ pub fn without_sign(text: &[u8]) -> &[u8]
     }
 }
 
-/// Whether a text begins with a minus.
+/// True if a text begins with a minus.
 #[inline(always)]
 pub fn is_negative(text: &[u8]) -> bool
     ensures { result ≡ starts_with_minus text.now }
@@ -32,14 +32,14 @@ pub fn is_negative(text: &[u8]) -> bool
     matches!(text, [b'-', ..])
 }
 
-/// Whether each byte is a digit.
+/// True if each byte is a digit.
 pub fn are_digits(text: &[u8]) -> bool
     ensures { result ≡ list_all is_ascii_digit text.now }
 {
     text.iter().all(|byte| byte.is_ascii_digit())
 }
 
-/// Whether a text is an optional sign and one or more digits.
+/// True if a text is an optional sign and one or more digits.
 fn is_integer(text: &str) -> bool
     ensures { result ≡ is_integer_text text.now }
 {
@@ -47,7 +47,7 @@ fn is_integer(text: &str) -> bool
     !digits.is_empty() && are_digits(digits)
 }
 
-/// The number that a few digits write.
+/// Returns the number that a few digits write.
 #[inline(always)]
 fn short_value(digits: &[u8]) -> Option<i64>
     requires { length digits.now ≤ SHORT }
@@ -67,7 +67,7 @@ fn short_value(digits: &[u8]) -> Option<i64>
     Some(value as i64)
 }
 
-/// The number that a sign and a few digits write; none of another text.
+/// Returns the number that a sign and a few digits write; none of another text.
 #[inline(always)]
 pub fn short_integer(text: &str) -> Option<i64>
     ensures { SomeIff result (IsShortInteger text.now) (signed_digits_value 10 text.now) }
@@ -83,7 +83,7 @@ pub fn short_integer(text: &str) -> Option<i64>
     }
 }
 
-/// The number that a text writes.
+/// Returns the number that a text writes.
 pub fn read_integer<'a>(text: &str) -> Result<Value<'a>, CellFault>
     ensures { reading_view result ≡ integer_of text.now }
 {

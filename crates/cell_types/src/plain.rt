@@ -16,7 +16,7 @@ use crate::decimal::millionths_of;
 use crate::white_space::is_normal;
 use jiff_core::civil::Date;
 
-/// The day of a text in a column of dates of a form, where it says one as it stands.
+/// Returns the day of a text in a column of dates of a form, if it says one as it stands.
 pub fn read_plain_date(column: &Column, form: DateForm, text: &str) -> Option<Date>
     requires { datatype_view column.now.datatype ≡ datatype.date form }
     ensures plain { MatchOption result
@@ -33,7 +33,7 @@ pub fn read_plain_date(column: &Column, form: DateForm, text: &str) -> Option<Da
     Some(date)
 }
 
-/// The number of millionths of a text in a column of decimals, where it says one as it stands.
+/// Returns the number of millionths of a text in a column of decimals, if it says one as it stands.
 pub fn read_plain_decimal(column: &Column, text: &str) -> Option<i64>
     requires { datatype_view column.now.datatype ≡ datatype.decimal }
     ensures plain { MatchOption result
@@ -51,7 +51,7 @@ pub fn read_plain_decimal(column: &Column, text: &str) -> Option<i64>
     Some(number)
 }
 
-/// The truth value of a text in a column of booleans of a form, where it says one as it stands.
+/// Returns the boolean of a text, unchanged by normalization, in a column of booleans of a form.
 pub fn read_plain_boolean(column: &Column, form: &BooleanForm, text: &str) -> Option<bool>
     requires { datatype_view column.now.datatype ≡ boolean_view form.now }
     ensures plain { MatchOption result

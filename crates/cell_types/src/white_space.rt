@@ -12,7 +12,7 @@ fn is_white(byte: u8) -> bool
     matches!(byte, b' ' | b'\t' | b'\n' | b'\r')
 }
 
-/// Whether a text has white space only as single spaces between words.
+/// True if a text has white space only as single spaces between words.
 pub fn is_normal(text: &str) -> bool
     ensures { IsTrue result ↔ (normal_text text.now ≡ text.now) }
 {
@@ -27,7 +27,7 @@ pub fn is_normal(text: &str) -> bool
     !after_white || text.is_empty()
 }
 
-/// How many bytes of white space stand first.
+/// Returns how many bytes of white space stand first.
 fn white_len(text: &[u8]) -> usize
     ensures { result ≡ prefix_len is_white_byte text.now }
 {
@@ -39,7 +39,7 @@ fn white_len(text: &[u8]) -> usize
     text.len()
 }
 
-/// How many bytes stand before the first white space.
+/// Returns how many bytes stand before the first white space.
 fn word_len(text: &[u8]) -> usize
     ensures { result ≡ position_or_len is_white_byte text.now }
 {
@@ -51,7 +51,7 @@ fn word_len(text: &[u8]) -> usize
     text.len()
 }
 
-/// The first word of a text, and what follows it.
+/// Returns the first word of a text, and what follows it.
 fn first_word(text: &str) -> Option<(&str, &str)>
     ensures words { MatchOption result (words text.now ≡ [])
         (λ p. words text.now ≡ p.0.now ∷ words p.1.now) }
@@ -65,7 +65,7 @@ fn first_word(text: &str) -> Option<(&str, &str)>
     Some(text.split_at(word_len(text.as_bytes())))
 }
 
-/// The words of a text, with one space between each two.
+/// Returns the words of a text, with one space between each two.
 pub fn normal_copy(alloc: Global, text: &str) -> Result<String, AllocError>
     ensures { IfOk result (λ copy. string_bytes copy ≡ normal_text text.now) }
 {

@@ -1,5 +1,5 @@
 //! Commands, as they are made for `clap` one argument after the other, and what it reads by them. A call takes the command as the call before it left it, and passes
-//! want of memory on. What help says of a command and of its arguments no clause says.
+//! out of memory on. What help says of a command and of its arguments no clause says.
 ghost use Rattle.std.specs.Prelude.{◌≡◌, IfErr, IfOk, false, is_ok, true};
 ghost use Rattle.clap.specs.Words.{App, is_simple_and_free, new_app, rule_of, with_rule, with_subcommand};
 ghost use Rattle.command_words.specs.Command.{MakesCommand, flag_rule, folder_rule, number_rule, optional_rule, over_folder, place_rule, program_named, shown_rule, text_rule};
@@ -17,7 +17,7 @@ pub const FOLDER_HELP: &str = "The folder, with csv-metadata.json and the files 
 /// The version of all programs, which `--version` prints.
 pub const VERSION: &str = "1.1.0";
 
-/// The command of a program, without its arguments; and whether `help` is left out beside its subcommands.
+/// Returns the command of a program, without its arguments; and whether `help` is left out beside its subcommands.
 pub fn top_command<'a>(
     alloc: Global,
     name: &'a str,
@@ -32,7 +32,7 @@ pub fn top_command<'a>(
     Ok(command.disable_help_subcommand(no_help))
 }
 
-/// The command with one more argument.
+/// Returns the command with one more argument.
 fn add<'a>(
     command: Result<Command<'a>, AllocError>,
     argument: Arg<'a>,
@@ -43,7 +43,7 @@ fn add<'a>(
     command?.arg(argument)
 }
 
-/// The command with the folder as its argument, which it may need.
+/// Returns the command with the folder as its argument, which it may need.
 pub fn add_folder<'a>(
     alloc: Global,
     command: Result<Command<'a>, AllocError>,
@@ -85,7 +85,7 @@ pub fn add_port<'a>(
     add(command, option.value_name("P").help(help))
 }
 
-/// The command with one more option with a text, which help calls by a letter.
+/// Returns the command with one more option with a text, which help calls by a letter.
 pub fn add_text<'a>(
     alloc: Global,
     command: Result<Command<'a>, AllocError>,
@@ -100,7 +100,7 @@ pub fn add_text<'a>(
     add(command, option.value_name(letter).help(help))
 }
 
-/// The command with one more option with a number of 32 bits, which help calls by a letter.
+/// Returns the command with one more option with a number of 32 bits, which help calls by a letter.
 pub fn add_number<'a>(
     alloc: Global,
     command: Result<Command<'a>, AllocError>,
@@ -115,7 +115,7 @@ pub fn add_number<'a>(
     add(command, option.value_parser(value_parser!(u32)))
 }
 
-/// The command with one more option without a value.
+/// Returns the command with one more option without a value.
 pub fn add_flag<'a>(
     alloc: Global,
     command: Result<Command<'a>, AllocError>,
@@ -140,7 +140,7 @@ pub fn inner_command<'a>(
     Ok(Command::new(alloc, name).about(about))
 }
 
-/// The command with one more subcommand.
+/// Returns the command with one more subcommand.
 pub fn add_command<'a>(
     command: Result<Command<'a>, AllocError>,
     inner: Result<Command<'a>, AllocError>,
@@ -151,7 +151,7 @@ pub fn add_command<'a>(
     command?.subcommand(inner?)
 }
 
-/// The command with one more subcommand, over a folder that is served.
+/// Returns the command with one more subcommand, over a folder that is served.
 pub fn add_folder_command<'a>(
     alloc: Global,
     command: Result<Command<'a>, AllocError>,
@@ -165,7 +165,7 @@ pub fn add_folder_command<'a>(
     add_command(command, add_folder(alloc, named, true, FOLDER_HELP))
 }
 
-/// What `clap` reads of the words of a command line by a command, or why it does not take them.
+/// Returns what `clap` reads of the words of a command line by a command, or why it does not take them.
 pub fn matches_of<'a>(
     command: Result<Command<'a>, AllocError>,
     words: &'a [&'a str],

@@ -16,7 +16,7 @@ pub enum WordsFault {
     NoMemory,
 }
 
-/// Why there is nothing to do, where `clap` fails.
+/// Returns why there is nothing to do, where `clap` fails.
 pub(crate) fn fault_by(error: Error) -> WordsFault
     ensures { IsFaultBy (kind_of error) result }
 {

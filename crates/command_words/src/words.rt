@@ -8,7 +8,7 @@ use std::alloc::{AllocError, Global};
 use std::rt::Env;
 use std::{env, io};
 
-/// An argument that has to be there.
+/// Returns an argument that has to be there.
 pub fn required<'a>(alloc: Global, id: &'a str) -> Arg<'a>
     ensures rule { rule_of result ≡ required_rule id.entry.now }
     ensures local { result.global ≡ false }
@@ -16,7 +16,7 @@ pub fn required<'a>(alloc: Global, id: &'a str) -> Arg<'a>
     Arg::new(alloc, id).required(true)
 }
 
-/// The option `--port P`.
+/// Returns the option `--port P`.
 pub fn port_option<'a>(alloc: Global) -> Arg<'a>
     ensures rule { rule_of result ≡ port_rule }
     ensures local { result.global ≡ false }
@@ -25,35 +25,35 @@ pub fn port_option<'a>(alloc: Global) -> Arg<'a>
     option.value_parser(value_parser!(u16))
 }
 
-/// The text of an argument.
+/// Returns the text of an argument.
 pub fn text<'a>(matches: &ArgMatches<'a>, id: &str) -> Option<&'a str>
     ensures { option_map (λ s. s.now) result ≡ first_of id.now (rows_of (found_of matches.now)) }
 {
     matches.get_str(id)
 }
 
-/// The number after `--port`.
+/// Returns the number after `--port`.
 pub fn port<'a>(matches: &ArgMatches<'a>) -> Option<u16>
     ensures { ReadsNumberOfBits 16 (one_of (codes "port") (rows_of (found_of matches.now))) result }
 {
     matches.get_one::<u16>("port")
 }
 
-/// The number of 32 bits after an option.
+/// Returns the number of 32 bits after an option.
 pub fn number<'a>(matches: &ArgMatches<'a>, id: &str) -> Option<u32>
     ensures { ReadsNumberOfBits 32 (one_of id.now (rows_of (found_of matches.now))) result }
 {
     matches.get_one::<u32>(id)
 }
 
-/// Whether an option without a value is there.
+/// True if an option without a value is there.
 pub fn flag<'a>(matches: &ArgMatches<'a>, id: &str) -> bool
     ensures { HasFlag (one_of id.now (rows_of (found_of matches.now))) result }
 {
     matches.get_flag(id)
 }
 
-/// The words that the system hands over, the first of which is the program's own name. Which these are no clause says.
+/// Returns the words that the system hands over, the first of which is the program's own name. Which these are no clause says.
 pub fn system_words<R: Env + AllocGlobal>(rt: &R) -> io::Result<Vec<String>> {
     let mut words = Vec::new(rt.alloc());
     for word in env::args(rt)? {

@@ -40,7 +40,7 @@ pub fn one_structure()
     ensures { OneStructure }
 {}
 
-/// What may follow a text, and what it is there for, hangs on the parity of the text's double quotes and on its last byte.
+/// What may follow a text, and what it is there for, depends on the parity of the text's double quotes and on its last byte.
 #[inline(always)]
 pub fn what_follows()
     ensures { WhatFollows }

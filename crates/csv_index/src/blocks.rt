@@ -15,7 +15,7 @@ pub struct Block {
     pub before: usize,
 }
 
-/// The structural place of number `n`, counted from 0: the number of its block, and its bit there.
+/// Returns the structural place of number `n`, counted from 0: the number of its block, and its bit there.
 pub fn find(blocks: &[Block], n: usize) -> Option<(usize, u32)>
     requires { AreRanked blocks.now }
     ensures { MatchOption result (length (block_places 0 blocks.now) ≤ n)
@@ -30,7 +30,7 @@ pub fn find(blocks: &[Block], n: usize) -> Option<(usize, u32)>
     Some((number, bit))
 }
 
-/// The number of the last block before which there are no more than `n` structural places, by halving.
+/// Returns the number of the last block before which there are no more than `n` structural places, by halving.
 fn last_before(blocks: &[Block], n: usize) -> usize
     requires some { 0 < length blocks.now }
     requires ranked { AreRanked blocks.now }

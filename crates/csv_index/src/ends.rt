@@ -1,4 +1,4 @@
-//! The places behind the fields of a file, one after another, each by clearing the lowest set bit of a mask.
+//! The places after the fields of a file, one after another, each by clearing the lowest set bit of a mask.
 ghost use Rattle.std.specs.Prelude.{◌≡◌, ◌<◌, ◌≤◌, [], ◌∷◌, MatchOption, length, slice_index, take, drop};
 
 use crate::blocks::Block;
@@ -11,7 +11,7 @@ pub struct Ends<'i> {
     pub word: u64,
     /// Where that block begins.
     pub base: usize,
-    /// The blocks behind it.
+    /// The blocks after it.
     pub rest: &'i [Block],
     /// The end of a last record with no line break.
     pub last: Option<usize>,
@@ -31,7 +31,7 @@ impl<'i> Model for Ends<'i> {
 }
 
 impl<'i> Ends<'i> {
-    /// The next place.
+    /// Returns the next place.
     #[inline(always)]
     pub fn next(&mut self) -> Option<usize>
         ensures { MatchOption result ((self.old ≡ []) × (self.new ≡ []))
@@ -50,7 +50,7 @@ impl<'i> Ends<'i> {
         Some(self.base + bit as usize)
     }
 
-    /// Writes so many of the next places, from the second on.
+    /// Writes the next `count` places into `places`, from the second on.
     pub fn fill(&mut self, places: &mut Vec<usize>, count: usize)
         requires count { count ≤ length self.old }
         requires room { count < length places.old.items }

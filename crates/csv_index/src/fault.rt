@@ -10,13 +10,13 @@ use std::alloc::{AllocError, Global};
 pub enum TextFault {
     /// The bytes are not UTF-8; `at` is the length of their longest front that is.
     NotUtf8 { at: usize },
-    /// A CR outside quotes, just before `at`, has no LF behind it.
+    /// A CR outside quotes, just before `at`, has no LF after it.
     BareCr { at: usize },
     /// A double quote at `at` stands inside an unquoted field.
     StrayQuote { at: usize },
     /// The byte at `at` follows a closing double quote, and is no comma, CR or LF.
     AfterQuote { at: usize },
-    /// The file ends, at `at`, inside double quotes or behind a CR.
+    /// The file ends, at `at`, inside double quotes or after a CR.
     Unfinished { at: usize },
     /// The file has no byte but a byte order mark.
     NoHeader,
@@ -27,7 +27,7 @@ pub enum TextFault {
 }
 
 impl TextFault {
-    /// Its name, with its place or row behind it, as in `BareCr at 3`.
+    /// Returns its name, followed by its place or row, as in `BareCr at 3`.
     pub fn text(self, alloc: Global) -> Result<String, AllocError>
         ensures { IfOk result (λ text. string_bytes text ≡ text_fault_text self) }
     {

@@ -9,7 +9,7 @@ use std::marker::Model;
 /// The fields that are left, the next one first and record after record.
 #[derive(Drop)]
 pub struct Fields<'i, 'a> {
-    /// The places behind them.
+    /// The places after them.
     pub(crate) ends: Ends<'i>,
     /// The file.
     pub(crate) bytes: &'a str,
@@ -44,7 +44,7 @@ impl<'i, 'a> Fields<'i, 'a> {
         Some(between(field))
     }
 
-    /// Passes the next field, where there is one, without looking at it.
+    /// Passes the next field, if there is one, without looking at it.
     #[inline(always)]
     pub fn pass(&mut self)
         ensures { self.new ≡ drop 1 self.old }

@@ -57,7 +57,7 @@ impl Model for Index {
 impl Index {
     ghost use Rattle.csv_index.specs.Parts.{parts_of};
 
-    /// Reads a file once. The bytes are a table, whose places the index has, or the error tells what is first wrong with them.
+    /// Reads a file once. Returns the index of its places if the bytes are a table, or the first fault.
     pub fn build(alloc: Global, bytes: &[u8]) -> Result<Index, TextFault>
         ensures table { IfOk result (λ index. IsIndexOf index bytes.now) }
         ensures fault { IfErr result (IsTextFault bytes.now) }
@@ -99,21 +99,21 @@ impl Index {
         })
     }
 
-    /// How many records stand behind the header.
+    /// Returns how many records follow the header.
     pub fn rows(&self) -> usize
         ensures { result ≡ self.now.rows }
     {
         self.rows
     }
 
-    /// How many fields each record has.
+    /// Returns how many fields each record has.
     pub fn width(&self) -> usize
         ensures { result ≡ self.now.width }
     {
         self.width
     }
 
-    /// The header's field of a column, counted from 0. The bytes are those of `build`.
+    /// Returns the header's field of a column, counted from 0. The bytes are those of `build`.
     pub fn header<'a>(&self, bytes: &'a str, col: usize) -> Raw<'a>
         requires bytes { FitsFile self.now bytes.now }
         requires col { col < self.now.width }
@@ -122,7 +122,7 @@ impl Index {
         self.field(bytes, col)
     }
 
-    /// The field of a row and a column, both counted from 0. The bytes are those of `build`.
+    /// Returns the field of a row and a column, both counted from 0. The bytes are those of `build`.
     pub fn cell<'a>(&self, bytes: &'a str, row: usize, col: usize) -> Raw<'a>
         requires bytes { FitsFile self.now bytes.now }
         requires row { row < self.now.rows }
@@ -133,7 +133,7 @@ impl Index {
         self.field(bytes, (row + 1) * width + col)
     }
 
-    /// The fields from a row on, record after record, as [`Index::cell`] gives them one by one. The bytes are those of `build`. Each
+    /// Returns the fields from a row on, record after record, as [`Index::cell`] gives them one by one. The bytes are those of `build`. Each
     /// field is found from the one before it, with no search. It takes no memory.
     pub fn fields<'i, 'a>(&'i self, bytes: &'a str, row: usize) -> Fields<'i, 'a>
         requires bytes { FitsFile self.now bytes.now }
@@ -148,7 +148,7 @@ impl Index {
         }
     }
 
-    /// The fields of the records behind the header from a row on, in parts. The bytes are those of `build`.
+    /// Returns the fields of the records after the header from a row on, in parts. The bytes are those of `build`.
     pub(crate) fn parts<'i>(
         &'i self,
         alloc: Global,
@@ -174,7 +174,7 @@ impl Index {
         })
     }
 
-    /// The header and so many records behind it, as they stand in the bytes, which are those of `build`.
+    /// Returns the header and the first `rows` records after it, as they are in the bytes, which are those of `build`.
     pub(crate) fn front<'a>(&self, bytes: &'a str, rows: usize) -> &'a str
         requires bytes { FitsFile self.now bytes.now }
         requires rows { rows < self.now.rows }
@@ -185,7 +185,7 @@ impl Index {
         &bytes[..self.start_of((rows + 1) * width)]
     }
 
-    /// Keeps the places of the header and of so many records behind it. Those of the others are let go, and their memory with them.
+    /// Keeps the places of the header and of the first `rows` records after it, and frees the others.
     pub(crate) fn truncate(&mut self, rows: usize)
         requires width { 0 < self.old.width }
         requires rows { (rows + 1) * self.old.width < length self.old.ends }
@@ -205,7 +205,7 @@ impl Index {
         self.rows = rows;
     }
 
-    /// The field of that number, the header's first and then record after record.
+    /// Returns the field of that number, the header's first and then record after record.
     fn field<'a>(&self, bytes: &'a str, n: usize) -> Raw<'a>
         requires bytes { FitsFile self.now bytes.now }
         requires n { n < length self.now.ends }
@@ -214,7 +214,7 @@ impl Index {
         between(piece(bytes, self.start_of(n), self.end_of(n)))
     }
 
-    /// Where the field of that number begins: behind the place of the field before it.
+    /// Returns where the field of that number begins: after the place of the field before it.
     fn start_of(&self, n: usize) -> usize
         requires n { n < length self.now.ends }
         ensures { result ≡ start_at self.now.start self.now.ends n }
@@ -226,7 +226,7 @@ impl Index {
         }
     }
 
-    /// The place behind the field of that number.
+    /// Returns the place after the field of that number.
     fn end_of(&self, n: usize) -> usize
         requires n { n < length self.now.ends }
         ensures { slice_get self.now.ends n ≡ Some result }
@@ -238,7 +238,7 @@ impl Index {
         }
     }
 
-    /// The places behind the fields that follow the field of that number.
+    /// Returns the places after the fields that follow the field of that number.
     fn ends_behind(&self, n: usize) -> Ends<'_>
         requires n { n < length self.now.ends }
         ensures { result ≡ drop (n + 1) self.now.ends }

@@ -35,7 +35,7 @@ impl Model for IndexedText {
 }
 
 impl IndexedText {
-    /// Reads a file once. Its bytes are a table, which stands in them as it is seen here, or the error tells what is first wrong with them.
+    /// Reads a file once. Returns the table that its bytes are, with its index, or the first fault.
     pub fn build(alloc: Global, bytes: Vec<u8>) -> Result<IndexedText, TextFault>
         ensures table { IfOk result (IsRawTable bytes.items) }
         ensures fault { IfErr result (IsTextFault bytes.items) }
@@ -45,14 +45,14 @@ impl IndexedText {
         Ok(IndexedText { text, index })
     }
 
-    /// How many records stand behind the header.
+    /// Returns how many records follow the header.
     pub fn rows(&self) -> usize
         ensures { result ≡ length self.now.rows }
     {
         self.index.rows()
     }
 
-    /// How many fields each record has.
+    /// Returns how many fields each record has.
     pub fn width(&self) -> usize
         ensures header { result ≡ length self.now.header }
         ensures rows { AllByRecursion (λ fields. length fields ≡ result) self.now.rows }
@@ -60,7 +60,7 @@ impl IndexedText {
         self.index.width()
     }
 
-    /// The header's field of a column, counted from 0.
+    /// Returns the header's field of a column, counted from 0.
     pub fn header(&self, col: usize) -> Raw<'_>
         requires { col < length self.now.header }
         ensures { slice_get self.now.header col ≡ Some (raw_view result) }
@@ -68,7 +68,7 @@ impl IndexedText {
         self.index.header(self.text.as_str(), col)
     }
 
-    /// The field of a row and a column, both counted from 0.
+    /// Returns the field of a row and a column, both counted from 0.
     pub fn cell(&self, row: usize, col: usize) -> Raw<'_>
         requires row { row < length self.now.rows }
         requires col { col < length self.now.header }
@@ -77,7 +77,7 @@ impl IndexedText {
         self.index.cell(self.text.as_str(), row, col)
     }
 
-    /// The fields from a row on, one row after another. Each is found from the one before it, with no search. It takes no memory.
+    /// Returns the fields from a row on, one row after another. Each is found from the one before it, with no search. It takes no memory.
     pub fn fields(&self, row: usize) -> Fields<'_, '_>
         requires { row ≤ length self.now.rows }
         ensures { result ≡ row_fields (drop row self.now.rows) }
@@ -85,7 +85,7 @@ impl IndexedText {
         self.index.fields(self.text.as_str(), row)
     }
 
-    /// The rows from one on by parts, all of which are left.
+    /// Returns the rows from one on by parts, all of which are left.
     pub fn parts(&self, alloc: Global, row: usize) -> Result<Parts<'_>, AllocError>
         requires { row ≤ length self.now.rows }
         ensures width { IfOk result (λ parts. parts.width ≡ length self.now.header) }
@@ -95,7 +95,7 @@ impl IndexedText {
         self.index.parts(alloc, self.text.as_str(), row)
     }
 
-    /// Keeps so many rows. The text of the others and the places of their fields are let go, and their memory with them.
+    /// Keeps the first `rows` rows, and frees the text and the places of the others.
     pub fn truncate(&mut self, rows: usize)
         ensures { self.new ≡ record self.old { rows = take rows self.old.rows } }
     {

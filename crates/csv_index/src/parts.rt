@@ -1,4 +1,4 @@
-//! The rows of a file, so many at a time.
+//! The rows of a file, a number of them at a time.
 ghost use Rattle.std.specs.Prelude.{◌≡◌};
 
 use crate::ends::Ends;
@@ -38,7 +38,7 @@ impl<'i> Model for Parts<'i> {
 impl<'i> Parts<'i> {
     ghost use Rattle.csv_index.specs.Parts.{next_part};
 
-    /// The part. Any field of it is found with no search.
+    /// Returns the part. Any field of it is found with no search.
     #[inline(always)]
     pub fn part(&self) -> Part<'i, '_>
         ensures { result ≡ record { width = self.now.width; rows = self.now.part } }

@@ -9,7 +9,7 @@ use csv_grammar::{one_structure, what_follows};
 use lane_class::{BLOCK, classify, load};
 use quote_parity::Carry;
 
-/// What is known behind the blocks that are read.
+/// What is known after the blocks that are read.
 #[derive(Drop)]
 pub struct Reading {
     pub blocks: Vec<Block>,
@@ -47,7 +47,7 @@ impl Reading {
         Ok(reading)
     }
 
-    /// Reads one more block, the first `len` bytes of those that are left: 64, or all where there are fewer. The error is how many
+    /// Reads one more block, the first `len` bytes of those that are left: 64, or all if there are fewer. The error is how many
     /// bytes there are from the first fault on.
     #[inline(always)]
     fn read(self, rest: &[u8], len: usize) -> Result<Reading, usize>

@@ -25,7 +25,7 @@ pub struct Structure {
 }
 
 impl Structure {
-    /// Reads a file from its mark on. The bytes are records, or the error tells what is first wrong with them.
+    /// Reads a file from its mark on. The bytes are records, or the error is the first fault.
     pub fn of(alloc: Global, file: &[u8], mark: usize) -> Result<Structure, TextFault>
         requires utf8 { IsUtf8 file.now }
         requires within { mark ≤ length file.now }
@@ -64,7 +64,7 @@ impl Structure {
     }
 }
 
-/// Why a byte of the text is refused, by that byte and the one before it.
+/// Returns why a byte of the text is refused, by that byte and the one before it.
 fn fault_at(text: &[u8], place: usize, mark: usize) -> TextFault
     requires place { place < length text.now }
     requires room { mark + length text.now < 2 ^ 64 }

@@ -4,7 +4,7 @@ ghost use Rattle.csv_index.specs.Fault.{IsNotUtf8};
 
 use crate::fault::TextFault;
 
-/// The bytes are UTF-8, or the error tells how many of them are.
+/// Checks that bytes are UTF-8. The error has how many of them are.
 pub fn check_text(bytes: &[u8]) -> Result<(), TextFault>
     ensures utf8 { IfOk result (λ _. IsUtf8 bytes.now) }
     ensures fault { IfErr result (IsNotUtf8 bytes.now) }
@@ -17,7 +17,7 @@ pub fn check_text(bytes: &[u8]) -> Result<(), TextFault>
     }
 }
 
-/// The bytes of a file as a text, which takes no memory; the error tells how many of them are UTF-8.
+/// Returns the bytes of a file as a text, without an allocation. The error has how many of them are UTF-8.
 pub fn text_of(bytes: Vec<u8>) -> Result<String, TextFault>
     ensures text { IfOk result (λ text. string_bytes text ≡ bytes.items) }
     ensures fault { IfErr result (IsNotUtf8 bytes.items) }

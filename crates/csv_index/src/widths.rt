@@ -1,4 +1,4 @@
-//! How many fields the records of a file have, counted from the masks of its blocks: a structural place stands behind each field
+//! How many fields the records of a file have, counted from the masks of its blocks: a structural place follows each field
 //! (RFC 4180, section 2, rule 4).
 ghost use Rattle.std.specs.Prelude.{◌≡◌, ℕ, ◌+◌, ◌^◌, ◌<◌, ◌≤◌};
 ghost use Rattle.std.specs.Int.{bit_at};
@@ -35,7 +35,7 @@ impl Widths {
     }
 
     /// Counts the bytes of one more block: its structural places, and those of them that end records. In most blocks one record
-    /// ends or none does, which no branch can foresee: so there is none between the two, where it is as wide as the first.
+    /// ends or none does, which no branch can foresee: so there is none between the two, if it is as wide as the first.
     #[inline(always)]
     pub fn add(&mut self, ends: u64, eol: u64)
         requires start { self.old.start ≤ self.old.places }
@@ -97,7 +97,7 @@ impl Widths {
         };
     }
 
-    /// The first record's width, where one more record of so many fields ends.
+    /// Returns the first record's width after one more record of `fields` fields ends.
     fn width_with(&self, fields: usize) -> usize
         ensures { result ≡ width_with self.now fields }
     {
@@ -108,7 +108,7 @@ impl Widths {
         }
     }
 
-    /// The first row of another width, likewise.
+    /// Returns the first row of another width, likewise.
     fn uneven_with(&self, fields: usize) -> Option<usize>
         ensures { result ≡ uneven_with self.now fields }
     {

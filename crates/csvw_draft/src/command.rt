@@ -9,7 +9,7 @@ use draft_words::{USAGE_LINE, Words, read_words};
 use std::io::{self, ErrorKind, IsTerminal};
 use std::rt::Files;
 
-/// Tells how the program is called, and gives the exit status.
+/// Prints how the program is called, and returns the exit status.
 fn usage_status(rt: &HostRuntime) -> u8 {
     let _ = rt.eprintln(USAGE_LINE);
     USAGE

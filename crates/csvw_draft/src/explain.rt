@@ -18,7 +18,7 @@ const LAST_HELP: &str =
 const NO_METADATA: &str =
     "csv-metadata.json: NoMetadata: the folder has no such file; accepted: one, as csvw_draft FOLDER --write makes it";
 
-/// Adds what is refused of tables, in the order of the metadata, until there are as many refusals as are told.
+/// Adds what is refused of tables, in the order of the metadata, until there are as many refusals as are reported.
 fn refuse_schemas(
     rt: &HostRuntime,
     folder: &str,
@@ -70,7 +70,7 @@ fn explain_cause(rt: &HostRuntime, folder: &str, cause: &LoadFault) -> u8 {
     }
 }
 
-/// Tells why a folder has no catalog.
+/// Reports why a folder has no catalog.
 fn tell_fault(rt: &HostRuntime, folder: &str, fault: &FolderFault, explains: bool) -> u8 {
     match fault {
         FolderFault::NoMetadata => refuse_for(rt, NO_METADATA),
@@ -109,7 +109,7 @@ fn tell_catalog(rt: &HostRuntime, folder: &str, catalog: &Catalog, explains: boo
     }
 }
 
-/// Prints what the service understands of a folder, or tells why it is refused; and gives the exit status. To explain is to tell of all that is refused of it, a line for
+/// Prints what the service understands of a folder, or reports why it is refused; and returns the exit status. To explain is to tell of all that is refused of it, a line for
 /// each.
 pub fn tell_folder(rt: &HostRuntime, folder: &str, explains: bool) -> u8 {
     match Disk::new(rt).load(rt.alloc(), folder) {

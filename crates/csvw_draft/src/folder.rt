@@ -7,7 +7,7 @@ use std::io::{self, ErrorKind};
 use std::rt::Files;
 use table_store::NamedFile;
 
-/// The bytes of a file from which on its reading is told.
+/// A file of at least this many bytes is announced before it is read.
 const LONG: u64 = 50_000_000;
 
 /// Whether a name is that of a CSV file, in letters of either case.
@@ -109,7 +109,7 @@ pub fn path_in(alloc: Global, folder: &str, name: &str) -> Result<String, AllocE
     format!(in alloc; "{folder}/{name}")
 }
 
-/// Tells that the file at that path is read where it is long, as far as that can be told.
+/// Announces a long file before it is read, if its length is known.
 fn tell_long(rt: &HostRuntime, path: &str, name: &str) {
     if let Ok(found) = rt.metadata(path)
         && found.is_file()
@@ -120,7 +120,7 @@ fn tell_long(rt: &HostRuntime, path: &str, name: &str) {
     }
 }
 
-/// Tells that a name is that of no plain file.
+/// Reports that a name is that of no plain file.
 fn warn_other(rt: &HostRuntime, name: &str) -> io::Result<()> {
     let name = cut(rt.alloc(), name)?;
     eprintln!(rt; "warning: {name}: left out: no plain file")

@@ -1,4 +1,4 @@
-//! A draft of the metadata of a folder of CSV files; what the service understands of a folder; and why it refuses one. The program ends with the status 0; a fault is told on
+//! A draft of the metadata of a folder of CSV files; what the service understands of a folder; and why it refuses one. The program ends with the status 0; a fault is reported on
 //! standard error and by the exit status.
 #![tactic(auto)]
 

@@ -13,7 +13,7 @@ pub const USAGE: u8 = 2;
 /// The exit status where a file can't be read or written, or is no plain file.
 pub const DEVICE: u8 = 3;
 
-/// The exit status of want of memory.
+/// The exit status if memory runs out.
 pub const MEMORY: u8 = 4;
 
 /// The exit status of an end: its own, or that of an error of the system.

@@ -1,4 +1,4 @@
-//! What is told, on standard error, a line for each thing; and the texts that were asked for.
+//! What the program prints: a line on standard error for each finding, and the texts that were asked for.
 use crate::status::{DONE, MEMORY, REFUSED, status_of};
 use folder_report::Line;
 use std::io::{self, ErrorKind};
@@ -7,7 +7,7 @@ use table_store::LoadFault;
 /// What is said after a cause that `explain` says more of.
 pub const SEE_EXPLAIN: &str = ": see csvw_draft explain FOLDER";
 
-/// Tells lines that were written.
+/// Reports lines that were written.
 pub fn tell(rt: &HostRuntime, lines: &Line) -> io::Result<()> {
     if lines.is_short {
         return Err(io::Error::from(ErrorKind::OutOfMemory));
@@ -23,7 +23,7 @@ pub fn status_after(done: io::Result<()>, status: u8) -> u8 {
     }
 }
 
-/// Tells why a folder is refused, and gives the exit status.
+/// Reports why a folder is refused, and returns the exit status.
 pub fn refuse_for(rt: &HostRuntime, line: &str) -> u8 {
     status_after(eprintln!(rt; "refused: {line}"), REFUSED)
 }

@@ -62,7 +62,7 @@ pub enum Warning {
         /// The row of the first that looks different, counted from 0.
         other: Option<usize>,
     },
-    /// The cells of a column of integers are days as yyyyMMdd, of which there are so many.
+    /// The cells of a column of integers are days as yyyyMMdd; `cells` of them.
     Days {
         file: usize,
         col: usize,
@@ -73,7 +73,7 @@ pub enum Warning {
         file: usize,
         col: usize,
     },
-    /// So many cells of a column of texts are a text that is null in another column.
+    /// Cells of a column of texts, `cells` of them, are a text that is null in another column.
     NullElsewhere {
         file: usize,
         col: usize,
@@ -87,7 +87,7 @@ pub enum Warning {
         file: usize,
         col: usize,
     },
-    /// So many rows at the end have only empty cells.
+    /// Rows at the end, `rows` of them, have only empty cells.
     EmptyRows {
         file: usize,
         rows: usize,

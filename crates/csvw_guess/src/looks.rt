@@ -5,7 +5,7 @@ use crate::file::FileTable;
 use column_types::{LOOK_COUNT, Look, NULL_WORDS, Seen, look_of, without_white};
 use std::alloc::{AllocError, Global};
 
-/// Of so many cells one may look different from the others.
+/// One of this many cells may look different from the others.
 const ALIKE: usize = 20;
 
 /// The cells of a column that look alike.

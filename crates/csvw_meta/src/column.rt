@@ -17,14 +17,14 @@ use cell_types::Column;
 use serde_json::Value;
 use std::alloc::{AllocError, Global};
 
-/// The name of a column, empty where it has none.
+/// Returns the name of a column, empty if it has none.
 pub(crate) fn name_of(column: &Value) -> &str
     ensures { result.now ≡ name_in (view column.now) }
 {
     text_member(column, "name")
 }
 
-/// Whether `virtual` is absent or false.
+/// True if `virtual` is absent or false.
 fn is_real(column: &Value) -> bool
     ensures { result ≡ is_real_of (member_of (codes "virtual") (view column.now)) }
 {
@@ -34,14 +34,14 @@ fn is_real(column: &Value) -> bool
     }
 }
 
-/// Whether one of the columns has the name.
+/// True if one of the columns has the name.
 pub(crate) fn has_name(columns: &[Value], name: &str) -> bool
     ensures { result ≡ has_name_among (map view columns.now) name.now }
 {
     columns.iter().any(|column| name == name_of(column))
 }
 
-/// The conditions on a column that is an object, behind the earlier ones.
+/// Checks the conditions on a column that is an object, after the earlier ones.
 #[tactic(auto, using(crate::proofs::RefusalLemmas::conditions), unfolding(crate::specs::Column::object_column_conditions))]
 fn check_object<'v>(earlier: &'v [Value], column: &'v Value) -> Result<(), Refusal<'v>>
     ensures { condition_of result
@@ -62,7 +62,7 @@ fn check_object<'v>(earlier: &'v [Value], column: &'v Value) -> Result<(), Refus
     check_inherited(column)
 }
 
-/// The conditions on a column, behind the earlier ones.
+/// Checks the conditions on a column, after the earlier ones.
 #[tactic(auto, unfolding(crate::specs::Column::column_conditions))]
 pub(crate) fn check_column<'v>(earlier: &'v [Value], column: &'v Value) -> Result<(), Refusal<'v>>
     ensures { condition_of result
@@ -75,7 +75,7 @@ pub(crate) fn check_column<'v>(earlier: &'v [Value], column: &'v Value) -> Resul
     }
 }
 
-/// What a column says, where that schema, that table and that group are around it.
+/// Returns what a column says, where that schema, that table and that group are around it.
 pub(crate) fn make_column(
     alloc: Global,
     schema: &Value,

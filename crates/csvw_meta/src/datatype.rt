@@ -14,7 +14,7 @@ use cell_types::{BooleanForm, Datatype, DateForm};
 use serde_json::Value;
 use std::alloc::{AllocError, Global};
 
-/// The datatype of that name, where it is served, as it is without a format.
+/// Returns the datatype of that name, if it is served, as it is without a format.
 fn datatype_named(name: &str) -> Option<Datatype>
     ensures { option_map datatype_view result ≡ datatype_named_of name.now }
 {
@@ -28,7 +28,7 @@ fn datatype_named(name: &str) -> Option<Datatype>
     }
 }
 
-/// The name of a datatype: a text, or what an object has for `base`, which is `string` where it has none.
+/// Returns the name of a datatype: a text, or what an object has for `base`, which is `string` if it has none.
 fn datatype_name(datatype: &Value) -> Option<&str>
     ensures { option_map (λ name. name.now) result ≡ datatype_name_of (view datatype.now) }
 {
@@ -42,7 +42,7 @@ fn datatype_name(datatype: &Value) -> Option<&str>
     }
 }
 
-/// The datatype of a value's name, where it is served, as it is without a format.
+/// Returns the datatype of a value's name, if it is served, as it is without a format.
 fn base_in(datatype: &Value) -> Option<Datatype>
     ensures { option_map datatype_view result ≡ base_of (view datatype.now) }
 {
@@ -52,14 +52,14 @@ fn base_in(datatype: &Value) -> Option<Datatype>
     }
 }
 
-/// Whether the datatype of a value's name is served.
+/// True if the datatype of a value's name is served.
 fn is_served(datatype: &Value) -> bool
     ensures { result ≡ is_some (base_of (view datatype.now)) }
 {
     base_in(datatype).is_some()
 }
 
-/// Whether a datatype has no format, or is one whose texts have one.
+/// True if a datatype has no format, or is one whose texts have one.
 fn may_have_format(datatype: &Value) -> bool
     ensures { result ≡ may_have_format_of (view datatype.now) }
 {
@@ -70,7 +70,7 @@ fn may_have_format(datatype: &Value) -> bool
         )
 }
 
-/// The text of true and that of false of a format `T|F`.
+/// Returns the text of true and that of false of a format `T|F`.
 fn boolean_texts(format: &str) -> Option<(&str, &str)>
     ensures { option_map (λ texts. (texts.0.now, texts.1.now)) result
         ≡ boolean_texts_of format.now }
@@ -85,14 +85,14 @@ fn boolean_texts(format: &str) -> Option<(&str, &str)>
     Some((of_true, of_false))
 }
 
-/// The form of dates with that pattern.
+/// Returns the form of dates with that pattern.
 fn date_form(format: &str) -> Option<DateForm>
     ensures { result ≡ date_form_of format.now }
 {
     DateForm::of_pattern(format)
 }
 
-/// Whether a datatype has that format.
+/// True if a datatype has that format.
 fn has_format(base: &Datatype, format: &Value) -> bool
     ensures { result ≡ is_some (datatype_with (datatype_view base.now) (Some (view format.now))) }
 {
@@ -109,7 +109,7 @@ fn has_format(base: &Datatype, format: &Value) -> bool
     }
 }
 
-/// Whether a value is a datatype that is served.
+/// True if a value is a datatype that is served.
 fn is_datatype(datatype: &Value) -> bool
     ensures { result ≡ is_some (datatype_in_of (view datatype.now)) }
 {
@@ -135,7 +135,7 @@ fn check_constraints<'v>(datatype: &'v Value) -> Result<(), Refusal<'v>>
     absent(datatype, "maxExclusive")
 }
 
-/// The conditions on a datatype.
+/// Returns the conditions on a datatype.
 #[tactic(auto, using(crate::proofs::RefusalLemmas::conditions), unfolding(crate::specs::Datatype::datatype_conditions))]
 fn check_present<'v>(datatype: &'v Value) -> Result<(), Refusal<'v>>
     ensures { condition_of result ≡ first_cause (datatype_conditions (view datatype.now)) }
@@ -148,7 +148,7 @@ fn check_present<'v>(datatype: &'v Value) -> Result<(), Refusal<'v>>
     ensure(is_datatype(datatype), MetaFault::BadFormat)
 }
 
-/// The conditions on what a level has for `datatype`.
+/// Returns the conditions on what a level has for `datatype`.
 #[tactic(auto, unfolding(crate::specs::Datatype::datatype_member_conditions))]
 pub(crate) fn check_datatype<'v>(datatype: Option<&'v Value>) -> Result<(), Refusal<'v>>
     ensures { condition_of result
@@ -160,7 +160,7 @@ pub(crate) fn check_datatype<'v>(datatype: Option<&'v Value>) -> Result<(), Refu
     }
 }
 
-/// A boolean with the texts of a format.
+/// Returns a boolean with the texts of a format.
 fn make_boolean(alloc: Global, format: &str) -> Result<Option<Datatype>, AllocError>
     ensures { IfOk result (λ made.
         option_map datatype_view made ≡ option_map boolean_of_texts (boolean_texts_of format.now)) }
@@ -173,7 +173,7 @@ fn make_boolean(alloc: Global, format: &str) -> Result<Option<Datatype>, AllocEr
     Ok(Some(Datatype::Boolean(BooleanForm::Texts(of_true, of_false))))
 }
 
-/// A datatype with a format, where it has that format.
+/// Returns a datatype with a format, if it has that format.
 fn make_with(alloc: Global, base: Datatype, format: &Value) -> Result<Option<Datatype>, AllocError>
     ensures { IfOk result (λ made.
         option_map datatype_view made
@@ -192,7 +192,7 @@ fn make_with(alloc: Global, base: Datatype, format: &Value) -> Result<Option<Dat
     }
 }
 
-/// The datatype that a value is, where it is one that is served.
+/// Returns the datatype that a value is, if it is one that is served.
 fn make_served(alloc: Global, datatype: &Value) -> Result<Option<Datatype>, AllocError>
     ensures { IfOk result
         (λ made. option_map datatype_view made ≡ datatype_in_of (view datatype.now)) }
@@ -203,7 +203,7 @@ fn make_served(alloc: Global, datatype: &Value) -> Result<Option<Datatype>, Allo
     }
 }
 
-/// The datatype of a column, from the nearest level that says one; texts where none does.
+/// Returns the datatype of a column, from the nearest level that says one; texts if none does.
 pub(crate) fn make_datatype(alloc: Global, datatype: Option<&Value>) -> Result<Datatype, AllocError>
     ensures { IfOk result
         (λ made. datatype_view made ≡ datatype_of (option_map (λ v. view v.now) datatype.entry)) }

@@ -1,4 +1,4 @@
-//! The value of a JSON text behind a byte order mark, and the schemas that it says.
+//! The value of a JSON text after a byte order mark, and the schemas that it says.
 ghost use Rattle.std.specs.Prelude.{◌≡◌, [], map, codes, Ok, Err, Some, None, IfOk, IfErr, IfSome};
 ghost use Rattle.serde_json.specs.Data.{null};
 ghost use Rattle.serde_json.specs.View.{view};
@@ -26,14 +26,14 @@ pub struct Schemas {
     pub tables: Vec<Schema>,
 }
 
-/// The bytes behind a byte order mark.
+/// Returns the bytes after a byte order mark.
 fn text(bytes: &[u8]) -> &[u8]
     ensures { result.now ≡ text_of bytes.now }
 {
     &bytes[mark_len(bytes)..]
 }
 
-/// The value that the bytes are.
+/// Returns the value that the bytes are.
 fn read_document(alloc: Global, bytes: &[u8]) -> Result<Value, MetaFault>
     ensures value { IfOk result (λ value. document bytes.now ≡ Some (view value)) }
     ensures fault { IfErr result (λ e. IfSome (meta_cause e) (λ cause.
@@ -53,14 +53,14 @@ fn read_document(alloc: Global, bytes: &[u8]) -> Result<Value, MetaFault>
     }
 }
 
-/// Whether the metadata is of a group of tables.
+/// True if the metadata is of a group of tables.
 fn is_group(metadata: &Value) -> bool
     ensures { result ≡ is_group_of (view metadata.now) }
 {
     has(metadata, "tables")
 }
 
-/// The conditions on metadata. A table that stands alone is in no group.
+/// Returns the conditions on metadata. A table that stands alone is in no group.
 #[tactic(auto, unfolding(crate::specs::Document::object_conditions, crate::specs::Document::lone_table_conditions))]
 fn check_object<'v>(
     limits: &Limits,
@@ -78,7 +78,7 @@ fn check_object<'v>(
     check_table(limits, no_group, &[], metadata)
 }
 
-/// The conditions on metadata.
+/// Returns the conditions on metadata.
 fn check_metadata<'v>(
     limits: &Limits,
     no_group: &'v Value,
@@ -95,7 +95,7 @@ fn check_metadata<'v>(
     }
 }
 
-/// What metadata says, table by table.
+/// Returns what metadata says, table by table.
 fn make_schemas(alloc: Global, metadata: &Value) -> Result<Vec<Schema>, AllocError>
     ensures { IfOk result
         (λ made. map schema_view made.items ≡ metadata_schemas (view metadata.now)) }
@@ -109,7 +109,7 @@ fn make_schemas(alloc: Global, metadata: &Value) -> Result<Vec<Schema>, AllocErr
 }
 
 impl Schemas {
-    /// What a metadata text says, behind a byte order mark; or the first fault of the walk over it.
+    /// Returns what a metadata text says, after a byte order mark, or the first fault of the walk over it.
     #[tactic(auto, unfolding(crate::specs::Document::schemas_of_value))]
     pub fn read(alloc: Global, bytes: &[u8], limits: &Limits) -> Result<Schemas, MetaFault>
         ensures schemas { IfOk result

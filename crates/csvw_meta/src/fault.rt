@@ -49,7 +49,7 @@ pub enum MetaFault {
 }
 
 impl MetaFault {
-    /// The name of the fault.
+    /// Returns the name of the fault.
     pub fn name(&self) -> &'static str
         ensures { result.now ≡ meta_fault_name self.now }
     {
@@ -76,7 +76,7 @@ impl MetaFault {
         }
     }
 
-    /// The name of the fault, and behind `Unsupported` a space and the key, each control character of which is written as `\u` and four
+    /// Returns the name of the fault, and after `Unsupported` a space and the key, each control character of which is written as `\u` and four
     /// hexadecimal digits.
     pub fn text(&self, alloc: Global) -> Result<String, AllocError>
         ensures { IfOk result (λ text. string_bytes text ≡ meta_fault_text self.now) }

@@ -9,21 +9,21 @@ pub(crate) const MOST_NAME_BYTES: usize = 128;
 /// The most bytes of a table's url.
 pub(crate) const MOST_URL_BYTES: usize = 132;
 
-/// An ASCII letter, digit or low line.
+/// Returns an ASCII letter, digit or low line.
 fn is_name_byte(b: u8) -> bool
     ensures { result ≡ is_name_byte_of b }
 {
     b.is_ascii_alphanumeric() || b == b'_'
 }
 
-/// An ASCII letter, digit, low line or hyphen.
+/// Returns an ASCII letter, digit, low line or hyphen.
 fn is_url_byte(b: u8) -> bool
     ensures { result ≡ is_url_byte_of b }
 {
     is_name_byte(b) || b == b'-'
 }
 
-/// Whether an ASCII letter comes first.
+/// True if an ASCII letter comes first.
 fn begins_with_letter(bytes: &[u8]) -> bool
     ensures { result ≡ (nat_lt 0 (length bytes.now) && is_ascii_alphabetic
         (slice_index bytes.now 0)) }
@@ -48,7 +48,7 @@ fn are_url_bytes(bytes: &[u8]) -> bool
     bytes.iter().all(|b| is_url_byte(*b))
 }
 
-/// The form of a column's name.
+/// Returns the form of a column's name.
 pub(crate) fn is_column_name(name: &str) -> bool
     ensures { result ≡ is_column_name_of name.now }
 {
@@ -56,7 +56,7 @@ pub(crate) fn is_column_name(name: &str) -> bool
     bytes.len() <= MOST_NAME_BYTES && begins_with_letter(bytes) && are_name_bytes(&bytes[1..])
 }
 
-/// Whether a text has the form of a table's url: at most 132 bytes, an ASCII letter, then letters, digits, low lines and hyphens, then `.csv`.
+/// True if a text has the form of a table's url: at most 132 bytes, an ASCII letter, then letters, digits, low lines and hyphens, then `.csv`.
 pub fn is_table_url(url: &str) -> bool
     ensures { result ≡ is_table_url_of url.now }
 {
@@ -68,7 +68,7 @@ pub fn is_table_url(url: &str) -> bool
     begins_with_letter(name) && are_url_bytes(&name[1..])
 }
 
-/// A url without its `.csv`, which is the name of its table.
+/// Returns a url without its `.csv`, which is the name of its table.
 pub fn table_name(url: &str) -> &str
     ensures { result.now ≡ table_name_of url.now }
 {

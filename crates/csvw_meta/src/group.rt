@@ -16,14 +16,14 @@ use crate::table::{check_level, check_table, make_table};
 use serde_json::Value;
 use std::alloc::{AllocError, Global};
 
-/// The tables of a group.
+/// Returns the tables of a group.
 fn tables_in(group: &Value) -> &[Value]
     ensures { map view result.now ≡ tables_of (view group.now) }
 {
     array_member(group, "tables")
 }
 
-/// The conditions on the tables of a group, one after another.
+/// Returns the conditions on the tables of a group, one after another.
 fn check_tables<'v>(
     limits: &Limits,
     group: &'v Value,
@@ -39,7 +39,7 @@ fn check_tables<'v>(
     Ok(())
 }
 
-/// The conditions on a group.
+/// Returns the conditions on a group.
 #[tactic(auto, using(crate::proofs::RefusalLemmas::conditions), unfolding(crate::specs::Group::group_conditions))]
 pub(crate) fn check_group<'v>(limits: &Limits, group: &'v Value) -> Result<(), Refusal<'v>>
     ensures { condition_of result
@@ -56,7 +56,7 @@ pub(crate) fn check_group<'v>(limits: &Limits, group: &'v Value) -> Result<(), R
     check_tables(limits, group, tables)
 }
 
-/// What a group says, table by table.
+/// Returns what a group says, table by table.
 pub(crate) fn make_group(alloc: Global, group: &Value) -> Result<Vec<Schema>, AllocError>
     ensures { IfOk result (λ made. map schema_view made.items ≡ group_schemas (view group.now)) }
 {

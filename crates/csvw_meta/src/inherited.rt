@@ -13,7 +13,7 @@ use crate::texts::{is_texts, make_texts};
 use serde_json::Value;
 use std::alloc::{AllocError, Global};
 
-/// Whether it is a text of at most as many bytes as metadata may have, as each text in metadata is.
+/// True if it is a text of at most as many bytes as metadata may have, as each text in metadata is.
 fn is_short_text(value: &Value) -> bool
     ensures { result ≡ is_short_text_of (view value.now) }
 {
@@ -23,7 +23,7 @@ fn is_short_text(value: &Value) -> bool
     }
 }
 
-/// The conditions on what a level says for the columns in it.
+/// Returns the conditions on what a level says for the columns in it.
 #[tactic(auto, using(crate::proofs::RefusalLemmas::conditions), unfolding(crate::specs::Inherited::inherited_conditions))]
 pub(crate) fn check_inherited<'v>(level: &'v Value) -> Result<(), Refusal<'v>>
     ensures { condition_of result ≡ first_cause (inherited_conditions (view level.now)) }
@@ -43,7 +43,7 @@ pub(crate) fn check_inherited<'v>(level: &'v Value) -> Result<(), Refusal<'v>>
     )
 }
 
-/// The texts that stand for null: the empty one where no level says any.
+/// Returns the texts that stand for null: the empty one where no level says any.
 pub(crate) fn make_nulls(alloc: Global, nulls: Option<&Value>) -> Result<Vec<String>, AllocError>
     ensures { IfOk result (λ made. map string_bytes made.items
         ≡ nulls_of (option_map (λ v. view v.now) nulls.entry)) }
@@ -58,7 +58,7 @@ pub(crate) fn make_nulls(alloc: Global, nulls: Option<&Value>) -> Result<Vec<Str
     }
 }
 
-/// What an empty text stands for: the empty text where no level says another.
+/// Returns what an empty text stands for: the empty text where no level says another.
 pub(crate) fn make_default(alloc: Global, default: Option<&Value>) -> Result<String, AllocError>
     ensures { IfOk result
         (λ made. string_bytes made ≡ default_of (option_map (λ v. view v.now) default.entry)) }
@@ -66,7 +66,7 @@ pub(crate) fn make_default(alloc: Global, default: Option<&Value>) -> Result<Str
     String::from_str(alloc, default.and_then(Value::as_str).unwrap_or(""))
 }
 
-/// Whether a value is required: not where no level says so.
+/// True if a value is required: not where no level says so.
 pub(crate) fn is_required(required: Option<&Value>) -> bool
     ensures { result ≡ required_of (option_map (λ v. view v.now) required.entry) }
 {

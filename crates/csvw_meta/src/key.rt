@@ -11,21 +11,21 @@ use crate::texts::{is_texts, parts};
 use serde_json::Value;
 use std::alloc::{AllocError, Global};
 
-/// The text of a value, empty where it is no text.
+/// Returns the text of a value, empty if it is no text.
 fn text_of(value: &Value) -> &str
     ensures { result.now ≡ text_in (view value.now) }
 {
     value.as_str().unwrap_or("")
 }
 
-/// Whether one of the values is the text.
+/// True if one of the values is the text.
 fn has_text(values: &[Value], text: &str) -> bool
     ensures { result ≡ list_any (λ value. bytes_eq text.now (text_in (view value))) values.now }
 {
     values.iter().any(|value| text == text_of(value))
 }
 
-/// Whether no text stands twice.
+/// True if no text stands twice.
 fn are_different(values: &[Value]) -> bool
     ensures { result ≡ are_different_of (map text_in (map view values.now)) }
 {
@@ -37,7 +37,7 @@ fn are_different(values: &[Value]) -> bool
     true
 }
 
-/// Whether each text is the name of a column.
+/// True if each text is the name of a column.
 fn are_names(columns: &[Value], values: &[Value]) -> bool
     ensures { result ≡ list_all (has_name_among (map view columns.now))
         (map text_in (map view values.now)) }
@@ -45,7 +45,7 @@ fn are_names(columns: &[Value], values: &[Value]) -> bool
     values.iter().all(|value| has_name(columns, text_of(value)))
 }
 
-/// Whether there is a text, each is the name of a column, and none stands twice.
+/// True if there is a text, each is the name of a column, and none stands twice.
 #[tactic(auto, unfolding(crate::specs::Key::are_key_names))]
 fn are_key_names(columns: &[Value], values: &[Value]) -> bool
     ensures { result ≡ are_key_names_of (map view columns.now) (map text_in (map view values.now)) }
@@ -56,14 +56,14 @@ fn are_key_names(columns: &[Value], values: &[Value]) -> bool
     are_different(values)
 }
 
-/// Whether it is a text or an array of texts, which are such names.
+/// True if it is a text or an array of texts, which are such names.
 pub(crate) fn is_key(columns: &[Value], key: &Value) -> bool
     ensures { result ≡ is_key_of (map view columns.now) (view key.now) }
 {
     is_texts(key) && are_key_names(columns, parts(key))
 }
 
-/// The place of the first column with that name, or the number of columns where none has it.
+/// Returns the place of the first column with that name, or the number of columns if none has it.
 fn place_of(columns: &[Value], name: &str) -> usize
     ensures { result ≡ place_in (map view columns.now) name.now }
 {
@@ -75,7 +75,7 @@ fn place_of(columns: &[Value], name: &str) -> usize
     columns.len()
 }
 
-/// The places of the columns that a key names.
+/// Returns the places of the columns that a key names.
 fn make_places(alloc: Global, columns: &[Value], key: &Value) -> Result<Vec<usize>, AllocError>
     ensures { IfOk result (λ made. made.items ≡ key_in (map view columns.now) (view key.now)) }
 {
@@ -86,7 +86,7 @@ fn make_places(alloc: Global, columns: &[Value], key: &Value) -> Result<Vec<usiz
     Ok(places)
 }
 
-/// The places of the columns that a key names, none where there is no key.
+/// Returns the places of the columns that a key names, none if there is no key.
 pub(crate) fn make_key(
     alloc: Global,
     columns: &[Value],

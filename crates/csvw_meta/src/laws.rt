@@ -15,7 +15,7 @@ pub fn schemas_or_cause()
     ensures { SchemasOrCause }
 {}
 
-/// Two faults that say the same are the same: so a cause, which is what a fault says, tells which. Two with the same text are the same where no
+/// Two faults that say the same are the same: so a cause, which is what a fault says, identifies the fault. Two with the same text are the same where no
 /// backslash stands in their keys; else one key may have a control character where the other has its escape. The text of each fault is one line,
 /// whatever the metadata has.
 pub fn texts_tell_faults_apart()

@@ -32,7 +32,7 @@ pub struct Limits {
 }
 
 impl Limits {
-    /// The greatest of each.
+    /// Returns the greatest of each.
     pub fn greatest() -> Limits
         ensures file { result.file ≡ MOST_FILE_BYTES }
         ensures tables { result.tables ≡ MOST_TABLES }

@@ -9,7 +9,7 @@ use crate::fault::MetaFault;
 use crate::refusal::{Refusal, ensure, ensure_served};
 use serde_json::Value;
 
-/// The value of that member, where there is one.
+/// Returns the value of that member if there is one.
 pub(crate) fn member<'v>(value: &'v Value, name: &str) -> Option<&'v Value>
     ensures { option_map (λ v. view v.now) result ≡ member_of name.now (view value.now) }
 {
@@ -19,21 +19,21 @@ pub(crate) fn member<'v>(value: &'v Value, name: &str) -> Option<&'v Value>
     }
 }
 
-/// Whether there is such a member.
+/// True if there is such a member.
 pub(crate) fn has(value: &Value, name: &str) -> bool
     ensures { result ≡ has_of name.now (view value.now) }
 {
     member(value, name).is_some()
 }
 
-/// The text of that member, empty where it has none.
+/// Returns the text of that member, empty if it has none.
 pub(crate) fn text_member<'v>(value: &'v Value, name: &str) -> &'v str
     ensures { result.now ≡ text_member_of name.now (view value.now) }
 {
     member(value, name).and_then(Value::as_str).unwrap_or("")
 }
 
-/// The values of that member, none where it is no array.
+/// Returns the values of that member, none if it is no array.
 pub(crate) fn array_member<'v>(value: &'v Value, name: &str) -> &'v [Value]
     ensures { map view result.now ≡ array_member_of name.now (view value.now) }
 {

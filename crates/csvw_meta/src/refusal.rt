@@ -14,7 +14,7 @@ pub(crate) enum Refusal<'a> {
 }
 
 impl<'a> Refusal<'a> {
-    /// The fault, with a name of its own. Memory is taken for the name alone.
+    /// Returns the fault, with a name of its own. Memory is taken for the name alone.
     pub(crate) fn fault(self, alloc: Global) -> MetaFault
         ensures { IsFaultOf self.entry result }
     {

@@ -33,14 +33,14 @@ pub struct Schema {
     pub key: Vec<usize>,
 }
 
-/// The columns of a schema, none where it has none.
+/// Returns the columns of a schema, none if it has none.
 fn columns_in(schema: &Value) -> &[Value]
     ensures { map view result.now ≡ columns_of (view schema.now) }
 {
     array_member(schema, "columns")
 }
 
-/// The conditions on columns, one after another.
+/// Returns the conditions on columns, one after another.
 fn check_columns<'v>(columns: &'v [Value]) -> Result<(), Refusal<'v>>
     ensures { condition_of result
         ≡ first_cause (each_conditions column_conditions [] (map view columns.now)) }
@@ -51,7 +51,7 @@ fn check_columns<'v>(columns: &'v [Value]) -> Result<(), Refusal<'v>>
     Ok(())
 }
 
-/// Whether a schema with those columns has no `primaryKey`, or one that is a key.
+/// True if a schema with those columns has no `primaryKey`, or one that is a key.
 fn has_key_or_none(schema: &Value, columns: &[Value]) -> bool
     ensures { result ≡ fits (is_key_of (map view columns.now))
         (member_of (codes "primaryKey") (view schema.now)) }
@@ -62,7 +62,7 @@ fn has_key_or_none(schema: &Value, columns: &[Value]) -> bool
     }
 }
 
-/// The places of the columns of a schema's key, none where it has no key.
+/// Returns the places of the columns of a schema's key, none if it has no key.
 pub(crate) fn make_schema_key(alloc: Global, schema: &Value) -> Result<Vec<usize>, AllocError>
     ensures { IfOk result (λ made. made.items ≡ key_of (columns_of (view schema.now))
         (member_of (codes "primaryKey") (view schema.now))) }
@@ -70,7 +70,7 @@ pub(crate) fn make_schema_key(alloc: Global, schema: &Value) -> Result<Vec<usize
     make_key(alloc, columns_in(schema), member(schema, "primaryKey"))
 }
 
-/// The conditions on a schema that is an object.
+/// Returns the conditions on a schema that is an object.
 #[tactic(auto, using(crate::proofs::RefusalLemmas::conditions), unfolding(crate::specs::Schema::object_schema_conditions))]
 fn check_object<'v>(limits: &Limits, schema: &'v Value) -> Result<(), Refusal<'v>>
     ensures { condition_of result
@@ -89,7 +89,7 @@ fn check_object<'v>(limits: &Limits, schema: &'v Value) -> Result<(), Refusal<'v
     ensure(has_key_or_none(schema, columns), MetaFault::BadKey)
 }
 
-/// The conditions on what a table, or its group, has as `tableSchema`.
+/// Returns the conditions on what a table, or its group, has as `tableSchema`.
 #[tactic(auto, unfolding(crate::specs::Schema::schema_conditions))]
 pub(crate) fn check_schema<'v>(
     limits: &Limits,
@@ -106,7 +106,7 @@ pub(crate) fn check_schema<'v>(
     }
 }
 
-/// What the columns of a schema say, where that table and that group are around it.
+/// Returns what the columns of a schema say, where that table and that group are around it.
 pub(crate) fn make_columns(
     alloc: Global,
     schema: &Value,

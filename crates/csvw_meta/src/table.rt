@@ -16,28 +16,28 @@ use crate::schema::{Schema, check_schema, make_columns, make_schema_key};
 use serde_json::Value;
 use std::alloc::{AllocError, Global};
 
-/// The url of a table, empty where it has none.
+/// Returns the url of a table, empty if it has none.
 fn url_of(table: &Value) -> &str
     ensures { result.now ≡ url_in (view table.now) }
 {
     text_member(table, "url")
 }
 
-/// Whether one of the tables has the url.
+/// True if one of the tables has the url.
 fn has_url(tables: &[Value], url: &str) -> bool
     ensures { result ≡ has_url_among (map view tables.now) url.now }
 {
     tables.iter().any(|table| url == url_of(table))
 }
 
-/// The schema of a table: its own, else that of its group.
+/// Returns the schema of a table: its own, else that of its group.
 fn schema_in<'v>(group: &'v Value, table: &'v Value) -> Option<&'v Value>
     ensures { option_map (λ v. view v.now) result ≡ schema_of (view group.now) (view table.now) }
 {
     nearest(&[table, group], "tableSchema")
 }
 
-/// What is not served at a table or a group, and what its columns inherit.
+/// Returns what is not served at a table or a group, and what its columns inherit.
 #[tactic(auto, using(crate::proofs::RefusalLemmas::conditions), unfolding(crate::specs::Table::level_conditions))]
 pub(crate) fn check_level<'v>(level: &'v Value) -> Result<(), Refusal<'v>>
     ensures { condition_of result ≡ first_cause (level_conditions (view level.now)) }
@@ -48,7 +48,7 @@ pub(crate) fn check_level<'v>(level: &'v Value) -> Result<(), Refusal<'v>>
     check_inherited(level)
 }
 
-/// The conditions on a table that is an object, behind the earlier ones of its group.
+/// Checks the conditions on a table that is an object, after the earlier ones of its group.
 #[tactic(auto, using(crate::proofs::RefusalLemmas::conditions), unfolding(crate::specs::Table::object_table_conditions))]
 fn check_object<'v>(
     limits: &Limits,
@@ -66,7 +66,7 @@ fn check_object<'v>(
     check_schema(limits, schema_in(group, table))
 }
 
-/// The conditions on a table, behind the earlier ones of its group. A table without a group is in one that is null.
+/// Checks the conditions on a table, after the earlier ones of its group. A table without a group is in one that is null.
 #[tactic(auto, unfolding(crate::specs::Table::table_conditions))]
 pub(crate) fn check_table<'v>(
     limits: &Limits,
@@ -85,7 +85,7 @@ pub(crate) fn check_table<'v>(
     }
 }
 
-/// What a table of that group says.
+/// Returns what a table of that group says.
 pub(crate) fn make_table(alloc: Global, group: &Value, table: &Value) -> Result<Schema, AllocError>
     ensures { IfOk result
         (λ schema. schema_view schema ≡ table_schema (view group.now) (view table.now)) }

@@ -8,7 +8,7 @@ ghost use Rattle.csvw_meta.specs.Texts.{values_or_one as parts_of, is_texts as i
 use serde_json::{Map, Value};
 use std::alloc::{AllocError, Global};
 
-/// The values of an array, or the one value.
+/// Returns the values of an array, or the one value.
 pub(crate) fn parts(value: &Value) -> &[Value]
     ensures { map view result.now ≡ parts_of (view value.now) }
 {
@@ -18,28 +18,28 @@ pub(crate) fn parts(value: &Value) -> &[Value]
     }
 }
 
-/// Whether it is a text, or an array of texts.
+/// True if it is a text, or an array of texts.
 pub(crate) fn is_texts(value: &Value) -> bool
     ensures { result ≡ is_texts_of (view value.now) }
 {
     parts(value).iter().all(|part| part.is_string())
 }
 
-/// Whether it is null, or a text or an array of texts.
+/// True if it is null, or a text or an array of texts.
 fn is_language_value(value: &Value) -> bool
     ensures { result ≡ is_language_value_of (view value.now) }
 {
     value.is_null() || is_texts(value)
 }
 
-/// Whether each member is null, or a text or an array of texts.
+/// True if each member is null, or a text or an array of texts.
 fn are_language_values(members: &Map<String, Value>) -> bool
     ensures { result ≡ list_all (λ v. is_language_value_of (view v)) (values members.now) }
 {
     members.values().all(|value| is_language_value(value))
 }
 
-/// Whether it is a text, an array of texts, or a language map, in which members that are null count as absent.
+/// True if it is a text, an array of texts, or a language map, in which members that are null count as absent.
 pub(crate) fn is_titles(value: &Value) -> bool
     ensures { result ≡ is_titles_of (view value.now) }
 {
@@ -86,7 +86,7 @@ fn make_language_texts(
     Ok(texts)
 }
 
-/// Copies of all titles, none where there are none.
+/// Copies of all titles, none if there are none.
 pub(crate) fn make_titles(alloc: Global, titles: Option<&Value>) -> Result<Vec<String>, AllocError>
     ensures { IfOk result (λ made. map string_bytes made.items
         ≡ titles_of (option_map (λ v. view v.now) titles.entry)) }

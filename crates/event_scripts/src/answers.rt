@@ -5,7 +5,7 @@ ghost use Rattle.event_scripts.specs.Answers.{bytes_text, line_of, place_text, t
 use crate::escapes::push_escaped;
 use std::alloc::{AllocError, Global};
 
-/// The line of a text.
+/// Returns the line of a text.
 pub fn text_line(alloc: Global, text: &str) -> Result<Vec<u8>, AllocError>
     ensures { IfOk result (λ line. line.items ≡ line_of text.now) }
 {
@@ -14,7 +14,7 @@ pub fn text_line(alloc: Global, text: &str) -> Result<Vec<u8>, AllocError>
     Ok(line)
 }
 
-/// The line of the place that a connection was opened at.
+/// Returns the line of the place that a connection was opened at.
 pub fn place_line(alloc: Global, place: u32) -> Result<Vec<u8>, AllocError>
     ensures { IfOk result (λ line. line.items ≡ line_of (place_text place)) }
 {
@@ -22,7 +22,7 @@ pub fn place_line(alloc: Global, place: u32) -> Result<Vec<u8>, AllocError>
     Ok(line.into_bytes())
 }
 
-/// The line of bytes that were taken.
+/// Returns the line of bytes that were taken.
 pub fn bytes_line(alloc: Global, bytes: &[u8]) -> Result<Vec<u8>, AllocError>
     ensures { IfOk result (λ line. line.items ≡ line_of (bytes_text bytes.now)) }
 {
@@ -34,7 +34,7 @@ pub fn bytes_line(alloc: Global, bytes: &[u8]) -> Result<Vec<u8>, AllocError>
     Ok(line)
 }
 
-/// The line of a refusal of that name.
+/// Returns the line of a refusal of that name.
 pub fn refusal_line(alloc: Global, name: &str) -> Result<Vec<u8>, AllocError>
     ensures { IfOk result (λ line. line.items ≡ line_of (text_of_refusal name.now)) }
 {

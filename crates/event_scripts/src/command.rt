@@ -31,7 +31,7 @@ pub enum Command<'a> {
     End { place: u32 },
     /// Gives a connection one turn.
     Turn { place: u32 },
-    /// Takes so many bytes of what a connection is answered, or as many as wait.
+    /// Takes this many bytes of the replies to a connection, or as many as wait.
     Take { place: u32, room: u32 },
     /// Drops a connection.
     Drop { place: u32 },
@@ -39,7 +39,7 @@ pub enum Command<'a> {
     Reload { folder: &'a str },
 }
 
-/// What stands behind a word.
+/// Returns what follows a word.
 fn behind<'a>(line: &'a [u8], word: &[u8]) -> Option<&'a [u8]>
     ensures { MatchOption result
         ((text : List ℕ) → line.entry.now ≢ word.now ++ text)
@@ -48,7 +48,7 @@ fn behind<'a>(line: &'a [u8], word: &[u8]) -> Option<&'a [u8]>
     line.strip_prefix(word)
 }
 
-/// The word that a line begins with, and what stands behind it.
+/// Returns the word that a line begins with, and what follows it.
 fn split_word(line: &[u8]) -> Option<(Word, &[u8])>
     ensures { MatchOption result
         ((w : Word) (text : List ℕ) → line.now ≢ letters w ++ text)
@@ -78,14 +78,14 @@ fn split_word(line: &[u8]) -> Option<(Word, &[u8])>
     None
 }
 
-/// Where the first space is.
+/// Returns where the first space is.
 fn space(text: &[u8]) -> Option<usize>
     ensures { result ≡ position is_space text.now }
 {
     text.iter().position(|byte| *byte == b' ')
 }
 
-/// The number that a text begins with, and what stands one space behind it.
+/// Returns the number that a text begins with, and what follows it after one space.
 fn first_number(text: &[u8]) -> Option<(u32, &[u8])>
     ensures { MatchOption result
         ((n : ℕ) (rest : List ℕ) → ¬ (BeginsWithNumber text.now n rest))
@@ -101,7 +101,7 @@ fn first_number(text: &[u8]) -> Option<(u32, &[u8])>
     }
 }
 
-/// The command that a text behind `piece` makes.
+/// Returns the command that a text after `piece` makes.
 fn read_piece<'a>(alloc: Global, text: &[u8]) -> Result<Command<'a>, CommandFault>
     ensures { ReadsCommand (IsAsked Word.Piece text.now) result }
 {
@@ -114,7 +114,7 @@ fn read_piece<'a>(alloc: Global, text: &[u8]) -> Result<Command<'a>, CommandFaul
     }
 }
 
-/// The command that a text behind `take` makes.
+/// Returns the command that a text after `take` makes.
 fn read_take<'a>(text: &[u8]) -> Result<Command<'a>, CommandFault>
     ensures command { ReadsCommand (IsAsked Word.Take text.now) result }
     ensures memory { IfErr result (λ e. e ≢ CommandFault.NoMemory) }
@@ -128,7 +128,7 @@ fn read_take<'a>(text: &[u8]) -> Result<Command<'a>, CommandFault>
     }
 }
 
-/// The command that a text behind `reload` makes.
+/// Returns the command that a text after `reload` makes.
 fn read_reload<'a>(text: &'a [u8]) -> Result<Command<'a>, CommandFault>
     ensures command { ReadsCommand (IsAsked Word.Reload text.entry.now) result }
     ensures memory { IfErr result (λ e. e ≢ CommandFault.NoMemory) }
@@ -139,7 +139,7 @@ fn read_reload<'a>(text: &'a [u8]) -> Result<Command<'a>, CommandFault>
     }
 }
 
-/// The command that a text behind a word makes.
+/// Returns the command that a text after a word makes.
 fn read_asked<'a>(alloc: Global, word: Word, text: &'a [u8]) -> Result<Command<'a>, CommandFault>
     ensures command { ReadsCommand (IsAsked word text.entry.now) result }
     ensures memory { IfErr result (λ e. e ≡ CommandFault.NoMemory → word ≡ Word.Piece) }
@@ -165,7 +165,7 @@ fn read_asked<'a>(alloc: Global, word: Word, text: &'a [u8]) -> Result<Command<'
     }
 }
 
-/// The command that a line is. It is `Bad` exactly where the line is none. Only a `piece` takes memory.
+/// Returns the command that a line is. It is `Bad` exactly where the line is none. Only a `piece` takes memory.
 pub fn read_command<'a>(alloc: Global, line: &'a [u8]) -> Result<Command<'a>, CommandFault>
     ensures command { ReadsCommand (IsCommand line.entry.now) result }
     ensures memory { IfErr result (λ e. e ≡ CommandFault.NoMemory

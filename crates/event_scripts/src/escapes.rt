@@ -6,7 +6,7 @@ ghost use Rattle.event_scripts.specs.Escapes.{BeginsWithByte, ReadsEscapedText, 
 use crate::fault::CommandFault;
 use std::alloc::{AllocError, Global};
 
-/// The byte that a character behind a backslash stands for.
+/// Returns the byte that a character after a backslash stands for.
 fn byte_behind(character: u8) -> Option<u8>
     ensures { result ≡ byte_behind character }
 {
@@ -18,7 +18,7 @@ fn byte_behind(character: u8) -> Option<u8>
     }
 }
 
-/// The byte that a text begins with, and what follows what stands for it.
+/// Returns the byte that a text begins with, and what follows what stands for it.
 fn first_byte(text: &[u8]) -> Option<(u8, &[u8])>
     ensures { MatchOption result
         ((b : ℕ) (rest : List ℕ) → ¬ (BeginsWithByte text.now b rest))
@@ -32,7 +32,7 @@ fn first_byte(text: &[u8]) -> Option<(u8, &[u8])>
     }
 }
 
-/// The bytes that a text stands for.
+/// Returns the bytes that a text stands for.
 pub(crate) fn read_text(alloc: Global, text: &[u8]) -> Result<Vec<u8>, CommandFault>
     ensures { ReadsEscapedText text.now result }
 {

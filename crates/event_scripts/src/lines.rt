@@ -2,14 +2,14 @@
 ghost use Rattle.std.specs.Prelude.{◌≡◌, ◌<◌, ◌∷◌, [], IfSome, MatchOption, length, position};
 ghost use Rattle.event_scripts.specs.Lines.{is_line_feed, script_lines, less_return};
 
-/// Where the first line feed is.
+/// Returns where the first line feed is.
 fn line_feed(script: &[u8]) -> Option<usize>
     ensures { result ≡ position is_line_feed script.now }
 {
     script.iter().position(|byte| *byte == b'\n')
 }
 
-/// A line without the one carriage return at its end, if it has one.
+/// Returns a line without the one carriage return at its end, if it has one.
 fn without_return(line: &[u8]) -> &[u8]
     ensures { result.now ≡ less_return line.now }
 {

@@ -5,7 +5,7 @@ ghost use Rattle.event_scripts.specs.Command.{IsNumber};
 /// The greatest number that a command may have, of a place or of bytes.
 pub const MOST_NUMBER: u32 = 65_536;
 
-/// The number that a text writes: one or more digits, and at most [`MOST_NUMBER`].
+/// Returns the number that a text writes: one or more digits, and at most [`MOST_NUMBER`].
 pub(crate) fn read_number(text: &[u8]) -> Option<u32>
     ensures { MatchOption result ((n : ℕ) → ¬ (IsNumber text.now n)) (IsNumber text.now) }
 {

@@ -5,7 +5,7 @@ use cell_types::{BooleanForm, CellFault, Column, Datatype};
 use csv_index::TextFault;
 use csvw_meta::MetaFault;
 
-/// What metadata may have there.
+/// Returns what metadata may have there.
 pub fn accepted_metadata(fault: &MetaFault) -> &'static str {
     match fault {
         MetaFault::NotJson => "a JSON text in UTF-8",
@@ -54,7 +54,7 @@ const IN_PLACE: &[(&str, &str)] = &[
     ("maxExclusive", "a datatype without it"),
 ];
 
-/// What may stand in the place of a member or a datatype that is not served.
+/// Returns what may stand in the place of a member or a datatype that is not served.
 fn accepted_in_place(key: &str) -> &'static str {
     for (name, accepted) in IN_PLACE {
         if *name == key {
@@ -64,7 +64,7 @@ fn accepted_in_place(key: &str) -> &'static str {
     "integer, decimal, boolean, date or string"
 }
 
-/// The place in a file that a fault names, or its begin.
+/// Returns the place in a file that a fault names, or its begin.
 pub fn place_of(fault: TextFault) -> usize {
     match fault {
         TextFault::NotUtf8 { at }
@@ -76,7 +76,7 @@ pub fn place_of(fault: TextFault) -> usize {
     }
 }
 
-/// What a file may have there.
+/// Returns what a file may have there.
 pub fn accepted_file(fault: TextFault) -> &'static str {
     match fault {
         TextFault::NotUtf8 { .. } => "UTF-8",
@@ -93,7 +93,7 @@ pub fn accepted_file(fault: TextFault) -> &'static str {
     }
 }
 
-/// Appends what a cell of a column may be, where it has no value for that fault.
+/// Appends what a cell of a column may be, if it has no value for that fault.
 pub fn push_accepted_cell(line: &mut Line, column: &Column, fault: CellFault) {
     let accepted = match &column.datatype {
         _ if matches!(fault, CellFault::Missing) => "a value, which the column requires",

@@ -2,7 +2,7 @@
 use serde_json::Value;
 use std::slice::from_ref;
 
-/// The value of a member, where there is one that is not null.
+/// Returns the value of a member if there is one that is not null.
 pub fn member<'v>(value: &'v Value, name: &str) -> Option<&'v Value> {
     match value.get(name) {
         Some(Value::Null) => None,
@@ -10,7 +10,7 @@ pub fn member<'v>(value: &'v Value, name: &str) -> Option<&'v Value> {
     }
 }
 
-/// The values of a member, none where it is no array.
+/// Returns the values of a member, none if it is no array.
 pub fn array_member<'v>(value: &'v Value, name: &str) -> &'v [Value] {
     let Some(Value::Array(items)) = value.get(name) else {
         return &[];
@@ -18,7 +18,7 @@ pub fn array_member<'v>(value: &'v Value, name: &str) -> &'v [Value] {
     items.as_slice()
 }
 
-/// Whether it is a text that one of the objects has as a member.
+/// True if it is a text that one of the objects has as a member.
 pub fn is_among(objects: &[Value], name: &str, text: &Value) -> bool {
     for object in objects {
         if let Some(found) = object.get(name)
@@ -30,7 +30,7 @@ pub fn is_among(objects: &[Value], name: &str, text: &Value) -> bool {
     false
 }
 
-/// Whether it is the name of one of the columns, or an array of different such names.
+/// True if it is the name of one of the columns, or an array of different such names.
 pub fn is_key(columns: &[Value], key: &Value) -> bool {
     let names = match key {
         Value::Array(names) => names.as_slice(),

@@ -1,4 +1,4 @@
-//! What is told, written piece by piece.
+//! What is reported, written piece by piece.
 ghost use Rattle.std.specs.Prelude.{◌≡◌, ◌++◌, ◌⊎◌, true, string_bytes};
 
 use crate::text::quoted;

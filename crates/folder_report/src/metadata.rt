@@ -19,7 +19,7 @@ struct Place {
     column: Option<usize>,
 }
 
-/// Appends what stands in a path before the members of an item of an array, where it is one.
+/// Appends what stands in a path before the members of an item of an array, if it is one.
 fn push_item(line: &mut Line, array: &str, number: Option<usize>) {
     if let Some(i) = number {
         line.push_with(array, i);
@@ -131,7 +131,7 @@ fn schema(report: &mut Report, table: Option<usize>, value: &Value) {
     }
 }
 
-/// A table after the earlier ones of its group, with the schema of the group where that has one; or one that stands alone.
+/// A table after the earlier ones of its group, with the schema of the group if that has one; or one that stands alone.
 fn table(
     report: &mut Report,
     number: Option<usize>,
@@ -169,7 +169,7 @@ fn table(
     }
 }
 
-/// Whether some of the tables have no schema of their own.
+/// True if some of the tables have no schema of their own.
 fn lack_schema(tables: &[Value]) -> bool {
     for table in tables {
         if table.is_object()

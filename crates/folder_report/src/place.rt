@@ -12,7 +12,7 @@ pub struct TableFile<'a> {
 }
 
 impl<'a> TableFile<'a> {
-    /// The line in which a row begins.
+    /// Returns the line in which a row begins.
     pub fn line_of(&self, row: usize) -> usize {
         let mut records = Records::new(self.text.as_bytes(), b',');
         for _before in 0..=row {

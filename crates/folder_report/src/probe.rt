@@ -30,7 +30,7 @@ pub const IN_COLUMN: &(&str, &str) = &(
     "}]}}",
 );
 
-/// What is wrong with a member that stands there, whatever else does.
+/// Returns what is wrong with a member that stands there, whatever else does.
 pub fn member_fault(
     alloc: Global,
     around: &(&str, &str),

@@ -7,7 +7,7 @@ use crate::line::Line;
 use std::alloc::{AllocError, Global};
 use table_store::LoadFault;
 
-/// The most refusals that are told.
+/// The most refusals that are reported.
 pub const MOST_REFUSALS: usize = 20;
 
 /// The lines of what is refused so far. Where memory runs out that is kept in it, so that a refusal has no failure of its own.
@@ -33,12 +33,12 @@ impl Report {
         }
     }
 
-    /// Whether there are as many refusals as are told, or memory ran out.
+    /// True if there are as many refusals as are reported, or memory ran out.
     pub fn is_full(&self) -> bool {
         self.is_short || self.lines.len() >= MOST_REFUSALS
     }
 
-    /// A text of its own for a fault, empty where memory runs out.
+    /// Returns a text of its own for a fault, empty if memory runs out.
     pub fn owned(&mut self, text: &str) -> String {
         match String::from_str(self.alloc, text) {
             Ok(text) => text,
@@ -69,7 +69,7 @@ impl Report {
         }
     }
 
-    /// Adds a line, with what would be accepted after what it tells.
+    /// Adds a line, with what would be accepted after what it reports.
     pub(crate) fn put_accepted(&mut self, line: Line, accepted: &str) {
         let mut line = line;
         line.push_accepted(accepted);

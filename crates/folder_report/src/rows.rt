@@ -15,7 +15,7 @@ use reply_values::push_json_value;
 use std::collections::BTreeMap;
 use table_store::LoadFault;
 
-/// Appends what is told of a cell of a column that has no value.
+/// Appends what is reported of a cell of a column that has no value.
 fn push_cell(line: &mut Line, column: &Column, field: Raw<'_>, fault: CellFault) {
     line.push(" ");
     line.push(column.name.as_str());
@@ -60,12 +60,12 @@ pub fn refuse_cells(report: &mut Report, file: &TableFile<'_>)
     }
 }
 
-/// What is told of a key, column by column.
+/// What is reported of a key, column by column.
 #[derive(Clone, Copy)]
 enum KeyPart {
     /// The names of its columns.
     Names,
-    /// The values of a row, as lines tell them.
+    /// The values of a row, as lines show them.
     Values,
     /// The values of a row, whole, so that no other values have the same texts.
     WholeValues,
@@ -82,7 +82,7 @@ fn push_key_value(line: &mut Line, value: Value<'_>, part: KeyPart) {
     line.push_made(String::from_utf8_lossy(line.alloc, text.as_slice()));
 }
 
-/// Appends what is told of the key in one of its columns. Whether that is a null.
+/// Appends what is reported of the key in one of its columns. Returns whether that is a null.
 fn push_key_column(
     line: &mut Line,
     file: &TableFile<'_>,
@@ -115,7 +115,7 @@ fn push_key_column(
     }
 }
 
-/// Appends what is told of the key of a row, after a text. Whether it has a null.
+/// Appends what is reported of the key of a row, after a text. Returns whether it has a null.
 fn push_key(line: &mut Line, before: &str, file: &TableFile<'_>, row: usize, part: KeyPart) -> bool
     requires bytes { FitsFile file.now.index.now file.now.text.now }
     requires row { row < file.now.index.now.rows }
@@ -154,7 +154,7 @@ fn refuse_key(report: &mut Report, file: &TableFile<'_>, row: usize, earlier: Op
     report.put(line);
 }
 
-/// Adds the refusals of the first rows of a table whose key has a null or is that of an earlier row. Where many are told before the first null, that is told too.
+/// Adds the refusals of the first rows of a table whose key has a null or is that of an earlier row. If many are reported before the first null, that is reported too.
 pub fn refuse_keys(report: &mut Report, file: &TableFile<'_>)
     requires { FitsFile file.now.index.now file.now.text.now }
 {

@@ -87,7 +87,7 @@ fn refuse_fault(report: &mut Report, url: &str, bytes: &[u8], fault: TextFault, 
     push_file_help(&mut report.helps, url, bytes, fault);
 }
 
-/// Whether a column may have that header: its name, or one of its titles.
+/// True if a column may have that header: its name, or one of its titles.
 fn is_called(column: &Column, cell: &str) -> bool {
     let mut is_called = column.name.as_str() == cell;
     for title in &column.titles {
@@ -96,7 +96,7 @@ fn is_called(column: &Column, cell: &str) -> bool {
     is_called
 }
 
-/// Appends what a header cell may be: the name of its column or one of its titles, or nothing where there is no column.
+/// Appends what a header cell may be: the name of its column or one of its titles, or nothing if there is no column.
 fn push_accepted(line: &mut Line, column: Option<&Column>) {
     let Some(column) = column else {
         return line.push("no cell, or a column of it in the metadata");
@@ -108,7 +108,7 @@ fn push_accepted(line: &mut Line, column: Option<&Column>) {
     }
 }
 
-/// Adds the refusal of what stands in the place of a column's header, a cell or none, where the column may not have that header.
+/// Adds the refusal of what stands in the place of a column's header, a cell or none, if the column may not have that header.
 fn refuse_header(report: &mut Report, schema: &Schema, col: usize, cell: Option<&str>) {
     let column = schema.columns.get(col);
     if let Some(column) = column

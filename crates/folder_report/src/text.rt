@@ -12,14 +12,14 @@ use std::alloc::{AllocError, Global};
 /// The most characters of a text that stand in a line.
 pub const MOST_CHARACTERS: usize = 80;
 
-/// The front of a text, of so many characters as stand in a line.
+/// Returns the prefix of a text that fits into a line.
 fn front(alloc: Global, text: &str) -> Result<String, AllocError>
     ensures { IfOk result (λ front. string_bytes front ≡ front_of text.now) }
 {
     text.chars().take(MOST_CHARACTERS).collect(alloc)
 }
 
-/// What stands in a line for a text, with three points after it where the text is cut.
+/// Returns what stands in a line for a text, with three points after it where the text is cut.
 fn marked(alloc: Global, front: &str, text: &str) -> Result<String, AllocError>
     ensures { IfOk result
         (λ line. string_bytes line ≡ with_mark (escaped_text front.now) (is_long text.now)) }
@@ -31,7 +31,7 @@ fn marked(alloc: Global, front: &str, text: &str) -> Result<String, AllocError>
     Ok(line)
 }
 
-/// A text on one line, cut at eighty characters.
+/// Returns a text on one line, cut at eighty characters.
 pub fn cut(alloc: Global, text: &str) -> Result<String, AllocError>
     ensures { IfOk result (λ line. string_bytes line ≡ cut_text text.now) }
 {
@@ -39,7 +39,7 @@ pub fn cut(alloc: Global, text: &str) -> Result<String, AllocError>
     marked(alloc, front.as_str(), text)
 }
 
-/// A text as a JSON text on one line, cut at eighty characters.
+/// Returns a text as a JSON text on one line, cut at eighty characters.
 pub fn quoted(alloc: Global, text: &str) -> Result<String, AllocError>
     ensures { IfOk result (λ line. string_bytes line ≡ quoted_text text.now) }
 {

@@ -13,7 +13,7 @@ use httparse::spans::{EMPTY_HEADER_SPAN, HeaderSpan, RequestSpans, Span};
 use std::alloc::{AllocError, Global};
 use std::marker::Model;
 
-/// What the fields at some places say.
+/// Returns what the fields at some places say.
 fn said_at(bytes: &[u8], fields: &[HeaderSpan]) -> Said
     requires { All (IsHeaderWithin (length bytes.now)) fields.now }
     ensures { result ≡ said_by (map (header_bytes bytes.now) fields.now) }
@@ -71,21 +71,21 @@ impl CheckedHead {
         }
     }
 
-    /// The method.
+    /// Returns the method.
     pub fn method(&self) -> &[u8]
         ensures { result.now ≡ self.now.method }
     {
         self.method.of(self.bytes.as_slice())
     }
 
-    /// The target.
+    /// Returns the target.
     pub fn target(&self) -> &[u8]
         ensures { result.now ≡ self.now.target }
     {
         self.target.of(self.bytes.as_slice())
     }
 
-    /// What it says whatever its target is.
+    /// Returns what it says whatever its target is.
     pub fn checks(&self) -> Checks
         ensures { result ≡ checks_of self.now }
     {
@@ -93,7 +93,7 @@ impl CheckedHead {
     }
 }
 
-/// The head at the front of the bytes, checked, with its length, if they begin with one. Its bytes are copied once, as they stand.
+/// Returns the head at the front of the bytes, checked, with its length, if they begin with one. Its bytes are copied once, as they stand.
 pub(crate) fn first_checked(
     alloc: Global,
     bytes: &[u8],

@@ -8,7 +8,7 @@ use crate::fields::Said;
 use crate::head::{Field, Head};
 use crate::method::Method;
 
-/// What is wrong with a head, whatever its target is. The first of these is told.
+/// What is wrong with a head, whatever its target is. The first of these is reported.
 #[derive(Clone, Copy, PartialEq, Eq)]
 pub enum HeadFault {
     /// HTTP/1.1 without exactly one Host field, or HTTP/1.0 with more than one (RFC 9112, section 3.2).
@@ -26,11 +26,11 @@ pub enum HeadFault {
 pub struct Checks {
     /// What is wrong with it.
     pub fault: Option<HeadFault>,
-    /// Whether the connection closes behind the reply.
+    /// Whether the connection closes after the reply.
     pub closes: bool,
 }
 
-/// A fault behind which it is not known where the next head begins.
+/// Returns a fault after which it is not known where the next head begins.
 fn lost(fault: HeadFault) -> Checks
     ensures { result ≡ record { fault = Some fault; closes = true } }
 {
@@ -40,7 +40,7 @@ fn lost(fault: HeadFault) -> Checks
     }
 }
 
-/// What a head says whatever its target is, by its method, its version and what its fields say.
+/// Returns what a head says whatever its target is, by its method, its version and what its fields say.
 #[tactic(auto, unfolding(crate::specs::Checks::head_fault, crate::specs::Checks::closes))]
 pub(crate) fn checks_by(method: &[u8], minor: u8, said: Said) -> Checks
     ensures { (head : HeadOf) → head.method ≡ method.now → head.minor ≡ minor
@@ -63,7 +63,7 @@ pub(crate) fn checks_by(method: &[u8], minor: u8, said: Said) -> Checks
     Checks { fault, closes }
 }
 
-/// What fields say.
+/// Returns what fields say.
 fn said_of(fields: &[Field]) -> Said
     ensures { result ≡ said_by (map field_view fields.now) }
 {
@@ -74,7 +74,7 @@ fn said_of(fields: &[Field]) -> Said
     said
 }
 
-/// What a head says whatever its target is.
+/// Returns what a head says whatever its target is.
 pub fn check_head(head: &Head) -> Checks
     ensures { result ≡ checks_of (head_view head.now) }
 {

@@ -4,21 +4,21 @@ ghost use Rattle.http_heads.specs.Head.{HeadOf};
 ghost use Rattle.http_heads.specs.Fields.{asks_to_close, has_coding, has_no_body, has_no_length, host_fits, is_closing, is_optional_space, lists_close, same_word, stripped, without_back, without_front};
 ghost use Rattle.http_heads.specs.Said.{said_by};
 
-/// Whether two names or words are the same, in any case of ASCII letters.
+/// True if two names or words are the same, in any case of ASCII letters.
 fn is_same_word(word: &[u8], other: &[u8]) -> bool
     ensures { result ≡ same_word word.now other.now }
 {
     word.eq_ignore_ascii_case(other)
 }
 
-/// Whether a byte is a space or a tab.
+/// True if a byte is a space or a tab.
 fn is_blank(byte: u8) -> bool
     ensures { result ≡ is_optional_space byte }
 {
     byte == b' ' || byte == b'\t'
 }
 
-/// The bytes without the spaces and tabs before them.
+/// Returns the bytes without the spaces and tabs before them.
 fn strip_front(bytes: &[u8]) -> &[u8]
     ensures { result.now ≡ without_front bytes.now }
 {
@@ -32,7 +32,7 @@ fn strip_front(bytes: &[u8]) -> &[u8]
     rest
 }
 
-/// The bytes without the spaces and tabs behind them.
+/// Returns the bytes without trailing spaces and tabs.
 fn strip_back(bytes: &[u8]) -> &[u8]
     ensures { result.now ≡ without_back bytes.now }
 {
@@ -46,14 +46,14 @@ fn strip_back(bytes: &[u8]) -> &[u8]
     rest
 }
 
-/// The bytes without the spaces and tabs round them.
+/// Returns the bytes without the spaces and tabs round them.
 fn strip(bytes: &[u8]) -> &[u8]
     ensures { result.now ≡ stripped bytes.now }
 {
     strip_back(strip_front(bytes))
 }
 
-/// Whether a list of words, parted by commas, has the word `close`.
+/// True if a list of words, separated by commas, has the word `close`.
 fn has_close(value: &[u8]) -> bool
     ensures { result ≡ lists_close value.now }
 {
@@ -62,14 +62,14 @@ fn has_close(value: &[u8]) -> bool
         .any(|part| is_same_word(strip(part), b"close"))
 }
 
-/// Whether a field is no Content-Length, or says that there is no body.
+/// True if a field is no Content-Length, or says that there is no body.
 fn is_bodiless(name: &[u8], value: &[u8]) -> bool
     ensures { result ≡ has_no_body (name.now, value.now) }
 {
     !is_same_word(name, b"content-length") || strip(value) == b"0".as_slice()
 }
 
-/// Whether a field is a Connection field that lists `close`.
+/// True if a field is a Connection field that lists `close`.
 fn is_closing(name: &[u8], value: &[u8]) -> bool
     ensures { result ≡ is_closing (name.now, value.now) }
 {
@@ -90,7 +90,7 @@ pub(crate) struct Said {
 }
 
 impl Said {
-    /// What no fields say.
+    /// Returns what no fields say.
     pub(crate) fn nothing() -> Said
         ensures { result ≡ said_by [] }
     {
@@ -102,7 +102,7 @@ impl Said {
         }
     }
 
-    /// One field more.
+    /// Returns one field more.
     pub(crate) fn with(self, name: &[u8], value: &[u8]) -> Said
         ensures { (fields : List (List ℕ × List ℕ)) → self ≡ said_by fields
             → result ≡ said_by (fields ++ (name.now, value.now) ∷ []) }
@@ -123,7 +123,7 @@ impl Said {
         }
     }
 
-    /// Whether the Host fields are as many as the version wants.
+    /// True if the Host fields are as many as the version wants.
     pub(crate) fn has_host(&self, minor: u8) -> bool
         ensures { (head : HeadOf) → head.minor ≡ minor → self.now ≡ said_by head.fields
             → result ≡ host_fits head }
@@ -131,21 +131,21 @@ impl Said {
         self.hosts == 1 || (minor == 0 && self.hosts == 0)
     }
 
-    /// Whether a coding announces a body.
+    /// True if a coding announces a body.
     pub(crate) fn is_coded(&self) -> bool
         ensures { (head : HeadOf) → self.now ≡ said_by head.fields → result ≡ has_coding head }
     {
         self.is_coded
     }
 
-    /// Whether no Content-Length field announces a body.
+    /// True if no Content-Length field announces a body.
     pub(crate) fn is_without_length(&self) -> bool
         ensures { (head : HeadOf) → self.now ≡ said_by head.fields → result ≡ has_no_length head }
     {
         self.is_bodiless
     }
 
-    /// Whether the client wants no further reply.
+    /// True if the client wants no further reply.
     pub(crate) fn is_last(&self, minor: u8) -> bool
         ensures { (head : HeadOf) → head.minor ≡ minor → self.now ≡ said_by head.fields
             → result ≡ asks_to_close head }

@@ -35,7 +35,7 @@ pub struct Head {
     pub fields: Vec<Field>,
 }
 
-/// A copy of the bytes that a span covers.
+/// Returns a copy of the bytes that a span covers.
 fn copy(alloc: Global, bytes: &[u8], span: Span) -> Result<Vec<u8>, AllocError>
     requires { IsWithin (length bytes.now) span }
     ensures { IfOk result (λ part. part.items ≡ span_bytes bytes.now span) }
@@ -43,7 +43,7 @@ fn copy(alloc: Global, bytes: &[u8], span: Span) -> Result<Vec<u8>, AllocError>
     Vec::from_slice(alloc, span.of(bytes))
 }
 
-/// A copy of the fields.
+/// Returns a copy of the fields.
 fn copy_fields(
     alloc: Global,
     bytes: &[u8],
@@ -62,7 +62,7 @@ fn copy_fields(
     Ok(fields)
 }
 
-/// The places of the parts of the head at the front of the bytes, if they begin with one. Those of its fields are put at the front of `headers`.
+/// Returns the places of the parts of the head at the front of the bytes, if they begin with one. Those of its fields are put at the front of `headers`.
 pub(crate) fn first_spans(
     bytes: &[u8],
     headers: &mut [HeaderSpan; MAX_FIELDS],
@@ -78,7 +78,7 @@ pub(crate) fn first_spans(
     }
 }
 
-/// The head at the front of the bytes with its length, if they begin with one.
+/// Returns the head at the front of the bytes with its length, if they begin with one.
 pub(crate) fn first_head(alloc: Global, bytes: &[u8]) -> Result<Option<(Head, usize)>, AllocError>
     ensures within { IfOk result (λ found. IfSome found (λ first. first.1 ≤ length bytes.now)) }
     ensures head { IfOk result (λ found. MatchOption found (HasNoHead bytes.now)
@@ -113,7 +113,7 @@ pub(crate) fn cut_heads(alloc: Global, bytes: &[u8]) -> Result<(Vec<Head>, usize
     Ok((heads, at))
 }
 
-/// Whether nothing can follow a rest that puts a head at its front: it has as many bytes as a head may have, or httparse refuses it.
+/// True if nothing can follow a rest that puts a head at its front: it has as many bytes as a head may have, or httparse refuses it.
 pub(crate) fn is_refused(rest: &[u8]) -> bool
     requires { IsRest rest.now }
     ensures { TellsHopeless rest.now result }

@@ -1,4 +1,4 @@
-//! The heads of requests (RFC 9112, section 2): a stream of bytes is cut into heads as its pieces come, up to one behind which the connection
+//! The heads of requests (RFC 9112, section 2): a stream of bytes is cut into heads as its pieces come, up to one after which the connection
 //! closes. The cut is a relation of the whole stream, and the laws say that a stream has one, whatever pieces it comes in.
 #![tactic(auto)]
 

@@ -10,7 +10,7 @@ pub enum Method {
 }
 
 impl Method {
-    /// The method of that name, which counts its case (RFC 9110, section 9.1); none where it is not served.
+    /// Returns the method of that name, which counts its case (RFC 9110, section 9.1), or `None` if it is not served.
     pub fn of(name: &[u8]) -> Option<Method>
         ensures { result ≡ method_of name.now }
     {

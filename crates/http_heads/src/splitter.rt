@@ -15,7 +15,7 @@ use std::marker::Model;
 #[derive(Clone, Copy, PartialEq, Eq)]
 pub struct Unreadable;
 
-/// The heads that a piece made whole, none behind one that closes.
+/// The heads that a piece made whole, none after one that closes.
 #[derive(Drop)]
 pub struct Cut {
     pub heads: Vec<CheckedHead>,
@@ -23,7 +23,7 @@ pub struct Cut {
     pub closed: bool,
 }
 
-/// The rest of a stream that was read so far: what stands behind the last whole head, at most 8,192 bytes of it. It is seen as
+/// The rest of a stream that was read so far: what follows the last whole head, at most 8,192 bytes of it. It is seen as
 /// those bytes.
 #[derive(Drop)]
 pub struct Splitter {
@@ -41,8 +41,8 @@ impl Model for Splitter {
     ghost invariant = { λ splitter. IsRest splitter.rest.items };
 }
 
-/// Adds a piece to a rest. How long the rest was, where a head can end in the piece; where none can, no more is added than is kept: the
-/// piece has no line feed, or stands behind a rest of 8,192 bytes.
+/// Adds a piece to a rest. How long the rest was, if a head can end in the piece; if none can, no more is added than is kept: the
+/// piece has no line feed, or follows a rest of 8,192 bytes.
 fn add(rest: &mut Vec<u8>, piece: &[u8]) -> Result<Option<usize>, AllocError>
     requires { IsRest rest.old.items }
     ensures ok { IfOk result (IsAdded rest.old.items piece.now rest.new.items) }
@@ -60,7 +60,7 @@ fn add(rest: &mut Vec<u8>, piece: &[u8]) -> Result<Option<usize>, AllocError>
     Ok(Some(before))
 }
 
-/// The heads at the front of the bytes, up to one that closes, and how many bytes are done with: behind one that closes all.
+/// Returns the heads at the front of the bytes, up to one that closes, and how many bytes are done with: all if one closes.
 fn cut_checked(alloc: Global, bytes: &[u8]) -> Result<(Cut, usize), AllocError>
     ensures within { IfOk result (λ cut. cut.1 ≤ length bytes.now) }
     ensures cut { IfOk result (λ cut. IsCut bytes.now cut.0.heads.items
@@ -94,8 +94,8 @@ impl Splitter {
         }
     }
 
-    /// The heads that are whole with this piece, in their order, closing or not. Where memory ran out, nothing changed, and the piece can be
-    /// given again. The rest is not read again for a piece that can't end a head: one with no line feed, and any behind a rest of 8,192 bytes.
+    /// Returns the heads that are whole with this piece, in their order, closing or not. If memory ran out, nothing changed, and the piece can be
+    /// given again. The rest is not read again for a piece that can't end a head: one with no line feed, and any after a rest of 8,192 bytes.
     pub fn feed(&mut self, alloc: Global, piece: &[u8]) -> Result<Vec<Head>, AllocError>
         ensures heads { IfOk result
             (λ heads. Splits self.old piece.now (map head_view heads.items) self.new) }
@@ -117,7 +117,7 @@ impl Splitter {
         }
     }
 
-    /// The heads that are whole with this piece, up to one that closes, each checked once. Behind that nothing is kept. Where memory ran out,
+    /// Returns the heads that are whole with this piece, up to one that closes, each checked once. After that nothing is kept. If memory ran out,
     /// nothing changed. The rest is read again as [`Splitter::feed`] reads it.
     pub fn cut(&mut self, alloc: Global, piece: &[u8]) -> Result<Cut, AllocError>
         ensures ok { IfOk result (λ cut.
@@ -143,7 +143,7 @@ impl Splitter {
         }
     }
 
-    /// Whether the rest can begin no head any more, whatever follows. The rest is read for it, once at each call. A target that is no UTF-8 is
+    /// True if the rest can begin no head any more, whatever follows. The rest is read for it, once at each call. A target that is no UTF-8 is
     /// told at its end.
     pub fn is_hopeless(&self) -> bool
         ensures { TellsHopeless self.now result }
@@ -151,7 +151,7 @@ impl Splitter {
         is_refused(self.rest.as_slice())
     }
 
-    /// The end of the stream: whether a rest was left. There is none afterwards.
+    /// Returns the end of the stream: whether a rest was left. There is none afterwards.
     pub fn end(&mut self) -> Option<Unreadable>
         ensures unreadable { IsSome result ↔ (0 < length self.old) }
         ensures empty { self.new ≡ [] }

@@ -8,7 +8,7 @@ use event_scripts::{bytes_line, place_line, refusal_line, text_line};
 use odata_hub::{Conn, Hub, HubFault, Turned};
 use std::alloc::{AllocError, Global};
 
-/// The name of a refusal of the hub.
+/// Returns the name of a refusal of the hub.
 fn hub_fault_name(fault: HubFault) -> &'static str
     ensures { result.now ≡ hub_fault_name fault }
 {
@@ -21,14 +21,14 @@ fn hub_fault_name(fault: HubFault) -> &'static str
     }
 }
 
-/// The line of a refusal.
+/// Returns the line of a refusal.
 fn refused_line(alloc: Global, fault: HubFault) -> Result<Vec<u8>, AllocError>
     ensures { IfOk result (λ line. line.items ≡ answer_line (Refused fault)) }
 {
     refusal_line(alloc, hub_fault_name(fault))
 }
 
-/// The line of a call that has nothing to tell.
+/// Returns the line of a call that has nothing to report.
 pub(crate) fn done_line(alloc: Global, answer: Result<(), HubFault>) -> Result<Vec<u8>, AllocError>
     ensures { IfOk result (λ line. line.items ≡ answer_line (call_answer (λ _. Done) answer)) }
 {
@@ -38,7 +38,7 @@ pub(crate) fn done_line(alloc: Global, answer: Result<(), HubFault>) -> Result<V
     }
 }
 
-/// The line of a connection that was to be opened.
+/// Returns the line of a connection that was to be opened.
 pub(crate) fn opened_line(
     alloc: Global,
     answer: Result<Conn, HubFault>,
@@ -52,7 +52,7 @@ pub(crate) fn opened_line(
     }
 }
 
-/// The line of a turn.
+/// Returns the line of a turn.
 pub(crate) fn turned_line(
     alloc: Global,
     answer: Result<Turned, HubFault>,

@@ -36,7 +36,7 @@ pub fn reloads_are_one_line()
     program_ends::faults_are_one_line();
 }
 
-/// The line of a folder that is refused. Where it is not refused, the fault is given back.
+/// Returns the line of a folder that is refused. If it is not refused, the fault is given back.
 fn kept_line(alloc: Global, fault: FolderFault) -> Result<Vec<u8>, ProgramFault>
     ensures { IsKeptFolder fault result }
 {
@@ -145,7 +145,7 @@ fn play_lines<F: Folders, W: Sink>(
 }
 
 /// Loads the folder of that name, and plays the script on a hub of [`PLACES`] places over it: the line of each answer is written before the next
-/// command is read. The first line that is no command is `Script`, behind the lines before it.
+/// command is read. The first line that is no command is `Script`, after the lines before it.
 pub fn replay_script<F: Folders, W: Sink>(
     alloc: Global,
     folders: &mut F,

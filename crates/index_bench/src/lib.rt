@@ -16,7 +16,7 @@ const REFUSED: i64 = -1;
 /// Memory ran out.
 const NO_MEMORY: i64 = -2;
 
-/// How many rows stand behind the header of a file; -1 where it is no table, and -2 where memory runs out. The index is let go.
+/// Returns how many rows follow the header of a file, -1 if it is no table, or -2 if memory runs out. Drops the index.
 #[unsafe(no_mangle)]
 pub extern "C" fn index_rows(alloc: Global, bytes: &[u8]) -> i64
     ensures { AnswersStatus bytes.now result }
@@ -33,7 +33,7 @@ pub extern "C" fn utf8_rows(alloc: Global, bytes: &[u8]) -> i64
     rows_of(Index::of_utf8(alloc, bytes))
 }
 
-/// What an index, or a fault, says of the file.
+/// Returns what an index, or a fault, says of the file.
 fn rows_of(index: Result<Index, TextFault>) -> i64
     requires { IfOk index (λ index. index.rows < 2 ^ 63) }
     ensures { (bytes : List ℕ) → IfOk index (λ index. IsIndexOf index bytes)

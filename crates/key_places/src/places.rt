@@ -33,7 +33,7 @@ impl<K: Eq + Hash> Model for KeyPlaces<K> {
 }
 
 impl<K: Eq + Hash> KeyPlaces<K> {
-    /// No keys.
+    /// Returns no keys.
     pub fn new(alloc: Global) -> KeyPlaces<K>
         ensures { result.keys ≡ [] }
     {
@@ -42,7 +42,7 @@ impl<K: Eq + Hash> KeyPlaces<K> {
         }
     }
 
-    /// No keys, with room for so many.
+    /// Returns no keys, with room for `keys` of them.
     pub fn with_capacity(alloc: Global, keys: usize) -> Result<KeyPlaces<K>, AllocError>
         ensures keys { IfOk result (λ made. made.keys ≡ []) }
         ensures room { IfOk result (λ made. keys ≤ made.room) }
@@ -52,7 +52,7 @@ impl<K: Eq + Hash> KeyPlaces<K> {
         })
     }
 
-    /// Puts a key after the others, where it is equal to none of them; whether it was put there.
+    /// Puts a key after the others, if it is equal to none of them; whether it was put there.
     pub fn insert(&mut self, key: K) -> Result<bool, AllocError>
     where
         K: Drop,
@@ -67,28 +67,28 @@ impl<K: Eq + Hash> KeyPlaces<K> {
         Ok(found == place)
     }
 
-    /// How many keys there are.
+    /// Returns how many keys there are.
     pub fn len(&self) -> usize
         ensures { result ≡ length self.now.keys }
     {
         self.places.len()
     }
 
-    /// The keys in the order in which they came.
+    /// Returns the keys in the order in which they came.
     pub fn in_order(&self, alloc: Global) -> Result<Vec<&K>, AllocError>
         ensures { IfOk result (λ keys. map deref keys.items ≡ self.now.keys) }
     {
         ordered_keys(alloc, &self.places)
     }
 
-    /// Whether a key is among them.
+    /// True if a key is among them.
     pub fn contains(&self, key: &K) -> bool
         ensures { result ≡ list_any (K.eq key.now) self.now.keys }
     {
         self.places.contains_key(key)
     }
 
-    /// The place of a key.
+    /// Returns the place of a key.
     pub fn place(&self, key: &K) -> Option<usize>
         ensures place { result ≡ position (K.eq key.now) self.now.keys }
         ensures found { is_some result ≡ list_any (K.eq key.now) self.now.keys }
@@ -98,7 +98,7 @@ impl<K: Eq + Hash> KeyPlaces<K> {
 }
 
 impl<T: Eq + Hash> KeyPlaces<Vec<T>> {
-    /// The place of a key that is a list.
+    /// Returns the place of a key that is a list.
     pub fn place_of_list(&self, key: &[T]) -> Option<usize>
         ensures place { result
             ≡ position (λ list. pointwise T.eq key.now list.items) self.now.keys }
@@ -109,7 +109,7 @@ impl<T: Eq + Hash> KeyPlaces<Vec<T>> {
     }
 }
 
-/// The place of a key among others; the next one, where it is equal to none of them.
+/// Returns the place of a key among others; the next one, if it is equal to none of them.
 fn place_in<K: Eq + Hash + Drop>(
     places: &mut HashMap<K, usize>,
     key: K,
@@ -126,7 +126,7 @@ fn place_in<K: Eq + Hash + Drop>(
     Ok(*places.entry(key)?.or_insert(next))
 }
 
-/// The keys in the order of their places.
+/// Returns the keys in the order of their places.
 fn ordered_keys<K: Eq + Hash>(
     alloc: Global,
     places: &HashMap<K, usize>,
@@ -141,7 +141,7 @@ fn ordered_keys<K: Eq + Hash>(
     Ok(keys)
 }
 
-/// The keys in any order.
+/// Returns the keys in any order.
 fn all_keys<K: Eq + Hash>(alloc: Global, places: &HashMap<K, usize>) -> Result<Vec<&K>, AllocError>
     ensures { IfOk result (λ keys. length keys.items ≡ length places.now.entries) }
 {

@@ -45,7 +45,7 @@ fn load_short(rest: &[u8]) -> u8x64
     u8x64::from_array(lanes)
 }
 
-/// Which bytes of a block are double quotes, commas, CR and LF.
+/// Returns which bytes of a block are double quotes, commas, CR and LF.
 #[inline(always)]
 pub fn classify(block: u8x64) -> Classes
     ensures { AreClasses result block }
@@ -58,7 +58,7 @@ pub fn classify(block: u8x64) -> Classes
     }
 }
 
-/// Which bytes of a block are this one.
+/// Returns which bytes of a block are this one.
 #[inline(always)]
 fn marks_of(block: u8x64, byte: u8) -> u64
     requires { 0 < byte }

@@ -9,7 +9,7 @@ use std::alloc::{AllocError, Global};
 /// How many seconds a socket is held open at most.
 const MOST_SECONDS: u8 = 30;
 
-/// A socket that is held open for so many seconds more.
+/// A socket that is held open for some seconds more.
 #[derive(Drop)]
 pub struct LingeringPeer {
     pub peer: Peer,
@@ -17,7 +17,7 @@ pub struct LingeringPeer {
 }
 
 impl LingeringPeer {
-    /// So many seconds later: drops what came. Whether the peer may still send, and is waited for.
+    /// Drops what came, `seconds` later. Returns whether the peer may still send and is waited for.
     fn tend(&mut self, seconds: u8, room: &mut [u8]) -> bool
         ensures len { length room.new ≡ length room.old }
         ensures held { result ≡ true → Some self.new ≡ shorter seconds self.old }
@@ -27,7 +27,7 @@ impl LingeringPeer {
     }
 }
 
-/// So many seconds later: drops what came to a socket that is held, and closes it where its peer has closed too, or its time is over.
+/// Drops what came to a socket that is held, `seconds` later, and closes it if its peer has closed too or its time is over.
 fn tend_held(held: &mut Option<LingeringPeer>, seconds: u8, room: &mut [u8])
     ensures len { length room.new ≡ length room.old }
     ensures held { LetsGoOrShortens seconds held.old held.new }
@@ -52,7 +52,7 @@ impl Lingering {
     ghost use Rattle.std.specs.List.{list_any};
     ghost use Rattle.std.specs.Prelude.{IfOk, None, is_none, replicate};
 
-    /// None is held, and there is room for so many.
+    /// Returns no held socket, with room for `places` of them.
     pub fn new(alloc: Global, places: u32) -> Result<Lingering, AllocError>
         ensures { IfOk result (λ lingering. lingering.held.items ≡ replicate places None) }
     {
@@ -63,7 +63,7 @@ impl Lingering {
         Ok(Lingering { held })
     }
 
-    /// How many seconds are left of the time of what is held at a place.
+    /// Returns how many seconds are left of the time of what is held at a place.
     fn seconds_at(&self, at: usize) -> u8
         requires { at < length self.now.held.items }
         ensures { result ≡ seconds_left (held_at self.now.held.items at) }
@@ -74,7 +74,7 @@ impl Lingering {
         }
     }
 
-    /// Where one more is held: where none is, or else where the one is whose time is over first.
+    /// Where one more is held: if none is, or else where the one is whose time is over first.
     fn next_at(&self) -> usize
         ensures { 0 < length self.now.held.items → IsNextPlace self.now.held.items result }
     {
@@ -87,7 +87,7 @@ impl Lingering {
         at
     }
 
-    /// Whether at some place none is held.
+    /// True if at some place none is held.
     fn has_free(&self) -> bool
         ensures { result ≡ list_any is_none self.now.held.items }
     {
@@ -107,7 +107,7 @@ impl Lingering {
         }
     }
 
-    /// Holds a socket open. Where there is no room, those are closed whose peers have closed too; and where that leaves none, the one whose
+    /// Holds a socket open. If there is no room, those are closed whose peers have closed too; and where that leaves none, the one whose
     /// time is over first.
     pub fn hold(&mut self, peer: Peer, room: &mut [u8])
         ensures len { length room.new ≡ length room.old }
@@ -123,7 +123,7 @@ impl Lingering {
         }
     }
 
-    /// So many seconds later: drops what came to one of them, and closes it where its peer has closed too, or its time is over.
+    /// Drops what came to one of them, `seconds` later, and closes it if its peer has closed too or its time is over.
     pub fn tend(&mut self, at: usize, seconds: u8, room: &mut [u8])
         ensures len { length room.new ≡ length room.old }
         ensures held { TendsAt at seconds self.old.held.items self.new.held.items }

@@ -46,7 +46,7 @@ impl Sockets {
         self.wires[place].end(now);
     }
 
-    /// The times of the socket at a place.
+    /// Returns the times of the socket at a place.
     pub fn times(&self, place: u32) -> Option<Times>
         ensures { result ≡ times_at self.now.wires.items place }
     {

@@ -39,7 +39,7 @@ impl Peer {
     ghost use Rattle.listen_sockets.specs.Peer.{IsReadableAfter, RestsBy, after_charge, after_end, after_event, after_visit, before_try, but_for_reads, but_for_writes, fresh_peer};
     ghost use Rattle.listen_sockets.specs.Sockets.{socket_of};
 
-    /// A socket of which nothing is known yet.
+    /// Returns a socket of which nothing is known yet.
     pub fn new(stream: TcpStream, now: u64) -> Peer
         ensures { result ≡ fresh_peer stream now }
     {
@@ -86,7 +86,7 @@ impl Peer {
         self.lost |= fails;
     }
 
-    /// The next write is tried, whatever the system said: it tells of room only where a third of what it keeps for a peer is free, so that a peer
+    /// The next write is tried, whatever the system said: it reports room only when a third of what it keeps for a peer is free, so that a peer
     /// that takes bytes slowly would seem to stand still.
     pub fn try_write(&mut self)
         ensures { self.new ≡ before_try self.old }
@@ -208,7 +208,7 @@ impl Peer {
     }
 }
 
-/// What an error of the system means for a socket.
+/// Returns what an error of the system means for a socket.
 fn fault_of(kind: ErrorKind) -> PeerFault {
     match kind {
         ErrorKind::WouldBlock | ErrorKind::Interrupted => PeerFault::Waits,

@@ -55,7 +55,7 @@ impl Server {
     ghost use Rattle.listen_sockets.specs.Server.{AreFree, EndsHopeless, EndsIfHopeless, IsDueAt, NotesWork, TellsHopelessOf, has_waiting, state_at};
     ghost use Rattle.listen_sockets.specs.Sockets.{EndsStream, IsPut, KeepsStreams, OthersStay, SocketsStay, TakesPeer, peer_at, wire_at};
 
-    /// So many places, all of them free, over these tables.
+    /// Returns a server of `places` places, all of them free, over these tables.
     pub fn new(alloc: Global, catalog: Rc<Catalog>, places: u32) -> Result<Server, AllocError>
         ensures free { IfOk result (λ server. AreFree catalog.value places
             server.hub server.slots.items server.sockets.wires.items) }
@@ -96,7 +96,7 @@ impl Server {
         }
     }
 
-    /// Opens a connection at the least free place, and answers which; none where there is no free place.
+    /// Opens a connection at the least free place, and answers which; none if there is no free place.
     pub fn open(&mut self, peer: Peer) -> Result<Conn, HubFault>
         ensures step { IsHubStep self.old.hub Open (call_answer (λ conn. Opened conn.0) result)
             self.new.hub }
@@ -180,14 +180,14 @@ impl Server {
         self.lingering.tend(at as usize, 1, &mut self.waste);
     }
 
-    /// How many places there are.
+    /// Returns how many places there are.
     pub fn places(&self) -> u32
         ensures { result ≡ length self.now.slots.items }
     {
         self.slots.len() as u32
     }
 
-    /// What became of a place at its last visit.
+    /// Returns what became of a place at its last visit.
     pub fn state(&self, place: u32) -> SlotState
         ensures { result ≡ state_at self.now.slots.items place }
     {
@@ -197,7 +197,7 @@ impl Server {
         }
     }
 
-    /// Whether output of the connection at a place waits for its socket.
+    /// True if output of the connection at a place waits for its socket.
     pub fn has_waiting(&self, place: u32) -> bool
         ensures { (h : HubOf) → Models self.now.hub h → result ≡ has_waiting (conn_at h place) }
     {
@@ -207,7 +207,7 @@ impl Server {
         }
     }
 
-    /// Whether the rest of the connection at a place can begin no head any more.
+    /// True if the rest of the connection at a place can begin no head any more.
     fn is_hopeless(&self, place: u32) -> bool
         ensures { (h : HubOf) → Models self.now.hub h
             → TellsHopelessOf (conn_at h place) result }

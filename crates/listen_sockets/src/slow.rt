@@ -66,7 +66,7 @@ const MICROS: u64 = 1_000_000;
 pub const HEAVY_MICROS: u64 = 200;
 
 impl Taking {
-    /// A reply of which the first bytes, `count`, were taken now.
+    /// Returns a reply of which the first bytes, `count`, were taken now.
     fn new(now: u64, count: u64) -> Taking
         ensures { result ≡ first_taken now count }
     {
@@ -114,7 +114,7 @@ fn is_slow_taking(limits: &Limits, crowded: bool, now: u64, taking: Option<Takin
 }
 
 impl Times {
-    /// A connection that was opened now.
+    /// Returns a connection that was opened now.
     pub fn new(now: u64) -> Times
         ensures { result ≡ fresh_times now }
     {
@@ -173,7 +173,7 @@ impl Times {
         self.spent >= HEAVY_MICROS
     }
 
-    /// What stands still for too long. Where bytes wait for the socket, that stands still, however far a head came.
+    /// Returns what stands still for too long. If bytes wait for the socket, that stands still, however far a head came.
     fn due_still(&self, limits: &Limits, waits: bool, now: u64) -> Due
         ensures { result ≡ due_by limits.now waits now self.now self.now.head }
     {

@@ -1,4 +1,4 @@
-//! The sockets of the places. They tell no bytes, and count how often one had or took nothing, and how often one was found lost.
+//! The sockets of the places. Contracts see only counts: how often a call would have blocked, and how often a socket was found lost.
 ghost use Rattle.std.specs.Prelude.{◌≡◌, length, true};
 ghost use Rattle.std.specs.Io.{ReadsAtMost, WritesAtMost};
 ghost use Rattle.odata_http.specs.Device.{TakesSome};
@@ -36,7 +36,7 @@ impl Wire {
         }
     }
 
-    /// Gives bytes to the socket, where there is one.
+    /// Gives bytes to the socket if there is one.
     fn write_peer(&mut self, bytes: &[u8]) -> Result<usize, PeerFault>
         ensures bound { WritesAtMost result bytes.now }
         ensures some { TakesSome bytes.now result }
@@ -52,7 +52,7 @@ impl Wire {
         }
     }
 
-    /// Takes bytes of the socket, where there is one.
+    /// Takes bytes of the socket if there is one.
     fn read_peer(&mut self, buf: &mut [u8]) -> Result<usize, PeerFault>
         ensures bound { ReadsAtMost result buf.new }
         ensures counts { untold_wire self.new ≡ untold_wire self.old }
@@ -67,7 +67,7 @@ impl Wire {
         }
     }
 
-    /// Whether the system said that the connection is lost.
+    /// True if the system said that the connection is lost.
     pub(crate) fn is_lost(&self) -> bool
         ensures { result ≡ is_lost_peer self.now.peer }
     {
@@ -87,7 +87,7 @@ impl Wire {
         }
     }
 
-    /// Has the system report the socket under a number. Where there is none, it reports nothing.
+    /// Has the system report the socket under a number. If there is none, it reports nothing.
     pub(crate) fn register(&mut self, poll: &Poll, place: u32) -> bool
         ensures wire { self.new ≡ self.old }
         ensures reported { result ≡ true → is_some self.old.peer ≡ true }
@@ -163,7 +163,7 @@ impl Wire {
         }
     }
 
-    /// The times of the socket, where there is one.
+    /// Returns the times of the socket if there is one.
     pub(crate) fn times(&self) -> Option<Times>
         ensures { result ≡ peer_times self.now.peer }
     {
@@ -200,7 +200,7 @@ impl Wire {
     }
 }
 
-/// The sockets of so many places.
+/// The sockets of a number of places.
 #[derive(Drop)]
 pub struct Sockets {
     pub wires: Vec<Wire>,
@@ -211,7 +211,7 @@ impl Sockets {
     ghost use Rattle.std.specs.Prelude.{IfOk, IfSome, Some, replicate};
     ghost use Rattle.listen_sockets.specs.Sockets.{EndsStream, IsPut, OthersStay, TakesPeer, free_wire, has_no_peer, peer_at};
 
-    /// So many places, at none of which is a socket.
+    /// Returns `places` places without a socket.
     pub fn new(alloc: Global, places: u32) -> Result<Sockets, AllocError>
         ensures { IfOk result (λ sockets. sockets.wires.items ≡ replicate places free_wire) }
     {
@@ -237,7 +237,7 @@ impl Sockets {
         }
     }
 
-    /// Takes the socket of a place from there, where there is one.
+    /// Takes the socket of a place from there if there is one.
     fn take(&mut self, place: u32) -> Option<Peer>
         ensures peer { result ≡ peer_at self.old.wires.items place }
         ensures sockets { TakesPeer place self.old.wires.items self.new.wires.items }
@@ -266,7 +266,7 @@ impl Sockets {
         None
     }
 
-    /// Whether there is a place with no socket.
+    /// True if there is a place with no socket.
     pub fn has_free(&self) -> bool
         ensures { result ≡ list_any has_no_peer self.now.wires.items }
     {

@@ -10,7 +10,7 @@ impl Sockets {
     ghost use Rattle.listen_sockets.specs.Peer.{after_event, before_try};
     ghost use Rattle.listen_sockets.specs.Sockets.{ChangesPeer, KeepsStreams, SocketsStay, is_awake_at, is_lost_at, peer_at, with_peer};
 
-    /// Has the system report the socket at a place under its number. Where there is none, it reports nothing.
+    /// Has the system report the socket at a place under its number. If there is none, it reports nothing.
     pub fn register(&mut self, poll: &Poll, place: u32) -> bool
         ensures reported { result ≡ true → is_some (peer_at self.old.wires.items place) ≡ true }
         ensures sockets { self.new.wires.items ≡ self.old.wires.items }
@@ -40,7 +40,7 @@ impl Sockets {
         true
     }
 
-    /// Whether the system said that the connection at a place is lost.
+    /// True if the system said that the connection at a place is lost.
     pub fn is_lost(&self, place: u32) -> bool
         ensures { result ≡ is_lost_at self.now.wires.items place }
     {

@@ -64,7 +64,7 @@ pub enum Obstacle {
 }
 
 impl Obstacle {
-    /// Returns the obstacle that an error of the system tells.
+    /// Returns the obstacle that an error of the system reports.
     pub fn of(kind: ErrorKind) -> Obstacle
         ensures taken { kind ≡ ErrorKind.AddrInUse → result ≡ Obstacle.Taken }
         ensures foreign { kind ≡ ErrorKind.AddrNotAvailable → result ≡ Obstacle.Foreign }

@@ -105,7 +105,7 @@ pub struct Words<'a> {
     pub log: bool,
 }
 
-/// What `clap` reads of the words by the whole command.
+/// Returns what `clap` reads of the words by the whole command.
 fn line_matches<'a>(alloc: Global, words: &'a [&'a str]) -> Result<ArgMatches<'a>, WordsFault>
     ensures matches { IfOk result (IsReadingOf listen_app (texts words.now)) }
     ensures fault { IfErr result (IsRefusal listen_app (texts words.now)) }
@@ -127,7 +127,7 @@ fn line_matches<'a>(alloc: Global, words: &'a [&'a str]) -> Result<ArgMatches<'a
     matches_of(whole, words)
 }
 
-/// What the matches ask for.
+/// Returns what the matches ask for.
 fn matches_words<'a>(matches: &ArgMatches<'a>) -> Option<Words<'a>>
     ensures some { IfSome result (λ words. AsksBy words (rows_of (found_of matches.now))) }
     ensures none { IfNone result
@@ -151,7 +151,7 @@ fn matches_words<'a>(matches: &ArgMatches<'a>) -> Option<Words<'a>>
     })
 }
 
-/// What the words of the command line ask for, of which the first is the program's own name. They are `Usage` only where `clap` finds a mistake in them, or they
+/// Returns what the words of the command line ask for, of which the first is the program's own name. They are `Usage` only if `clap` finds a mistake in them, or they
 /// ask for nothing.
 pub fn read_words<'a>(alloc: Global, words: &'a [&'a str]) -> Result<Words<'a>, WordsFault>
     ensures words { IfOk result (AreListenWords (texts words.now)) }

@@ -5,7 +5,7 @@ ghost use Rattle.message_text.specs.Escapes.{escaped, written};
 
 use std::alloc::{AllocError, Global};
 
-/// A hexadecimal digit in lower case.
+/// Returns a hexadecimal digit in lower case.
 fn hex_digit(n: u32) -> char
     requires { n < 16 }
     ensures { result ≡ digit_char n }
@@ -36,7 +36,7 @@ fn push_written(out: &mut String, character: char) -> Result<(), AllocError>
     }
 }
 
-/// The text as it stands in a message: each control character is written as `\u` and four hexadecimal digits.
+/// Returns the text as it stands in a message: each control character is written as `\u` and four hexadecimal digits.
 pub fn escaped(alloc: Global, text: &str) -> Result<String, AllocError>
     ensures { IfOk result (λ out. string_bytes out ≡ escaped text.now) }
 {

@@ -29,7 +29,7 @@ impl Connection {
     ghost use Rattle.odata_hub.specs.Stands.{ConnStandsFor, IsConnStep, IsConnTook, conn_of};
     ghost use Rattle.odata_hub.specs.Work.{FoundWork, IsWorked, KeepsOutput};
 
-    /// A connection that holds nothing.
+    /// Returns a connection that holds nothing.
     pub(crate) fn new(alloc: Global) -> Connection
         ensures { ConnStandsFor result fresh }
     {
@@ -62,7 +62,7 @@ impl Connection {
         self.failed = true;
     }
 
-    /// The next piece of the stream, under these tables.
+    /// Returns the next piece of the stream, under these tables.
     pub(crate) fn piece(
         &mut self,
         alloc: Global,
@@ -93,7 +93,7 @@ impl Connection {
         }
     }
 
-    /// The end of the stream.
+    /// Returns the end of the stream.
     pub(crate) fn end(&mut self) -> Result<(), HubFault>
         ensures { IsConnStep self.old End (call_answer (λ _. Done) result) self.new }
     {
@@ -143,7 +143,7 @@ impl Connection {
         }
     }
 
-    /// Begins the exchange of the first head that waits, or adds the reply to a rest, where none is in flight.
+    /// Begins the exchange of the first head that waits, or adds the reply to a rest, if none is in flight.
     fn begin_next(&mut self, alloc: Global) -> Result<Turned, AllocError>
         ensures ok { self.old.flight ≡ None
             → IfOk result (λ went. IsWorked self.old None went self.new) }
@@ -160,7 +160,7 @@ impl Connection {
         }
     }
 
-    /// Makes one step. An `Err` leaves the output, and comes only where there was something to do.
+    /// Makes one step. An `Err` leaves the output, and comes only if there was something to do.
     fn work(&mut self, alloc: Global) -> Result<Turned, AllocError>
         ensures ok { IfOk result (λ went. (f : Option FlightOf) → IsInFlight self.old.flight f
             → IsWorked self.old f went self.new) }
@@ -174,7 +174,7 @@ impl Connection {
         }
     }
 
-    /// One turn.
+    /// Returns one turn.
     pub(crate) fn turn(&mut self, alloc: Global) -> Result<Turned, HubFault>
         ensures { IsConnStep self.old Turn (call_answer Went result) self.new }
     {
@@ -214,7 +214,7 @@ impl Connection {
         self.output.took(count);
     }
 
-    /// Whether a closing head was cut off, and all replies were taken: where memory ran out, one of them was never made.
+    /// True if a closing head was cut off, and all replies were taken: if memory ran out, one of them was never made.
     pub(crate) fn closed(&self) -> bool
         ensures { (c : ConnOf) → ConnStandsFor self.now c → result ≡ is_over c }
     {
@@ -225,7 +225,7 @@ impl Connection {
             && self.output.is_empty()
     }
 
-    /// Whether what is left of the stream can begin no head any more.
+    /// True if what is left of the stream can begin no head any more.
     pub(crate) fn is_hopeless(&self) -> bool
         ensures { (c : ConnOf) → ConnStandsFor self.now c → TellsHopeless c.rest result }
     {

@@ -91,7 +91,7 @@ impl Flight {
     }
 }
 
-/// The heads wait behind the others, each with these tables.
+/// Appends the heads to those that wait, each with these tables.
 fn wait_all(
     waiting: &mut VecDeque<Waiting>,
     catalog: &Rc<Catalog>,
@@ -111,7 +111,7 @@ fn wait_all(
     Ok(())
 }
 
-/// The heads that are cut off the rest and the piece wait, each with these tables. Whether the last of them closes.
+/// Returns the heads that are cut off the rest and the piece wait, each with these tables. Whether the last of them closes.
 pub(crate) fn cut_into(
     alloc: Global,
     splitter: &mut Splitter,

@@ -46,7 +46,7 @@ impl Hub {
         })
     }
 
-    /// A connection at the least free place.
+    /// Returns a connection at the least free place.
     pub fn open(&mut self) -> Result<Conn, HubFault>
         ensures { IsHubStep self.old Open (call_answer (λ conn. Opened conn.0) result) self.new }
     {
@@ -60,7 +60,7 @@ impl Hub {
         }
     }
 
-    /// The next piece of a connection's stream.
+    /// Returns the next piece of a connection's stream.
     pub fn piece(&mut self, conn: Conn, piece: &[u8]) -> Result<(), HubFault>
         ensures { IsHubStep self.old (On conn.0 (Piece (current_tables self.old) piece.now))
             (call_answer (λ _. Done) result) self.new }
@@ -68,7 +68,7 @@ impl Hub {
         piece_at(self.alloc, &mut self.places, conn.0, &self.catalog, piece)
     }
 
-    /// The end of a connection's stream.
+    /// Returns the end of a connection's stream.
     pub fn end(&mut self, conn: Conn) -> Result<(), HubFault>
         ensures { IsHubStep self.old (On conn.0 End) (call_answer (λ _. Done) result) self.new }
     {
@@ -122,14 +122,14 @@ impl Hub {
         self.catalog = catalog;
     }
 
-    /// Whether a closing head was cut off a connection's stream, and all its replies were taken. It is false where memory ran out for the connection.
+    /// Returns whether a closing head was cut off a connection's stream, and all its replies were taken. It is false if memory ran out for the connection.
     pub fn closed(&self, conn: Conn) -> Result<bool, HubFault>
         ensures { (h : HubOf) → Models self.now h → TellsOver (conn_at h conn.0) result }
     {
         closed_at(&self.places, conn.0)
     }
 
-    /// Whether what is left of a connection's stream can begin no head any more, whatever follows. To call `end` at once then gives the replies that every
+    /// Returns whether what is left of a connection's stream can begin no head any more, whatever follows. To call `end` at once then gives the replies that every
     /// longer stream has.
     pub fn is_hopeless(&self, conn: Conn) -> Result<bool, HubFault>
         ensures { (h : HubOf) → Models self.now h → TellsHopelessAt (conn_at h conn.0) result }

@@ -8,7 +8,7 @@ pub fn one_reading()
     http_heads::one_cut();
 }
 
-/// A piece adds the heads that are cut off the rest and the piece, each with the piece's tables; behind a closing head it adds nothing.
+/// A piece adds the heads that are cut off the rest and the piece, each with the piece's tables; after a closing head it adds nothing.
 pub fn joins()
     ensures { JoinsStreams }
 {
@@ -37,7 +37,7 @@ pub fn gives_replies()
     odata_http::one_reply();
 }
 
-/// A turn is idle only where all is answered.
+/// A turn is idle only if all is answered.
 pub fn idles_when_answered()
     ensures { IdlesWhenAnswered }
 {
@@ -45,7 +45,7 @@ pub fn idles_when_answered()
     http_heads::cuts_join();
 }
 
-/// A connection is over only where all of its replies were taken, that to the closing head too.
+/// A connection is over only if all of its replies were taken, that to the closing head too.
 pub fn over_when_taken()
     ensures { OverWhenTaken }
 {
@@ -77,7 +77,7 @@ pub fn brings_next()
     odata_http::one_length();
 }
 
-/// On a table that is within one turn more than it has blocks, or 2 where it has none; on no table within 2.
+/// On a table that is within one turn more than it has blocks, or 2 if it has none; on no table within 2.
 pub fn brings_within()
     ensures { BringsWithin }
 {

@@ -12,14 +12,14 @@ use std::alloc::Global;
 use std::rc::Rc;
 use table_store::Catalog;
 
-/// The least free place.
+/// Returns the least free place.
 pub(crate) fn first_free(places: &[Option<Connection>]) -> Option<usize>
     ensures { result ≡ position is_none places.now }
 {
     places.iter().position(|place| place.is_none())
 }
 
-/// The next piece of the stream of the connection at a place.
+/// Returns the next piece of the stream of the connection at a place.
 pub(crate) fn piece_at(
     alloc: Global,
     places: &mut [Option<Connection>],
@@ -41,7 +41,7 @@ pub(crate) fn piece_at(
     }
 }
 
-/// The end of the stream of the connection at a place.
+/// Returns the end of the stream of the connection at a place.
 pub(crate) fn end_at(places: &mut [Option<Connection>], place: u32) -> Result<(), HubFault>
     ensures step { (catalog : CatalogOf) → IsPlacesStep catalog places.old (On place End)
         (call_answer (λ _. Done) result) places.new }
@@ -57,7 +57,7 @@ pub(crate) fn end_at(places: &mut [Option<Connection>], place: u32) -> Result<()
     }
 }
 
-/// One turn of the connection at a place.
+/// Returns one turn of the connection at a place.
 pub(crate) fn turn_at(
     alloc: Global,
     places: &mut [Option<Connection>],
@@ -115,7 +115,7 @@ pub(crate) fn waiting_at(places: &[Option<Connection>], place: u32) -> Result<&[
     }
 }
 
-/// The first bytes of the output of the connection at a place wait no more.
+/// Returns the first bytes of the output of the connection at a place wait no more.
 pub(crate) fn took_at(
     places: &mut [Option<Connection>],
     place: u32,
@@ -168,7 +168,7 @@ pub(crate) fn free_at(places: &mut [Option<Connection>], place: u32) -> Result<(
     Ok(())
 }
 
-/// Whether the connection at a place is over.
+/// Returns whether the connection at a place is over.
 pub(crate) fn closed_at(places: &[Option<Connection>], place: u32) -> Result<bool, HubFault>
     ensures { (catalog : CatalogOf) (h : HubOf) → AreHub catalog places.now h
         → TellsOver (conn_at h place) result }
@@ -183,7 +183,7 @@ pub(crate) fn closed_at(places: &[Option<Connection>], place: u32) -> Result<boo
     }
 }
 
-/// Whether the rest of the connection at a place can begin no head any more.
+/// Returns whether the rest of the connection at a place can begin no head any more.
 pub(crate) fn hopeless_at(places: &[Option<Connection>], place: u32) -> Result<bool, HubFault>
     ensures { (catalog : CatalogOf) (h : HubOf) → AreHub catalog places.now h
         → TellsHopelessAt (conn_at h place) result }

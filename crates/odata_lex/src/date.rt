@@ -13,7 +13,7 @@ use jiff_core::civil::Date;
 /// How many bytes a date has.
 pub const DATE_LEN: usize = 10;
 
-/// Whether the bytes are four digits, `-`, two digits, `-`, two digits.
+/// True if the bytes are four digits, `-`, two digits, `-`, two digits.
 pub fn is_date_form(text: &[u8]) -> bool
     ensures { result ≡ is_date_form text.now }
 {
@@ -25,7 +25,7 @@ pub fn is_date_form(text: &[u8]) -> bool
         && are_digits(&text[8..DATE_LEN])
 }
 
-/// Whether each byte is a digit.
+/// True if each byte is a digit.
 pub fn are_digits(bytes: &[u8]) -> bool
     ensures { result ≡ list_all is_ascii_digit bytes.now }
 {
@@ -58,7 +58,7 @@ fn calendar_day(year: u16, month: u16, day: u16) -> Option<Date>
     Date::new(year as i16, month as i8, day as i8).ok()
 }
 
-/// The day that a text `YYYY-MM-DD` writes; none where the calendar has no such day in the years 0001 to 9999.
+/// Returns the day that a text `YYYY-MM-DD` writes, or `None` if the calendar has no such day in the years 0001 to 9999.
 pub fn date_in(text: &[u8]) -> Option<Date>
     ensures { IsDayOfText text.now result }
 {

@@ -40,7 +40,7 @@ fn ends_word(text: &[u8]) -> bool
     }
 }
 
-// How many bytes a Text has behind its first `'`; none where it does not end.
+// How many bytes a Text has after its first `'`; none if it does not end.
 fn text_len(text: &[u8]) -> Option<usize>
     ensures value { result ≡ text_len false text.now }
     ensures within { IfSome result (λ len. len ≤ length text.now) }

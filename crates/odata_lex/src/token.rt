@@ -1,15 +1,15 @@
 //! The tokens of an OData expression, and where they stand in its text.
 
-/// A text has at most so many tokens.
+/// The most tokens of a text.
 pub const MAX_TOKENS: usize = 1024;
 
-/// A number has at most so many digits.
+/// The most digits of a number.
 pub const MAX_DIGITS: usize = 38;
 
-/// A decimal has at most so many digits before its point.
+/// The most digits of a decimal before its point.
 pub const MAX_WHOLE_DIGITS: usize = 32;
 
-/// A decimal has at most so many digits behind its point: it is read in millionths.
+/// The most digits of a decimal after its point, which is read in millionths.
 pub const MAX_FRACTION_DIGITS: usize = 6;
 
 /// What a token is. Letters and digits are those of ASCII.

@@ -99,7 +99,7 @@ fn bind(rt: &HostRuntime, at: &Listens<'_>) -> io::Result<Listener> {
     }
 }
 
-/// Says where it listens: the path, or the address and port that the system tells.
+/// Says where it listens: the path, or the address and port that the system reports.
 fn say_listening(rt: &HostRuntime, words: &Words<'_>, listener: &Listener) -> io::Result<()> {
     if let Some(path) = words.unix {
         return rt.println(format!(in rt.alloc(); "listening {path}")?);

@@ -9,7 +9,7 @@ use mio::Poll;
 use odata_rounds::SlotState;
 use service_log::{CloseReason, Log};
 
-/// Frees a place, and tells why.
+/// Frees a place, and reports why.
 pub fn end(server: &mut Server, place: u32, reason: CloseReason, log: &mut Log<'_>)
     ensures frees { Frees place server.old server.new }
     ensures work { log.new.tally.work ≡ log.old.tally.work }

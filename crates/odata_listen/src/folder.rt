@@ -1,4 +1,4 @@
-//! A folder that is looked at, and taken up where it changed. Its metadata and the files that this names are looked at, and nothing else.
+//! A folder that is watched, and reloaded when it changed. Its metadata and the files that this names are looked at, and nothing else.
 use crate::watch::{Look, hand_over, is_final, look_of, pause_after, size_of};
 use odata_hub::Hub;
 use served_folders::{Disk, FolderFault, Folders, METADATA, look};
@@ -25,7 +25,7 @@ pub struct Folder<'a> {
     files: Vec<String>,
     taken: String,
     seen: String,
-    /// The last reload came to nothing since a device failed or memory ran out. That was told, and it is tried again as long as the folder is not as it was taken.
+    /// The last reload came to nothing since a device failed or memory ran out. That was reported, and it is tried again until the folder is as it was loaded.
     wants: bool,
     /// The looks from the last failure to the next try, and how many of them are left.
     pause: u32,
@@ -40,7 +40,7 @@ fn millis_since(rt: &HostRuntime, start: io::Result<Instant>) -> u64 {
     }
 }
 
-/// Adds to a text what tells one state of a file from another: its device and number, its length, and the times of its last write and change.
+/// Adds to a text what distinguishes one state of a file from another: its device and number, its length, and the times of its last write and change.
 fn push_state(text: &mut String, found: &Metadata) -> Result<(), AllocError> {
     write!(
         text,
@@ -58,7 +58,7 @@ fn push_state(text: &mut String, found: &Metadata) -> Result<(), AllocError> {
 impl<'a> Folder<'a> {
     ghost use Rattle.odata_listen.specs.Serving.{MayReload};
 
-    /// The folder as it is now, before it is loaded; where a link in the place of a file is followed, or is none of its files.
+    /// Returns the folder as it is now, before it is loaded; where a link in the place of a file is followed, or is none of its files.
     pub fn new(rt: &HostRuntime, name: &'a str, follows: bool) -> Folder<'a> {
         let mut folder = Folder {
             name,
@@ -86,7 +86,7 @@ impl<'a> Folder<'a> {
         }
     }
 
-    /// Reads the names of the files where the metadata is not as it was when they were read last. Where it can't be read, they are read again at the next look.
+    /// Reads the names of the files where the metadata is not as it was when they were read last. If it can't be read, they are read again at the next look.
     fn read_names(&mut self, rt: &HostRuntime, metadata: &str) -> Result<(), AllocError> {
         if self.metadata.as_str() == metadata {
             return Ok(());
@@ -102,7 +102,7 @@ impl<'a> Folder<'a> {
         Ok(())
     }
 
-    /// The state of the metadata and of the files that it names.
+    /// Returns the state of the metadata and of the files that it names.
     fn read_state(&mut self, rt: &HostRuntime) -> Result<String, AllocError> {
         let mut text = String::new(rt.alloc());
         self.push_file(rt, METADATA, &mut text)?;
@@ -113,7 +113,7 @@ impl<'a> Folder<'a> {
         Ok(text)
     }
 
-    /// The same; nothing where memory ran out.
+    /// Returns the same; nothing if memory ran out.
     fn state(&mut self, rt: &HostRuntime) -> String {
         self.read_state(rt).unwrap_or(String::new(rt.alloc()))
     }
@@ -144,7 +144,7 @@ impl<'a> Folder<'a> {
         self.wants = !holds;
     }
 
-    /// Loads the folder; where it is afterwards as it was at the last look, the hub has its tables from now on. Where a device failed or memory ran out, the
+    /// Loads the folder; if it is afterwards as it was at the last look, the hub has its tables from now on. If a device failed or memory ran out, the
     /// folder counts as it was taken before, so that the next look finds it changed again.
     #[tactic(auto, using(crate::proofs::ServingLemmas::may_hand_over))]
     fn take_up(&mut self, rt: &HostRuntime, hub: &mut Hub, log: &mut Log<'_>)

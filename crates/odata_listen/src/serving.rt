@@ -17,7 +17,7 @@ use socket_listener::Listener;
 use std::io::{self, ErrorKind};
 use std::rt::{Clock, Files};
 
-/// What the service has beside its places and sockets: the folder that it serves, how long a peer may take, and where it tells what it did.
+/// What the service has beside its places and sockets: the folder that it serves, how long a peer may take, and its log.
 #[derive(Drop)]
 pub struct Service<'a> {
     pub folder: Folder<'a>,
@@ -76,7 +76,7 @@ fn take_accepted(
     }
 }
 
-/// Takes in a connection that waits, where a place is free.
+/// Takes in a connection that waits, if a place is free.
 #[tactic(auto, using(crate::proofs::ServingLemmas::on_none))]
 fn take_in(server: &mut Server, poller: &Poller, log: &mut Log<'_>) -> Taken
     ensures { RunsOn server.old server.new }
@@ -173,7 +173,7 @@ fn tick(
     Ok(())
 }
 
-/// Serves a folder for so many ticks.
+/// Serves a folder for a number of ticks.
 #[tactic(auto, using(crate::proofs::ServingLemmas::on_none))]
 pub fn serve(
     rt: &HostRuntime,

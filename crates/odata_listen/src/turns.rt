@@ -123,7 +123,7 @@ fn turn_at(places: u32, next: u32) -> u32
     if next < places { next } else { 0 }
 }
 
-/// Returns how many of `places` have their turn until all had it: all where none is `left`, since a circle begins there.
+/// Returns how many of `places` have their turn until all had it: all if none is `left`, since a circle begins there.
 fn left_of(places: u32, left: u32) -> u32
     ensures { result ≡ left_of places left }
 {
@@ -152,7 +152,7 @@ fn take_turn(
     circle.busy |= serve_place(watch, server, poller, place, log);
 }
 
-/// Gives the places of `circle` their turns, from where it was left, until all had theirs or the time of a round is over.
+/// Gives the places of `circle` their turns, from if it was left, until all had theirs or the time of a round is over.
 fn go_round(
     watch: &mut Stopwatch<'_>,
     server: &mut Server,

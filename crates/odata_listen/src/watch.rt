@@ -68,7 +68,7 @@ pub enum Look {
     Changed,
 }
 
-/// What a look says that found a folder in one state, where it was taken in another, and seen in a third at the look before.
+/// Returns what a look says that found a folder in one state, if it was taken in another, and seen in a third at the look before.
 pub fn look_of(taken: &str, seen: &str, found: &str) -> Look
     ensures { Looks taken.now seen.now found.now result }
 {
@@ -102,7 +102,7 @@ pub fn hand_over(
     }
 }
 
-/// Whether a reload comes to the same end as long as the folder stays: not where a device failed, or memory ran out.
+/// True if a reload comes to the same end as long as the folder stays: not where a device failed, or memory ran out.
 pub fn is_final(end: &Result<(), ProgramFault>) -> bool
     ensures { result ≡ is_final end.now }
 {

@@ -18,7 +18,7 @@ use crate::whole::whole_list;
 use odata_lex::{Token, TokenKind};
 use std::alloc::Global;
 
-/// A name.
+/// Returns a name.
 fn name(alloc: Global, tokens: &mut Cursor<'_>) -> Result<String, PhraseFault>
     ensures found { Finds string_bytes ReadsName tokens.old result tokens.new }
     ensures each { ParsesAll string_bytes ReadsName tokens.old result tokens.new }
@@ -50,7 +50,7 @@ fn alias(alloc: Global, tokens: &mut Cursor<'_>) -> Result<String, PhraseFault>
     Ok(name(alloc, tokens)?)
 }
 
-/// The method that comes next.
+/// Returns the method that comes next.
 fn method(tokens: &mut Cursor<'_>) -> Result<AggregationMethod, PhraseFault>
     ensures found { IfOk result (λ m. TakesMethod m tokens.old tokens.new) }
     ensures none { OnErr result (NoMethod tokens.old) }
@@ -59,7 +59,7 @@ fn method(tokens: &mut Cursor<'_>) -> Result<AggregationMethod, PhraseFault>
     aggregation_method(word.text).ok_or(PhraseFault::Syntax)
 }
 
-/// A column with its method and alias.
+/// Returns a column with its method and alias.
 fn aggregated(alloc: Global, tokens: &mut Cursor<'_>) -> Result<AggregateItem, PhraseFault>
     ensures found { Finds aggregate_item_view ReadsAggregateItem tokens.old result tokens.new }
     ensures each { ParsesColumn tokens.old result tokens.new }
@@ -105,7 +105,7 @@ fn aggregate(alloc: Global, tokens: &mut Cursor<'_>) -> Result<Vec<AggregateItem
     Ok(enclosed::<AggregateItem>(alloc, tokens, TokenKind::Comma)?)
 }
 
-/// What stands behind `filter`.
+/// Reads what follows `filter`.
 fn filter(alloc: Global, tokens: &mut Cursor<'_>) -> Result<Transformation, PhraseFault>
     ensures found { FindsBehind (codes "filter") tokens.old result tokens.new }
     ensures each { ParsesBehind (codes "filter") tokens.old result tokens.new }
@@ -117,7 +117,7 @@ fn filter(alloc: Global, tokens: &mut Cursor<'_>) -> Result<Transformation, Phra
     Ok(Transformation::Filter(expr))
 }
 
-/// What stands behind `groupby`.
+/// Reads what follows `groupby`.
 fn group(alloc: Global, tokens: &mut Cursor<'_>) -> Result<Transformation, PhraseFault>
     ensures found { FindsBehind (codes "groupby") tokens.old result tokens.new }
     ensures each { ParsesBehind (codes "groupby") tokens.old result tokens.new }
@@ -159,7 +159,7 @@ impl Item for Transformation {
     }
 }
 
-/// The transformations that all the tokens are, at least one, and fewer `/` between them than the limit.
+/// Returns the transformations that all the tokens are, at least one, and fewer `/` between them than the limit.
 pub fn parse_apply(
     alloc: Global,
     source: &str,

@@ -45,7 +45,7 @@ impl<'a> Cursor<'a> {
         }
     }
 
-    /// The next token, which stays.
+    /// Returns the next token, which stays.
     pub(crate) fn peek(&self) -> Option<Lexeme<'a>>
         ensures some { IfSome result (λ l. self.now ≡ lexeme_view l ∷ drop 1 self.now) }
         ensures form { IfSome result (λ l. IsOfTokenKind l.kind l.text.now) }

@@ -1,5 +1,5 @@
 //! How deep tokens nest, looked for before the grammar. The parsers' depth of calls is bounded by it: a phrase in a phrase stands
-//! behind a `(` or an operator before its operand.
+//! after a `(` or an operator before its operand.
 
 ghost use Rattle.std.specs.Prelude.{◌≡◌, ◌≤◌, ◌↔◌, IsTrue};
 ghost use Rattle.odata_lex.specs.Lexer.{AreTokens};
@@ -13,13 +13,13 @@ use crate::cursor::{Cursor, Lexeme};
 use crate::keyword::spells;
 use odata_lex::{Token, TokenKind};
 
-/// So many `(` may be open at one place.
+/// The most `(` that may be open at one place.
 pub const MAX_OPEN: usize = 32;
 
-/// So many operators before an operand may follow each other.
+/// The most operators in a row before an operand.
 pub const MAX_OPERATORS: usize = 8;
 
-/// How many `(` are open behind a token.
+/// Returns how many `(` are open after a token.
 fn open_behind(before: usize, kind: TokenKind) -> usize
     requires { before ≤ MAX_OPEN }
     ensures { result ≡ open_behind before kind }
@@ -31,7 +31,7 @@ fn open_behind(before: usize, kind: TokenKind) -> usize
     }
 }
 
-/// Whether more `(` than [`MAX_OPEN`] are open at some place.
+/// True if more `(` than [`MAX_OPEN`] are open at some place.
 fn opens_too_many(source: &str, tokens: &[Token]) -> bool
     requires { AreTokens source.now tokens.now }
     ensures { IsTrue result ↔ OpensTooMany (token_views source.now tokens.now) }
@@ -47,7 +47,7 @@ fn opens_too_many(source: &str, tokens: &[Token]) -> bool
     false
 }
 
-/// Whether a token is `-` or `not`.
+/// True if a token is `-` or `not`.
 fn is_operator(token: Lexeme<'_>) -> bool
     ensures yes { IsTrue result → IsPrefixToken (lexeme_view token.entry) }
     ensures no { (o : UnaryOperator) → IsUnaryOperator o (lexeme_view token.entry) → IsTrue result }
@@ -55,7 +55,7 @@ fn is_operator(token: Lexeme<'_>) -> bool
     token.kind == TokenKind::Minus || token.kind == TokenKind::Word && spells(token.text, "not")
 }
 
-/// Whether more than [`MAX_OPERATORS`] tokens `-` or `not` follow each other.
+/// True if more than [`MAX_OPERATORS`] tokens `-` or `not` follow each other.
 fn repeats_operators(source: &str, tokens: &[Token]) -> bool
     requires { AreTokens source.now tokens.now }
     ensures { IsTrue result ↔ RepeatsOperators (token_views source.now tokens.now) }
@@ -75,7 +75,7 @@ fn repeats_operators(source: &str, tokens: &[Token]) -> bool
     false
 }
 
-/// Whether the tokens nest deeper than this service takes.
+/// True if the tokens nest deeper than this service takes.
 pub(crate) fn is_too_deep(source: &str, tokens: &[Token]) -> bool
     requires { AreTokens source.now tokens.now }
     ensures { IsTrue result ↔ IsTooDeep (token_views source.now tokens.now) }
@@ -83,7 +83,7 @@ pub(crate) fn is_too_deep(source: &str, tokens: &[Token]) -> bool
     opens_too_many(source, tokens) || repeats_operators(source, tokens)
 }
 
-/// Whether there are as many tokens `/` as the limit, or more.
+/// True if there are as many tokens `/` as the limit, or more.
 pub(crate) fn has_slashes(source: &str, tokens: &[Token], limit: u32) -> bool
     requires { AreTokens source.now tokens.now }
     ensures { IsTrue result ↔ (limit ≤ slashes (token_views source.now tokens.now)) }

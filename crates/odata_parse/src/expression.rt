@@ -27,7 +27,7 @@ pub(crate) const TOP: usize = 8;
 /// The level of `-` and `not`.
 const UNARY: usize = 2;
 
-/// How loosely an operator binds.
+/// Returns how loosely an operator binds.
 fn level(operator: BinaryOperator) -> usize
     ensures { result ≡ level_of operator }
 {
@@ -72,7 +72,7 @@ fn take_unary_operator(tokens: &mut Cursor<'_>) -> Option<UnaryOperator>
     None
 }
 
-/// A phrase of a level, as long as it can be.
+/// Returns a phrase of a level, as long as it can be.
 #[cycle(expression)]
 pub(crate) fn phrase(
     alloc: Global,
@@ -125,7 +125,7 @@ fn member(alloc: Global, tokens: &mut Cursor<'_>) -> Result<Expr, PhraseFault>
     Ok(Expr::In(Box::new(alloc, value)?, items))
 }
 
-/// A value, a name, a call, or an expression in parentheses.
+/// Returns a value, a name, a call, or an expression in parentheses.
 #[cycle(expression)]
 fn primary(alloc: Global, tokens: &mut Cursor<'_>) -> Result<Expr, PhraseFault>
     ensures found { FindsExpr 0 tokens.old result tokens.new }
@@ -146,7 +146,7 @@ fn primary(alloc: Global, tokens: &mut Cursor<'_>) -> Result<Expr, PhraseFault>
     }
 }
 
-/// What begins with a word: a value, a name or a call.
+/// Returns what begins with a word: a value, a name or a call.
 #[cycle(expression)]
 fn word(alloc: Global, tokens: &mut Cursor<'_>, first: Lexeme<'_>) -> Result<Expr, PhraseFault>
     requires { first.kind ≡ Word }
@@ -166,7 +166,7 @@ fn word(alloc: Global, tokens: &mut Cursor<'_>, first: Lexeme<'_>) -> Result<Exp
     Ok(Expr::Name(String::from_str(alloc, first.text)?))
 }
 
-/// A call of a function, from behind its first parenthesis on.
+/// Reads a call of a function, from after its first parenthesis on.
 #[cycle(expression)]
 fn call(alloc: Global, tokens: &mut Cursor<'_>, function: Lexeme<'_>) -> Result<Expr, PhraseFault>
     requires { function.kind ≡ Word }
@@ -201,7 +201,7 @@ impl Item for Expr {
     }
 }
 
-/// The expression that all the tokens are.
+/// Returns the expression that all the tokens are.
 pub fn parse_filter(alloc: Global, source: &str, tokens: &[Token]) -> Result<Expr, ParseFault>
     requires { AreTokens source.now tokens.now }
     ensures { IsParsed expr_view IsFilter source.now tokens.now result }

@@ -6,7 +6,7 @@ ghost use Rattle.odata_parse.specs.Format.{IsValueOrSyntax};
 use crate::fault::Syntax;
 use crate::keyword::spells;
 
-/// The truth value that a value of `$count` names (OData 4.01 URL Conventions, section 5.1.7): `true` or `false`, in any case of ASCII
+/// Returns the boolean that a value of `$count` names (OData 4.01 URL Conventions, section 5.1.7): `true` or `false`, in any case of ASCII
 /// letters.
 pub fn parse_flag(text: &str) -> Result<bool, Syntax>
     ensures { IsValueOrSyntax (flag_of text.now) result }

@@ -14,7 +14,7 @@ pub enum Format {
     Csv,
 }
 
-/// The format that a value of `$format` names (OData 4.01 URL Conventions, section 5.1.10): `json` or `application/json`, or `text/csv`, in any case
+/// Returns the format that a value of `$format` names (OData 4.01 URL Conventions, section 5.1.10): `json` or `application/json`, or `text/csv`, in any case
 /// of ASCII letters.
 pub fn parse_format(text: &str) -> Result<Format, Syntax>
     ensures { IsValueOrSyntax (format_of text.now) result }

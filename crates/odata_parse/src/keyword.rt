@@ -16,7 +16,7 @@ use crate::tree::{
 };
 use typed_trees::{ArithmeticOperator, ComparisonOperator};
 
-/// Whether a text is a keyword in any ASCII case.
+/// True if a text is a keyword in any ASCII case.
 pub(crate) fn spells(text: &str, keyword: &str) -> bool
     ensures is { IsTrue result ↔ (lower text.now ≡ lower keyword.now) }
     ensures same { result ≡ same_text text.now keyword.now }
@@ -38,7 +38,7 @@ fn logic_operator(text: &str) -> Option<LogicOperator>
     }
 }
 
-/// The comparisons.
+/// Returns the comparisons.
 fn comparison_operator(text: &str) -> Option<ComparisonOperator>
     ensures some { IfSome result (λ o. lower text.now ≡ comparison_text o) }
     ensures none { IfNone result ((o : ComparisonOperator) → lower text.now ≢ comparison_text o) }
@@ -60,7 +60,7 @@ fn comparison_operator(text: &str) -> Option<ComparisonOperator>
     }
 }
 
-/// The operators of arithmetic.
+/// Returns the operators of arithmetic.
 fn arithmetic_operator(text: &str) -> Option<ArithmeticOperator>
     ensures some { IfSome result (λ o. lower text.now ≡ arithmetic_text o) }
     ensures none { IfNone result ((o : ArithmeticOperator) → lower text.now ≢ arithmetic_text o) }
@@ -80,7 +80,7 @@ fn arithmetic_operator(text: &str) -> Option<ArithmeticOperator>
     }
 }
 
-/// The operator between two operands that a text is.
+/// Returns the operator between two operands that a text is.
 pub(crate) fn binary_operator(text: &str) -> Option<BinaryOperator>
     ensures some { IfSome result (λ o. lower text.now ≡ operator_text o) }
     ensures none { IfNone result ((o : BinaryOperator) → lower text.now ≢ operator_text o) }
@@ -94,7 +94,7 @@ pub(crate) fn binary_operator(text: &str) -> Option<BinaryOperator>
     Some(BinaryOperator::Arithmetic(arithmetic_operator(text)?))
 }
 
-/// The function of one argument that a text is.
+/// Returns the function of one argument that a text is.
 pub(crate) fn unary_function(text: &str) -> Option<UnaryFunction>
     ensures some { IfSome result (λ f. lower text.now ≡ unary_function_text f) }
     ensures none { IfNone result ((f : UnaryFunction) → lower text.now ≢ unary_function_text f) }
@@ -112,7 +112,7 @@ pub(crate) fn unary_function(text: &str) -> Option<UnaryFunction>
     }
 }
 
-/// The function of two arguments that a text is.
+/// Returns the function of two arguments that a text is.
 pub(crate) fn binary_function(text: &str) -> Option<BinaryFunction>
     ensures some { IfSome result (λ f. lower text.now ≡ binary_function_text f) }
     ensures none { IfNone result ((f : BinaryFunction) → lower text.now ≢ binary_function_text f) }
@@ -132,7 +132,7 @@ pub(crate) fn binary_function(text: &str) -> Option<BinaryFunction>
     }
 }
 
-/// The aggregation method that a text is.
+/// Returns the aggregation method that a text is.
 pub(crate) fn aggregation_method(text: &str) -> Option<AggregationMethod>
     ensures some { IfSome result (λ m. lower text.now ≡ method_text m) }
     ensures none { IfNone result ((m : AggregationMethod) → lower text.now ≢ method_text m) }

@@ -19,7 +19,7 @@ use std::alloc::{AllocError, Global};
 /// One, in millionths.
 const MILLION: i128 = 1_000_000;
 
-/// The number that digits write.
+/// Returns the number that digits write.
 fn number(digits: &str) -> i128
     requires { IsNumberToken digits.now }
     ensures { result ≡ pos (digits_value 10 digits.now) }
@@ -27,7 +27,7 @@ fn number(digits: &str) -> i128
     digits.parse::<i128>().unwrap()
 }
 
-/// The millionths that a decimal writes.
+/// Returns the millionths that a decimal writes.
 fn millionths(text: &str) -> i128
     requires { IsDecimal text.now }
     ensures { result ≡ pos (millionths_of text.now) }
@@ -37,7 +37,7 @@ fn millionths(text: &str) -> i128
     number(whole) * MILLION + number(fraction) * i128::from(scale)
 }
 
-/// The day that a date writes.
+/// Returns the day that a date writes.
 fn date(text: &str) -> Literal
     requires { IsDateToken text.now }
     ensures { IsLiteralOfKind TokenKind.Date text.now (literal_view result) }
@@ -45,7 +45,7 @@ fn date(text: &str) -> Literal
     Literal::Date(date_in(text.as_bytes()).unwrap())
 }
 
-/// What stands between quotes, each doubled quote made one.
+/// Returns what stands between quotes, each doubled quote made one.
 fn content(alloc: Global, quoted: &str) -> Result<String, AllocError>
     requires { IsTextToken quoted.now }
     ensures { IfOk result (λ s. Quotes (string_bytes s) quoted.now) }
@@ -76,7 +76,7 @@ pub(crate) fn word_literal(text: &str) -> Option<Literal>
     }
 }
 
-/// The value that a token is.
+/// Returns the value that a token is.
 pub(crate) fn literal_of(alloc: Global, lexeme: Lexeme<'_>) -> Result<Literal, PhraseFault>
     requires { IsOfTokenKind lexeme.kind lexeme.text.now }
     ensures found { IfOk result (λ v. IsLiteral (lexeme_view lexeme.entry) (literal_view v)) }
@@ -92,7 +92,7 @@ pub(crate) fn literal_of(alloc: Global, lexeme: Lexeme<'_>) -> Result<Literal, P
     }
 }
 
-/// A number or a decimal behind `-`.
+/// Reads a number or a decimal after `-`.
 fn negative(tokens: &mut Cursor<'_>) -> Result<Literal, PhraseFault>
     ensures found { Finds literal_view ReadsNegative tokens.old result tokens.new }
     ensures each { ParsesAll literal_view ReadsNegative tokens.old result tokens.new }

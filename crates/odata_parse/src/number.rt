@@ -9,10 +9,10 @@ use crate::fault::Syntax;
 /// The greatest number, the greatest value of an `Edm.Int64`.
 pub const MAX_NUMBER: u64 = 9_223_372_036_854_775_807;
 
-/// A number has at most so many digits.
+/// The most digits of a number.
 pub const MAX_NUMBER_DIGITS: usize = 19;
 
-/// The number that a value of `$skip` or `$top` writes (OData 4.01 URL Conventions, section 5.1.6): 1 to 19 digits, and at most
+/// Returns the number that a value of `$skip` or `$top` writes (OData 4.01 URL Conventions, section 5.1.6): 1 to 19 digits, and at most
 /// [`MAX_NUMBER`].
 pub fn parse_number(text: &str) -> Result<u64, Syntax>
     ensures { OkIff result (IsNumberText text.now) (digits_value 10 text.now) }

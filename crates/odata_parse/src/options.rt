@@ -45,7 +45,7 @@ impl Item for OrderItem {
     }
 }
 
-/// The items by which rows are ordered, at least one.
+/// Returns the items by which rows are ordered, at least one.
 pub fn parse_orderby(
     alloc: Global,
     source: &str,
@@ -76,7 +76,7 @@ impl Item for SelectItem {
     }
 }
 
-/// The columns that are selected, at least one item.
+/// Returns the columns that are selected, at least one item.
 pub fn parse_select(
     alloc: Global,
     source: &str,
@@ -106,7 +106,7 @@ impl Item for KeyPair {
     }
 }
 
-/// Whether the second token is `=`.
+/// True if the second token is `=`.
 fn names_columns(source: &str, tokens: &[Token]) -> bool
     requires { AreTokens source.now tokens.now }
     ensures { IsTrue result ↔ HasEqualsSign (token_views source.now tokens.now) }
@@ -116,7 +116,7 @@ fn names_columns(source: &str, tokens: &[Token]) -> bool
     rest.take(TokenKind::EqualsSign).is_some()
 }
 
-/// The key that all the tokens are: a value alone, or columns and their values.
+/// Returns the key that all the tokens are: a value alone, or columns and their values.
 pub fn parse_key(alloc: Global, source: &str, tokens: &[Token]) -> Result<Key, ParseFault>
     requires { AreTokens source.now tokens.now }
     ensures { IsParsed key_view IsKey source.now tokens.now result }

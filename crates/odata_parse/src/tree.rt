@@ -15,7 +15,7 @@ pub enum Literal {
     Text(String),
     /// A day of the years 1 to 9999.
     Date(Date),
-    /// In millionths: at most 32 digits before the point and six behind it, so its size is below 10 to the 38.
+    /// In millionths: at most 32 digits before the point and six after it, so its size is below 10 to the 38.
     Decimal(i128),
 }
 
@@ -132,7 +132,7 @@ pub struct KeyPair {
     pub value: Literal,
 }
 
-/// What stands between the parentheses behind a set's name (OData 4.01 URL Conventions, section 4.3.1).
+/// What is between the parentheses after a set's name (OData 4.01 URL Conventions, section 4.3.1).
 #[derive(Drop)]
 pub enum Key {
     /// A value alone.

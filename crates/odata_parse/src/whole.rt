@@ -11,7 +11,7 @@ use crate::list::{Item, list};
 use odata_lex::{Token, TokenKind};
 use std::alloc::Global;
 
-/// One item, and nothing behind it.
+/// Reads one item, and nothing after it.
 pub(crate) fn whole_item<T: Item + Drop>(
     alloc: Global,
     source: &str,
@@ -29,7 +29,7 @@ pub(crate) fn whole_item<T: Item + Drop>(
     Ok(item)
 }
 
-/// Items with a sign between each two, and nothing behind them.
+/// Reads items with a sign between each two, and nothing after them.
 pub(crate) fn whole_list<T: Item + Drop>(
     alloc: Global,
     source: &str,

@@ -15,7 +15,7 @@ use odata_parse::tree::{AggregateItem, Transformation};
 use odata_types::{InputColumn, TypeFault, typed_filter};
 use std::alloc::Global;
 
-/// The items of `aggregate`, where it is there.
+/// Returns the items of `aggregate`, if it is there.
 fn optional_items<'a>(
     alloc: Global,
     columns: &[InputColumn<'_>],
@@ -30,7 +30,7 @@ fn optional_items<'a>(
     }
 }
 
-/// One row of aggregates, and its columns.
+/// Returns one row of aggregates, and its columns.
 fn aggregated<'a>(
     alloc: Global,
     columns: &[InputColumn<'a>],
@@ -65,7 +65,7 @@ fn grouped<'a>(
     Ok((TypedTransformation::GroupBy(places, aggregates), made))
 }
 
-/// A transformation, and the columns of its result.
+/// Returns a transformation, and the columns of its result.
 fn transformed<'a>(
     alloc: Global,
     columns: Vec<InputColumn<'a>>,
@@ -86,7 +86,7 @@ fn transformed<'a>(
     }
 }
 
-/// The transformations, each on the result of those before it, and the columns of the last result.
+/// Returns the transformations, each on the result of those before it, and the columns of the last result.
 pub(crate) fn applied<'a>(
     alloc: Global,
     columns: Vec<InputColumn<'a>>,

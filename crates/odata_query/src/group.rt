@@ -10,7 +10,7 @@ ghost use Rattle.odata_query.specs.FirstSeen.{first_seen};
 use odata_types::{InputColumn, TypeFault, place_of};
 use std::alloc::{AllocError, Global};
 
-/// The number of the column with that name.
+/// Returns the number of the column with that name.
 fn known_place(columns: &[InputColumn<'_>], name: &str) -> Result<usize, TypeFault>
     ensures { Gives (λ place. place) (place_typing (inputs_view columns.now) name.now) result }
 {
@@ -21,7 +21,7 @@ fn known_place(columns: &[InputColumn<'_>], name: &str) -> Result<usize, TypeFau
     }
 }
 
-/// The numbers of the columns with these names.
+/// Returns the numbers of the columns with these names.
 fn known_places(
     alloc: Global,
     columns: &[InputColumn<'_>],
@@ -37,7 +37,7 @@ fn known_places(
     Ok(places)
 }
 
-/// Whether a number is among others.
+/// True if a number is among others.
 fn is_among(places: &[usize], place: usize) -> bool
     ensures { result ≡ list_any (λ p. nat_eq p place) places.now }
 {
@@ -49,7 +49,7 @@ fn is_among(places: &[usize], place: usize) -> bool
     false
 }
 
-/// Each number at its first place.
+/// Returns each number at its first place.
 fn first_places(alloc: Global, places: &[usize]) -> Result<Vec<usize>, AllocError>
     ensures { IfOk result (λ made. made.items ≡ first_seen nat_eq places.now) }
 {
@@ -62,7 +62,7 @@ fn first_places(alloc: Global, places: &[usize]) -> Result<Vec<usize>, AllocErro
     Ok(made)
 }
 
-/// The numbers of the columns with these names, a repeated one at its first place.
+/// Returns the numbers of the columns with these names, a repeated one at its first place.
 pub(crate) fn group_places(
     alloc: Global,
     columns: &[InputColumn<'_>],
@@ -75,7 +75,7 @@ pub(crate) fn group_places(
     Ok(first_places(alloc, &places)?)
 }
 
-/// The column with that number.
+/// Returns the column with that number.
 pub(crate) fn column_at<'a>(columns: &[InputColumn<'a>], place: usize) -> Option<InputColumn<'a>>
     ensures { option_map input_view result ≡ slice_get (inputs_view columns.now) place }
 {
@@ -85,7 +85,7 @@ pub(crate) fn column_at<'a>(columns: &[InputColumn<'a>], place: usize) -> Option
     }
 }
 
-/// The columns with these numbers.
+/// Returns the columns with these numbers.
 pub(crate) fn columns_of<'a>(
     alloc: Global,
     columns: &[InputColumn<'a>],

@@ -22,7 +22,7 @@ pub(crate) struct Item<'a> {
     pub(crate) column_type: ColumnType,
 }
 
-/// The bound of a sum of a column's numbers.
+/// Returns the bound of a sum of a column's numbers.
 fn sum_size(bound: u128) -> Result<u128, TypeFault>
     ensures { result ≡ within (bound * MOST_ROWS) (bound * MOST_ROWS) }
 {
@@ -32,7 +32,7 @@ fn sum_size(bound: u128) -> Result<u128, TypeFault>
     }
 }
 
-/// The sum of the column with that number.
+/// Returns the sum of the column with that number.
 fn sum_of(place: usize, column_type: ColumnType) -> Result<(Aggregate, ColumnType), TypeFault>
     ensures { Gives (λ x. x) (sum_typing place column_type) result }
 {
@@ -49,7 +49,7 @@ fn sum_of(place: usize, column_type: ColumnType) -> Result<(Aggregate, ColumnTyp
     }
 }
 
-/// What a method computes of the column with that number, and its type.
+/// Returns what a method computes of the column with that number, and its type.
 fn computed(
     method: AggregationMethod,
     place: usize,
@@ -70,7 +70,7 @@ fn computed(
     }
 }
 
-/// What a method computes of the column with that name, and its type.
+/// Returns what a method computes of the column with that name, and its type.
 fn computed_of(
     columns: &[InputColumn<'_>],
     name: &str,
@@ -85,7 +85,7 @@ fn computed_of(
     }
 }
 
-/// Whether an earlier item has that alias.
+/// True if an earlier item has that alias.
 fn is_alias(earlier: &[Item<'_>], alias: &str) -> bool
     ensures { result ≡ has_alias (map item_view earlier.now) alias.now }
 {
@@ -97,7 +97,7 @@ fn is_alias(earlier: &[Item<'_>], alias: &str) -> bool
     false
 }
 
-/// An aggregate under an alias that no column of the input and no earlier item has.
+/// Returns an aggregate under an alias that no column of the input and no earlier item has.
 fn named<'a>(
     columns: &[InputColumn<'_>],
     earlier: &[Item<'_>],
@@ -118,7 +118,7 @@ fn named<'a>(
     })
 }
 
-/// An item behind earlier ones.
+/// Returns an item after earlier ones.
 fn typed_item<'a>(
     columns: &[InputColumn<'_>],
     earlier: &[Item<'_>],
@@ -143,7 +143,7 @@ fn typed_item<'a>(
     }
 }
 
-/// The items of `aggregate`.
+/// Returns the items of `aggregate`.
 pub(crate) fn typed_items<'a>(
     alloc: Global,
     columns: &[InputColumn<'_>],
@@ -160,7 +160,7 @@ pub(crate) fn typed_items<'a>(
     Ok(made)
 }
 
-/// An aggregate that keeps its own alias.
+/// Returns an aggregate that keeps its own alias.
 fn named_aggregate(alloc: Global, item: &Item<'_>) -> Result<NamedAggregate, AllocError>
     ensures { IfOk result (λ made. named_view made ≡ named_of (item_view item.now)) }
 {
@@ -170,7 +170,7 @@ fn named_aggregate(alloc: Global, item: &Item<'_>) -> Result<NamedAggregate, All
     })
 }
 
-/// The aggregates of items.
+/// Returns the aggregates of items.
 pub(crate) fn named_aggregates(
     alloc: Global,
     items: &[Item<'_>],
@@ -184,7 +184,7 @@ pub(crate) fn named_aggregates(
     Ok(made)
 }
 
-/// Adds the columns that items name behind others.
+/// Adds the columns that items name after others.
 pub(crate) fn push_columns<'a>(
     columns: &mut Vec<InputColumn<'a>>,
     items: &[Item<'a>],

@@ -16,7 +16,7 @@ use std::alloc::Global;
 use std::borrow::CowStr;
 use typed_trees::MILLIONTHS;
 
-/// A whole number of a key as a decimal.
+/// Returns a whole number of a key as a decimal.
 fn scaled_value(number: i128) -> Result<Value<'static>, TypeFault>
     ensures { Gives value_view (scaled_value_of number) result }
 {
@@ -26,7 +26,7 @@ fn scaled_value(number: i128) -> Result<Value<'static>, TypeFault>
     }
 }
 
-/// The value of a literal in a key's column of a type.
+/// Returns the value of a literal in a key's column of a type.
 fn key_value(
     alloc: Global,
     column_type: ColumnType,
@@ -48,7 +48,7 @@ fn key_value(
     }
 }
 
-/// The value of a literal in the key's column with that number.
+/// Returns the value of a literal in the key's column with that number.
 fn column_value(
     alloc: Global,
     columns: &[InputColumn<'_>],
@@ -64,7 +64,7 @@ fn column_value(
     }
 }
 
-/// The value under a name.
+/// Returns the value under a name.
 fn value_under<'p>(pairs: &'p [KeyPair], name: &str) -> Option<&'p Literal>
     ensures { option_map (λ v. literal_view v.now) result
         ≡ value_under_name (map key_pair_view pairs.now) name.now }
@@ -77,7 +77,7 @@ fn value_under<'p>(pairs: &'p [KeyPair], name: &str) -> Option<&'p Literal>
     None
 }
 
-/// The value of a literal that was found in a key's column of a type.
+/// Returns the value of a literal that was found in a key's column of a type.
 fn found_value(
     alloc: Global,
     column_type: ColumnType,
@@ -92,7 +92,7 @@ fn found_value(
     }
 }
 
-/// The value under the name of the key's column with that number.
+/// Returns the value under the name of the key's column with that number.
 fn named_value(
     alloc: Global,
     columns: &[InputColumn<'_>],
@@ -111,7 +111,7 @@ fn named_value(
     }
 }
 
-/// The values under the names of the key's columns.
+/// Returns the values under the names of the key's columns.
 fn named_values(
     alloc: Global,
     columns: &[InputColumn<'_>],
@@ -128,7 +128,7 @@ fn named_values(
     Ok(values)
 }
 
-/// The value of a key of one column.
+/// Returns the value of a key of one column.
 fn single_value(
     alloc: Global,
     columns: &[InputColumn<'_>],
@@ -144,7 +144,7 @@ fn single_value(
     Ok(values)
 }
 
-/// The values of a key, in the order of the columns of the table's key.
+/// Returns the values of a key, in the order of the columns of the table's key.
 fn key_values(
     alloc: Global,
     columns: &[InputColumn<'_>],
@@ -164,7 +164,7 @@ fn key_values(
     }
 }
 
-/// The values of a key, where there is one.
+/// Returns the values of a key if there is one.
 pub(crate) fn optional_key(
     alloc: Global,
     columns: &[InputColumn<'_>],

@@ -13,7 +13,7 @@ use odata_types::{InputColumn, TypeFault, typed_expr, typed_filter};
 use std::alloc::Global;
 use typed_trees::TruthExpr;
 
-/// The filter, where there is one.
+/// The filter if there is one.
 pub(crate) fn optional_filter(
     alloc: Global,
     columns: &[InputColumn<'_>],
@@ -28,7 +28,7 @@ pub(crate) fn optional_filter(
     }
 }
 
-/// An item of `$orderby`.
+/// Returns an item of `$orderby`.
 fn order_by(
     alloc: Global,
     columns: &[InputColumn<'_>],
@@ -43,7 +43,7 @@ fn order_by(
     })
 }
 
-/// The items of `$orderby`.
+/// Returns the items of `$orderby`.
 pub(crate) fn order_items(
     alloc: Global,
     columns: &[InputColumn<'_>],

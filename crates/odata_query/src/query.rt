@@ -10,7 +10,7 @@ use typed_trees::{TruthExpr, TypedExpr};
 pub struct Query {
     /// The key in the path, where one row is asked for.
     pub key: Option<Key>,
-    /// Whether only the number of rows is asked for, by `/$count` behind the path.
+    /// Whether only the number of rows is asked for, by `/$count` after the path.
     pub counting: bool,
     /// The transformations of `$apply`, none where it is not there.
     pub apply: Vec<Transformation>,
@@ -32,7 +32,7 @@ pub struct OrderBy {
     pub descending: bool,
 }
 
-/// A query that fits its table. Behind `$apply` the options name the columns of its result, which are numbered from 0 too.
+/// A query that fits its table. After `$apply` the options name the columns of its result, which are numbered from 0 too.
 #[derive(Drop)]
 pub struct Typed {
     /// A value for each column of the table's key, in the order of the key.

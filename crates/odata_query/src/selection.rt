@@ -12,7 +12,7 @@ use odata_parse::tree::SelectItem;
 use odata_types::{InputColumn, TypeFault};
 use std::alloc::{AllocError, Global};
 
-/// Whether a column has that name.
+/// True if a column has that name.
 pub(crate) fn has_name(columns: &[InputColumn<'_>], name: &str) -> bool
     ensures { result ≡ has_name_of (inputs_view columns.now) name.now }
 {
@@ -24,7 +24,7 @@ pub(crate) fn has_name(columns: &[InputColumn<'_>], name: &str) -> bool
     false
 }
 
-/// Whether what an item names is there.
+/// True if what an item names is there.
 fn is_known(columns: &[InputColumn<'_>], item: &SelectItem) -> bool
     ensures { result ≡ is_known_of (inputs_view columns.now) (select_item_view item.now) }
 {
@@ -34,7 +34,7 @@ fn is_known(columns: &[InputColumn<'_>], item: &SelectItem) -> bool
     }
 }
 
-/// Whether what each item names is there.
+/// True if what each item names is there.
 fn are_known(columns: &[InputColumn<'_>], items: &[SelectItem]) -> bool
     ensures { result
         ≡ list_all (is_known_of (inputs_view columns.now)) (map select_item_view items.now) }
@@ -47,7 +47,7 @@ fn are_known(columns: &[InputColumn<'_>], items: &[SelectItem]) -> bool
     true
 }
 
-/// Whether an item asks for the column of that name.
+/// True if an item asks for the column of that name.
 fn selects(name: &str, item: &SelectItem) -> bool
     ensures { result ≡ selects_of name.now (select_item_view item.now) }
 {
@@ -57,7 +57,7 @@ fn selects(name: &str, item: &SelectItem) -> bool
     }
 }
 
-/// Whether some item asks for the column of that name.
+/// True if some item asks for the column of that name.
 fn is_selected(name: &str, items: &[SelectItem]) -> bool
     ensures { result ≡ list_any (selects_of name.now) (map select_item_view items.now) }
 {
@@ -69,7 +69,7 @@ fn is_selected(name: &str, items: &[SelectItem]) -> bool
     false
 }
 
-/// The numbers of the columns that some item asks for.
+/// Returns the numbers of the columns that some item asks for.
 fn selected_places(
     alloc: Global,
     columns: &[InputColumn<'_>],
@@ -87,7 +87,7 @@ fn selected_places(
     Ok(places)
 }
 
-/// The numbers of the columns that `$select` asks for, where it is there.
+/// Returns the numbers of the columns that `$select` asks for, if it is there.
 pub(crate) fn optional_selection(
     alloc: Global,
     columns: &[InputColumn<'_>],

@@ -13,7 +13,7 @@ use csvw_meta::Schema;
 use odata_types::{TypeFault, schema_columns};
 use std::alloc::Global;
 
-/// The query with its types; or the first cause why it does not fit the table: of the key, then of the transformations of `$apply` in turn, then of
+/// Returns the query with its types; or the first cause why it does not fit the table: of the key, then of the transformations of `$apply` in turn, then of
 /// `$filter`, of the items of `$orderby` and of the names of `$select` on the columns of the result of `$apply`.
 pub fn check(alloc: Global, schema: &Schema, query: Query) -> Result<Typed, TypeFault>
     ensures { Gives query_typed_view (query_typing (schema_view schema.now) (query_view query))

@@ -30,7 +30,7 @@ impl RequestFault {
     }
 }
 
-/// The code of a head's fault.
+/// Returns the code of a head's fault.
 fn head_code(fault: HeadFault) -> Code
     ensures { result ≡ head_code fault }
 {
@@ -42,7 +42,7 @@ fn head_code(fault: HeadFault) -> Code
     }
 }
 
-/// The code of a target's fault.
+/// Returns the code of a target's fault.
 fn url_code(fault: UrlFault) -> Option<Code>
     ensures { result ≡ url_code fault }
 {
@@ -57,7 +57,7 @@ fn url_code(fault: UrlFault) -> Option<Code>
     }
 }
 
-/// The code of a fault of tokens.
+/// Returns the code of a fault of tokens.
 fn lex_code(fault: LexFault) -> Option<Code>
     ensures { result ≡ lex_code fault }
 {
@@ -68,7 +68,7 @@ fn lex_code(fault: LexFault) -> Option<Code>
     }
 }
 
-/// The code of a fault of trees.
+/// Returns the code of a fault of trees.
 fn parse_code(fault: ParseFault) -> Option<Code>
     ensures { result ≡ parse_code fault }
 {
@@ -79,7 +79,7 @@ fn parse_code(fault: ParseFault) -> Option<Code>
     }
 }
 
-/// The code of a fault of types.
+/// Returns the code of a fault of types.
 fn type_code(fault: TypeFault) -> Option<Code>
     ensures { result ≡ type_code fault }
 {

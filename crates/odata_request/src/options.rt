@@ -9,7 +9,7 @@ use odata_parse::{Format, parse_format};
 use odata_url::OptionName;
 use reply_codes::Code;
 
-/// The code under which an option is refused whatever its value is, if it does not fit what the path leads to.
+/// Returns the code under which an option is refused whatever its value is, if it does not fit what the path leads to.
 fn option_fault(resource: Resource<'_>, option: OptionName) -> Option<Code>
     ensures { result ≡ option_fault (resource_view resource.entry) option }
 {
@@ -22,7 +22,7 @@ fn option_fault(resource: Resource<'_>, option: OptionName) -> Option<Code>
     }
 }
 
-/// The code of the first option that does not fit, in the query's order.
+/// Returns the code of the first option that does not fit, in the query's order.
 pub(crate) fn options_fault(
     resource: Resource<'_>,
     options: &[(OptionName, String)],
@@ -37,7 +37,7 @@ pub(crate) fn options_fault(
     None
 }
 
-/// The value of the option of that name, where it is one of these.
+/// Returns the value of the option of that name, if it is one of these.
 fn value_of(options: &[(OptionName, String)], name: OptionName) -> Option<&str>
     ensures { lent_view result ≡ option_value name (map option_view options.now) }
 {
@@ -49,7 +49,7 @@ fn value_of(options: &[(OptionName, String)], name: OptionName) -> Option<&str>
     None
 }
 
-/// The format that a value asks for, if it is one that is served; JSON where there is none.
+/// Returns the format that a value asks for, if it is one that is served; JSON if there is none.
 fn format_in(text: Option<&str>) -> Option<Format>
     ensures { result ≡ format_in (lent_view text.entry) }
 {
@@ -59,7 +59,7 @@ fn format_in(text: Option<&str>) -> Option<Format>
     }
 }
 
-/// The format that options ask for, if it is one that is served.
+/// Returns the format that options ask for, if it is one that is served.
 pub(crate) fn asked_format(options: &[(OptionName, String)]) -> Option<Format>
     ensures { result ≡ asked_format (map option_view options.now) }
 {
@@ -83,7 +83,7 @@ pub(crate) struct Texts<'a> {
 }
 
 impl<'a> Texts<'a> {
-    /// Those of a path and of these options.
+    /// Returns those of a path and of these options.
     pub(crate) fn of(
         key: Option<&'a str>,
         counting: bool,

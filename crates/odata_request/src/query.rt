@@ -15,7 +15,7 @@ use csvw_meta::Schema;
 use odata_query::{Query, Typed, check};
 use std::alloc::Global;
 
-/// The query of these texts, which are read one after another.
+/// Returns the query of these texts, which are read one after another.
 fn read_query(alloc: Global, limit: u32, texts: Texts<'_>) -> Result<Query, RequestFault>
     ensures { Yields query_view (ReadsQuery limit (asked_view texts.entry)) result }
 {

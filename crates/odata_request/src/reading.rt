@@ -15,7 +15,7 @@ use odata_parse::{
 };
 use std::alloc::Global;
 
-/// A key's text.
+/// Returns a key's text.
 fn read_key(alloc: Global, text: &str) -> Result<Key, RequestFault>
     ensures { Yields key_view (ReadsTree IsKey text.now) result }
 {
@@ -33,7 +33,7 @@ fn read_apply(alloc: Global, limit: u32, text: &str) -> Result<Vec<Transformatio
     Ok(parse_apply(alloc, text, tokens.as_slice(), limit)?)
 }
 
-/// The value of `$filter`.
+/// Returns the value of `$filter`.
 fn read_filter(alloc: Global, text: &str) -> Result<Expr, RequestFault>
     ensures { Yields expr_view (ReadsTree IsFilter text.now) result }
 {
@@ -42,7 +42,7 @@ fn read_filter(alloc: Global, text: &str) -> Result<Expr, RequestFault>
     Ok(parse_filter(alloc, text, tokens.as_slice())?)
 }
 
-/// The value of `$orderby`.
+/// Returns the value of `$orderby`.
 fn read_order(alloc: Global, text: &str) -> Result<Vec<OrderItem>, RequestFault>
     ensures { Yields order_by_view (ReadsTree IsOrder text.now) result }
 {
@@ -51,7 +51,7 @@ fn read_order(alloc: Global, text: &str) -> Result<Vec<OrderItem>, RequestFault>
     Ok(parse_orderby(alloc, text, tokens.as_slice())?)
 }
 
-/// The value of `$select`.
+/// Returns the value of `$select`.
 fn read_selection(alloc: Global, text: &str) -> Result<Vec<SelectItem>, RequestFault>
     ensures { Yields selection_view (ReadsTree IsSelection text.now) result }
 {
@@ -60,14 +60,14 @@ fn read_selection(alloc: Global, text: &str) -> Result<Vec<SelectItem>, RequestF
     Ok(parse_select(alloc, text, tokens.as_slice())?)
 }
 
-/// The value of `$skip` or `$top`.
+/// Returns the value of `$skip` or `$top`.
 fn read_number(text: &str) -> Result<u64, RequestFault>
     ensures { Yields (λ number. number) (ReadsNumber text.now) result }
 {
     Ok(parse_number(text)?)
 }
 
-/// The key, where the path has one.
+/// The key, if the path has one.
 pub(crate) fn optional_key(alloc: Global, text: Option<&str>) -> Result<Option<Key>, RequestFault>
     ensures { Yields (λ key. option_map key_view key)
         (ReadsOption (ReadsTree IsKey) (lent_view text.entry)) result }
@@ -78,7 +78,7 @@ pub(crate) fn optional_key(alloc: Global, text: Option<&str>) -> Result<Option<K
     }
 }
 
-/// The transformations of `$apply`; none where the query does not have it.
+/// Returns the transformations of `$apply`; none where the query does not have it.
 pub(crate) fn apply_or_none(
     alloc: Global,
     limit: u32,
@@ -92,7 +92,7 @@ pub(crate) fn apply_or_none(
     }
 }
 
-/// The filter, where the query has one.
+/// The filter, if the query has one.
 pub(crate) fn optional_filter(
     alloc: Global,
     text: Option<&str>,
@@ -106,7 +106,7 @@ pub(crate) fn optional_filter(
     }
 }
 
-/// Whether the query asks for the number of rows by `$count`.
+/// Returns whether the query asks for the number of rows by `$count`.
 pub(crate) fn flag_or_false(text: Option<&str>) -> Result<bool, RequestFault>
     ensures { Yields (λ flag. flag) (ReadsOr false ReadsFlag (lent_view text.entry)) result }
 {
@@ -116,7 +116,7 @@ pub(crate) fn flag_or_false(text: Option<&str>) -> Result<bool, RequestFault>
     }
 }
 
-/// The items of `$orderby`; none where the query does not have it.
+/// Returns the items of `$orderby`; none where the query does not have it.
 pub(crate) fn order_or_none(
     alloc: Global,
     text: Option<&str>,
@@ -129,7 +129,7 @@ pub(crate) fn order_or_none(
     }
 }
 
-/// The value of `$skip`; 0 where the query does not have it.
+/// Returns the value of `$skip`; 0 where the query does not have it.
 pub(crate) fn number_or_zero(text: Option<&str>) -> Result<u64, RequestFault>
     ensures { Yields (λ number. number) (ReadsOr 0 ReadsNumber (lent_view text.entry)) result }
 {
@@ -139,7 +139,7 @@ pub(crate) fn number_or_zero(text: Option<&str>) -> Result<u64, RequestFault>
     }
 }
 
-/// The value of `$top`, where the query has it.
+/// Returns the value of `$top`, if the query has it.
 pub(crate) fn optional_number(text: Option<&str>) -> Result<Option<u64>, RequestFault>
     ensures { Yields (λ number. number) (ReadsOption ReadsNumber (lent_view text.entry)) result }
 {
@@ -149,7 +149,7 @@ pub(crate) fn optional_number(text: Option<&str>) -> Result<Option<u64>, Request
     }
 }
 
-/// The items of `$select`, where the query has it.
+/// Returns the items of `$select`, if the query has it.
 pub(crate) fn optional_selection(
     alloc: Global,
     text: Option<&str>,

@@ -39,7 +39,7 @@ pub enum Request {
     Rows(RowsRequest),
 }
 
-/// What texts ask of the table of that number in a format.
+/// Returns what texts ask of the table of that number in a format.
 fn rows_request(
     alloc: Global,
     catalog: &Catalog,
@@ -61,7 +61,7 @@ fn rows_request(
     }))
 }
 
-/// What options ask of a resource in a format.
+/// Returns what options ask of a resource in a format.
 fn request_on(
     alloc: Global,
     catalog: &Catalog,
@@ -86,7 +86,7 @@ fn request_on(
     rows_request(alloc, catalog, number, texts, format)
 }
 
-/// What a path and options ask for.
+/// Returns what a path and options ask for.
 fn path_request(
     alloc: Global,
     catalog: &Catalog,
@@ -104,7 +104,7 @@ fn path_request(
     request_on(alloc, catalog, resource, options, format)
 }
 
-/// What a head with that fault or none, and that target, asks for, or why it is refused.
+/// Returns what a head with that fault or none, and that target, asks for, or why it is refused.
 fn asked(
     alloc: Global,
     catalog: &Catalog,
@@ -125,7 +125,7 @@ fn asked(
     )
 }
 
-/// What a head with that fault or none, and that target, asks for. The fault is that of `http_heads::check_head`.
+/// Returns what a head with that fault or none, and that target, asks for. The fault is that of `http_heads::check_head`.
 pub fn request_of(
     alloc: Global,
     catalog: &Catalog,

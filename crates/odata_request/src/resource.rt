@@ -22,14 +22,14 @@ pub enum Resource<'p> {
     Key(usize, &'p str),
 }
 
-/// Whether a table has that name.
+/// True if a table has that name.
 fn is_called(table: &Table, name: &str) -> bool
     ensures { result ≡ bytes_eq table.now.schema.name name.now }
 {
     table.name() == name
 }
 
-/// The place of the first table of that name.
+/// Returns the place of the first table of that name.
 fn table_place(catalog: &Catalog, name: &str) -> Option<usize>
     ensures { result
         ≡ position (λ table. bytes_eq table.schema.name name.now) catalog.now.tables }
@@ -40,7 +40,7 @@ fn table_place(catalog: &Catalog, name: &str) -> Option<usize>
         .position(|table| is_called(table, name))
 }
 
-/// The number of the table of that name.
+/// Returns the number of the table of that name.
 fn table_number(catalog: &Catalog, name: &str) -> Result<usize, Code>
     ensures { result ≡ table_number catalog.now.tables name.now }
 {
@@ -50,14 +50,14 @@ fn table_number(catalog: &Catalog, name: &str) -> Result<usize, Code>
     }
 }
 
-/// Whether a key begins in a segment.
+/// True if a key begins in a segment.
 fn has_parenthesis(segment: &str) -> bool
     ensures { result ≡ has_parenthesis segment.now }
 {
     segment.as_bytes().iter().any(|byte| *byte == b'(')
 }
 
-/// What stands before the first `(` and behind it.
+/// Splits a text at its first `(`: what is before it, and what is after it.
 fn key_parts(segment: &str) -> Option<(&str, &str)>
     ensures { MatchOption result (has_parenthesis segment.now ≡ false)
         (λ parts. (has_parenthesis segment.now ≡ true)
@@ -67,14 +67,14 @@ fn key_parts(segment: &str) -> Option<(&str, &str)>
     segment.split_once('(')
 }
 
-/// What stands before a `)` at the end.
+/// Returns what stands before a `)` at the end.
 fn without_end(text: &str) -> Option<&str>
     ensures { option_map (λ t. t.now) result ≡ without_end text.now }
 {
     text.strip_suffix(')')
 }
 
-/// What a table's name with a key behind it leads to, where that ended.
+/// Returns what a table's name followed by a key leads to, if the key ended.
 fn key_resource<'p>(
     catalog: &Catalog,
     name: &str,
@@ -89,7 +89,7 @@ fn key_resource<'p>(
     }
 }
 
-/// What one segment leads to that is not reserved.
+/// Returns what one segment leads to that is not reserved.
 fn segment_resource<'p>(catalog: &Catalog, segment: &'p str) -> Result<Resource<'p>, Code>
     ensures { path_view result ≡ segment_resource catalog.now.tables segment.now }
 {
@@ -99,21 +99,21 @@ fn segment_resource<'p>(catalog: &Catalog, segment: &'p str) -> Result<Resource<
     }
 }
 
-/// Whether a segment is reserved: it begins with `$`.
+/// True if a segment is reserved: it begins with `$`.
 fn is_reserved(segment: &str) -> bool
     ensures { result ≡ begins_with dollar_sign segment.now }
 {
     matches!(segment.as_bytes().first(), Some(b'$'))
 }
 
-/// Whether a segment is reserved among these.
+/// True if a segment is reserved among these.
 fn has_reserved(segments: &[String]) -> bool
     ensures { result ≡ list_any (begins_with dollar_sign) (map string_bytes segments.now) }
 {
     segments.iter().any(|segment| is_reserved(segment.as_str()))
 }
 
-/// What a path of other segments leads to: it is refused.
+/// Returns what a path of other segments leads to: it is refused.
 fn other_resource<'p>(segments: &'p [String]) -> Result<Resource<'p>, Code>
     ensures { path_view result ≡ other_resource (map string_bytes segments.now) }
 {
@@ -124,14 +124,14 @@ fn other_resource<'p>(segments: &'p [String]) -> Result<Resource<'p>, Code>
     }
 }
 
-/// Whether two segments are a table's name and `$count`.
+/// True if two segments are a table's name and `$count`.
 fn is_count_path(segment: &str, behind: &str) -> bool
     ensures { result ≡ is_count_path segment.now behind.now }
 {
     !is_reserved(segment) && !has_parenthesis(segment) && behind == "$count"
 }
 
-/// What a path of one segment leads to.
+/// Returns what a path of one segment leads to.
 fn one_resource<'p>(catalog: &Catalog, segment: &'p str) -> Result<Resource<'p>, Code>
     ensures { path_view result ≡ one_resource catalog.now.tables segment.now }
 {
@@ -144,14 +144,14 @@ fn one_resource<'p>(catalog: &Catalog, segment: &'p str) -> Result<Resource<'p>,
     }
 }
 
-/// What a table's name with `$count` behind it leads to.
+/// Returns what a table's name followed by `$count` leads to.
 fn count_resource<'p>(catalog: &Catalog, name: &'p str) -> Result<Resource<'p>, Code>
     ensures { path_view result ≡ in_table count (table_number catalog.now.tables name.now) }
 {
     Ok(Resource::Count(table_number(catalog, name)?))
 }
 
-/// What a path leads to, or the code under which it is refused.
+/// Returns what a path leads to, or the code under which it is refused.
 fn path_resource<'p>(catalog: &Catalog, segments: &'p [String]) -> Result<Resource<'p>, Code>
     ensures { path_view result ≡ path_resource catalog.now.tables (map string_bytes segments.now) }
 {
@@ -165,7 +165,7 @@ fn path_resource<'p>(catalog: &Catalog, segments: &'p [String]) -> Result<Resour
     other_resource(segments)
 }
 
-/// What a path leads to, or the code under which it is refused.
+/// Returns what a path leads to, or the code under which it is refused.
 #[tactic(auto, using(crate::proofs::ResourceLemmas::path_inside))]
 pub fn resource_of<'p>(catalog: &Catalog, segments: &'p [String]) -> Result<Resource<'p>, Code>
     ensures resource { path_view result

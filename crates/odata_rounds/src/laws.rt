@@ -39,7 +39,7 @@ pub fn visit_leaves()
 {}
 
 /// In a life of a service that opens connections, visits places, gives them back and takes other tables, what moved between each connection and its
-/// socket is by its own calls alone, from where it was opened to where its place was given back, or to the end.
+/// socket is by its own calls alone, from if it was opened to where its place was given back, or to the end.
 pub fn lives_move()
     ensures { LivesMove }
 {}

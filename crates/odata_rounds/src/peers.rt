@@ -1,4 +1,4 @@
-//! The sockets of the places. Contracts see each as one record: what it tells of its bytes, and what it counts.
+//! The sockets of the places. Contracts see each as one record: what it reports of its bytes, and what it counts.
 ghost use Rattle.std.specs.Prelude.{ℕ};
 ghost use Rattle.odata_rounds.specs.Peers.{IsRead, IsWrite, KeepsOthers, WireOf};
 

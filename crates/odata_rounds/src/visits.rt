@@ -6,7 +6,7 @@ use crate::answers::{PeerFault, SlotState};
 use crate::peers::Peers;
 use odata_hub::{Conn, Hub, HubFault, Turned};
 
-/// What an answer to a piece or an end makes of its place.
+/// Returns what an answer to a piece or an end makes of its place.
 fn came_of(answer: Result<(), HubFault>) -> SlotState
     ensures { result ≡ came_to answer }
 {
@@ -17,7 +17,7 @@ fn came_of(answer: Result<(), HubFault>) -> SlotState
     }
 }
 
-/// Whether the connection at a place is over.
+/// True if the connection at a place is over.
 fn is_over(hub: &Hub, place: u32) -> bool
     ensures { IsOverAt hub.now place result }
 {
@@ -27,7 +27,7 @@ fn is_over(hub: &Hub, place: u32) -> bool
     }
 }
 
-/// Reads one piece of an idle connection that is not over, or tells it the end of its stream.
+/// Reads one piece of an idle connection that is not over, or reports the end of its stream to it.
 fn read_in<P: Peers>(hub: &mut Hub, peers: &mut P, place: u32, room: &mut [u8]) -> SlotState
     requires room { 0 < length room.old }
     requires not_over { IsOverAt hub.old place false }
@@ -60,7 +60,7 @@ fn read_unless_over<P: Peers>(
     }
 }
 
-/// One turn of a connection of which no output waits, and where it is idle a piece.
+/// One turn of a connection of which no output waits, and if it is idle a piece.
 fn turn_or_read<P: Peers>(hub: &mut Hub, peers: &mut P, place: u32, room: &mut [u8]) -> SlotState
     requires { 0 < length room.old }
     ensures { MakesCalls AfterTake place hub.old hub.new
@@ -73,7 +73,7 @@ fn turn_or_read<P: Peers>(hub: &mut Hub, peers: &mut P, place: u32, room: &mut [
     }
 }
 
-/// One visit at a place.
+/// Returns one visit at a place.
 pub fn visit<P: Peers>(hub: &mut Hub, peers: &mut P, place: u32, room: &mut [u8]) -> SlotState
     requires { 0 < length room.old }
     ensures { Serves place hub.old hub.new (P.wires peers.old) (P.wires peers.new) result }

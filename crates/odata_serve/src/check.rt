@@ -9,7 +9,7 @@ use served_folders::Folders;
 use std::alloc::{AllocError, Global};
 use table_store::Table;
 
-/// The line of a table.
+/// Returns the line of a table.
 fn line_of(alloc: Global, table: &Table) -> Result<String, AllocError>
     ensures { IfOk result (λ line. string_bytes line ≡ table_line table.now) }
 {

@@ -28,7 +28,7 @@ pub fn usage_status(rt: &impl Eprint) -> u8
     USAGE
 }
 
-/// The exit status where the system hands over no words. A word that is not UTF-8 is no word of a command.
+/// Returns the exit status where the system hands over no words. A word that is not UTF-8 is no word of a command.
 pub fn unread_status(rt: &impl Eprint, error: &io::Error) -> u8
     ensures usage { error_kind error.now ≡ ErrorKind.InvalidData → result ≡ USAGE }
     ensures memory { error_kind error.now ≡ ErrorKind.OutOfMemory → result ≡ MEMORY }

@@ -1,5 +1,5 @@
 //! What the program does: it answers a stream of requests, checks a folder of CSV files, replays a script of events or serves connections, as the
-//! words of its command line ask. Folders, streams and connections come by traits; contracts see what these tell and count.
+//! words of its command line ask. Folders, streams and connections come by traits; contracts see what these report and count.
 #![tactic(auto)]
 
 mod check;

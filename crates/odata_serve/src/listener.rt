@@ -14,10 +14,10 @@ use table_store::Catalog;
 
 /// What connections are taken from, one after another.
 pub trait Listener {
-    /// The port that was told, and the counts.
+    /// The port that was reported, and the counts.
     ghost listener: { Self → ListenerOf };
 
-    /// The port that it listens on.
+    /// Returns the port that it listens on.
     fn port(&mut self) -> Result<u16, DeviceFault>
         ensures port { IfOk result (λ port. (listener self.new).port ≡ Some port) }
         ensures answered { (listener self.new).answered ≡ (listener self.old).answered }
@@ -40,7 +40,7 @@ pub struct CountedListener {
 }
 
 impl CountedListener {
-    /// The listener, with nothing told and nothing counted yet.
+    /// Returns the listener, with nothing told and nothing counted yet.
     pub fn new(inner: TcpListener) -> CountedListener
         ensures { ⟦<CountedListener as Listener>⟧.listener result ≡ new_listener }
     {
@@ -52,7 +52,7 @@ impl CountedListener {
         }
     }
 
-    /// A listener on that port of 127.0.0.1, where no other machine reaches it; on a free port, if that is 0.
+    /// Returns a listener on that port of 127.0.0.1, where no other machine reaches it; on a free port, if that is 0.
     pub fn bind<R: Net<Listener = TcpListener, Stream = TcpStream>>(
         rt: &R,
         port: u16,

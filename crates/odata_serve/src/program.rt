@@ -39,7 +39,7 @@ pub fn answer<F: Folders, R: Source, W: Sink>(
     }
 }
 
-/// The stream of one GET of a target, behind which the connection closes.
+/// Returns the stream of one GET of a target, after which the connection closes.
 pub fn request_to(alloc: Global, target: &str) -> Result<String, AllocError>
     ensures { IfOk result (λ request. string_bytes request ≡ request_to target.now) }
 {

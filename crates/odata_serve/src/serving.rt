@@ -8,7 +8,7 @@ use program_ends::ProgramFault;
 use std::alloc::Global;
 use table_store::Catalog;
 
-/// Writes the line that tells the listener's port.
+/// Writes the line that reports the listener's port.
 fn write_port<L: Listener, W: Sink>(
     alloc: Global,
     listener: &mut L,

@@ -62,7 +62,7 @@ impl From<AllocError> for WordsFault {
     }
 }
 
-/// The option `--connections N`.
+/// Returns the option `--connections N`.
 fn connections_option<'a>(alloc: Global) -> Arg<'a>
     ensures rule { rule_of result ≡ connections_rule }
     ensures local { result.global ≡ false }
@@ -71,7 +71,7 @@ fn connections_option<'a>(alloc: Global) -> Arg<'a>
     option.value_parser(value_parser!(u32))
 }
 
-/// A subcommand of that name over a folder.
+/// Returns a subcommand of that name over a folder.
 fn folder_command<'a>(alloc: Global, name: &'a str) -> Result<Command<'a>, AllocError>
     ensures app { IfOk result (λ c. app_of c ≡ folder_app name.entry.now) }
     ensures local { IfOk result (λ c. (out-Command c).has_globals ≡ false) }
@@ -79,7 +79,7 @@ fn folder_command<'a>(alloc: Global, name: &'a str) -> Result<Command<'a>, Alloc
     Command::new(alloc, name).arg(required(alloc, "folder"))
 }
 
-/// A subcommand of that name over a folder and one thing more.
+/// Returns a subcommand of that name over a folder and one thing more.
 fn folder_and_command<'a>(
     alloc: Global,
     name: &'a str,
@@ -91,7 +91,7 @@ fn folder_and_command<'a>(
     folder_command(alloc, name)?.arg(required(alloc, second))
 }
 
-/// The subcommand `serve`.
+/// Returns the subcommand `serve`.
 fn serve_command<'a>(alloc: Global) -> Result<Command<'a>, AllocError>
     ensures app { IfOk result (λ c. app_of c ≡ serve_app) }
     ensures local { IfOk result (λ c. (out-Command c).has_globals ≡ false) }
@@ -101,7 +101,7 @@ fn serve_command<'a>(alloc: Global) -> Result<Command<'a>, AllocError>
         .arg(connections_option(alloc))
 }
 
-/// The command with a subcommand of that name over a folder and one thing more.
+/// Returns the command with a subcommand of that name over a folder and one thing more.
 fn with_command<'a>(
     alloc: Global,
     whole: Command<'a>,
@@ -114,7 +114,7 @@ fn with_command<'a>(
     whole.subcommand(folder_and_command(alloc, name, second)?)
 }
 
-/// The whole command.
+/// Returns the whole command.
 fn program_command<'a>(alloc: Global) -> Result<Command<'a>, AllocError>
     ensures app { IfOk result (λ c. app_of c ≡ program_app) }
 {
@@ -126,7 +126,7 @@ fn program_command<'a>(alloc: Global) -> Result<Command<'a>, AllocError>
     four.subcommand(serve_command(alloc)?)
 }
 
-/// What a subcommand with these arguments asks for.
+/// Returns what a subcommand with these arguments asks for.
 #[tactic(auto, using(crate::proofs::Readings::no_connections))]
 fn subcommand_words<'a>(name: &'a str, inner: &ArgMatches<'a>) -> Option<Words<'a>>
     ensures some { IfSome result (λ words.
@@ -167,7 +167,7 @@ fn subcommand_words<'a>(name: &'a str, inner: &ArgMatches<'a>) -> Option<Words<'
     }
 }
 
-/// What the matches ask for.
+/// Returns what the matches ask for.
 fn matches_words<'a>(matches: &ArgMatches<'a>) -> Option<Words<'a>>
     ensures some { IfSome result (λ words. SaysWords words (subcommand_rows_of matches.now)) }
     ensures none { IfNone result (SaysNothing (subcommand_rows_of matches.now)) }
@@ -178,7 +178,7 @@ fn matches_words<'a>(matches: &ArgMatches<'a>) -> Option<Words<'a>>
     }
 }
 
-/// What the words of the command line ask for, the first of which is the program's own name: `Usage` exactly where `clap` does not take them, or they ask for help.
+/// Returns what the words of the command line ask for, the first of which is the program's own name: `Usage` exactly where `clap` does not take them, or they ask for help.
 pub fn read_words<'a>(alloc: Global, words: &'a [&'a str]) -> Result<Words<'a>, WordsFault>
     ensures words { IfOk result (AreWords (texts words.now)) }
     ensures usage { IfErr result (λ e. e ≡ WordsFault.Usage → ¬ (IsTaken (texts words.now))) }

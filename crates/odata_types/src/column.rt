@@ -11,7 +11,7 @@ use crate::types::{ColumnType, InputColumn};
 use std::alloc::Global;
 use typed_trees::{DateExpr, NumberExpr, NumberKind, TextExpr, TruthExpr, TypedExpr};
 
-/// The number of the first column with that name, or how many there are where none has it.
+/// Returns the number of the first column with that name, or how many there are if none has it.
 pub fn place_of(columns: &[InputColumn<'_>], name: &str) -> usize
     ensures { result ≡ place_in (inputs_view columns.now) name.now }
 {
@@ -23,7 +23,7 @@ pub fn place_of(columns: &[InputColumn<'_>], name: &str) -> usize
     columns.len()
 }
 
-/// The column with that number.
+/// Returns the column with that number.
 fn column_expr(alloc: Global, place: usize, column_type: ColumnType) -> Result<TypedExpr, TypeFault>
     ensures { Gives typed_view (Ok (column_expr_of place column_type)) result }
 {
@@ -42,7 +42,7 @@ fn column_expr(alloc: Global, place: usize, column_type: ColumnType) -> Result<T
     }
 }
 
-/// The column with that name.
+/// Returns the column with that name.
 pub(crate) fn named_expr(
     alloc: Global,
     columns: &[InputColumn<'_>],

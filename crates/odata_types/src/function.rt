@@ -12,7 +12,7 @@ use odata_parse::tree::{BinaryFunction, UnaryFunction};
 use std::alloc::Global;
 use typed_trees::{DatePart, NumberExpr, TextExpr, TextTest, TruthExpr, TypedExpr};
 
-/// A part of a date.
+/// Returns a part of a date.
 fn part_expr(alloc: Global, part: DatePart, argument: TypedExpr) -> Result<TypedExpr, TypeFault>
     ensures { Gives typed_view (part_typing part (typed_view argument)) result }
 {
@@ -21,7 +21,7 @@ fn part_expr(alloc: Global, part: DatePart, argument: TypedExpr) -> Result<Typed
     Ok(TypedExpr::Integer(Box::new(alloc, expr)?, FUNCTION_SIZE))
 }
 
-/// A function of one argument.
+/// Returns a function of one argument.
 pub(crate) fn unary_call(
     alloc: Global,
     function: UnaryFunction,
@@ -41,7 +41,7 @@ pub(crate) fn unary_call(
     }
 }
 
-/// Whether a text has a part.
+/// Returns whether a text has a part.
 fn test_expr(
     alloc: Global,
     test: TextTest,
@@ -55,7 +55,7 @@ fn test_expr(
     Ok(TypedExpr::Boolean(Box::new(alloc, expr)?))
 }
 
-/// A function of two texts.
+/// Returns a function of two texts.
 pub(crate) fn binary_call(
     alloc: Global,
     function: BinaryFunction,

@@ -16,7 +16,7 @@ use odata_parse::tree::Literal;
 use std::alloc::{AllocError, Global};
 use typed_trees::{MILLIONTHS, TruthExpr, TypedExpr, day_number};
 
-/// The type of an operand and a list together.
+/// Returns the type of an operand and a list together.
 fn list_type(first: ExprType, items: &[Literal]) -> ExprType
     ensures { result ≡ list_type_of first (map literal_view items.now) }
 {
@@ -27,7 +27,7 @@ fn list_type(first: ExprType, items: &[Literal]) -> ExprType
     common
 }
 
-/// Whether a type fits where another is asked for.
+/// True if a type fits where another is asked for.
 fn fits(wanted: ExprType, found: ExprType) -> bool
     ensures { result ≡ fits_in wanted found }
 {
@@ -42,7 +42,7 @@ fn fits(wanted: ExprType, found: ExprType) -> bool
     }
 }
 
-/// Whether no value of a list is too large.
+/// True if no value of a list is too large.
 fn are_small(items: &[Literal]) -> bool
     ensures { result ≡ list_all is_small_of (map literal_view items.now) }
 {
@@ -54,7 +54,7 @@ fn are_small(items: &[Literal]) -> bool
     true
 }
 
-/// Whether each value of a list fits a type.
+/// True if each value of a list fits a type.
 fn all_fit(wanted: ExprType, items: &[Literal]) -> bool
     ensures { result
         ≡ list_all (λ v. fits_in wanted (literal_type_of v)) (map literal_view items.now) }
@@ -67,7 +67,7 @@ fn all_fit(wanted: ExprType, items: &[Literal]) -> bool
     true
 }
 
-/// A value as a number of a type: an integer among decimals is scaled, and a date is numbered.
+/// Returns a value as a number of a type: an integer among decimals is scaled, and a date is numbered.
 fn number_item(wanted: ExprType, item: &Literal) -> Result<Option<i128>, TypeFault>
     ensures { result ≡ number_item_of wanted (literal_view item.now) }
 {
@@ -83,7 +83,7 @@ fn number_item(wanted: ExprType, item: &Literal) -> Result<Option<i128>, TypeFau
     }
 }
 
-/// A value as a text.
+/// Returns a value as a text.
 fn text_item(alloc: Global, item: &Literal) -> Result<Option<String>, AllocError>
     ensures { IfOk result (λ text. optional_text text ≡ text_item_of (literal_view item.now)) }
 {
@@ -93,7 +93,7 @@ fn text_item(alloc: Global, item: &Literal) -> Result<Option<String>, AllocError
     }
 }
 
-/// A value as a truth.
+/// Returns a value as a truth.
 fn truth_item(item: &Literal) -> Option<bool>
     ensures { result ≡ truth_item_of (literal_view item.now) }
 {
@@ -184,7 +184,7 @@ fn list_in_type(
     Ok(TypedExpr::Boolean(expr))
 }
 
-/// Whether an operand is one of a list.
+/// Returns whether an operand is one of a list.
 pub(crate) fn in_expr(
     alloc: Global,
     operand: TypedExpr,

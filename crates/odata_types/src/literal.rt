@@ -13,7 +13,7 @@ use odata_parse::tree::Literal;
 use std::alloc::Global;
 use typed_trees::{DateExpr, NumberExpr, TextExpr, TruthExpr, TypedExpr};
 
-/// A value as an expression.
+/// Returns a value as an expression.
 pub(crate) fn literal_expr(alloc: Global, literal: &Literal) -> Result<TypedExpr, TypeFault>
     ensures { Gives typed_view (literal_typing (literal_view literal.now)) result }
 {
@@ -39,7 +39,7 @@ pub(crate) fn literal_expr(alloc: Global, literal: &Literal) -> Result<TypedExpr
     }
 }
 
-/// The type of a value.
+/// Returns the type of a value.
 pub(crate) fn literal_type(literal: &Literal) -> ExprType
     ensures { result ≡ literal_type_of (literal_view literal.now) }
 {
@@ -53,7 +53,7 @@ pub(crate) fn literal_type(literal: &Literal) -> ExprType
     }
 }
 
-/// Whether a value is none that is too large.
+/// True if a value is none that is too large.
 pub(crate) fn is_small(literal: &Literal) -> bool
     ensures { result ≡ is_small_of (literal_view literal.now) }
 {

@@ -23,7 +23,7 @@ pub fn within(size: u128) -> Result<u128, TypeFault>
     }
 }
 
-/// The size of a decimal of a number of wholes.
+/// Returns the size of a decimal of a number of wholes.
 pub fn scaled(size: u128) -> Result<u128, TypeFault>
     ensures { result ≡ within (size * MILLIONTHS) (size * MILLIONTHS) }
 {
@@ -33,7 +33,7 @@ pub fn scaled(size: u128) -> Result<u128, TypeFault>
     }
 }
 
-/// The type of an expression.
+/// Returns the type of an expression.
 pub(crate) fn expr_type(expr: &TypedExpr) -> ExprType
     ensures { result ≡ type_of (typed_view expr.now) }
 {
@@ -113,7 +113,7 @@ pub(crate) fn date_operand(expr: TypedExpr) -> Result<DateExpr, TypeFault>
     }
 }
 
-/// A date as a number.
+/// Returns a date as a number.
 fn number_of_date(date: DateExpr) -> NumberExpr
     ensures { number_view result ≡ number_of_date_in (date_view date) }
 {

@@ -57,7 +57,7 @@ fn logic_expr(
     Ok(TypedExpr::Boolean(Box::new(alloc, expr)?))
 }
 
-/// The bound of a computed number.
+/// Returns the bound of a computed number.
 fn computed_size(operator: ArithmeticOperator, left: u128, right: u128) -> Result<u128, TypeFault>
     ensures { result
         ≡ within (computed_size_of operator left right) (computed_size_of operator left right) }
@@ -73,7 +73,7 @@ fn computed_size(operator: ArithmeticOperator, left: u128, right: u128) -> Resul
     }
 }
 
-/// An operator between integers.
+/// Returns an operator between integers.
 fn integers_expr(
     alloc: Global,
     operator: ArithmeticOperator,
@@ -90,7 +90,7 @@ fn integers_expr(
     Ok(TypedExpr::Integer(Box::new(alloc, expr)?, bound))
 }
 
-/// The sum or the difference of decimals.
+/// Returns the sum or the difference of decimals.
 fn decimals_expr(
     alloc: Global,
     operator: ArithmeticOperator,
@@ -107,7 +107,7 @@ fn decimals_expr(
     Ok(TypedExpr::Decimal(Box::new(alloc, expr)?, bound))
 }
 
-/// The type of two operands together.
+/// Returns the type of two operands together.
 pub(crate) fn common_type(left: ExprType, right: ExprType) -> ExprType
     ensures { result ≡ common_type_of left right }
 {
@@ -118,7 +118,7 @@ pub(crate) fn common_type(left: ExprType, right: ExprType) -> ExprType
     }
 }
 
-/// An operator of arithmetic between operands.
+/// Returns an operator of arithmetic between operands.
 fn arithmetic_expr(
     alloc: Global,
     operator: ArithmeticOperator,
@@ -137,7 +137,7 @@ fn arithmetic_expr(
     }
 }
 
-/// A comparison of operands of a type.
+/// Returns a comparison of operands of a type.
 fn comparison_as(
     alloc: Global,
     common: ExprType,
@@ -168,7 +168,7 @@ fn comparison_as(
     Ok(Box::new(alloc, expr)?)
 }
 
-/// A comparison of operands.
+/// Returns a comparison of operands.
 fn comparison_expr(
     alloc: Global,
     operator: ComparisonOperator,
@@ -183,7 +183,7 @@ fn comparison_expr(
     Ok(TypedExpr::Boolean(expr))
 }
 
-/// An operator between operands.
+/// Returns an operator between operands.
 pub(crate) fn binary_expr(
     alloc: Global,
     operator: BinaryOperator,

@@ -11,7 +11,7 @@ use cell_types::Datatype;
 use csvw_meta::Schema;
 use std::alloc::{AllocError, Global};
 
-/// The type of a column's values.
+/// Returns the type of a column's values.
 fn column_type(datatype: &Datatype) -> ColumnType
     ensures { result ≡ type_of_datatype (datatype_view datatype.now) }
 {
@@ -24,7 +24,7 @@ fn column_type(datatype: &Datatype) -> ColumnType
     }
 }
 
-/// The columns of a table.
+/// Returns the columns of a table.
 pub fn schema_columns<'s>(
     alloc: Global,
     schema: &'s Schema,

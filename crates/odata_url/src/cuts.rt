@@ -4,7 +4,7 @@ ghost use Rattle.odata_url.specs.Cuts.{in_front, behind, parts, parts_left};
 
 use memchr::memchr;
 
-/// The text in front of the byte's first place, which is all of it where there is none; and the text behind it.
+/// Splits a text at the first place of a byte: the text before it, which is all of it if there is none, and the text after it.
 pub(crate) fn cut(text: &[u8], byte: u8) -> (&[u8], Option<&[u8]>)
     ensures in_front { result.0.now ≡ in_front byte text.now }
     ensures behind { MatchOption result.1 (behind byte text.now ≡ [])

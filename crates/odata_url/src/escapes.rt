@@ -7,7 +7,7 @@ use crate::fault::UrlFault;
 use percent_encoding::percent_decode;
 use std::alloc::Global;
 
-/// The text that an encoded one says. A broken escape anywhere in it comes before bytes that are not UTF-8.
+/// Returns the text that an encoded one says. A broken escape anywhere in it comes before bytes that are not UTF-8.
 pub(crate) fn decode(alloc: Global, text: &[u8]) -> Result<String, UrlFault>
     ensures { GivesPart string_bytes (decoded_text text.now) result }
 {
@@ -22,7 +22,7 @@ pub(crate) fn decode(alloc: Global, text: &[u8]) -> Result<String, UrlFault>
     }
 }
 
-/// Whether some `%` has not two hexadecimal digits behind it.
+/// True if some `%` is not followed by two hexadecimal digits.
 fn has_broken_escape(text: &[u8]) -> bool
     ensures { result ≡ is_none (octets_of text.now) }
 {
@@ -36,7 +36,7 @@ fn has_broken_escape(text: &[u8]) -> bool
     false
 }
 
-/// Whether two hexadecimal digits come first.
+/// True if two hexadecimal digits come first.
 fn begins_with_digits(text: &[u8]) -> bool
     ensures { result ≡ begins_with_digits text.now }
 {

@@ -4,12 +4,12 @@ ghost use Rattle.odata_url.specs.declared.fault.UrlFault.TheVariants.{NoMemory};
 
 use std::alloc::{AllocError, AllocFailed};
 
-/// The first thing wrong with a target, from left to right, or want of memory.
+/// The first thing wrong with a target, from left to right, or out of memory.
 #[derive(Clone, Copy, Debug, PartialEq, Eq)]
 pub enum UrlFault {
     /// The target begins neither with `/` nor with `http://`.
     BadTarget,
-    /// A `%` has not two hexadecimal digits behind it (RFC 3986, section 2.1).
+    /// A `%` is not followed by two hexadecimal digits (RFC 3986, section 2.1).
     BadEscape,
     /// Decoded bytes are not UTF-8.
     BadUtf8,

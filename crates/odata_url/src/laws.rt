@@ -17,7 +17,7 @@ pub fn escaping_is_undone()
     ensures { EscapingIsUndone }
 {}
 
-/// A name means an option exactly where it is the option's in some ASCII case, with or without `$` in front.
+/// A name means an option exactly if it is the option's in some ASCII case, with or without `$` in front.
 pub fn names_an_option()
     ensures { NamesAnOption }
 {}
@@ -33,7 +33,7 @@ pub fn reads_targets()
     ensures { ReadsTargets }
 {}
 
-/// A target says something or has a first fault, and that is no want of memory: only a call that was refused memory tells it.
+/// A target says something or has a first fault. Out of memory is no such fault: only a call that was refused memory reports it.
 pub fn reading_or_fault()
     ensures { ReadingOrFault }
 {}

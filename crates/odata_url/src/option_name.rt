@@ -17,7 +17,7 @@ pub enum OptionName {
     Format,
 }
 
-/// The served option that a name means; none where it is custom. A system option's name has `$` in front or not, in any ASCII case.
+/// Returns the served option that a name means; none if it is custom. A system option's name has `$` in front or not, in any ASCII case.
 #[tactic(auto, unfolding(crate::specs::OptionName::plain_name, crate::specs::OptionName::option_of_name))]
 pub(crate) fn option_of_name(mut name: String) -> Result<Option<OptionName>, UrlFault>
     ensures { result ≡ option_of_name (string_bytes name) }
@@ -36,7 +36,7 @@ pub(crate) fn option_of_name(mut name: String) -> Result<Option<OptionName>, Url
     }
 }
 
-/// Whether the byte comes first.
+/// True if the byte comes first.
 fn begins_with(text: &str, byte: u8) -> bool
     ensures { result ≡ begins_with byte text.now }
 {
@@ -46,7 +46,7 @@ fn begins_with(text: &str, byte: u8) -> bool
     }
 }
 
-/// A name without one `$` in front.
+/// Returns a name without one `$` in front.
 fn without_dollar(name: &str) -> &str
     ensures { result.now ≡ without_dollar name.now }
 {
@@ -56,7 +56,7 @@ fn without_dollar(name: &str) -> &str
     }
 }
 
-/// The served option that has that name, which is in lower case and without `$`.
+/// Returns the served option that has that name, which is in lower case and without `$`.
 #[tactic(auto, unfolding(crate::specs::OptionName::served_option))]
 fn served_option(name: &str) -> Option<OptionName>
     ensures { result ≡ served_option name.now }
@@ -74,7 +74,7 @@ fn served_option(name: &str) -> Option<OptionName>
     }
 }
 
-/// Whether a system option that is not served has that name, which is in lower case and without `$`.
+/// True if a system option that is not served has that name, which is in lower case and without `$`.
 #[tactic(auto, unfolding(crate::specs::OptionName::is_unserved))]
 fn is_unserved(name: &str) -> bool
     ensures { result ≡ is_unserved name.now }

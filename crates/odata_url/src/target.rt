@@ -25,7 +25,7 @@ pub struct Target {
 impl Target {
     ghost use Rattle.odata_url.specs.Target.{target_view};
 
-    /// What the bytes of a target say, in origin form or in absolute form; or the first fault from left to right. Each part is decoded
+    /// Returns what the bytes of a target say, in origin form or in absolute form; or the first fault from left to right. Each part is decoded
     /// after the target was split, so an escaped separator separates nothing.
     pub fn read(alloc: Global, bytes: &[u8]) -> Result<Target, UrlFault>
         ensures { GivesPart target_view (target_of bytes.now) result }
@@ -55,7 +55,7 @@ fn behind_slash(bytes: &[u8]) -> Result<&[u8], UrlFault>
     }
 }
 
-/// What stands behind `http://` in any ASCII case; nothing where it does not come first.
+/// Returns what follows `http://` in any ASCII case, or `None` if that does not come first.
 fn behind_scheme(bytes: &[u8]) -> Option<&[u8]>
     ensures { MatchOption result (is_absolute bytes.now ≡ false)
         (λ rest. (is_absolute bytes.now ≡ true) × (rest.now ≡ behind_scheme bytes.now)) }
@@ -68,7 +68,7 @@ fn behind_scheme(bytes: &[u8]) -> Option<&[u8]>
     }
 }
 
-/// What stands behind a leading authority, which the first `/` or `?` ends.
+/// Returns what follows a leading authority, which the first `/` or `?` ends.
 fn behind_authority(text: &[u8]) -> &[u8]
     ensures { result.now ≡ behind_authority text.now }
 {
@@ -78,7 +78,7 @@ fn behind_authority(text: &[u8]) -> &[u8]
     }
 }
 
-/// The decoded segments of a path, without its first `/`.
+/// Returns the decoded segments of a path, without its first `/`.
 fn read_segments(alloc: Global, path: &[u8]) -> Result<Vec<String>, UrlFault>
     ensures { GivesPart (λ segments. map string_bytes segments.items)
         (segments_of (slash ∷ path.now)) result }
@@ -93,7 +93,7 @@ fn read_segments(alloc: Global, path: &[u8]) -> Result<Vec<String>, UrlFault>
     Ok(segments)
 }
 
-/// The options of a query that are served.
+/// Returns the options of a query that are served.
 fn read_options(alloc: Global, query: &[u8]) -> Result<Vec<(OptionName, String)>, UrlFault>
     ensures { GivesPart (λ options. map option_view options.items) (options_of query.now) result }
 {
@@ -129,7 +129,7 @@ fn add_option(
     Ok(())
 }
 
-/// Whether an option of that name is one of these.
+/// True if an option of that name is one of these.
 fn is_among(options: &[(OptionName, String)], name: OptionName) -> bool
     ensures { result ≡ stands_among (map option_view options.now) name }
 {
@@ -141,7 +141,7 @@ fn is_among(options: &[(OptionName, String)], name: OptionName) -> bool
     false
 }
 
-/// The option that a part of a query is; none where it is custom, and then its value is not decoded.
+/// Returns the option that a part of a query is; none if it is custom, and then its value is not decoded.
 #[tactic(auto, unfolding(crate::specs::Target::option_of, crate::specs::Target::with_value))]
 fn read_option(alloc: Global, part: &[u8]) -> Result<Option<(OptionName, String)>, UrlFault>
     ensures { GivesPart (λ option. option_map option_view option) (option_of part.now) result }

@@ -4,7 +4,7 @@
 ghost use Rattle.std.specs.Prelude.{◌≡◌, ◌+◌, ◌^◌, pos, false, length, ◌+ℤ◌, ◌≤ℤ◌, ◌<ℤ◌};
 ghost use Rattle.offset_lanes.specs.Offsets.{AreBelow, AreOffsets, AreSums, AreWithin};
 
-/// How far a value that is no null is above the least one; of a null, 0.
+/// Returns how far a value that is no null is above the least one; of a null, 0.
 #[inline(always)]
 fn offset_of(least: i64, greatest: i64, value: i64, is_null: bool) -> u64
     requires ordered { least ≤ℤ greatest }
@@ -16,7 +16,7 @@ fn offset_of(least: i64, greatest: i64, value: i64, is_null: bool) -> u64
     value.cast_unsigned().wrapping_sub(least.cast_unsigned())
 }
 
-/// The number that is so far above the least one.
+/// Returns the number that is so far above the least one.
 #[inline(always)]
 pub fn sum_of(least: i64, offset: u64) -> i64
     requires { (least +ℤ pos offset) <ℤ pos (2 ^ 63) }

@@ -20,7 +20,7 @@ pub enum Offsets {
     Eights(Vec<u64>),
 }
 
-/// The offsets of values that lie between two numbers, as narrow as these allow.
+/// Returns the offsets of values that lie between two numbers, as narrow as these allow.
 pub fn offsets_of(
     alloc: Global,
     least: i64,
@@ -54,7 +54,7 @@ pub fn offsets_of(
     }
 }
 
-/// How many rows there are.
+/// Returns how many rows there are.
 #[inline(always)]
 pub fn rows_of(offsets: &Offsets) -> usize
     ensures { result ≡ length (offset_list offsets.now) }
@@ -67,7 +67,7 @@ pub fn rows_of(offsets: &Offsets) -> usize
     }
 }
 
-/// The offset of a row.
+/// Returns the offset of a row.
 #[inline(always)]
 pub fn offset_at(offsets: &Offsets, row: usize) -> Option<u64>
     ensures { MatchOption result (length (offset_list offsets.now) ≤ row)

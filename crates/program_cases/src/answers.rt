@@ -40,7 +40,7 @@ const BODIES: &[(&str, &str)] = &[
 /// Lines of words over the folder where the test stands.
 const LINES: &[&[&str]] = &[&["p", "check", "."], &["p", "replay", ".", "script"]];
 
-/// What a stream over a folder is answered with.
+/// Returns what a stream over a folder is answered with.
 fn answered<F: Folders>(
     alloc: Global,
     folders: &mut F,
@@ -59,7 +59,7 @@ fn answered<F: Folders>(
     Ok(written)
 }
 
-/// Whether a GET of a target over the folder where the test stands has a reply with this body.
+/// Returns whether a GET of a target over the folder where the test stands has a reply with this body.
 fn has_body(rt: &(impl Files + AllocGlobal), target: &str, body: &str) -> Result<bool, Fail> {
     let request = request_to(rt.alloc(), target)?;
     let reply = answered(rt.alloc(), &mut Disk::new(rt), ".", request.as_str())?;

@@ -42,7 +42,7 @@ pub(crate) const COUNT_REPLY: &str =
 pub(crate) const COUNT_REPLIES: &str =
     "HTTP/1.1 200 OK\r\nContent-Type: text/plain;charset=utf-8\r\nOData-Version: 4.0\r\nContent-Length: 1\r\n\r\n2HTTP/1.1 200 OK\r\nContent-Type: text/plain;charset=utf-8\r\nOData-Version: 4.0\r\nContent-Length: 1\r\n\r\n2";
 
-/// A head that closes, with one behind it.
+/// A head that closes, with one after it.
 pub(crate) const CLOSING: &str =
     "GET /notes/$count HTTP/1.1\r\nHost: h\r\nConnection: close\r\n\r\nGET / HTTP/1.1\r\nHost: h\r\n\r\n";
 
@@ -50,7 +50,7 @@ pub(crate) const CLOSING: &str =
 pub(crate) const CLOSING_REPLY: &str =
     "HTTP/1.1 200 OK\r\nContent-Type: text/plain;charset=utf-8\r\nOData-Version: 4.0\r\nContent-Length: 1\r\nConnection: close\r\n\r\n2";
 
-/// The tables of the folder that is built in.
+/// Returns the tables of the folder that is built in.
 pub(crate) fn notes(alloc: Global) -> Result<Catalog, Fail> {
     let tables = BuiltIn::new()
         .load(alloc, NOTES)

@@ -11,7 +11,7 @@ use std::test::Fail;
 const THREE_REQUESTS: &str =
     "GET / HTTP/1.1\r\nHost: h\r\n\r\nGET / HTTP/1.1\r\nHost: h\r\n\r\nGET / HTTP/1.1\r\nHost: h\r\n\r\n";
 
-/// A client that has sent a stream and sends no more.
+/// Returns a client that has sent a stream and sends no more.
 fn client<R: Net<Listener = TcpListener, Stream = TcpStream>>(
     rt: &R,
     port: u16,

@@ -58,7 +58,7 @@ impl Write for Sips {
     }
 }
 
-/// The reads of the stream of two requests: the last tells its end.
+/// The reads of the stream of two requests: the last reports its end.
 const READS: u32 = 79;
 
 /// The stream, of which a number of reads was given.
@@ -66,7 +66,7 @@ fn stream(most: u32) -> Drips {
     Drips { reads: 0, most }
 }
 
-/// How a run ends over devices that are counted.
+/// Returns how a run ends over devices that are counted.
 fn end_of(
     alloc: Global,
     catalog: &Catalog,
@@ -92,7 +92,7 @@ struct Reading {
     reads: u32,
 }
 
-/// Whether it comes to that, with these replies written.
+/// True if it comes to that, with these replies written.
 fn is_reading(alloc: Global, catalog: &Catalog, wanted: &Reading, replies: &str) -> bool {
     let mut input = stream(wanted.given);
     let mut out = Sips {
@@ -149,7 +149,7 @@ fn reads(rt: HostRuntime) -> Result<(), Fail> {
     Ok(())
 }
 
-/// Whether a run fails if its output takes only some bytes, with these bytes of the replies written; and ends well where that takes all.
+/// True if a run fails if its output takes only some bytes, with these bytes of the replies written; and ends well where that takes all.
 fn is_writing(alloc: Global, catalog: &Catalog, most: usize, interrupts: bool) -> bool {
     let wanted = if most == COUNT_REPLIES.len() {
         Ok(())

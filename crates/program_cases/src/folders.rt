@@ -44,14 +44,14 @@ const FOLDERS: &[Case] = &[
     ),
 ];
 
-/// A file of the table's name.
+/// Returns a file of the table's name.
 fn file_of(alloc: Global, text: &str) -> Result<NamedFile, AllocError> {
     let name = String::from_str(alloc, "a.csv")?;
     let bytes = Vec::from_slice(alloc, text.as_bytes())?;
     Ok(NamedFile { name, bytes })
 }
 
-/// The files of these bytes.
+/// Returns the files of these bytes.
 fn files(alloc: Global, texts: &[&str]) -> Result<Vec<NamedFile>, AllocError> {
     let mut files = Vec::new(alloc);
     for text in texts {
@@ -60,7 +60,7 @@ fn files(alloc: Global, texts: &[&str]) -> Result<Vec<NamedFile>, AllocError> {
     Ok(files)
 }
 
-/// The tables of a folder whose files have the table's name, where there are one table and one transformation at most.
+/// Returns the tables of a folder whose files have the table's name if there are one table and one transformation at most.
 fn load(
     alloc: Global,
     meta: &str,
@@ -79,7 +79,7 @@ fn load(
     Ok(Catalog::load(alloc, limits, meta, files))
 }
 
-/// The number of a table's rows and blocks. It has the name of its file, and names differ in case.
+/// Returns the number of a table's rows and blocks. It has the name of its file, and names differ in case.
 fn table_text(alloc: Global, catalog: &Catalog) -> Result<String, AllocError> {
     match (catalog.table("a"), catalog.table("A")) {
         (Some(table), None) => format!(in alloc; "{} {}", table.rows(), table.blocks()),
@@ -87,7 +87,7 @@ fn table_text(alloc: Global, catalog: &Catalog) -> Result<String, AllocError> {
     }
 }
 
-/// What a folder comes to.
+/// Returns what a folder comes to.
 fn folder_text(alloc: Global, case: &Case) -> Result<String, AllocError> {
     let (meta, most, columns, texts, _) = case;
     match load(alloc, meta, *most, *columns, texts)? {
@@ -117,7 +117,7 @@ const APPLIES: &[(&str, &str)] = &[
     ),
 ];
 
-/// Whether a GET of a target has a reply with this body.
+/// Returns whether a GET of a target has a reply with this body.
 fn has_body(
     alloc: Global,
     catalog: &Catalog,

@@ -13,7 +13,7 @@ struct Sent {
     hopeless: Option<usize>,
 }
 
-/// The places are from RFC 9112, sections 3 and 5, and from the limits: 8,192 bytes and 64 fields. A target is looked at for UTF-8 at the space behind it,
+/// The places are from RFC 9112, sections 3 and 5, and from the limits: 8,192 bytes and 64 fields. A target is looked at for UTF-8 at the space after it,
 /// and a field is counted at the end of its line.
 const SENT: &[Sent] = &[
     Sent {
@@ -145,7 +145,7 @@ fn place_of(alloc: Global, bytes: &[u8]) -> Result<Option<usize>, Fail> {
     Ok(place)
 }
 
-/// The bytes of a head.
+/// Returns the bytes of a head.
 fn bytes_of(alloc: Global, sent: &Sent) -> Result<Vec<u8>, AllocError> {
     let mut bytes = Vec::from_slice(alloc, sent.front)?;
     for _time in 0..sent.times {

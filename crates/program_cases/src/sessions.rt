@@ -30,7 +30,7 @@ fn give(
     session.end(alloc)
 }
 
-/// The output of a session, taken a few bytes at a time.
+/// Returns the output of a session, taken a few bytes at a time.
 fn output(session: &mut Session, alloc: Global) -> Result<Vec<u8>, AllocError> {
     let mut taken = Vec::new(alloc);
     let mut buf = [0u8; 7];
@@ -41,7 +41,7 @@ fn output(session: &mut Session, alloc: Global) -> Result<Vec<u8>, AllocError> {
     Ok(taken)
 }
 
-/// Whether a session answers a stream in two pieces so, closes where there is a stream, and takes no piece behind the end.
+/// True if a session answers a stream in two pieces so, closes if there is a stream, and takes no piece after the end.
 fn has_replies(
     alloc: Global,
     catalog: &Catalog,
@@ -74,7 +74,7 @@ fn sessions_answer_streams(rt: HostRuntime) -> Result<(), Fail> {
     Ok(())
 }
 
-/// Whether this is the head of the stream, with its one field.
+/// True if this is the head of the stream, with its one field.
 fn is_head(head: Option<&Head>) -> bool {
     match head {
         Some(head) => is_request(head) && head.fields.len() == 1 && is_host(head.fields.first()),
@@ -82,14 +82,14 @@ fn is_head(head: Option<&Head>) -> bool {
     }
 }
 
-/// Whether the line of a head is that of the stream.
+/// True if the line of a head is that of the stream.
 fn is_request(head: &Head) -> bool {
     head.method.as_slice() == b"GET".as_slice()
         && head.target.as_slice() == b"/x?a=b".as_slice()
         && head.minor == 0
 }
 
-/// Whether this is the field of the stream.
+/// True if this is the field of the stream.
 fn is_host(field: Option<&Field>) -> bool {
     match field {
         Some(field) => {

@@ -10,7 +10,7 @@ use std::io::{self, ErrorKind};
 /// The exit status where all was done.
 pub const DONE: u8 = 0;
 
-/// The exit status of an error of the system.
+/// Returns the exit status of an error of the system.
 pub fn error_status(error: &io::Error) -> u8
     ensures memory { error_kind error.now ≡ ErrorKind.OutOfMemory → result ≡ MEMORY }
     ensures device { error_kind error.now ≢ ErrorKind.OutOfMemory → result ≡ DEVICE }

@@ -20,7 +20,7 @@ pub const DEVICE: u8 = 3;
 /// The exit status if memory ran out.
 pub const MEMORY: u8 = 4;
 
-/// The text for a refused folder, and the exit status.
+/// Returns the text for a refused folder, and the exit status.
 fn refusal(alloc: Global, fault: &LoadFault) -> Result<(String, u8), AllocError>
     ensures line { IfOk result (λ line. string_bytes line.0 ≡ refusal_text fault.now) }
     ensures status { IfOk result (λ line. line.1 ≡ refusal_status fault.now) }
@@ -34,7 +34,7 @@ fn refusal(alloc: Global, fault: &LoadFault) -> Result<(String, u8), AllocError>
     Ok((line, REFUSED))
 }
 
-/// The text for standard error, which is empty for a device and if memory ran out, and the exit status.
+/// Returns the text for standard error, which is empty for a device and if memory ran out, and the exit status.
 pub fn fault_line(alloc: Global, fault: &ProgramFault) -> Result<(String, u8), AllocError>
     ensures line { IfOk result (λ line. string_bytes line.0 ≡ fault_text fault.now) }
     ensures status { IfOk result (λ line. line.1 ≡ exit_status fault.now) }

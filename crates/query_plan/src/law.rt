@@ -43,7 +43,7 @@ pub fn needed_blocks_are_read()
     ensures { NeededBlocksAreRead }
 {}
 
-/// A scan reads its admitted blocks in order, and none behind that of the row that its stop counts to.
+/// A scan reads its admitted blocks in order, and none after that of the row that its stop counts to.
 pub fn blocks_up_to_the_stop()
     ensures { BlocksUpToTheStop }
 {}

@@ -7,7 +7,7 @@ ghost use Rattle.query_meaning.specs.Order.{are_plain, plain_column};
 use odata_query::OrderBy;
 use typed_trees::{DateExpr, NumberExpr, NumberKind, TextExpr, TruthExpr, TypedExpr};
 
-/// The column that an expression is, where it is one.
+/// Returns the column that an expression is, if it is one.
 fn plain_column(expression: &TypedExpr) -> Option<usize>
     ensures { result ≡ plain_column (typed_view expression.now) }
 {
@@ -36,7 +36,7 @@ fn plain_column(expression: &TypedExpr) -> Option<usize>
     }
 }
 
-/// Whether each item is a column alone.
+/// True if each item is a column alone.
 pub fn are_plain(items: &[OrderBy]) -> bool
     ensures { result ≡ are_plain (map order_view items.now) }
 {

@@ -26,7 +26,7 @@ pub struct Slice {
 }
 
 impl Slice {
-    /// Of how many first rows it is, which is none where it is empty: None, where it is of all, or counts them.
+    /// Of how many first rows it is, which is none if it is empty: None, if it is of all, or counts them.
     pub fn room(self) -> Option<u64>
         ensures { result ≡ room_of self.skip self.top self.counts }
     {
@@ -52,7 +52,7 @@ pub enum Node {
     Group(Vec<usize>, Vec<NamedAggregate>),
     /// The rows in the order of items.
     Sort(Vec<OrderBy>),
-    /// The first so many rows in the order of items, whose values are computed on every row.
+    /// The first rows in the order of items, up to a number; the items are computed on every row.
     Best(Vec<OrderBy>, u64),
     Slice(Slice),
     /// The values of some columns.
@@ -68,7 +68,7 @@ pub struct Plan {
     pub nodes: Vec<Node>,
 }
 
-/// The step that a transformation of `$apply` is.
+/// Returns the step that a transformation of `$apply` is.
 fn node_of(transformation: TypedTransformation) -> Node
     ensures { node_view result ≡ transformation_node (typed_transformation_view transformation) }
 {
@@ -79,7 +79,7 @@ fn node_of(transformation: TypedTransformation) -> Node
     }
 }
 
-/// The steps of `$apply`.
+/// Returns the steps of `$apply`.
 fn push_apply(nodes: &mut Vec<Node>, apply: Vec<TypedTransformation>) -> Result<(), AllocError>
     ensures { OnOk result (Adds nodes.old (apply_nodes (transformations_view apply)) nodes.new) }
 {
@@ -89,7 +89,7 @@ fn push_apply(nodes: &mut Vec<Node>, apply: Vec<TypedTransformation>) -> Result<
     Ok(())
 }
 
-/// The step of `$filter`, where it is there.
+/// Returns the step of `$filter`, if it is there.
 fn push_filter(nodes: &mut Vec<Node>, filter: Option<Box<TruthExpr>>) -> Result<(), AllocError>
     ensures { OnOk result
         (Adds nodes.old (filter_nodes (option_map boxed_truth filter)) nodes.new) }
@@ -100,7 +100,7 @@ fn push_filter(nodes: &mut Vec<Node>, filter: Option<Box<TruthExpr>>) -> Result<
     Ok(())
 }
 
-/// The step of `$orderby`, where it has items.
+/// Returns the step of `$orderby`, if it has items.
 fn push_order(nodes: &mut Vec<Node>, order: Vec<OrderBy>) -> Result<(), AllocError>
     ensures { OnOk result (Adds nodes.old (order_nodes (map order_view order.items)) nodes.new) }
 {
@@ -110,7 +110,7 @@ fn push_order(nodes: &mut Vec<Node>, order: Vec<OrderBy>) -> Result<(), AllocErr
     Ok(())
 }
 
-/// The step of `$count`, `$skip` and `$top`, where one of them asks for something.
+/// Returns the step of `$count`, `$skip` and `$top`, where one of them asks for something.
 fn push_slice(nodes: &mut Vec<Node>, slice: Slice) -> Result<(), AllocError>
     ensures { OnOk result (Adds nodes.old (slice_nodes (slice_view slice)) nodes.new) }
 {
@@ -121,7 +121,7 @@ fn push_slice(nodes: &mut Vec<Node>, slice: Slice) -> Result<(), AllocError>
     Ok(())
 }
 
-/// The step of `$select`, where it is there.
+/// Returns the step of `$select`, if it is there.
 fn push_selection(nodes: &mut Vec<Node>, select: Option<Vec<usize>>) -> Result<(), AllocError>
     ensures { OnOk result (Adds nodes.old (select_nodes (optional_numbers select)) nodes.new) }
 {
@@ -131,7 +131,7 @@ fn push_selection(nodes: &mut Vec<Node>, select: Option<Vec<usize>>) -> Result<(
     Ok(())
 }
 
-/// The steps of a query, in the query's own order.
+/// Returns the steps of a query, in the query's own order.
 fn steps_of(alloc: Global, query: Typed) -> Result<Vec<Node>, AllocError>
     ensures { IfOk result (λ nodes.
         map node_view nodes.items ≡ (naive_plan (query_typed_view query)).nodes) }
@@ -172,7 +172,7 @@ fn steps_of(alloc: Global, query: Typed) -> Result<Vec<Node>, AllocError>
     Ok(nodes)
 }
 
-/// The plan that reads every block and does what a query says, in the query's own order. A query for a key needs none.
+/// Returns the plan that reads every block and does what a query says, in the query's own order. A query for a key needs none.
 pub fn naive(alloc: Global, query: Typed) -> Result<Plan, AllocError>
     requires { (query_typed_view query).key ≡ None }
     ensures plan { IfOk result (λ plan. plan_view plan ≡ naive_plan (query_typed_view query)) }

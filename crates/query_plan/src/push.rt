@@ -14,7 +14,7 @@ use crate::test::test_of;
 use std::alloc::{AllocError, Global};
 use typed_trees::{TruthExpr, truth_can_fault};
 
-/// Whether a filter that comes first may divide by zero.
+/// True if a filter that comes first may divide by zero.
 fn filters_can_fault(nodes: &[Node]) -> bool
     ensures { result ≡ list_any truth_can_fault_of (leading (map node_view nodes.now)) }
 {
@@ -31,7 +31,7 @@ fn filters_can_fault(nodes: &[Node]) -> bool
     false
 }
 
-/// How many rows that pass the filters that come first are looked for: None, where all are.
+/// Returns how many rows that pass the filters that come first are looked for: None, where all are.
 fn early_stop(nodes: &[Node]) -> Option<u64>
     ensures { result ≡ early_stop_of (map node_view nodes.now) }
 {
@@ -45,7 +45,7 @@ fn early_stop(nodes: &[Node]) -> Option<u64>
     None
 }
 
-/// A filter for each side of `and`.
+/// Returns a filter for each side of `and`.
 fn push_conjuncts(
     alloc: Global,
     nodes: &mut Vec<Node>,
@@ -106,14 +106,14 @@ fn tests_of(alloc: Global, nodes: &[Node]) -> Result<Vec<ColumnTest>, AllocError
     Ok(tests)
 }
 
-/// Whether the scan reads every block, and none of the filters that come first may divide by zero.
+/// True if the scan reads every block, and none of the filters that come first may divide by zero.
 fn may_be_pushed(plan: &Plan) -> bool
     ensures { result ≡ may_be_pushed_of (plan_view plan.now) }
 {
     plan.scan.is_bare() && !filters_can_fault(&plan.nodes)
 }
 
-/// A plan that reads fewer blocks, where its scan reads every block and none of the filters that come first may divide by zero: these are
+/// Returns a plan that reads fewer blocks, where its scan reads every block and none of the filters that come first may divide by zero: these are
 /// split at `and`, the scan has the tests among them, and it stops early.
 pub fn pushed(alloc: Global, plan: Plan) -> Result<Plan, AllocError>
     ensures { IfOk result (λ made. plan_view made ≡ pushed_of (plan_view plan)) }

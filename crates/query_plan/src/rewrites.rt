@@ -13,7 +13,7 @@ use crate::push::pushed;
 use row_eval::faults_are_foreseen;
 use std::alloc::{AllocError, Global};
 
-/// Of how many first rows a step has a use: None, where it is of all.
+/// Of how many first rows a step has a use: None, if it is of all.
 fn rows_needed(node: &Node) -> Option<u64>
     ensures { result ≡ rows_needed (node_view node.now) }
 {
@@ -23,7 +23,7 @@ fn rows_needed(node: &Node) -> Option<u64>
     }
 }
 
-/// A step before one that has a use for so many first rows.
+/// Returns a step before one that needs only the first `most` rows.
 fn chosen(node: Node, most: Option<u64>) -> Node
     ensures { node_view result ≡ chosen (node_view node) most }
 {
@@ -52,7 +52,7 @@ fn with_best_rows(alloc: Global, nodes: Vec<Node>) -> Result<Vec<Node>, AllocErr
     Ok(made)
 }
 
-/// A plan that gives the same result on the rows of any table that the plan was typed for. It reads only the blocks that its first filters ask
+/// Returns a plan that gives the same result on the rows of any table that the plan was typed for. It reads only the blocks that its first filters ask
 /// for, and keeps of a whole sort only the rows that are asked for. Its steps name the columns that the plan's do.
 pub fn rewrite(alloc: Global, plan: Plan) -> Result<Plan, AllocError>
     ensures rewritten { IfOk result (λ made. plan_view made ≡ rewritten (plan_view plan)) }

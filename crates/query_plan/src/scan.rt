@@ -13,7 +13,7 @@ pub struct ColumnTest {
     pub test: Test<'static>,
 }
 
-/// Which blocks of a table are read: those whose summaries admit all tests, and where there is a stop none behind the block of the row that
+/// Which blocks of a table are read: those whose summaries admit all tests, and if there is a stop none after the block of the row that
 /// is number `stop` among those that pass the conditions that the plan begins with, counted from 1.
 #[derive(Drop)]
 pub struct Scan {
@@ -22,7 +22,7 @@ pub struct Scan {
 }
 
 impl Scan {
-    /// The scan that reads every block.
+    /// Returns the scan that reads every block.
     pub fn bare(alloc: Global) -> Scan
         ensures { scan_view result ≡ bare }
     {
@@ -32,7 +32,7 @@ impl Scan {
         }
     }
 
-    /// Whether it reads every block.
+    /// True if it reads every block.
     pub fn is_bare(&self) -> bool
         ensures { result ≡ is_bare (scan_view self.now) }
     {

@@ -14,7 +14,7 @@ use std::borrow::CowStr;
 use summary_eval::{comparison_of, number_value};
 use typed_trees::{ComparisonOperator, MILLIONTHS, NumberExpr, NumberKind, TextExpr, TruthExpr};
 
-/// A number after a `-`, where it is at most 2 to the 126 in size.
+/// Returns a number after a `-`, if it is at most 2 to the 126 in size.
 fn opposite(number: i128) -> Option<Option<i128>>
     ensures { result ≡ sized (unsigned_abs number) (neg_ℤ number) }
 {
@@ -25,7 +25,7 @@ fn opposite(number: i128) -> Option<Option<i128>>
     }
 }
 
-/// The millionths of a whole number, where they are at most 2 to the 126, or null.
+/// Returns the millionths of a whole number, if they are at most 2 to the 126, or null.
 fn scaled_number(number: Option<i128>) -> Option<Option<i128>>
     ensures { result ≡ scaled_number_of number }
 {
@@ -38,7 +38,7 @@ fn scaled_number(number: Option<i128>) -> Option<Option<i128>>
     }
 }
 
-/// The number of a literal after a `-`.
+/// Returns the number of a literal after a `-`.
 fn opposite_of(operand: &NumberExpr) -> Option<Option<i128>>
     ensures { result ≡ literal_number (negated (number_view operand.now)) }
 {
@@ -48,7 +48,7 @@ fn opposite_of(operand: &NumberExpr) -> Option<Option<i128>>
     }
 }
 
-/// The number of a literal, perhaps after one `-`, or null; of an integer as a decimal its millionths.
+/// Returns the number of a literal, perhaps after one `-`, or null; of an integer as a decimal its millionths.
 fn number_of(expr: &NumberExpr) -> Option<Option<i128>>
     ensures { result ≡ literal_number (number_view expr.now) }
 {
@@ -64,7 +64,7 @@ fn number_of(expr: &NumberExpr) -> Option<Option<i128>>
     }
 }
 
-/// The value of a literal of a type: of null, too.
+/// Returns the value of a literal of a type: of null, too.
 fn literal_value(kind: NumberKind, expr: &NumberExpr) -> Option<Value<'static>>
     ensures { option_map value_view result ≡ number_value_of kind (number_view expr.now) }
 {
@@ -97,7 +97,7 @@ fn truth_value(expr: &TruthExpr) -> Option<Value<'static>>
     }
 }
 
-/// The test of a column, where there is a literal.
+/// Returns the test of a column, if there is a literal.
 fn column_test(
     column: usize,
     operator: ComparisonOperator,
@@ -166,7 +166,7 @@ fn truth_test(
     }
 }
 
-/// The test that a condition is, where it compares a column with a literal.
+/// Returns the test that a condition is, where it compares a column with a literal.
 pub fn test_of(alloc: Global, condition: &TruthExpr) -> Result<Option<ColumnTest>, AllocError>
     ensures { IfOk result (λ test.
         option_map test_view test ≡ test_of_condition (truth_view condition.now)) }

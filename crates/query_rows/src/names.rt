@@ -6,7 +6,7 @@ ghost use Rattle.query_meaning.specs.Apply.{names_at};
 use cell_types::Column;
 use std::alloc::{AllocError, Global};
 
-/// The names of columns.
+/// Returns the names of columns.
 pub fn names_of(alloc: Global, columns: &[Column]) -> Result<Vec<String>, AllocError>
     ensures { IfOk result (λ names.
         map string_bytes names.items ≡ map (λ column. string_bytes column.name) columns.now) }
@@ -18,7 +18,7 @@ pub fn names_of(alloc: Global, columns: &[Column]) -> Result<Vec<String>, AllocE
     Ok(names)
 }
 
-/// The names at these places.
+/// Returns the names at these places.
 pub fn picked_names(
     alloc: Global,
     names: &[String],

@@ -33,7 +33,7 @@ impl Model for Rows {
     ghost invariant = { AreUnderNames };
 }
 
-/// A row of values in columns of any.
+/// Returns a row of values in columns of any.
 fn one_row(alloc: Global, values: &[Value<'_>]) -> Result<Columns, AllocError>
     ensures kinds { IfOk result (λ made. length made.kinds ≡ length values.now) }
     ensures rows { IfOk result (λ made. made.rows ≡ row_view values.now ∷ []) }
@@ -64,7 +64,7 @@ impl Rows {
         }
     }
 
-    /// The row of a key: its values in the columns that are selected, or in all of them.
+    /// Returns the row of a key: its values in the columns that are selected, or in all of them.
     pub fn of_row(
         alloc: Global,
         schema: &Schema,
@@ -89,14 +89,14 @@ impl Rows {
         }
     }
 
-    /// The names of the columns.
+    /// Returns the names of the columns.
     pub fn names(&self) -> &[String]
         ensures { map string_bytes result.now ≡ self.now.names }
     {
         self.names.as_slice()
     }
 
-    /// How many values each row has: one for each name.
+    /// Returns how many values each row has: one for each name.
     pub fn width(&self) -> usize
         ensures names { result ≡ length self.now.names }
         ensures rows { AllByRecursion (λ values. length values ≡ result) self.now.rows }
@@ -105,7 +105,7 @@ impl Rows {
         self.names.len()
     }
 
-    /// The columns that the values stand in, one for each name.
+    /// Returns the columns that the values stand in, one for each name.
     pub fn columns(&self) -> &Columns
         ensures rows { result.now.rows ≡ self.now.rows }
         ensures width { length result.now.kinds ≡ length self.now.names }
@@ -113,14 +113,14 @@ impl Rows {
         &self.columns
     }
 
-    /// How many rows there are.
+    /// Returns how many rows there are.
     pub fn len(&self) -> usize
         ensures { result ≡ length self.now.rows }
     {
         self.columns.len()
     }
 
-    /// The value of a row and a column, both counted from 0. It takes no memory.
+    /// Returns the value of a row and a column, both counted from 0. It takes no memory.
     pub fn value(&self, row: usize, col: usize) -> Value<'_>
         requires row { row < length self.now.rows }
         requires col { col < length self.now.names }
@@ -130,7 +130,7 @@ impl Rows {
         self.columns.value(row, col)
     }
 
-    /// A row, counted from 0. It takes no memory, and where several of its values are asked for, it is the faster way.
+    /// Returns a row, counted from 0. It takes no memory, and where several of its values are asked for, it is the faster way.
     pub fn lent_row(&self, row: usize) -> LentRow<'_>
         requires { row < length self.now.rows }
         ensures row { slice_get self.now.rows row ≡ Some result }
@@ -139,7 +139,7 @@ impl Rows {
         self.columns.lent_row(row)
     }
 
-    /// How many rows there are in all, where that was asked for.
+    /// Returns how many rows there are in all, if that was asked for.
     pub fn count(&self) -> Option<u64>
         ensures { result ≡ self.now.count }
     {

@@ -21,7 +21,7 @@ pub struct Masks {
     pub fault: u64,
 }
 
-/// The text ends inside double quotes or behind a CR.
+/// The text ends inside double quotes or after a CR.
 #[derive(Clone, Copy, PartialEq, Eq)]
 pub struct Unfinished;
 
@@ -64,7 +64,7 @@ impl Carry {
         }
     }
 
-    /// The masks of the next `len` bytes, and what is carried behind them. The bits of the classes from `len` up count for nothing.
+    /// Returns the masks of the next `len` bytes, and what is carried after them. The bits of the classes from `len` up count for nothing.
     #[inline(always)]
     pub fn step(self, c: Classes, len: u32) -> (Masks, Carry)
         requires some { 0 < len }
@@ -83,7 +83,7 @@ impl Carry {
         }
     }
 
-    /// The same. A whole block is a call of its own, so that its shifts are by constants.
+    /// Returns the same. A whole block is a call of its own, so that its shifts are by constants.
     #[inline(always)]
     fn step_by(self, c: Classes, len: u32) -> (Masks, Carry)
         requires some { 0 < len }

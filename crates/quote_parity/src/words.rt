@@ -17,7 +17,7 @@ pub fn prefix_xor(word: u64) -> u64
     with_shifted(half, 32)
 }
 
-/// The word, with each bit added without a carry to the one `by` places above it.
+/// Returns the word, with each bit added without a carry to the one `by` places above it.
 #[inline(always)]
 fn with_shifted(word: u64, by: u32) -> u64
     requires { by < 64 }
@@ -26,7 +26,7 @@ fn with_shifted(word: u64, by: u32) -> u64
     word ^ (word << by)
 }
 
-/// The place of the set bit that has `n` set bits below it, where there is one.
+/// Returns the place of the set bit that has `n` set bits below it if there is one.
 pub fn select(word: u64, n: u32) -> Option<u32>
     ensures { MatchOption result (count_ones word ≤ n)
         (λ place. (place < 64) × (bit_at word place ≡ 1) × (ones_below word place ≡ n)) }

@@ -33,7 +33,7 @@ impl<'t, 'p> Model for Part<'t, 'p> {
 impl<'t, 'p> Part<'t, 'p> {
     ghost use Rattle.raw_fields.specs.Part.{part_between, StandBetween};
 
-    /// So many rows of one width, whose fields stand between these places.
+    /// Rows of one width, whose fields are between these places.
     #[inline(always)]
     pub fn new(text: &'t str, width: usize, rows: usize, places: &'p [usize]) -> Part<'t, 'p>
         requires { StandBetween text.now places.now (rows * width) }
@@ -47,7 +47,7 @@ impl<'t, 'p> Part<'t, 'p> {
         }
     }
 
-    /// How many rows there are.
+    /// Returns how many rows there are.
     #[inline(always)]
     pub fn rows(&self) -> usize
         ensures { result ≡ length self.now.rows }
@@ -55,7 +55,7 @@ impl<'t, 'p> Part<'t, 'p> {
         self.rows
     }
 
-    /// The field of a row and a column, both counted from 0.
+    /// Returns the field of a row and a column, both counted from 0.
     #[inline(always)]
     pub fn field(&self, row: usize, col: usize) -> Raw<'t>
         requires row { row < length self.now.rows }
@@ -85,7 +85,7 @@ impl<'t, 'p> Part<'t, 'p> {
     }
 }
 
-/// The place of that number.
+/// Returns the place of that number.
 #[inline(always)]
 fn place_at(places: &[usize], n: usize) -> usize
     requires { n < length places.now }
@@ -94,7 +94,7 @@ fn place_at(places: &[usize], n: usize) -> usize
     places[n]
 }
 
-/// The bytes of a text from a place on; none past its end.
+/// Returns the bytes of a text from a place on; none past its end.
 #[inline(always)]
 fn bytes_from(text: &str, start: usize) -> &[u8]
     ensures { result.now ≡ drop start text.now }
@@ -103,7 +103,7 @@ fn bytes_from(text: &str, start: usize) -> &[u8]
     &bytes[start.min(bytes.len())..]
 }
 
-/// The bytes of a text past a place.
+/// Returns the bytes of a text past a place.
 #[inline(always)]
 fn bytes_past(text: &str, place: usize) -> &[u8]
     requires { place ≤ length text.now }

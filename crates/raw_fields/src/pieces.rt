@@ -6,7 +6,7 @@ ghost use Rattle.raw_fields.specs.Between.{raw_between, without_return};
 
 use crate::raw::Raw;
 
-/// The field that the text between two structural places is.
+/// Returns the field that the text between two structural places is.
 #[inline(always)]
 pub fn between(piece: &str) -> Raw<'_>
     requires { is_utf8 (raw_between piece.now).bytes ≡ true }
@@ -25,7 +25,7 @@ pub fn between(piece: &str) -> Raw<'_>
     }
 }
 
-/// The text without a CR at its end, which belongs to the line break.
+/// Returns the text without a CR at its end, which belongs to the line break.
 #[inline(always)]
 fn without_return(text: &str) -> &str
     ensures { result.now ≡ without_return text.now }
@@ -36,7 +36,7 @@ fn without_return(text: &str) -> &str
     }
 }
 
-/// The text from a place up to another.
+/// Returns the text from a place up to another.
 #[inline(always)]
 pub fn piece(bytes: &str, start: usize, end: usize) -> &str
     requires order { start ≤ end }

@@ -22,8 +22,8 @@ impl<'a> Raw<'a> {
     ghost use Rattle.raw_fields.specs.Raw.{raw_view};
     ghost use Rattle.csv_grammar.specs.Records.{Field, content};
 
-    /// What the field says: each pair of double quotes inside a quoted field is one (RFC 4180, section 2, rule 7). It copies only
-    /// where such a pair stands; an error is want of memory for that copy.
+    /// Returns what the field says: each pair of double quotes inside a quoted field is one (RFC 4180, section 2, rule 7). It copies only
+    /// where such a pair stands; an error is out of memory for that copy.
     #[inline(always)]
     pub fn text(self, alloc: Global) -> Result<CowStr<'a>, AllocError>
         ensures content { IfOk result
@@ -48,14 +48,14 @@ impl<'a> Raw<'a> {
 /// A double quote inside a quoted field is written as two.
 const PAIR: &str = "\"\"";
 
-/// Whether a pair of double quotes stands in the text, so that halving changes it.
+/// True if a pair of double quotes stands in the text, so that halving changes it.
 fn has_pair(text: &str) -> bool
     ensures { MatchBool result (halved text.now ≢ text.now) (halved text.now ≡ text.now) }
 {
     has_quote(text) && text.contains(PAIR)
 }
 
-/// Whether a double quote stands in the text.
+/// True if a double quote stands in the text.
 #[inline(always)]
 fn has_quote(text: &str) -> bool
     ensures { result ≡ list_any (λ byte. byte == double_quote) text.now }
@@ -63,7 +63,7 @@ fn has_quote(text: &str) -> bool
     text.as_bytes().iter().any(|byte| *byte == b'"')
 }
 
-/// A copy of the text with each pair of double quotes made one, in one pass.
+/// Returns a copy of the text with each pair of double quotes made one, in one pass.
 fn halved(alloc: Global, text: &str) -> Result<String, AllocError>
     ensures { IfOk result (λ content. string_bytes content ≡ halved text.now) }
 {

@@ -11,7 +11,7 @@ use crate::raw::Raw;
 use cell_types::{CellFault, Column, Value, read_text};
 use std::alloc::Global;
 
-/// The value of a field in a column.
+/// Returns the value of a field in a column.
 pub fn cell_value<'a>(alloc: Global, column: &Column, raw: Raw<'a>) -> Result<Value<'a>, CellFault>
     ensures value { IfOk result (λ value.
         value_in (column_view column.now, raw_view raw.entry) ≡ Ok (value_view value)) }

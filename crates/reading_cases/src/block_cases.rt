@@ -29,7 +29,7 @@ const CASES: &[Case] = &[
     (Comparison::LessOrEqual, None, [false, true, true]),
 ];
 
-/// The summary of the two rows.
+/// Returns the summary of the two rows.
 fn summary_of(rt: &(impl Abort + AllocGlobal)) -> Result<Summary, AllocError>
     ensures { IfOk result (λ summary. length summary ≡ 3) }
 {
@@ -40,7 +40,7 @@ fn summary_of(rt: &(impl Abort + AllocGlobal)) -> Result<Summary, AllocError>
     Summary::build(rt.alloc(), 3, rows.as_slice())
 }
 
-/// Which columns a test admits.
+/// Returns which columns a test admits.
 fn admitted(summary: &Summary, op: Comparison, literal: Option<i64>) -> [bool; 3]
     requires { length summary.now ≡ 3 }
 {

@@ -50,7 +50,7 @@ const EXPRESSIONS: &[(&str, bool)] = &[
     ),
 ];
 
-/// Whether the expression of a text can divide by zero, where it has a type.
+/// Returns whether the expression of a text can divide by zero, if it has a type.
 fn divides_by_zero(alloc: Global, text: &str) -> Option<bool> {
     let tokens = lex(alloc, text).ok()?;
     let tree = parse_filter(alloc, text, &tokens).ok()?;

@@ -6,7 +6,7 @@ use std::alloc::{AllocError, Global};
 use std::borrow::CowStr;
 use std::test::Fail;
 
-/// A word, a number of set bits, and the place of the set bit behind so many.
+/// A word, a number `n`, and the place of the set bit after the first `n`.
 const SELECTIONS: &[(u64, u32, Option<u32>)] = &[
     (0b1010, 0, Some(1)),
     (0b1010, 1, Some(3)),
@@ -77,7 +77,7 @@ const COPIES: &[(&str, bool)] = &[
     ("A\n\"\"\"\"\"é\"\"\"", true),
 ];
 
-/// Whether a field's text is a copy.
+/// Returns whether a field's text is a copy.
 fn is_copy(alloc: Global, raw: Raw) -> Result<bool, AllocError> {
     Ok(matches!(raw.text(alloc)?, CowStr::Owned(_)))
 }

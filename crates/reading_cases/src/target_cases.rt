@@ -4,7 +4,7 @@ use std::alloc::Global;
 use std::process::Abort;
 use std::test::Fail;
 
-/// Targets, each with its segments and options or the fault behind two spaces. A line that begins with `--` says what follows.
+/// Targets, each with its segments and options or the fault after two spaces. A line that begins with `--` says what follows.
 const TARGETS: &str = r#"
 /  [""] []
 /cities  ["cities"] []
@@ -109,7 +109,7 @@ http:/a  BadTarget
 /// Targets that are no ASCII.
 const WIDE_TARGETS: [(&[u8], &str); 2] = [(b"/\xC3\xA9", r#"["é"] []"#), (b"/\xFF", "BadUtf8")];
 
-/// What a target says.
+/// Returns what a target says.
 fn target_text(alloc: Global, bytes: &[u8]) -> Result<String, Fail> {
     Ok(match Target::read(alloc, bytes) {
         Ok(target) => format!(in alloc; "{:?} {:?}", target.segments, target.options)?,

@@ -6,7 +6,7 @@ use std::alloc::Global;
 use std::process::Abort;
 use std::test::Fail;
 
-/// Texts, and the kind and the place of each token, parted by spaces, or the fault.
+/// Texts, and the kind and the place of each token, separated by spaces, or the fault.
 const TOKENS: &[(&str, &str)] = &[
     // kinds and places
     ("", ""),
@@ -94,7 +94,7 @@ const TOKENS: &[(&str, &str)] = &[
     ),
     ("1.5'a'", "Decimal 0..3 Text 3..6"),
     ("99999999999999999999999999999999.999999", "Decimal 0..39"),
-    // 33 digits before the point, seven behind it
+    // 33 digits before the point, seven after it
     ("100000000000000000000000000000000.0", "Bad"),
     ("1.0000001", "Bad"),
     ("1.5x", "Bad"),
@@ -112,7 +112,7 @@ const TOKENS: &[(&str, &str)] = &[
     ),
 ];
 
-/// So many `(`, an end, and the number of the tokens or the fault.
+/// A number of `(`, an end, and the number of the tokens or the fault.
 const COUNTS: &[(usize, &str, &str)] = &[
     (1024, "", "1024 tokens"),
     (1024, " \t", "1024 tokens"),
@@ -155,7 +155,7 @@ const FLAGS: &[(&str, Option<bool>)] = &[
     ("", None),
 ];
 
-/// The kind and the place of each token, or the fault.
+/// Returns the kind and the place of each token, or the fault.
 fn token_line(alloc: Global, source: &str) -> Result<String, Fail> {
     let tokens = match lex(alloc, source) {
         Ok(tokens) => tokens,
@@ -181,7 +181,7 @@ fn tokens(rt: HostRuntime) -> Result<(), Fail> {
     Ok(())
 }
 
-/// The number of the tokens of so many `(` and an end, or the fault.
+/// Returns the number of the tokens of that many `(` and an end, or the fault.
 fn count_line(alloc: Global, parentheses: usize, end: &str) -> Result<String, Fail> {
     let mut source = String::new(alloc);
     for _ in 0..parentheses {

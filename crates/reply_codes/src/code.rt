@@ -58,7 +58,7 @@ pub enum Code {
 }
 
 impl Code {
-    /// The status that a reply with this code has (RFC 9110, section 15).
+    /// Returns the status that a reply with this code has (RFC 9110, section 15).
     pub fn status(self) -> u16
         ensures { result ≡ status_of self }
     {
@@ -76,7 +76,7 @@ impl Code {
         }
     }
 
-    /// The name that the body has.
+    /// Returns the name that the body has.
     pub fn name(self) -> &'static str
         ensures { result.now ≡ code_name self }
     {
@@ -109,7 +109,7 @@ impl Code {
         }
     }
 
-    /// What a reader of the reply is told.
+    /// Returns the message for the reader of the reply.
     pub fn message(self) -> &'static str
         ensures { result.now ≡ message_of self }
     {

@@ -11,21 +11,21 @@ use cell_types::Value;
 use memchr::memchr;
 use std::alloc::AllocError;
 
-/// Whether a byte stands in double quotes alone.
+/// True if a byte stands in double quotes alone.
 fn is_quoted_byte(byte: u8) -> bool
     ensures { result ≡ is_quoted_byte byte }
 {
     byte == b'"' || byte == b',' || byte == b'\r' || byte == b'\n'
 }
 
-/// Whether a text shorter than a block has such a byte.
+/// True if a text shorter than a block has such a byte.
 fn short_has_quoted_byte(text: &[u8]) -> bool
     ensures { result ≡ list_any is_quoted_byte text.now }
 {
     text.iter().any(|byte| is_quoted_byte(*byte))
 }
 
-/// Whether a text has such a byte, looked at a block at a time. The last block ends where the text does, over bytes that were seen.
+/// True if a text has such a byte, looked at a block at a time. The last block ends where the text does, over bytes that were seen.
 #[inline(always)]
 fn has_quoted_byte_by<const N: usize>(text: &[u8]) -> bool
     requires some { 0 < N }
@@ -44,7 +44,7 @@ fn has_quoted_byte_by<const N: usize>(text: &[u8]) -> bool
     unquoted_in::<N>(text, last) < N
 }
 
-/// Whether a text has such a byte.
+/// True if a text has such a byte.
 fn has_quoted_byte(text: &[u8]) -> bool
     ensures { result ≡ list_any is_quoted_byte text.now }
 {
@@ -55,7 +55,7 @@ fn has_quoted_byte(text: &[u8]) -> bool
     }
 }
 
-/// Whether a text stands in double quotes.
+/// True if a text stands in double quotes.
 pub fn needs_quotes(text: &[u8]) -> bool
     ensures { result ≡ needs_quotes text.now }
 {
@@ -79,7 +79,7 @@ fn push_doubled(out: &mut Vec<u8>, text: &[u8]) -> Result<(), AllocError>
     out.extend_from_slice(rest)
 }
 
-/// Appends a text, in double quotes where it needs them.
+/// Appends a text, in double quotes if it needs them.
 fn push_field(out: &mut Vec<u8>, text: &[u8]) -> Result<(), AllocError>
     ensures bytes { OnOk result (out.new.items ≡ out.old.items ++ csv_field text.now) }
     ensures room { vec_capacity out.old ≤ vec_capacity out.new }

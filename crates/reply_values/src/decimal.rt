@@ -9,7 +9,7 @@ use std::alloc::AllocError;
 /// How many millionths are one.
 pub const ONE: u64 = 1_000_000;
 
-/// A number in two digits.
+/// Returns a number in two digits.
 pub fn two_digits(number: u8) -> [u8; 2]
     requires { number < 100 }
     ensures { result ≡ digits_of_two number }
@@ -17,7 +17,7 @@ pub fn two_digits(number: u8) -> [u8; 2]
     [b'0' + number / 10, b'0' + number % 10]
 }
 
-/// A number in six digits.
+/// Returns a number in six digits.
 pub fn six_digits(number: u32) -> [u8; 6]
     requires { number < 1_000_000 }
     ensures { result ≡ digits_of_six number }
@@ -29,7 +29,7 @@ pub fn six_digits(number: u32) -> [u8; 6]
     [a, b, c, d, e, f]
 }
 
-/// The digits as far as the last that is not 0.
+/// Returns the digits as far as the last that is not 0.
 pub fn without_last_zeros(digits: &[u8]) -> &[u8]
     ensures { result.now ≡ without_last_zeros_of digits.now }
 {
@@ -81,7 +81,7 @@ fn push_millionths(out: &mut Vec<u8>, number: u128) -> Result<(), AllocError>
     push_fraction(out, (number % one) as u32)
 }
 
-/// Appends a decimal of that many millionths: a `-` where it is negative, the whole part, and where the fraction is not 0 a point and
+/// Appends a decimal of that many millionths: a `-` if it is negative, the whole part, and where the fraction is not 0 a point and
 /// the decimal places as far as the last that is not 0.
 pub fn push_decimal(out: &mut Vec<u8>, millionths: i128) -> Result<(), AllocError>
     ensures bytes { OnOk result (out.new.items ≡ out.old.items ++ decimal_text millionths) }

@@ -9,7 +9,7 @@ use crate::decimal::{ONE, six_digits, without_last_zeros};
 use itoa::Buffer;
 use jiff_core::civil::Date;
 
-/// How many decimal digits a number below 10,000 has.
+/// Returns how many decimal digits a number below 10,000 has.
 fn short_size(number: u64) -> usize
     requires { number < 10_000 }
     ensures { result ≡ length (decimal number) }
@@ -25,7 +25,7 @@ fn short_size(number: u64) -> usize
     }
 }
 
-/// How many decimal digits a number has.
+/// Returns how many decimal digits a number has.
 pub fn number_size(number: u64) -> usize
     ensures { result ≡ length (decimal number) }
 {
@@ -42,7 +42,7 @@ pub fn number_size(number: u64) -> usize
     }
 }
 
-/// How many bytes a whole number takes, with its `-` where it is negative.
+/// Returns how many bytes a whole number takes, with its `-` if it is negative.
 pub fn integer_size(number: i128) -> usize
     ensures { result ≡ length (signed_decimal number) }
 {
@@ -52,7 +52,7 @@ pub fn integer_size(number: i128) -> usize
     }
 }
 
-/// How many bytes a point and decimal places take.
+/// Returns how many bytes a point and decimal places take.
 fn fraction_size(number: u32) -> usize
     requires { number < 1_000_000 }
     ensures { result ≡ length (fraction_text number) }
@@ -64,7 +64,7 @@ fn fraction_size(number: u32) -> usize
     }
 }
 
-/// How many bytes a number of millionths takes, whose divisions are quick where it has 64 bits.
+/// Returns how many bytes a number of millionths takes, whose divisions are quick if it has 64 bits.
 fn millionths_size(number: u128) -> usize
     ensures { result ≡ length (millionths_text number) }
 {
@@ -77,7 +77,7 @@ fn millionths_size(number: u128) -> usize
     }
 }
 
-/// How many bytes a decimal of that many millionths takes.
+/// Returns how many bytes a decimal of that many millionths takes.
 pub fn decimal_size(millionths: i128) -> usize
     ensures { result ≡ length (decimal_text millionths) }
 {
@@ -87,14 +87,14 @@ pub fn decimal_size(millionths: i128) -> usize
     1 + millionths_size(millionths.unsigned_abs())
 }
 
-/// How many bytes a truth value's word takes.
+/// Returns how many bytes a boolean's word takes.
 pub fn bool_size(truth: bool) -> usize
     ensures { result ≡ length (bool_text truth) }
 {
     if truth { 4 } else { 5 }
 }
 
-/// How many bytes a date takes: `yyyy-MM-dd`, and three more for a negative year.
+/// Returns how many bytes a date takes: `yyyy-MM-dd`, and three more for a negative year.
 pub fn date_size(date: Date) -> usize
     ensures { result ≡ length (date_text date) }
 {

@@ -14,7 +14,7 @@ use itoa::Buffer;
 use jiff_core::civil::Date;
 use std::alloc::AllocError;
 
-/// A hexadecimal digit in lower case.
+/// Returns a hexadecimal digit in lower case.
 fn hex_digit(n: u8) -> u8
     requires { n < 16 }
     ensures { result ≡ hex_digit n }
@@ -45,14 +45,14 @@ fn push_escaped(out: &mut Vec<u8>, byte: u8) -> Result<(), AllocError>
     }
 }
 
-/// Whether another text stands for a byte.
+/// True if another text stands for a byte.
 fn needs_escape(byte: u8) -> bool
     ensures { result ≡ needs_escape byte }
 {
     byte == b'"' || byte == b'\\' || byte < 0x20
 }
 
-/// How many bytes at the front of a text shorter than a block stand for themselves.
+/// Returns how many bytes at the front of a text shorter than a block stand for themselves.
 fn short_run_len(text: &[u8]) -> usize
     ensures { result ≡ unwrap_or (position needs_escape text.now) (length text.now) }
 {
@@ -61,7 +61,7 @@ fn short_run_len(text: &[u8]) -> usize
         .unwrap_or(text.len())
 }
 
-/// How many bytes at the front of a text stand for themselves, a block at a time. The last block ends where the text does, over bytes that were seen.
+/// Returns how many bytes at the front of a text stand for themselves, a block at a time. The last block ends where the text does, over bytes that were seen.
 #[inline(always)]
 fn run_len_by<const N: usize>(text: &[u8]) -> usize
     requires some { 0 < N }
@@ -81,7 +81,7 @@ fn run_len_by<const N: usize>(text: &[u8]) -> usize
     last + unescaped_in::<N>(text, last)
 }
 
-/// How many bytes at the front stand for themselves.
+/// Returns how many bytes at the front stand for themselves.
 pub fn run_len(text: &[u8]) -> usize
     ensures { result ≡ unwrap_or (position needs_escape text.now) (length text.now) }
 {

@@ -7,7 +7,7 @@ ghost use Rattle.reply_values.specs.Json.{needs_escape};
 
 use std::simd::prelude::*;
 
-/// How many bits stand below the lowest that is set, or all of so many.
+/// Returns how many bits are below the lowest that is set, or `lanes` if none is set.
 #[inline(always)]
 fn first_set(mask: u64, lanes: usize) -> usize
     ensures { result ≡ (if mask == 0 then lanes else trailing_zeros w64 mask) }
@@ -19,7 +19,7 @@ fn first_set(mask: u64, lanes: usize) -> usize
     }
 }
 
-/// How many bytes stand in the block from `at` on before the first that needs an escape.
+/// Returns how many bytes stand in the block from `at` on before the first that needs an escape.
 #[inline(always)]
 pub fn unescaped_in<const N: usize>(text: &[u8], at: usize) -> usize
     requires most { N ≤ 64 }
@@ -33,7 +33,7 @@ pub fn unescaped_in<const N: usize>(text: &[u8], at: usize) -> usize
     first_set(escaped.to_bitmask(), N)
 }
 
-/// How many bytes stand in the block from `at` on before the first that stands in double quotes alone.
+/// Returns how many bytes stand in the block from `at` on before the first that stands in double quotes alone.
 #[inline(always)]
 pub fn unquoted_in<const N: usize>(text: &[u8], at: usize) -> usize
     requires most { N ≤ 64 }

@@ -12,7 +12,7 @@ use crate::json_text::run_len;
 use cell_types::Value;
 use memchr::memchr;
 
-/// How many bytes stand for a byte in a text.
+/// Returns how many bytes stand for a byte in a text.
 fn escaped_size(byte: u8) -> usize
     ensures { result ≡ length (json_escaped byte) }
 {
@@ -23,7 +23,7 @@ fn escaped_size(byte: u8) -> usize
     }
 }
 
-/// How many bytes the inside of a text takes, whole runs at a time.
+/// Returns how many bytes the inside of a text takes, whole runs at a time.
 fn inside_size(text: &[u8]) -> usize
     ensures { result ≡ told (length (flat_map json_escaped text.now)) }
 {
@@ -40,14 +40,14 @@ fn inside_size(text: &[u8]) -> usize
     }
 }
 
-/// How many bytes a text takes in JSON, in quotes.
+/// Returns how many bytes a text takes in JSON, in quotes.
 pub fn text_size(text: &[u8]) -> usize
     ensures { result ≡ told (length (json_text text.now)) }
 {
     inside_size(text).saturating_add(2)
 }
 
-/// How many bytes a member of a JSON object takes whose value is a text.
+/// Returns how many bytes a member of a JSON object takes whose value is a text.
 pub fn text_member_size(name: &[u8], text: &[u8]) -> usize
     ensures { result ≡ told (length (json_text_member name.now text.now)) }
 {
@@ -56,7 +56,7 @@ pub fn text_member_size(name: &[u8], text: &[u8]) -> usize
         .saturating_add(text_size(text))
 }
 
-/// How many bytes a value takes in JSON.
+/// Returns how many bytes a value takes in JSON.
 pub fn json_value_size(value: &Value<'_>) -> usize
     ensures { result ≡ told (length (json_value (value_view value.now))) }
 {
@@ -70,7 +70,7 @@ pub fn json_value_size(value: &Value<'_>) -> usize
     }
 }
 
-/// How many bytes a text takes with each of its double quotes written as two, whole runs at a time.
+/// Returns how many bytes a text takes with each of its double quotes written as two, whole runs at a time.
 fn doubled_size(text: &[u8]) -> usize
     ensures { result ≡ told (length (flat_map doubled_byte text.now)) }
 {
@@ -84,7 +84,7 @@ fn doubled_size(text: &[u8]) -> usize
     size.saturating_add(rest.len())
 }
 
-/// How many bytes a text takes in CSV, in double quotes where it needs them.
+/// Returns how many bytes a text takes in CSV, in double quotes if it needs them.
 fn field_size(text: &[u8]) -> usize
     ensures { result ≡ told (length (csv_field text.now)) }
 {
@@ -95,7 +95,7 @@ fn field_size(text: &[u8]) -> usize
     }
 }
 
-/// How many bytes a value takes in CSV; null takes none.
+/// Returns how many bytes a value takes in CSV; null takes none.
 pub fn csv_value_size(value: &Value<'_>) -> usize
     ensures { result ≡ told (length (csv_value (value_view value.now))) }
 {

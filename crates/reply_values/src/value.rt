@@ -9,7 +9,7 @@ use itoa::Buffer;
 use jiff_core::civil::Date;
 use std::alloc::AllocError;
 
-/// Appends a whole number in decimal digits, with a `-` where it is negative.
+/// Appends a whole number in decimal digits, with a `-` if it is negative.
 pub fn push_integer(out: &mut Vec<u8>, number: i128) -> Result<(), AllocError>
     ensures bytes { OnOk result (out.new.items ≡ out.old.items ++ signed_decimal number) }
     ensures room { vec_capacity out.old ≤ vec_capacity out.new }
@@ -22,7 +22,7 @@ pub fn push_integer(out: &mut Vec<u8>, number: i128) -> Result<(), AllocError>
     }
 }
 
-/// Appends a truth value's word.
+/// Appends a boolean's word.
 pub fn push_bool(out: &mut Vec<u8>, truth: bool) -> Result<(), AllocError>
     ensures bytes { OnOk result (out.new.items ≡ out.old.items ++ bool_text truth) }
     ensures room { vec_capacity out.old ≤ vec_capacity out.new }

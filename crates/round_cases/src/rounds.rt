@@ -59,7 +59,7 @@ const PLAIN: Script<'static> = Script {
 /// How many slots are enough for each list of cases.
 const PLACES: u32 = 8;
 
-/// The one file of the folder.
+/// Returns the one file of the folder.
 fn notes(alloc: Global, bytes: &str) -> Result<Vec<NamedFile>, AllocError> {
     let file = NamedFile {
         name: String::from_str(alloc, "notes.csv")?,
@@ -68,7 +68,7 @@ fn notes(alloc: Global, bytes: &str) -> Result<Vec<NamedFile>, AllocError> {
     Ok(vec![in alloc; file]?)
 }
 
-/// The tables where that has these bytes: such a folder is refused only if memory runs out.
+/// Returns the tables if that has these bytes: such a folder is refused only if memory runs out.
 pub(crate) fn tables(alloc: Global, bytes: &str) -> Result<Rc<Catalog>, AllocError> {
     let files = notes(alloc, bytes)?;
     let meta = Vec::from_slice(alloc, META.as_bytes())?;
@@ -76,7 +76,7 @@ pub(crate) fn tables(alloc: Global, bytes: &str) -> Result<Rc<Catalog>, AllocErr
     Rc::new(alloc, catalog).map_err(|_| AllocError)
 }
 
-/// A hub over a table of two rows, with a connection for each case.
+/// Returns a hub over a table of two rows, with a connection for each case.
 fn hub_of(alloc: Global, cases: &[Case]) -> Result<Hub, AllocError> {
     let mut hub = Hub::new(alloc, tables(alloc, "Id\n1\n2\n")?, PLACES)?;
     for _case in cases {
@@ -94,7 +94,7 @@ fn peers_of(alloc: Global, cases: &[Case]) -> Result<Scripts<'static>, AllocErro
     Ok(Scripts { peers })
 }
 
-/// The places, before their first visit.
+/// Returns the places, before their first visit.
 fn free_slots() -> [Slot; 8] {
     array::from_fn(|_| Slot {
         state: SlotState::Free,
@@ -205,7 +205,7 @@ const RELOADED: &[Case] = &[
     },
 ];
 
-/// Whether a peer took what it is given, and its place ended so.
+/// True if a peer took what it is given, and its place ended so.
 fn is_right(peer: Option<&Peer<'_>>, case: &Case) -> bool {
     match peer {
         Some(peer) => peer.end == case.end && peer.taken.as_slice() == case.given.as_bytes(),
@@ -213,7 +213,7 @@ fn is_right(peer: Option<&Peer<'_>>, case: &Case) -> bool {
     }
 }
 
-/// The first case whose peer took something else, or whose place ended otherwise, where a table of three rows comes between rounds.
+/// Returns the first case whose peer took something else, or whose place ended otherwise, where a table of three rows comes between rounds.
 fn first_wrong(
     alloc: Global,
     cases: &[Case],

@@ -38,7 +38,7 @@ impl<'a> Peer<'a> {
         }
     }
 
-    /// What this call finds.
+    /// Returns what this call finds.
     fn call(&mut self) -> Result<(), PeerFault> {
         self.calls = self.calls.saturating_add(1);
         if self.calls == self.script.lost_at {

@@ -43,7 +43,7 @@ impl Model for Columns {
 }
 
 impl Columns {
-    /// No columns, and no rows.
+    /// Returns no columns, and no rows.
     pub fn none(alloc: Global) -> Columns
         ensures { result ≡ no_columns }
     {
@@ -53,7 +53,7 @@ impl Columns {
         }
     }
 
-    /// No rows yet, for the columns of a table.
+    /// Returns no rows yet, for the columns of a table.
     pub fn new(alloc: Global, columns: &[Column]) -> Result<Columns, AllocError>
         ensures { IfOk result (λ made.
             made ≡ record { kinds = kinds_of (map column_view columns.now); rows = [] }) }
@@ -108,7 +108,7 @@ impl Columns {
         self.numbers.clear();
     }
 
-    /// Appends the rows of a block with these numbers. Where memory ran out, no column is left.
+    /// Appends the rows of a block with these numbers. If memory ran out, no column is left.
     pub fn take(
         &mut self,
         alloc: Global,
@@ -132,7 +132,7 @@ impl Columns {
         }
     }
 
-    /// Appends the values that the rows of a block with these numbers have in the columns with these places. Where memory ran out, no column is left.
+    /// Appends the values that the rows of a block with these numbers have in the columns with these places. If memory ran out, no column is left.
     pub fn take_places(
         &mut self,
         alloc: Global,
@@ -157,14 +157,14 @@ impl Columns {
         Ok(())
     }
 
-    /// How many rows there are.
+    /// Returns how many rows there are.
     pub fn len(&self) -> usize
         ensures { result ≡ length self.now.rows }
     {
         self.numbers.len()
     }
 
-    /// How many columns there are.
+    /// Returns how many columns there are.
     pub fn width(&self) -> usize
         ensures { result ≡ length self.now.kinds }
     {
@@ -178,7 +178,7 @@ impl Columns {
         let _store = &self.store; // a look at a field brings the invariant into sight
     }
 
-    /// The value of a row and a column, both counted from 0. It takes no memory.
+    /// Returns the value of a row and a column, both counted from 0. It takes no memory.
     #[inline(always)]
     pub fn value(&self, row: usize, col: usize) -> Value<'_>
         requires row { row < length self.now.rows }
@@ -189,7 +189,7 @@ impl Columns {
         self.store.value(self.numbers.at(row) as usize, col)
     }
 
-    /// A row, counted from 0. It takes no memory, and where several values of a row are asked for, it is the faster way.
+    /// Returns a row, counted from 0. It takes no memory, and where several values of a row are asked for, it is the faster way.
     #[inline(always)]
     pub fn lent_row(&self, row: usize) -> LentRow<'_>
         requires { row < length self.now.rows }
@@ -199,7 +199,7 @@ impl Columns {
         LentRow::of(&self.store, self.numbers.at(row) as usize)
     }
 
-    /// The text of a row and a column, both counted from 0; nothing where the value is null, or no text. It takes no memory.
+    /// Returns the text of a row and a column, both counted from 0, or `None` if the value is null, or no text. It takes no memory.
     pub fn text(&self, row: usize, col: usize) -> Option<&str>
         requires row { row < length self.now.rows }
         requires col { col < length self.now.kinds }
@@ -209,7 +209,7 @@ impl Columns {
         self.store.text(self.numbers.at(row) as usize, col)
     }
 
-    /// A code for each row by its value in a column, counted from 0; nothing where the rows are not all of one block, or it has none for the column.
+    /// Returns a code for each row by its value in a column, counted from 0; nothing where the rows are not all of one block, or it has none for the column.
     pub fn codes(&self, alloc: Global, col: usize) -> Result<Option<Vec<u8>>, AllocError>
         requires { col < length self.now.kinds }
         ensures { IfOk result (λ codes.
@@ -218,7 +218,7 @@ impl Columns {
         self.store.codes(alloc, &self.numbers, col)
     }
 
-    /// The cells of a column as they are packed, where the rows are all those of one block, in their order; nothing where they are others, or the column has texts.
+    /// Returns the cells of a column as they are packed, if the rows are all those of one block, in their order, or `None` if they are others, or the column has texts.
     pub fn packed(&self, col: usize) -> Option<&PackedColumn>
         requires { col < length self.now.kinds }
         ensures { IfSome result (λ cells. cells.now ≡ column_of self.now.rows col) }
@@ -227,7 +227,7 @@ impl Columns {
         self.store.packed(run, col)
     }
 
-    /// The values of a row, counted from 0.
+    /// Returns the values of a row, counted from 0.
     pub fn row(&self, alloc: Global, row: usize) -> Result<Vec<Value<'_>>, AllocError>
         requires { row < length self.now.rows }
         ensures { IfOk result
@@ -242,7 +242,7 @@ impl Columns {
         Ok(values)
     }
 
-    /// The values that the rows with these numbers have in the columns with these places, each counted from 0.
+    /// Returns the values that the rows with these numbers have in the columns with these places, each counted from 0.
     pub fn picked(
         &self,
         alloc: Global,
@@ -260,7 +260,7 @@ impl Columns {
         Ok(Columns { store, numbers })
     }
 
-    /// From now on the rows take a bit for each row of their table, where enough of it are kept. Where memory ran out, no column is left.
+    /// From now on the rows take a bit for each row of their table, where enough of it are kept. If memory ran out, no column is left.
     pub fn compact(&mut self, alloc: Global) -> Result<(), AllocError>
         ensures same { OnOk result (self.new ≡ self.old) }
         ensures refused { OnErr result (self.new ≡ no_columns) }
@@ -274,7 +274,7 @@ impl Columns {
         Ok(())
     }
 
-    /// The rows with these numbers, counted from 0, take the place of all. An error leaves the rows as they were.
+    /// Returns the rows with these numbers, counted from 0, take the place of all. An error leaves the rows as they were.
     pub fn put_in_order(&mut self, alloc: Global, numbers: &[usize]) -> Result<(), AllocError>
         requires { All (λ number. number < length self.old.rows) numbers.now }
         ensures kinds { self.new.kinds ≡ self.old.kinds }

@@ -27,7 +27,7 @@ impl<'a> Model for LentRow<'a> {
 }
 
 impl<'a> LentRow<'a> {
-    /// The row with a number.
+    /// Returns the row with a number.
     #[inline(always)]
     pub(crate) fn of(store: &'a Store, number: usize) -> LentRow<'a>
         requires wide { IsStoredWide store.now }
@@ -37,7 +37,7 @@ impl<'a> LentRow<'a> {
         LentRow { store, number }
     }
 
-    /// The value in a column, counted from 0. It takes no memory.
+    /// Returns the value in a column, counted from 0. It takes no memory.
     #[inline(always)]
     pub fn value(&self, col: usize) -> Value<'a>
         requires { col < length self.now }

@@ -76,7 +76,7 @@ fn word_of(before: &[u32], count: usize, n: usize) -> usize
 }
 
 impl Marks {
-    /// No numbers.
+    /// Returns no numbers.
     pub(crate) fn none(alloc: Global) -> Marks
         ensures { result ≡ [] }
     {
@@ -90,7 +90,7 @@ impl Marks {
         }
     }
 
-    /// How many there are.
+    /// Returns how many there are.
     #[inline(always)]
     pub(crate) fn len(&self) -> usize
         ensures all { result ≡ length self.now }
@@ -99,7 +99,7 @@ impl Marks {
         self.count
     }
 
-    /// The number at a place.
+    /// Returns the number at a place.
     pub(crate) fn at(&self, place: usize) -> u32
         requires { place < length self.now }
         ensures { result ≡ slice_index_or self.now place 0 }
@@ -116,18 +116,18 @@ impl Marks {
         )
     }
 
-    /// Whether a number is not so far away that too few would be marked for the words that they take.
+    /// True if a number is not so far away that too few would be marked for the words that they take.
     pub(crate) fn has_room(&self, number: u32) -> bool {
         let most = self.base + self.count / 4 + SPARE_WORDS;
         self.count == 0 || number as usize / 64 <= most
     }
 
-    /// The number of the last word.
+    /// Returns the number of the last word.
     fn last_word(&self) -> usize {
         self.base + self.words.len()
     }
 
-    /// The first word has this number, where no number is marked.
+    /// The first word has this number, if no number is marked.
     fn begin_at(&mut self, word: usize)
         requires { word < 2 ^ 26 }
         ensures { self.new ≡ self.old }
@@ -153,7 +153,7 @@ impl Marks {
         Ok(())
     }
 
-    /// The bit of a word is set, where that is the last word and no bit from it on is set; whether it was.
+    /// Returns the bit of a word is set, if that is the last word and no bit from it on is set; whether it was.
     fn mark(&mut self, word: usize, bit: u32) -> bool
         requires { bit < 64 }
         ensures { self.new ≡ (if result then self.old ++ (word * 64 + bit) ∷ [] else self.old) }
@@ -166,7 +166,7 @@ impl Marks {
         true
     }
 
-    /// The number comes after the others, where it is greater than they are and is not too far away; whether it did.
+    /// Returns the number comes after the others, if it is greater than they are and is not too far away; whether it did.
     pub(crate) fn push(&mut self, number: u32) -> Result<bool, AllocError>
         ensures { IfOk result (λ came.
             self.new ≡ (if came then self.old ++ number ∷ [] else self.old)) }

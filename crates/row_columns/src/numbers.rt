@@ -7,7 +7,7 @@ ghost use Rattle.row_columns.specs.Numbers.{numbers_from};
 use block_summary::BLOCK_ROWS;
 use std::alloc::{AllocError, Global};
 
-/// The numbers of the rows.
+/// Returns the numbers of the rows.
 pub(crate) fn all_numbers(alloc: Global, len: usize) -> Result<Vec<usize>, AllocError>
     ensures { IfOk result (λ made. made.items ≡ numbers_from 0 len) }
 {
@@ -31,7 +31,7 @@ fn write_after(start: usize, numbers: &[usize], out: &mut [u32])
     }
 }
 
-/// The numbers, each greater by a start.
+/// Returns the numbers, each greater by a start.
 pub(crate) fn numbers_after(
     alloc: Global,
     start: usize,
@@ -45,7 +45,7 @@ pub(crate) fn numbers_after(
     Ok(made)
 }
 
-/// Whether all the numbers are of rows of one block. All are looked at, so that it runs in lanes.
+/// True if all the numbers are of rows of one block. All are looked at, so that it runs in lanes.
 pub(crate) fn are_of_block(numbers: &[u32], block: usize) -> bool
     ensures { IsTrue result → (i : ℕ) → i < length numbers.now
         → slice_index_or numbers.now i 0 / BLOCK_ROWS ≡ block }
@@ -57,7 +57,7 @@ pub(crate) fn are_of_block(numbers: &[u32], block: usize) -> bool
     same
 }
 
-/// Writes the codes of the rows of a block that have these numbers; false where one has none.
+/// Writes the codes of the rows of a block that have these numbers; false if one has none.
 fn write_codes(codes: &[u8], numbers: &[u32], out: &mut [u8]) -> bool
     requires { length out.old ≡ length numbers.now }
     ensures long { length out.new ≡ length numbers.now }
@@ -77,7 +77,7 @@ fn write_codes(codes: &[u8], numbers: &[u32], out: &mut [u8]) -> bool
     true
 }
 
-/// The codes of the rows of a block that have these numbers; nothing where one has none.
+/// Returns the codes of the rows of a block that have these numbers; nothing if one has none.
 pub(crate) fn codes_at(
     alloc: Global,
     codes: &[u8],

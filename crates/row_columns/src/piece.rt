@@ -53,7 +53,7 @@ impl Piece {
         Ok(Piece { columns })
     }
 
-    /// The value of a row and a column; null past the rows.
+    /// Returns the value of a row and a column; null past the rows.
     #[inline(always)]
     pub(crate) fn value(&self, row: usize, col: usize) -> Value<'_>
         requires { col < length self.now }
@@ -62,7 +62,7 @@ impl Piece {
         self.columns[col].value(row)
     }
 
-    /// The text of a row and a column; nothing where the value is null, or no text, and past the rows.
+    /// Returns the text of a row and a column, or `None` if the value is null, or no text, and past the rows.
     #[inline(always)]
     pub(crate) fn text(&self, row: usize, col: usize) -> Option<&str>
         requires { col < length self.now }
@@ -76,7 +76,7 @@ impl Piece {
         texts.text(row)
     }
 
-    /// The cells of a column as they are packed; nothing for texts.
+    /// Returns the cells of a column as they are packed; nothing for texts.
     pub(crate) fn packed(&self, col: usize) -> Option<&PackedColumn>
         requires { col < length self.now }
         ensures { IfSome result (λ cells. (row : ℕ) → slice_index_or cells.now row null
@@ -85,7 +85,7 @@ impl Piece {
         self.columns[col].packed()
     }
 
-    /// The codes of all rows by their values in a column, where it has codes.
+    /// Returns the codes of all rows by their values in a column, if it has codes.
     pub(crate) fn codes(&self, col: usize) -> Option<&[u8]>
         requires { col < length self.now }
         ensures { IfSome result (λ codes. HaveCodesAt codes.now col (piece_row self.now)) }
@@ -95,7 +95,7 @@ impl Piece {
         Some(codes.codes.as_slice())
     }
 
-    /// The columns with these places.
+    /// Returns the columns with these places.
     pub(crate) fn picked(&self, alloc: Global, places: &[usize]) -> Result<Piece, AllocError>
         requires { All (λ place. place < length self.now) places.now }
         ensures { IfOk result (λ piece.

@@ -34,7 +34,7 @@ impl Model for RowNumbers {
     ghost invariant = { λ numbers. numbers.first + numbers.count ≤ 2 ^ 32 };
 }
 
-/// Whether numbers go from one on, each greater by 1. All are looked at, so that it runs in lanes.
+/// True if numbers go from one on, each greater by 1. All are looked at, so that it runs in lanes.
 fn rise_from(numbers: &[usize], first: usize) -> bool
     requires { first + length numbers.now < 2 ^ 64 }
     ensures { IsTrue result → numbers.now ≡ numbers_from first (length numbers.now) }
@@ -68,7 +68,7 @@ fn push_marks(listed: &mut Vec<u32>, marks: &Marks) -> Result<(), AllocError>
 }
 
 impl RowNumbers {
-    /// No numbers.
+    /// Returns no numbers.
     pub(crate) fn none(alloc: Global) -> RowNumbers
         ensures { result ≡ [] }
     {
@@ -80,12 +80,12 @@ impl RowNumbers {
         }
     }
 
-    /// The numbers from one on up to another.
+    /// Returns the numbers from one on up to another.
     pub(crate) fn between(alloc: Global, start: usize, end: usize) -> Result<RowNumbers, AllocError>
         requires { start ≤ end }
         ensures { IfOk result (λ made. made ≡ numbers_from start (end - start)) }
     {
-        // Rows of so many values would not fit in memory.
+        // That many rows of values would not fit in memory.
         if end > NUMBERS {
             return Err(AllocError);
         }
@@ -97,7 +97,7 @@ impl RowNumbers {
         })
     }
 
-    /// The numbers, each greater by a start.
+    /// Returns the numbers, each greater by a start.
     pub(crate) fn after(
         alloc: Global,
         start: usize,
@@ -137,14 +137,14 @@ impl RowNumbers {
         self.listed.clear();
     }
 
-    /// How many there are.
+    /// Returns how many there are.
     pub(crate) fn len(&self) -> usize
         ensures { result ≡ length self.now }
     {
         self.count + self.marks.len() + self.listed.len()
     }
 
-    /// The number at a place.
+    /// Returns the number at a place.
     #[inline(always)]
     pub(crate) fn at(&self, place: usize) -> u32
         requires { place < length self.now }
@@ -161,7 +161,7 @@ impl RowNumbers {
         }
     }
 
-    /// The first of them and how many they are, where they rise one by one.
+    /// Returns the first of them and how many they are, if they rise one by one.
     pub(crate) fn run(&self) -> Option<(usize, usize)>
         ensures run { IfSome result (λ run. self.now ≡ numbers_from run.0 run.1) }
         ensures few { IfSome result (λ run. run.0 + run.1 ≤ 2 ^ 32) }
@@ -173,7 +173,7 @@ impl RowNumbers {
         }
     }
 
-    /// Whether each is greater than the one before it. So it is where none is listed; where only some are, it is not looked for, and the answer is no.
+    /// True if each is greater than the one before it. So it is if none is listed; where only some are, it is not looked for, and the answer is no.
     pub(crate) fn rise(&self) -> bool {
         if self.listed.is_empty() {
             return true;
@@ -186,7 +186,7 @@ impl RowNumbers {
         rise
     }
 
-    /// All of them, one by one.
+    /// Returns all of them, one by one.
     pub(crate) fn to_vec(&self, alloc: Global) -> Result<Vec<u32>, AllocError>
         ensures { IfOk result (λ made. made.items ≡ self.now) }
     {
@@ -216,7 +216,7 @@ impl RowNumbers {
         self.listed.extend_from_slice(more.listed.as_slice())
     }
 
-    /// One more comes after them, marked where that may be.
+    /// One more comes after them, marked if that may be.
     fn push(&mut self, number: u32) -> Result<(), AllocError>
         ensures { OnOk result (self.new ≡ self.old ++ number ∷ []) }
     {
@@ -226,7 +226,7 @@ impl RowNumbers {
         Ok(())
     }
 
-    /// Those that are listed take a bit each from now on, where they rise and enough of their table's are kept. Where memory ran out, not all are left.
+    /// Those that are listed take a bit each from now on, where they rise and enough of their table's are kept. If memory ran out, not all are left.
     pub(crate) fn compact(&mut self, alloc: Global) -> Result<(), AllocError>
         ensures { OnOk result (self.new ≡ self.old) }
     {

@@ -34,7 +34,7 @@ pub(crate) enum Store {
     Values(usize, Vec<Vec<Value<'static>>>),
 }
 
-/// What the numbers of each column stand for; nothing for texts.
+/// Returns what the numbers of each column stand for; nothing for texts.
 pub(crate) fn types_of(
     alloc: Global,
     columns: &[Column],
@@ -49,7 +49,7 @@ pub(crate) fn types_of(
     Ok(made)
 }
 
-/// What the numbers of those of the columns stand for that have these places; nothing for texts.
+/// Returns what the numbers of those of the columns stand for that have these places; nothing for texts.
 pub(crate) fn types_at(
     alloc: Global,
     columns: &[Column],
@@ -83,7 +83,7 @@ fn types_picked(
     Ok(made)
 }
 
-/// The pieces with only the columns that have these places.
+/// Returns the pieces with only the columns that have these places.
 fn pieces_picked(
     alloc: Global,
     pieces: &[Piece],
@@ -100,7 +100,7 @@ fn pieces_picked(
 }
 
 impl Store {
-    /// No columns, and no rows.
+    /// Returns no columns, and no rows.
     pub(crate) fn none(alloc: Global) -> Store
         ensures kinds { stored_kinds result ≡ [] }
         ensures end { end_of result ≡ 0 }
@@ -109,7 +109,7 @@ impl Store {
         Store::Blocks(Vec::new(alloc), Vec::new(alloc))
     }
 
-    /// How many columns there are.
+    /// Returns how many columns there are.
     pub(crate) fn width(&self) -> usize
         ensures { result ≡ length (stored_kinds self.now) }
     {
@@ -119,7 +119,7 @@ impl Store {
         }
     }
 
-    /// The value of the row with a number.
+    /// Returns the value of the row with a number.
     #[inline(always)]
     pub(crate) fn value(&self, number: usize, col: usize) -> Value<'_>
         requires wide { IsStoredWide self.now }
@@ -133,7 +133,7 @@ impl Store {
         }
     }
 
-    /// The text of the row with a number; nothing where the value is null, or no text.
+    /// Returns the text of the row with a number, or `None` if the value is null, or no text.
     #[inline(always)]
     pub(crate) fn text(&self, number: usize, col: usize) -> Option<&str>
         requires wide { IsStoredWide self.now }
@@ -170,7 +170,7 @@ impl Store {
         Some(cells)
     }
 
-    /// The codes of the rows with these numbers by their values in a column, where all are of the last block and it has such codes.
+    /// Returns the codes of the rows with these numbers by their values in a column, where all are of the last block and it has such codes.
     pub(crate) fn codes(
         &self,
         alloc: Global,
@@ -205,7 +205,7 @@ impl Store {
         codes_at(alloc, codes, listed.as_slice())
     }
 
-    /// The rows under the same numbers, in the columns with these places.
+    /// Returns the rows under the same numbers, in the columns with these places.
     pub(crate) fn picked(&self, alloc: Global, places: &[usize]) -> Result<Store, AllocError>
         requires wide { IsStoredWide self.now }
         requires places { All (λ place. place < length (stored_kinds self.now)) places.now }

@@ -14,7 +14,7 @@ struct Turn {
     place: usize,
 }
 
-/// The places of numbers, each with its number, the least number first.
+/// Returns the places of numbers, each with its number, the least number first.
 fn turns_of(alloc: Global, numbers: &RowNumbers) -> Result<Vec<Turn>, AllocError>
     ensures { IfOk result (λ made. IsPermutation
         (numbers_from 0 (length numbers.now)) (map (λ turn. turn.place) made.items)) }

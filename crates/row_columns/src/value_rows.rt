@@ -11,7 +11,7 @@ use cell_types::Value;
 use std::alloc::{AllocError, Global};
 use table_store::Block;
 
-/// The text of a value; nothing where it is null, or no text.
+/// Returns the text of a value, or `None` if it is null, or no text.
 pub(crate) fn text_of<'a>(value: &'a Value<'static>) -> Option<&'a str>
     ensures { option_map (λ t. t.now) result ≡ text_of_cell (value_view value.now) }
 {

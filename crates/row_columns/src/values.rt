@@ -20,7 +20,7 @@ pub fn lent<'a>(value: &'a Value<'static>) -> Value<'a>
     }
 }
 
-/// A copy of a value that lives on its own.
+/// Returns a copy of a value that lives on its own.
 pub fn owned(alloc: Global, value: &Value<'_>) -> Result<Value<'static>, AllocError>
     ensures { IfOk result (λ copy. value_view copy ≡ value_view value.now) }
 {

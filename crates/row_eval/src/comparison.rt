@@ -9,7 +9,7 @@ ghost use Rattle.row_eval.specs.Comparison.{compared, holds as holds_of, is_amon
 use std::cmp::Ordering;
 use typed_trees::ComparisonOperator;
 
-/// Whether a comparison holds of values in an order; none stands for a value beside null.
+/// True if a comparison holds of values in an order; none stands for a value beside null.
 pub fn holds(operator: ComparisonOperator, order: Option<Ordering>) -> bool
     ensures { result ≡ holds_of operator order }
 {
@@ -25,7 +25,7 @@ pub fn holds(operator: ComparisonOperator, order: Option<Ordering>) -> bool
     }
 }
 
-/// The order of numbers.
+/// Returns the order of numbers.
 pub(crate) fn number_order(left: Option<i128>, right: Option<i128>) -> Option<Ordering>
     ensures { result ≡ compared int_cmp left right }
 {
@@ -36,7 +36,7 @@ pub(crate) fn number_order(left: Option<i128>, right: Option<i128>) -> Option<Or
     }
 }
 
-/// The order of truths.
+/// Returns the order of truths.
 pub(crate) fn boolean_order(left: Option<bool>, right: Option<bool>) -> Option<Ordering>
     ensures { result ≡ compared bool_cmp left right }
 {
@@ -47,7 +47,7 @@ pub(crate) fn boolean_order(left: Option<bool>, right: Option<bool>) -> Option<O
     }
 }
 
-/// The order of texts, by their characters.
+/// Returns the order of texts, by their characters.
 pub(crate) fn text_order(left: Option<&str>, right: Option<&str>) -> Option<Ordering>
     ensures { result ≡ compared (slice_cmp nat_cmp) (option_map (λ t. t.now) left.entry)
         (option_map (λ t. t.now) right.entry) }
@@ -59,14 +59,14 @@ pub(crate) fn text_order(left: Option<&str>, right: Option<&str>) -> Option<Orde
     }
 }
 
-/// Whether the order is that of equal values.
+/// True if the order is that of equal values.
 fn is_equal(order: Option<Ordering>) -> bool
     ensures { result ≡ is_equal_of order }
 {
     matches!(order, Some(Ordering::Equal))
 }
 
-/// Whether a number is one of a list.
+/// True if a number is one of a list.
 pub(crate) fn number_among(value: Option<i128>, items: &[Option<i128>]) -> bool
     ensures { result ≡ is_among int_cmp value items.now }
 {
@@ -78,7 +78,7 @@ pub(crate) fn number_among(value: Option<i128>, items: &[Option<i128>]) -> bool
     false
 }
 
-/// Whether a truth is one of a list.
+/// True if a truth is one of a list.
 pub(crate) fn boolean_among(value: Option<bool>, items: &[Option<bool>]) -> bool
     ensures { result ≡ is_among bool_cmp value items.now }
 {
@@ -90,7 +90,7 @@ pub(crate) fn boolean_among(value: Option<bool>, items: &[Option<bool>]) -> bool
     false
 }
 
-/// The text of an item.
+/// Returns the text of an item.
 fn item_text(item: &Option<String>) -> Option<&str>
     ensures { option_map (λ t. t.now) result ≡ optional_text item.now }
 {
@@ -100,7 +100,7 @@ fn item_text(item: &Option<String>) -> Option<&str>
     }
 }
 
-/// Whether a text is one of a list.
+/// True if a text is one of a list.
 pub(crate) fn text_among(value: Option<&str>, items: &[Option<String>]) -> bool
     ensures { result ≡ is_among (slice_cmp nat_cmp) (option_map (λ t. t.now) value.entry)
         (map optional_text items.now) }

@@ -20,7 +20,7 @@ use cell_types::Value;
 use std::alloc::Global;
 use typed_trees::{ComparisonOperator, TruthExpr};
 
-/// The truth in a column.
+/// Returns the truth in a column.
 fn boolean_at(row: &[Value<'_>], place: usize) -> Option<bool>
     ensures { result ≡ cell boolean_in (row_view row.now) place }
 {
@@ -30,7 +30,7 @@ fn boolean_at(row: &[Value<'_>], place: usize) -> Option<bool>
     }
 }
 
-/// A comparison of truths.
+/// Returns a comparison of truths.
 fn truths_hold(operator: ComparisonOperator, left: Truth, right: Truth) -> Truth
     ensures { result ≡ truth_of_bool
         (holds_of operator (compared bool_cmp (option_of_truth left) (option_of_truth right))) }
@@ -39,7 +39,7 @@ fn truths_hold(operator: ComparisonOperator, left: Truth, right: Truth) -> Truth
     truth_of(holds(operator, order))
 }
 
-/// A condition on a row.
+/// Returns a condition on a row.
 pub fn eval_truth(alloc: Global, expr: &TruthExpr, row: &[Value<'_>]) -> Result<Truth, EvalFault>
     requires { TruthFits (truth_view expr.now) (row_view row.now) }
     ensures { Evaluates (λ t. t) (truth_outcome (truth_view expr.now) (row_view row.now))

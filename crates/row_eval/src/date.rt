@@ -9,7 +9,7 @@ use cell_types::Value;
 use jiff_core::civil::Date;
 use typed_trees::{DateExpr, DatePart};
 
-/// A date on a row; none for null.
+/// Returns a date on a row; none for null.
 pub fn eval_date(expr: &DateExpr, row: &[Value<'_>]) -> Option<Date>
     ensures { optional_day result ≡ date_outcome (date_view expr.now) (row_view row.now) }
 {
@@ -23,7 +23,7 @@ pub fn eval_date(expr: &DateExpr, row: &[Value<'_>]) -> Option<Date>
     }
 }
 
-/// The year, the month or the day.
+/// Returns the year, the month or the day.
 fn part_in(part: DatePart, date: Date) -> i128
     ensures { result ≡ part_in_of part (day_view date) }
 {
@@ -34,7 +34,7 @@ fn part_in(part: DatePart, date: Date) -> i128
     }
 }
 
-/// The year, the month or the day of a date on a row; none for null.
+/// Returns the year, the month or the day of a date on a row; none for null.
 pub(crate) fn eval_part(part: DatePart, date: &DateExpr, row: &[Value<'_>]) -> Option<i128>
     ensures { result ≡ option_map (part_in_of part)
         (date_outcome (date_view date.now) (row_view row.now)) }

@@ -17,7 +17,7 @@ use jiff_core::civil::Date;
 use std::alloc::Global;
 use typed_trees::{ArithmeticOperator, MILLIONTHS, NumberExpr, NumberKind, day_number};
 
-/// Two numbers joined by an operator; none for a division by zero.
+/// Returns two numbers joined by an operator; none for a division by zero.
 fn operation(operator: ArithmeticOperator, left: i128, right: i128) -> Option<i128>
     requires { IfSome (operation_of operator left right) (FitsSigned w128) }
     ensures { result ≡ operation_of operator left right }
@@ -41,7 +41,7 @@ fn operation(operator: ArithmeticOperator, left: i128, right: i128) -> Option<i1
     }
 }
 
-/// Two numbers or nulls joined by an operator.
+/// Returns two numbers or nulls joined by an operator.
 fn computed(
     operator: ArithmeticOperator,
     left: Option<i128>,
@@ -59,14 +59,14 @@ fn computed(
     }
 }
 
-/// The number of a day.
+/// Returns the number of a day.
 fn number_of_day(date: Date) -> i128
     ensures { result ≡ number_of_day_of (day_view date) }
 {
     i128::from(day_number(date))
 }
 
-/// The number in a column of the kind; none for null.
+/// Returns the number in a column of the kind; none for null.
 fn number_at(row: &[Value<'_>], kind: NumberKind, place: usize) -> Option<i128>
     ensures { result ≡ cell (number_in_of kind) (row_view row.now) place }
 {
@@ -86,7 +86,7 @@ fn number_at(row: &[Value<'_>], kind: NumberKind, place: usize) -> Option<i128>
     }
 }
 
-/// A number on a row; none for null.
+/// Returns a number on a row; none for null.
 pub fn eval_number(
     alloc: Global,
     expr: &NumberExpr,

@@ -41,7 +41,7 @@ fn test_texts(test: TextTest, text: Option<&str>, part: Option<&str>) -> Option<
     }
 }
 
-/// A comparison of numbers.
+/// Returns a comparison of numbers.
 pub(crate) fn numbers_hold(
     alloc: Global,
     operator: ComparisonOperator,
@@ -59,7 +59,7 @@ pub(crate) fn numbers_hold(
     Ok(truth_of(holds(operator, number_order(left, right))))
 }
 
-/// A comparison of texts.
+/// Returns a comparison of texts.
 pub(crate) fn texts_hold(
     alloc: Global,
     operator: ComparisonOperator,
@@ -76,7 +76,7 @@ pub(crate) fn texts_hold(
     Ok(truth_of(holds(operator, order)))
 }
 
-/// Whether a number is one of a list.
+/// Returns whether a number is one of a list.
 pub(crate) fn number_is_in(
     alloc: Global,
     operand: &NumberExpr,
@@ -91,7 +91,7 @@ pub(crate) fn number_is_in(
     Ok(truth_of(number_among(value, items)))
 }
 
-/// Whether a text is one of a list.
+/// Returns whether a text is one of a list.
 pub(crate) fn text_is_in(
     alloc: Global,
     operand: &TextExpr,

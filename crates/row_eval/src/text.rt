@@ -16,7 +16,7 @@ use std::alloc::{AllocError, Global};
 use std::borrow::CowStr;
 use typed_trees::{TextExpr, TextTest};
 
-/// Two texts, one behind the other.
+/// Concatenates two texts.
 fn joined<'r>(alloc: Global, left: &str, right: &str) -> Result<CowStr<'r>, AllocError>
     ensures { IfOk result (λ text. cow_str_bytes text ≡ left.now ++ right.now) }
 {
@@ -25,7 +25,7 @@ fn joined<'r>(alloc: Global, left: &str, right: &str) -> Result<CowStr<'r>, Allo
     Ok(CowStr::Owned(text))
 }
 
-/// A text on a row; none for null. Memory is taken for `concat` alone.
+/// Returns a text on a row; none for null. Memory is taken for `concat` alone.
 pub fn eval_text<'r>(
     alloc: Global,
     expr: &'r TextExpr,
@@ -55,7 +55,7 @@ pub fn eval_text<'r>(
     }
 }
 
-/// How many characters a text has.
+/// Returns how many characters a text has.
 fn char_count(text: &str) -> usize
     ensures { result ≡ length (chars text.now) }
 {
@@ -69,14 +69,14 @@ pub(crate) fn length_in(text: &str) -> i128
     char_count(text) as i128
 }
 
-/// Whether a part stands somewhere in a text.
+/// True if a part stands somewhere in a text.
 pub fn has_part(text: &str, part: &str) -> bool
     ensures { result ≡ has_part_of text.now part.now }
 {
     memmem::find(text.as_bytes(), part.as_bytes()).is_some()
 }
 
-/// How many characters stand before the first place of a part; none where it is no part.
+/// Returns how many characters stand before the first place of a part, or `None` if it is no part.
 fn char_place(text: &str, part: &str) -> Option<usize>
     ensures { result ≡ place_of_part (chars text.now) (chars part.now) }
 {
@@ -84,7 +84,7 @@ fn char_place(text: &str, part: &str) -> Option<usize>
     Some(char_count(&text[..at]))
 }
 
-/// `indexof` of a text and a part: in characters from 0; -1 where it is no part.
+/// `indexof` of a text and a part: in characters from 0; -1 if it is no part.
 pub fn index_in(text: &str, part: &str) -> i128
     ensures { result ≡ index_in_of text.now part.now }
 {
@@ -94,14 +94,14 @@ pub fn index_in(text: &str, part: &str) -> i128
     }
 }
 
-/// Whether a text begins with a part.
+/// True if a text begins with a part.
 fn starts_with(text: &str, part: &str) -> bool
     ensures { result ≡ starts_with_of nat_eq text.now part.now }
 {
     text.starts_with(part)
 }
 
-/// Whether a text ends with a part.
+/// True if a text ends with a part.
 fn ends_with(text: &str, part: &str) -> bool
     ensures { result ≡ ends_with_of nat_eq text.now part.now }
 {

@@ -56,7 +56,7 @@ pub fn truth_of(value: bool) -> Truth
     if value { Truth::True } else { Truth::False }
 }
 
-/// A value, or none for null.
+/// Returns a value, or none for null.
 pub(crate) fn optional_truth(value: Option<bool>) -> Truth
     ensures { result ≡ truth_of_option value }
 {
@@ -66,7 +66,7 @@ pub(crate) fn optional_truth(value: Option<bool>) -> Truth
     }
 }
 
-/// The value of a truth; none for null.
+/// Returns the value of a truth; none for null.
 pub(crate) fn truth_value(truth: Truth) -> Option<bool>
     ensures { result ≡ option_of_truth truth }
 {

@@ -11,7 +11,7 @@ use crate::kept::{kept_greatest, kept_least};
 use cell_types::Value;
 use row_columns::Columns;
 
-/// The least value that rows have in a column; null where they have none.
+/// Returns the least value that rows have in a column; null if they have none.
 pub(crate) fn least<'a>(columns: &'a Columns, numbers: &[usize], place: usize) -> Value<'a>
     requires within { All (λ number. number < length columns.now.rows) numbers.now }
     requires place { place < length columns.now.kinds }
@@ -30,7 +30,7 @@ pub(crate) fn least<'a>(columns: &'a Columns, numbers: &[usize], place: usize) -
     least
 }
 
-/// The greatest value that rows have in a column; null where they have none.
+/// Returns the greatest value that rows have in a column; null if they have none.
 pub(crate) fn greatest<'a>(columns: &'a Columns, numbers: &[usize], place: usize) -> Value<'a>
     requires within { All (λ number. number < length columns.now.rows) numbers.now }
     requires place { place < length columns.now.kinds }
@@ -49,7 +49,7 @@ pub(crate) fn greatest<'a>(columns: &'a Columns, numbers: &[usize], place: usize
     greatest
 }
 
-/// The lesser of two values, the first of equal ones; null counts as none.
+/// Returns the lesser of two values, the first of equal ones; null counts as none.
 fn lesser<'a>(value: Value<'a>, other: Value<'a>) -> Value<'a>
     ensures { value_view result ≡ lesser_value (value_view value.entry) (value_view other.entry) }
 {
@@ -67,7 +67,7 @@ fn lesser<'a>(value: Value<'a>, other: Value<'a>) -> Value<'a>
     }
 }
 
-/// The greater of two values, the first of equal ones; null counts as none.
+/// Returns the greater of two values, the first of equal ones; null counts as none.
 fn greater<'a>(value: Value<'a>, other: Value<'a>) -> Value<'a>
     ensures { value_view result ≡ greater_value (value_view value.entry) (value_view other.entry) }
 {
@@ -85,7 +85,7 @@ fn greater<'a>(value: Value<'a>, other: Value<'a>) -> Value<'a>
     }
 }
 
-/// Whether a value is null.
+/// True if a value is null.
 pub(crate) fn is_null(value: &Value<'_>) -> bool
     ensures { result ≡ not (is_value (value_view value.now)) }
 {

@@ -50,7 +50,7 @@ impl Gathering {
         }
     }
 
-    /// The rows with these numbers join, behind those that did before. Where memory ran out, it is not known which did.
+    /// Joins the rows with these numbers to those before. If memory ran out, it is not known which rows joined.
     pub fn join(
         &mut self,
         alloc: Global,
@@ -76,7 +76,7 @@ impl Gathering {
         }
     }
 
-    /// The one row of `aggregate`, or the rows of `groupby`, of all rows that joined, in columns of any. Groups are in the order of their first rows.
+    /// Returns the one row of `aggregate`, or the rows of `groupby`, of all rows that joined, in columns of any. Groups are in the order of their first rows.
     pub fn finish(self, alloc: Global) -> Result<Columns, AllocError>
         requires { (places : Option (List ℕ)) × (aggregates : List NamedAggregateOf)
             × (rows : List (List CellValue)) × Gathers self places aggregates rows }
@@ -91,7 +91,7 @@ impl Gathering {
     }
 }
 
-/// What the aggregates compute of the rows with these numbers, or of their groups by their values in columns.
+/// Returns what the aggregates compute of the rows with these numbers, or of their groups by their values in columns.
 pub fn gathered(
     alloc: Global,
     columns: &Columns,
@@ -115,7 +115,7 @@ pub fn gathered(
     gathering.finish(alloc)
 }
 
-/// The aggregates without their names.
+/// Returns the aggregates without their names.
 fn aggregates_of(alloc: Global, aggregates: &[NamedAggregate]) -> Result<Vec<Aggregate>, AllocError>
     ensures { IfOk result (λ made. made.items
         ≡ map (λ a. a.aggregate) (map named_view aggregates.now)) }

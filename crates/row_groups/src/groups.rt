@@ -35,7 +35,7 @@ pub(crate) struct Groups {
 }
 
 impl Groups {
-    /// No groups.
+    /// Returns no groups.
     pub(crate) fn none(alloc: Global) -> Groups
         ensures groups { (places : List ℕ) (aggregates : List Aggregate)
             → HasGroups (Some places) aggregates result [] }
@@ -58,7 +58,7 @@ impl Groups {
         Ok(groups)
     }
 
-    /// The rows with these numbers join the one group of all rows.
+    /// Returns the rows with these numbers join the one group of all rows.
     pub(crate) fn join_whole(
         &mut self,
         alloc: Global,
@@ -75,7 +75,7 @@ impl Groups {
         join_each(alloc, &mut self.tallies[0], columns, numbers, aggregates)
     }
 
-    /// The rows with these numbers join the groups of their values.
+    /// Returns the rows with these numbers join the groups of their values.
     pub(crate) fn join_rows(
         &mut self,
         alloc: Global,
@@ -100,7 +100,7 @@ impl Groups {
         self.join_each_row(alloc, columns, numbers, grouping)
     }
 
-    /// The rows with these numbers join the groups of their values, one after another.
+    /// Returns the rows with these numbers join the groups of their values, one after another.
     fn join_each_row(
         &mut self,
         alloc: Global,
@@ -129,7 +129,7 @@ impl Groups {
         Ok(())
     }
 
-    /// The group of a key. One of no rows comes after the others where the key is none of theirs; the key is looked up before it is copied.
+    /// Returns the group of a key. One of no rows comes after the others where the key is none of theirs; the key is looked up before it is copied.
     pub(crate) fn group_of(
         &mut self,
         alloc: Global,
@@ -197,7 +197,7 @@ fn read_key<'a>(
     Ok(())
 }
 
-/// A copy of a key that lives on its own.
+/// Returns a copy of a key that lives on its own.
 fn owned_key(alloc: Global, key: &[Value<'_>]) -> Result<Vec<Value<'static>>, AllocError>
     ensures { IfOk result (λ copy. map value_view copy.items ≡ map value_view key.now) }
 {

@@ -35,7 +35,7 @@ fn are_all(numbers: &[usize], len: usize) -> bool
     same
 }
 
-/// The column of these rows as it is kept, where they are all that there are.
+/// Returns the column of these rows as it is kept, if they are all that there are.
 fn whole_column<'a>(
     columns: &'a Columns,
     numbers: &[usize],
@@ -52,7 +52,7 @@ fn whole_column<'a>(
     Some(cells)
 }
 
-/// The least value that these rows have in a column, null where they have none; nothing where it is not told by how the column is kept. No number is looked at.
+/// Returns the least value that these rows have in a column, null if they have none, or `None` if it is not told by how the column is kept. No number is looked at.
 pub(crate) fn kept_least(
     columns: &Columns,
     numbers: &[usize],
@@ -72,7 +72,7 @@ pub(crate) fn kept_least(
     }
 }
 
-/// The greatest of them.
+/// Returns the greatest of them.
 pub(crate) fn kept_greatest(
     columns: &Columns,
     numbers: &[usize],
@@ -92,7 +92,7 @@ pub(crate) fn kept_greatest(
     }
 }
 
-/// Whether numbers of that type are summed so.
+/// True if numbers of that type are summed so.
 fn is_summed(packed_type: PackedType, summed: Summed) -> bool
     ensures { IsTrue result → packed_type ≡ summed_type summed }
 {
@@ -103,7 +103,7 @@ fn is_summed(packed_type: PackedType, summed: Summed) -> bool
     }
 }
 
-/// The column of all rows as it is kept, where it has numbers of that kind.
+/// Returns the column of all rows as it is kept, if it has numbers of that kind.
 fn kept_column(columns: &Columns, place: usize, summed: Summed) -> Option<&PackedColumn>
     requires { place < length columns.now.kinds }
     ensures { IfSome result
@@ -116,7 +116,7 @@ fn kept_column(columns: &Columns, place: usize, summed: Summed) -> Option<&Packe
     Some(column)
 }
 
-/// The sum of all numbers of a column; None where it has none. No number is looked at.
+/// Returns the sum of all numbers of a column; None if it has none. No number is looked at.
 fn whole_sum(column: &PackedColumn) -> Option<i128>
     ensures { (summed : Summed)
         → cells_of_type (summed_type summed) (numbers_of column.now) ≡ column.now
@@ -128,7 +128,7 @@ fn whole_sum(column: &PackedColumn) -> Option<i128>
     Some(column.sum())
 }
 
-/// The sum of the numbers that a column has in some rows; None where it has none there. It goes from the last row to the first.
+/// Returns the sum of the numbers that a column has in some rows; None if it has none there. It goes from the last row to the first.
 fn part_sum(column: &PackedColumn, numbers: &[usize]) -> Option<i128>
     requires { AreSummable (numbers_at column.now numbers.now) (length numbers.now) }
     ensures { result ≡ sum_of (numbers_at column.now numbers.now) }
@@ -144,7 +144,7 @@ fn part_sum(column: &PackedColumn, numbers: &[usize]) -> Option<i128>
     sum
 }
 
-/// The sum of the numbers of that kind that rows have in a column; None where they have none.
+/// Returns the sum of the numbers of that kind that rows have in a column; None if they have none.
 pub(crate) fn sum_of_rows(
     columns: &Columns,
     numbers: &[usize],

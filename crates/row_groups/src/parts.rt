@@ -15,7 +15,7 @@ use odata_query::Aggregate;
 use row_columns::Columns;
 use std::alloc::{AllocError, Global};
 
-/// Where there are no more groups than that, rows are parted by them before they join.
+/// Up to this many groups, rows are separated by them before they join.
 const MOST_PARTS: usize = 1024;
 
 /// A row of columns.
@@ -26,7 +26,7 @@ struct RowAt<'a> {
 }
 
 impl Groups {
-    /// The groups of the rows with these numbers, each looked up by the code of its values, where there are such codes and few groups.
+    /// Returns the groups of the rows with these numbers, each looked up by the code of its values if there are such codes and few groups.
     pub(crate) fn groups_of(
         &mut self,
         alloc: Global,
@@ -64,7 +64,7 @@ impl Groups {
         Ok(Some(groups))
     }
 
-    /// The group of a row, which is known, or looked up by the row's values; it is known from then on.
+    /// Returns the group of a row, which is known, or looked up by the row's values; it is known from then on.
     #[inline(always)]
     fn group_of_row(
         &mut self,
@@ -95,7 +95,7 @@ impl Groups {
         }
     }
 
-    /// The group of the values of a row.
+    /// Returns the group of the values of a row.
     fn group_of_values(
         &mut self,
         alloc: Global,
@@ -114,7 +114,7 @@ impl Groups {
         self.group_of(alloc, key.as_slice(), grouping.aggregates)
     }
 
-    /// The rows join of which each group has a part.
+    /// Returns the rows join of which each group has a part.
     pub(crate) fn join_parts(
         &mut self,
         alloc: Global,
@@ -144,7 +144,7 @@ impl Groups {
     }
 }
 
-/// The values that a row has in the columns with these places.
+/// Returns the values that a row has in the columns with these places.
 fn key_of<'a>(
     alloc: Global,
     columns: &'a Columns,
@@ -183,7 +183,7 @@ pub(crate) fn parts_of(
     Ok(parts)
 }
 
-/// No group is known of any of so many codes.
+/// Returns no known group for any of `count` codes.
 fn none_known(alloc: Global, count: usize) -> Result<Vec<Option<usize>>, AllocError>
     ensures long { IfOk result (λ known. length known.items ≡ count) }
     ensures none { IfOk result (λ known.

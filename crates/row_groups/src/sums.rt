@@ -17,7 +17,7 @@ pub(crate) enum Summed {
     Decimals,
 }
 
-/// The sum of the numbers of that kind that rows have in a column; None where they have none.
+/// Returns the sum of the numbers of that kind that rows have in a column; None if they have none.
 pub(crate) fn sum_of(
     columns: &Columns,
     numbers: &[usize],
@@ -41,7 +41,7 @@ pub(crate) fn sum_of(
     sum
 }
 
-/// The number of that kind that a row has in a column.
+/// Returns the number of that kind that a row has in a column.
 fn number_at(columns: &Columns, row: usize, place: usize, summed: Summed) -> Option<i128>
     requires row { row < length columns.now.rows }
     requires place { place < length columns.now.kinds }
@@ -53,7 +53,7 @@ fn number_at(columns: &Columns, row: usize, place: usize, summed: Summed) -> Opt
     }
 }
 
-/// The integer that a row has in a column.
+/// Returns the integer that a row has in a column.
 fn integer_at(columns: &Columns, row: usize, place: usize) -> Option<i128>
     requires row { row < length columns.now.rows }
     requires place { place < length columns.now.kinds }
@@ -65,7 +65,7 @@ fn integer_at(columns: &Columns, row: usize, place: usize) -> Option<i128>
     }
 }
 
-/// The decimal that a row has in a column.
+/// Returns the decimal that a row has in a column.
 fn decimal_at(columns: &Columns, row: usize, place: usize) -> Option<i128>
     requires row { row < length columns.now.rows }
     requires place { place < length columns.now.kinds }

@@ -25,7 +25,7 @@ pub(crate) fn tallies_of_none(
     Ok(tallies)
 }
 
-/// The rows with these numbers join.
+/// Returns the rows with these numbers join.
 pub(crate) fn join_each(
     alloc: Global,
     tallies: &mut Vec<Tally>,
@@ -45,7 +45,7 @@ pub(crate) fn join_each(
     Ok(())
 }
 
-/// The values of a key, and behind them what is computed.
+/// Returns the values of a key, and after them what is computed.
 pub(crate) fn row_of(
     alloc: Global,
     key: &[Value<'static>],

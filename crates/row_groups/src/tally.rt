@@ -44,7 +44,7 @@ impl Tally {
         }
     }
 
-    /// The rows with these numbers join.
+    /// Returns the rows with these numbers join.
     pub(crate) fn join(
         &mut self,
         alloc: Global,
@@ -82,7 +82,7 @@ impl Tally {
         Ok(())
     }
 
-    /// What the aggregate computes of the rows.
+    /// Returns what the aggregate computes of the rows.
     pub(crate) fn value(&self, aggregate: Aggregate) -> Value<'_>
         requires { (rows : List (List CellValue)) × IsTally aggregate rows self.now }
         ensures { (rows : List (List CellValue)) → IsTally aggregate rows self.now
@@ -104,7 +104,7 @@ impl Tally {
     }
 }
 
-/// The sum of two sums, each of which there may be none.
+/// Returns the sum of two sums, each of which there may be none.
 fn joined_sum(sum: Option<i128>, more: Option<i128>) -> Option<i128>
     requires { FitSums sum more }
     ensures { result ≡ sums_joined sum more }
@@ -116,7 +116,7 @@ fn joined_sum(sum: Option<i128>, more: Option<i128>) -> Option<i128>
     }
 }
 
-/// The sum of the numbers that some rows and then the rows with these numbers have in a column.
+/// Returns the sum of the numbers that some rows and then the rows with these numbers have in a column.
 fn sum_behind(
     sum: Option<i128>,
     columns: &Columns,
@@ -133,7 +133,7 @@ fn sum_behind(
     joined_sum(sum, sum_of_rows(columns, numbers, place, summed))
 }
 
-/// The least value that some rows and then the rows with these numbers have in a column.
+/// Returns the least value that some rows and then the rows with these numbers have in a column.
 fn join_least(
     value: &mut Value<'static>,
     alloc: Global,
@@ -154,7 +154,7 @@ fn join_least(
     Ok(())
 }
 
-/// The greatest value that some rows and then the rows with these numbers have in a column.
+/// Returns the greatest value that some rows and then the rows with these numbers have in a column.
 fn join_greatest(
     value: &mut Value<'static>,
     alloc: Global,
@@ -175,7 +175,7 @@ fn join_greatest(
     Ok(())
 }
 
-/// Whether a value is less than another; null is none.
+/// True if a value is less than another; null is none.
 fn is_less(value: &Value<'_>, other: &Value<'_>) -> bool
     ensures { (if result then value_view value.now else value_view other.now)
         ≡ lesser_value (value_view other.now) (value_view value.now) }
@@ -187,7 +187,7 @@ fn is_less(value: &Value<'_>, other: &Value<'_>) -> bool
     is_null(other) || value.cmp(other).is_lt()
 }
 
-/// Whether a value is greater than another; null is none.
+/// True if a value is greater than another; null is none.
 fn is_more(value: &Value<'_>, other: &Value<'_>) -> bool
     ensures { (if result then value_view value.now else value_view other.now)
         ≡ greater_value (value_view other.now) (value_view value.now) }
@@ -199,7 +199,7 @@ fn is_more(value: &Value<'_>, other: &Value<'_>) -> bool
     is_null(other) || other.cmp(value).is_lt()
 }
 
-/// The values that rows have in a column join those of other rows. A value is looked up before it is copied.
+/// Returns the values that rows have in a column join those of other rows. A value is looked up before it is copied.
 fn join_values(
     values: &mut KeyPlaces<Value<'static>>,
     alloc: Global,

@@ -1,4 +1,4 @@
-//! The rows of a block that may be among the first in the order of `$orderby`, behind rows that are kept (OData 4.01 URL Conventions, sections
+//! The rows of a block that may be among the first in the order of `$orderby`, after rows that are kept (OData 4.01 URL Conventions, sections
 //! 5.1.5 and 5.1.6): the numbers of one column alone decide.
 ghost use Rattle.std.specs.Prelude.{◌≡◌, ◌<◌, ◌≤◌, List, None, IfOk, IfSome, IsFalse, length, map, slice_index_or};
 ghost use Rattle.std.specs.List.{All};
@@ -18,7 +18,7 @@ use query_meaning::rows_are_in_order;
 use row_columns::{Columns, KeyColumn, Keys};
 use std::alloc::{AllocError, Global};
 
-/// The column that the first item is, where its numbers are in the order of its values: integers, or decimals in millionths.
+/// Returns the column that the first item is, where its numbers are in the order of its values: integers, or decimals in millionths.
 pub fn key_column(items: &[OrderBy]) -> Option<KeyColumn>
     ensures { IfSome result
         (λ column. IsKeyColumn (map order_view items.now) column.place column.packed_type) }
@@ -37,7 +37,7 @@ pub fn key_column(items: &[OrderBy]) -> Option<KeyColumn>
     }
 }
 
-/// The keys of rows in a column of integers or decimals.
+/// Returns the keys of rows in a column of integers or decimals.
 fn keys_of(
     alloc: Global,
     rows: &Columns,
@@ -59,7 +59,7 @@ fn keys_of(
     Ok(Some(keys))
 }
 
-/// The number that a value of that type has, and for null none; nothing where it is another value.
+/// Returns the number that a value of that type has, and for null none, or `None` if it is another value.
 fn key_of(value: &Value<'_>, packed_type: PackedType) -> Option<Option<i64>>
     ensures { IfSome result (λ key. value_view value.now ≡ cell_of packed_type key) }
 {
@@ -71,7 +71,7 @@ fn key_of(value: &Value<'_>, packed_type: PackedType) -> Option<Option<i64>>
     }
 }
 
-/// Whether the last of the others is not looked for: they are fewer than are asked for, or many more than the rows of the block, so that it would be
+/// True if the last of the others is not looked for: they are fewer than are asked for, or many more than the rows of the block, so that it would be
 /// long to find.
 fn is_late(others: usize, rows: usize, most: u64) -> bool
     ensures { IsFalse result → most ≤ others }
@@ -114,7 +114,7 @@ fn before_last(
     within(alloc, keys, numbers.as_slice(), bound)
 }
 
-/// So it is behind rows that are kept, where these have keys.
+/// Returns the same after rows that are kept, if these have keys.
 fn before_kept(
     alloc: Global,
     kept: &Columns,

@@ -6,7 +6,7 @@ ghost use Rattle.row_order.specs.InTime.{is_before, is_within, key_at};
 use row_columns::Keys;
 use std::alloc::{AllocError, Global};
 
-/// Whether a key stands before another: null before each number.
+/// True if a key stands before another: null before each number.
 #[tactic(auto, unfolding(cell_types::specs::Value::value_cmp))]
 fn is_less(a: Option<i64>, b: Option<i64>) -> bool
     ensures { result ≡ is_before false a b }
@@ -18,7 +18,7 @@ fn is_less(a: Option<i64>, b: Option<i64>) -> bool
     }
 }
 
-/// Whether a key stands before another in a direction.
+/// True if a key stands before another in a direction.
 fn is_before(descending: bool, a: Option<i64>, b: Option<i64>) -> bool
     ensures { result ≡ is_before descending a b }
 {
@@ -29,7 +29,7 @@ fn is_before(descending: bool, a: Option<i64>, b: Option<i64>) -> bool
     }
 }
 
-/// The last of keys in a direction.
+/// Returns the last of keys in a direction.
 pub(crate) fn last_of(keys: &[Option<i64>], descending: bool) -> Option<i64>
     ensures { All (λ key. is_before descending result key ≡ false) keys.now }
 {
@@ -67,7 +67,7 @@ impl Bound {
     }
 }
 
-/// The key of a row.
+/// Returns the key of a row.
 fn at(keys: Keys<'_>, row: usize) -> Option<i64>
     requires numbers { row < length keys.numbers.now }
     requires nulls { row < length keys.nulls.now }
@@ -80,7 +80,7 @@ fn at(keys: Keys<'_>, row: usize) -> Option<i64>
     }
 }
 
-/// The numbers of those rows whose keys are within a bound.
+/// Returns the numbers of those rows whose keys are within a bound.
 pub(crate) fn within(
     alloc: Global,
     keys: Keys<'_>,

@@ -15,7 +15,7 @@ use row_eval::{EvalFault, Truth, eval_truth};
 use std::alloc::{AllocError, Global};
 use typed_trees::TruthExpr;
 
-/// Whether a condition is true on a row.
+/// Returns whether a condition is true on a row.
 fn truth_on(
     alloc: Global,
     columns: &Columns,
@@ -32,7 +32,7 @@ fn truth_on(
     Ok(eval_truth(alloc, condition, row.as_slice())?)
 }
 
-/// The numbers of those rows on which a condition is true, in their order; a division by zero where there is one on any of the rows.
+/// Returns the numbers of those rows on which a condition is true, in their order; a division by zero if there is one on any of the rows.
 pub fn passing_numbers(
     alloc: Global,
     columns: &Columns,

@@ -5,7 +5,7 @@ ghost use Rattle.cell_types.specs.Value.{CellValue};
 ghost use Rattle.query_meaning.specs.Meaning.{first_rows};
 ghost use Rattle.row_columns.specs.Picked.{numbered};
 
-/// All but the first `skip` of the rows with those numbers, and of these the first `top`.
+/// Returns all but the first `skip` of the rows with those numbers, and of these the first `top`.
 pub fn piece(numbers: Vec<usize>, skip: u64, top: Option<u64>) -> Vec<usize>
     ensures rows { (rows : List (List CellValue)) → numbered result.items rows
         ≡ first_rows top (drop skip (numbered numbers.items rows)) }

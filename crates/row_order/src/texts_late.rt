@@ -17,7 +17,7 @@ pub(crate) struct FirstBytes {
     prefix: u64,
 }
 
-/// The first bytes of the text that the last row has in the first of the columns, where it has one.
+/// Returns the first bytes of the text that the last row has in the first of the columns, if it has one.
 pub(crate) fn first_bytes(
     columns: &Columns,
     last: Option<usize>,
@@ -41,7 +41,7 @@ pub(crate) fn first_bytes(
     })
 }
 
-/// Whether the first bytes of its text tell that a row is greater than the last.
+/// True if the first bytes of its text tell that a row is greater than the last.
 fn is_greater(columns: &Columns, number: usize, last: FirstBytes) -> bool
     requires { number < length columns.now.rows }
     ensures { IsTrue result → (items : List ItemOf) (n : ℕ)
@@ -60,7 +60,7 @@ fn is_greater(columns: &Columns, number: usize, last: FirstBytes) -> bool
     }
 }
 
-/// Whether a row is not less than the last of others, where there is one, by columns in turn.
+/// True if a row is not less than the last of others, if there is one, by columns in turn.
 pub(crate) fn is_too_late(
     columns: &Columns,
     number: usize,

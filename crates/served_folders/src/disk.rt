@@ -25,7 +25,7 @@ pub struct Disk<'a, R> {
 }
 
 impl<'a, R: Files> Disk<'a, R> {
-    /// The folders of that disk, none of which was asked for yet.
+    /// Returns the folders of that disk, none of which was asked for yet.
     pub fn new(files: &'a R) -> Disk<'a, R>
         ensures { ⟦<Disk<'a, R> as Folders>⟧.folders result ≡ unasked (λ _. None) }
     {
@@ -47,7 +47,7 @@ impl<'a, R: Files> Disk<'a, R> {
         self
     }
 
-    /// The names of the files that the metadata of the folder at that path names; none where it is refused.
+    /// Returns the names of the files that the metadata of the folder at that path names; none if it is refused.
     pub fn names(&self, alloc: Global, folder: &str) -> Result<Vec<String>, FolderFault>
         ensures { IfOk result (λ names. AreFileNames (map string_bytes names.items)) }
     {
@@ -83,7 +83,7 @@ impl<'a, R: Files> Folders for Disk<'a, R> {
       device = s.device;
     } };
 
-    /// The catalog of the folder at that path.
+    /// Returns the catalog of the folder at that path.
     fn load(&mut self, alloc: Global, name: &str) -> Result<Catalog, FolderFault> {
         self.loads = self.loads.saturating_add(1);
         match take_folder(alloc, self.files, self.follows, name) {

@@ -27,7 +27,7 @@ pub trait Folders {
     /// What the last load under a name took, if that is known, and the counts of loads and of two answers.
     ghost folders: { Self → FoldersOf };
 
-    /// The catalog of the folder of that name: what `Catalog::load` answers of what was taken.
+    /// Returns the catalog of the folder of that name: what `Catalog::load` answers of what was taken.
     fn load(&mut self, alloc: Global, name: &str) -> Result<Catalog, FolderFault>
         ensures tables { IfOk result (MeansTaken ((folders self.new).took name.now)) }
         ensures fault { IfErr result (IsRefusalOf ((folders self.new).took name.now)) }
@@ -61,7 +61,7 @@ pub struct BuiltIn {
 }
 
 impl BuiltIn {
-    /// The folder, which was not loaded yet.
+    /// Returns the folder, which was not loaded yet.
     pub fn new() -> BuiltIn
         ensures { ⟦<BuiltIn as Folders>⟧.folders result ≡ unasked (λ name. Some (built_in name)) }
     {
@@ -72,7 +72,7 @@ impl BuiltIn {
     }
 }
 
-/// The built-in folder's only file.
+/// Returns the built-in folder's only file.
 fn notes_file(alloc: Global) -> Result<NamedFile, AllocError>
     ensures name { IfOk result (λ file. string_bytes file.name ≡ NOTES_FILE.now) }
     ensures bytes { IfOk result (λ file. file.bytes.items ≡ NOTES_BYTES.now) }
@@ -82,7 +82,7 @@ fn notes_file(alloc: Global) -> Result<NamedFile, AllocError>
     Ok(NamedFile { name, bytes })
 }
 
-/// The catalog of the built-in folder.
+/// Returns the catalog of the built-in folder.
 fn load_notes(alloc: Global) -> Result<Catalog, LoadFault>
     ensures tables { IfOk result (Means notes_folder) }
     ensures fault { IfErr result (λ e. IfSome (load_cause e) (IsRefused notes_folder)) }
@@ -107,7 +107,7 @@ impl Folders for BuiltIn {
       device = 0;
     } };
 
-    /// The catalog of `notes`; there is no metadata under any other name.
+    /// Returns the catalog of `notes`; there is no metadata under any other name.
     fn load(&mut self, alloc: Global, name: &str) -> Result<Catalog, FolderFault> {
         self.loads = self.loads.saturating_add(1);
         if name != NOTES {

@@ -1,4 +1,4 @@
-//! Folders of CSV files, by their names: on a disk, and the one that is built in. Of a disk plain files are read alone. Contracts see what folders tell and count.
+//! Folders of CSV files, by their names: on a disk, and the one that is built in. Of a disk plain files are read alone. Contracts see what folders report and count.
 #![tactic(auto)]
 
 mod disk;

@@ -17,7 +17,7 @@ pub(crate) fn is_memory(fault: &MetaFault) -> bool
     matches!(fault, MetaFault::NoMemory)
 }
 
-/// The urls of tables, in order.
+/// Returns the urls of tables, in order.
 fn urls_of(alloc: Global, tables: &[Schema]) -> Result<Vec<String>, AllocError>
     ensures { IfOk result (λ names.
         map string_bytes names.items ≡ urls (map schema_view tables.now)) }
@@ -29,7 +29,7 @@ fn urls_of(alloc: Global, tables: &[Schema]) -> Result<Vec<String>, AllocError>
     Ok(names)
 }
 
-/// The names of the files that metadata names, in its order; none where it is refused.
+/// Returns the names of the files that metadata names, in its order; none if it is refused.
 pub fn names_of(alloc: Global, meta: &[u8]) -> Result<Vec<String>, AllocError>
     ensures { IfOk result (λ names. map string_bytes names.items ≡ file_names meta.now) }
 {

@@ -11,7 +11,7 @@ use std::io::{self, ErrorKind, Read};
 use std::os::unix::fs::MetadataExt;
 use std::rt::Files;
 
-/// What the system tells of a file, where that is a plain one.
+/// Returns what the system reports of a file, if that is a plain one.
 fn plain(found: Metadata) -> io::Result<Metadata>
     ensures some { IsOk result ↔ IsFile (file_type found) }
     ensures same { IfOk result (λ same. same ≡ found) }
@@ -24,7 +24,7 @@ fn plain(found: Metadata) -> io::Result<Metadata>
     }
 }
 
-/// What the system tells of what stands at a path: of what a link there leads to, where links are followed, and else of the link.
+/// Returns what the system reports of a path: of the target of a link if links are followed, else of the link.
 pub fn look<R: Files>(files: &R, path: &str, follows: bool) -> io::Result<Metadata> {
     if follows {
         fs::metadata(files, path)
@@ -39,27 +39,27 @@ pub(crate) fn plain_len<R: Files>(files: &R, path: &str, follows: bool) -> io::R
     Ok(found.len())
 }
 
-/// Whether both tell of one file of one device.
+/// True if both are of one file of one device.
 fn is_same(one: &Metadata, other: &Metadata) -> bool {
     one.dev() == other.dev() && one.ino() == other.ino()
 }
 
-/// The bytes that a file has left, or one more than the limit. Room is taken once, by the length that the system tells.
+/// Returns the bytes that a file has left, or one more than the limit. Memory is allocated once, by the length that the system reports.
 fn read_front<F: Read + Drop>(alloc: Global, file: F, length: u64) -> io::Result<Vec<u8>>
     ensures most { IfOk result (λ bytes. vec_len bytes ≤ MOST_FILE_BYTES + 1) }
-    // Where the file tells what it has.
+    // If the file reports its bytes.
     ensures bytes { IfOk result (λ bytes. IsFrontOfFile (F.remaining file) bytes.items) }
 {
     let most = u64::from(MOST_FILE_BYTES) + 1;
     let room = length.saturating_add(1).min(most);
     let mut bytes = Vec::with_capacity(alloc, room as usize)?;
     file.take(most).read_to_end(&mut bytes)?;
-    // no byte goes by this: of bytes that a reader does not tell, std does not say that `take` keeps the limit
+    // of bytes that a reader does not report, std does not say that `take` keeps the limit
     bytes.truncate(most as usize);
     Ok(bytes)
 }
 
-/// The bytes of the plain file at a path, or one more than the limit. A link there is followed, or is no plain file. What is none is an invalid input: it is looked at
+/// Returns the bytes of the plain file at a path, or one more than the limit. A link there is followed, or is no plain file. What is none is an invalid input: it is looked at
 /// before it is opened, since opening a FIFO waits for who writes into it; and what was opened is looked at too, since another file may stand there by then.
 pub fn read_plain<R: Files>(
     alloc: Global,
@@ -68,7 +68,7 @@ pub fn read_plain<R: Files>(
     follows: bool,
 ) -> io::Result<Vec<u8>>
     ensures most { IfOk result (λ bytes. vec_len bytes ≤ MOST_FILE_BYTES + 1) }
-    // Where files tell what they have.
+    // If files report their bytes.
     ensures bytes { IfOk result (λ bytes. IsFrontOfSome R.File.remaining bytes.items) }
 {
     let found = plain(look(files, path, follows)?)?;

@@ -35,7 +35,7 @@ impl From<AllocError> for TakeFault {
     }
 }
 
-/// The fault that an error of a file is.
+/// Returns the fault that an error of a file is.
 fn device_fault(error: &io::Error) -> TakeFault
     ensures memory { error_kind error.now ≡ ErrorKind.OutOfMemory → result ≡ TakeFault.NoMemory }
     ensures device { error_kind error.now ≢ ErrorKind.OutOfMemory → result ≡ TakeFault.Device }
@@ -46,7 +46,7 @@ fn device_fault(error: &io::Error) -> TakeFault
     }
 }
 
-/// The bytes of a plain file of a folder, where there is anything of that name.
+/// Returns the bytes of a plain file of a folder, if there is anything of that name.
 fn take_file<R: Files>(
     alloc: Global,
     files: &R,
@@ -64,7 +64,7 @@ fn take_file<R: Files>(
     }
 }
 
-/// The file of a table, with its name.
+/// Returns the file of a table, with its name.
 fn named_file(alloc: Global, url: &str, bytes: Vec<u8>) -> Result<NamedFile, AllocError>
     ensures { IfOk result (λ file.
         file_view file ≡ record { name = url.now; bytes = bytes.items }) }
@@ -109,7 +109,7 @@ fn look_at_tables<R: Files>(
     Ok(lengths)
 }
 
-/// The files of the tables, but those that are missing.
+/// Returns the files of the tables, but those that are missing.
 fn take_tables<R: Files>(
     alloc: Global,
     files: &R,
@@ -139,7 +139,7 @@ pub(crate) struct Taken {
     pub over: Option<String>,
 }
 
-/// The files of the tables before the first that is over the limit, but those that are missing.
+/// Returns the files of the tables before the first that is over the limit, but those that are missing.
 fn take_sized<R: Files>(
     alloc: Global,
     files: &R,
@@ -160,7 +160,7 @@ fn take_sized<R: Files>(
     Ok(Taken { files, over })
 }
 
-/// The files that the metadata names; none where it is refused.
+/// Returns the files that the metadata names; none if it is refused.
 fn take_named<R: Files>(
     alloc: Global,
     files: &R,
@@ -185,7 +185,7 @@ fn take_named<R: Files>(
     }
 }
 
-/// The metadata of a folder, where it has some. Of metadata over the limit no byte is taken: it is refused as a text of none is, since neither is JSON.
+/// Returns the metadata of a folder, if it has some. Of metadata over the limit no byte is taken: it is refused as a text of none is, since neither is JSON.
 pub(crate) fn take_metadata<R: Files>(
     alloc: Global,
     files: &R,
@@ -200,7 +200,7 @@ pub(crate) fn take_metadata<R: Files>(
     take_file(alloc, files, follows, folder, METADATA)
 }
 
-/// The metadata of a folder, where it has some, and the files that the metadata names.
+/// Returns the metadata of a folder, if it has some, and the files that the metadata names.
 pub(crate) fn take_folder<R: Files>(
     alloc: Global,
     files: &R,

@@ -192,7 +192,7 @@ impl<'a> Log<'a> {
         };
     }
 
-    /// Returns the seconds since the tables were loaded, if a clock tells them.
+    /// Returns the seconds since the tables were loaded, if there is a clock.
     fn age(&self) -> Option<u64> {
         let now = Instant::now(self.rt).ok()?;
         Some(now.duration_since(self.loaded?).as_secs())

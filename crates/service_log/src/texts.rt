@@ -7,7 +7,7 @@ use crate::work::Work;
 use program_ends::{ProgramFault, fault_line};
 use std::alloc::{AllocError, Global};
 
-/// What is told of a changed folder that was not taken up, where nothing more is known of it.
+/// What is said of a changed folder that was not loaded, if nothing more is known of it.
 pub(crate) const NOT_RELOADED: &str = "not reloaded: a device failed or memory ran out";
 
 /// Returns the line of a connection that was opened at a place.

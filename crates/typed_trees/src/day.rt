@@ -4,7 +4,7 @@ ghost use Rattle.typed_trees.specs.TypedTree.{day_view, number_of_day};
 
 use jiff_core::civil::Date;
 
-/// The number of a day; of two days the later has the greater number.
+/// Returns the number of a day; of two days the later has the greater number.
 pub fn day_number(date: Date) -> i64
     ensures { result ≡ number_of_day (day_view date) }
 {

@@ -166,7 +166,7 @@ fn day_made(
     }))
 }
 
-/// Returns the word of a truth value.
+/// Returns the word of a boolean.
 fn truth_made(alloc: Global, words: TruthWords<'_>, text: &[u8]) -> Result<Option<Made>, AllocError>
     ensures { IfOk result (λ made. IfSome made
         (λ made. IsMadeBy (Form.Truth words.entry) text.now (cell_made made))) }
