@@ -1,11 +1,11 @@
 //! A folder that is watched, and reloaded when it changed. Its metadata and the files that this names are looked at, and nothing else.
 use crate::watch::{Look, hand_over, is_final, look_of, pause_after, size_of};
 use odata_hub::Hub;
-use served_folders::{Disk, FolderFault, Folders, METADATA, look};
+use served_folders::{Disk, DiskLoaded, DiskLoading, FolderFault, Folders, METADATA, look};
 use service_log::{Loaded, Log};
 use std::alloc::AllocError;
 use std::fs::Metadata;
-use std::io::{self, ErrorKind};
+use std::io::ErrorKind;
 use std::os::unix::fs::MetadataExt;
 use std::rt::{Clock, Files};
 use std::time::Instant;
@@ -13,6 +13,20 @@ use table_store::Catalog;
 
 /// The most loads at the start, while the folder changes under each.
 const MOST_LOADS: u32 = 10;
+
+/// A load that is under way: when it began, and what is left of it.
+#[derive(Drop)]
+struct Load {
+    start: Option<Instant>,
+    loading: DiskLoading,
+}
+
+/// What came of a load, and when it began.
+#[derive(Drop)]
+struct Taken {
+    start: Option<Instant>,
+    catalog: Result<Catalog, FolderFault>,
+}
 
 /// A folder, with its states as it was taken last and at the last look.
 #[derive(Drop)]
@@ -30,12 +44,14 @@ pub struct Folder<'a> {
     /// The looks from the last failure to the next try, and how many of them are left.
     pause: u32,
     left: u32,
+    /// The load that is under way, if there is one.
+    load: Option<Load>,
 }
 
 /// Returns the milliseconds since `start`.
-fn millis_since(rt: &HostRuntime, start: io::Result<Instant>) -> u64 {
+fn millis_since(rt: &HostRuntime, start: Option<Instant>) -> u64 {
     match (start, Instant::now(rt)) {
-        (Ok(start), Ok(now)) => u64::try_from(now.duration_since(start).as_millis()).unwrap_or(0),
+        (Some(start), Ok(now)) => u64::try_from(now.duration_since(start).as_millis()).unwrap_or(0),
         _ => 0,
     }
 }
@@ -70,6 +86,7 @@ impl<'a> Folder<'a> {
             wants: false,
             pause: 0,
             left: 0,
+            load: None,
         };
         folder.taken = folder.state(rt);
         folder
@@ -144,19 +161,17 @@ impl<'a> Folder<'a> {
         self.wants = !holds;
     }
 
-    /// Loads the folder; if it is afterwards as it was at the last look, the hub has its tables from now on. If a device failed or memory ran out, the
-    /// folder counts as it was taken before, so that the next look finds it changed again.
+    /// Ends a load that began at `start`: if the folder is as it was at the last look, the hub has its tables from now on. If a device failed or memory ran
+    /// out, the folder counts as it was taken before, so that the next look finds it changed again.
     #[tactic(auto, using(crate::proofs::ServingLemmas::may_hand_over))]
-    fn take_up(&mut self, rt: &HostRuntime, hub: &mut Hub, log: &mut Log<'_>)
+    fn take_up(&mut self, rt: &HostRuntime, hub: &mut Hub, log: &mut Log<'_>, loaded: Taken)
         ensures { MayReload hub.old hub.new }
     {
-        let start = Instant::now(rt);
-        let mut disk = Disk::new(rt).follow_links(self.follows);
-        let loaded = disk.load(rt.alloc(), self.name);
-        let size = size_of(&loaded, millis_since(rt, start));
+        let Taken { start, catalog } = loaded;
+        let size = size_of(&catalog, millis_since(rt, start));
         let after = self.state(rt);
         if look_of(&self.seen, &self.seen, &after) == Look::Same {
-            let end = hand_over(rt.alloc(), hub, loaded);
+            let end = hand_over(rt.alloc(), hub, catalog);
             let holds = is_final(&end);
             if holds || !self.wants {
                 log.reloaded(end.map(|()| size));
@@ -165,18 +180,60 @@ impl<'a> Folder<'a> {
         }
     }
 
-    /// Loads the folder, unless the pause after the last failure is not over.
+    /// Begins to load the folder.
+    fn begin(&mut self, rt: &HostRuntime, hub: &mut Hub, log: &mut Log<'_>)
+        ensures { MayReload hub.old hub.new }
+    {
+        let start = Instant::now(rt).ok();
+        let mut disk = Disk::new(rt).follow_links(self.follows);
+        match disk.begin(rt.alloc(), self.name) {
+            Ok(loading) => self.load = Some(Load { start, loading }),
+            Err(fault) => {
+                let catalog = Err(fault);
+                self.take_up(rt, hub, log, Taken { start, catalog });
+            }
+        }
+    }
+
+    /// Begins to load the folder, unless one load is under way or the pause after the last failure is not over.
     fn try_again(&mut self, rt: &HostRuntime, hub: &mut Hub, log: &mut Log<'_>)
         ensures { MayReload hub.old hub.new }
     {
+        if self.load.is_some() {
+            return;
+        }
         if self.left > 1 {
             self.left -= 1;
             return;
         }
-        self.take_up(rt, hub, log);
+        self.begin(rt, hub, log);
     }
 
-    /// Looks at the folder, and loads it if it changed and is as it was at the last look. Logs what the service counts, once a minute.
+    /// True if a load is under way.
+    pub fn is_loading(&self) -> bool {
+        self.load.is_some()
+    }
+
+    /// Takes one step of the load that is under way, if there is one: about a millisecond for each ten columns.
+    pub fn work(&mut self, rt: &HostRuntime, hub: &mut Hub, log: &mut Log<'_>)
+        ensures { MayReload hub.old hub.new }
+    {
+        let Some(Load { start, loading }) = self.load.take() else {
+            return;
+        };
+        let catalog = match loading.step(rt.alloc()) {
+            Ok(DiskLoaded::On(loading)) => {
+                self.load = Some(Load { start, loading });
+                return;
+            }
+            Ok(DiskLoaded::Over(catalog)) => Ok(catalog),
+            Err(fault) => Err(FolderFault::Load(fault)),
+        };
+        self.take_up(rt, hub, log, Taken { start, catalog });
+    }
+
+    /// Looks at the folder, and begins to load it if it changed and is as it was at the last look. A load that is under way is dropped if the folder changed since
+    /// it began. Logs what the service counts, once a minute.
     pub fn look(&mut self, rt: &HostRuntime, hub: &mut Hub, log: &mut Log<'_>)
         ensures { MayReload hub.old hub.new }
     {
@@ -185,12 +242,14 @@ impl<'a> Folder<'a> {
         self.seen = found;
         match says {
             Look::Same => {
+                self.load = None;
                 self.wants = false;
                 self.pause = 0;
                 self.left = 0;
             }
             // what changed again may be mended
             Look::Moves => {
+                self.load = None;
                 self.pause = 0;
                 self.left = 0;
             }

@@ -1,5 +1,5 @@
-//! The service: connections are taken in as places are free, each tick has one round, and once a second slow peers are ended and the folder is
-//! looked at. Whatever that does is a life over its hub, so what holds of each connection in every life holds of the service.
+//! The service: connections are taken in as places are free, each tick has one round and a step of a load, and once a second slow peers are ended
+//! and the folder is looked at. Whatever that does is a life over its hub, so what holds of each connection in every life holds of the service.
 ghost use Rattle.odata_listen.specs.Serving.{RunsOn, TakesAccepted, TakesPeerIn};
 
 use crate::drain::Drain;
@@ -143,6 +143,13 @@ fn tend(
     server.sockets.try_writes();
 }
 
+/// Takes one step of the load of the folder that is under way, if there is one.
+fn load_on(rt: &HostRuntime, server: &mut Server, service: &mut Service<'_>)
+    ensures { RunsOn server.old server.new }
+{
+    service.folder.work(rt, &mut server.hub, &mut service.log);
+}
+
 /// What goes on from one tick to the next: whose turn it is, and whether there is more to do at once.
 #[derive(Drop)]
 struct Course<'a> {
@@ -151,7 +158,7 @@ struct Course<'a> {
     busy: bool,
 }
 
-/// One tick: the events that there are, one round, what is done once a second, and new connections.
+/// One tick: the events that there are, one round, a step of a load, what is done once a second, and new connections.
 fn tick(
     rt: &HostRuntime,
     poller: &mut Poller,
@@ -165,11 +172,12 @@ fn tick(
     let is_new = poller.is_new_second();
     let watch = &mut course.watch;
     let busy = run_round(watch, server, poller, &mut service.log, &mut course.circles);
+    load_on(rt, server, service);
     tend(rt, server, service, poller, is_new);
     let took = accept(server, poller, &mut service.log);
     service.drain.look(rt, server, poller);
     service.log.flush();
-    course.busy = busy || took;
+    course.busy = busy || took || service.folder.is_loading();
     Ok(())
 }
 

@@ -1,4 +1,6 @@
 pub mod Folders
+pub mod Taken
+pub mod Steps
 pub mod Loads
 pub mod Disk
 pub mod Names

@@ -1,17 +1,15 @@
 //! Folders on a disk, by their paths.
-ghost use Rattle.std.specs.Prelude.{◌≡◌, None, IfErr, IfOk, IfSome, map, string_bytes};
-ghost use Rattle.table_store.specs.Fault.{load_cause};
+ghost use Rattle.std.specs.Prelude.{◌≡◌, None, IfErr, IfOk, map, string_bytes};
 ghost use Rattle.served_folders.specs.Disk.{AreFileNames};
-ghost use Rattle.served_folders.specs.Folders.{MeansTaken, RefusesTaken, unasked};
+ghost use Rattle.served_folders.specs.Folders.{CountsFolderFault, CountsUp, IsRefusalOf, unasked};
 
+use crate::disk_loading::DiskLoading;
 use crate::folders::{FolderFault, Folders};
 use crate::names::names_of;
-use crate::sizes::sized_fault;
-use crate::taken::{TakeFault, Taken, take_folder, take_metadata};
-use csvw_meta::Limits;
+use crate::taken::{TakeFault, take_folder, take_metadata};
 use std::alloc::Global;
 use std::rt::Files;
-use table_store::{Catalog, LoadFault};
+use table_store::Catalog;
 
 /// The folders of a disk, by their paths. What a load took is not told.
 #[derive(Drop)]
@@ -47,6 +45,32 @@ impl<'a, R: Files> Disk<'a, R> {
         self
     }
 
+    /// Begins to load the folder at that path: takes its files, and reads its metadata.
+    pub fn begin(&mut self, alloc: Global, name: &str) -> Result<DiskLoading, FolderFault>
+        ensures fault { IfErr result (IsRefusalOf None) }
+        ensures load { CountsUp (⟦<Disk<'a, R> as Folders>⟧.folders self.old).loads
+            (⟦<Disk<'a, R> as Folders>⟧.folders self.new).loads }
+        ensures counts { CountsFolderFault (⟦<Disk<'a, R> as Folders>⟧.folders self.old)
+            (⟦<Disk<'a, R> as Folders>⟧.folders self.new) result }
+    {
+        self.loads = self.loads.saturating_add(1);
+        match take_folder(alloc, self.files, self.follows, name) {
+            Ok(Some((meta, taken))) => match DiskLoading::start(alloc, meta, taken) {
+                Ok(loading) => Ok(loading),
+                Err(fault) => Err(FolderFault::Load(fault)),
+            },
+            Ok(None) => {
+                self.no_metadata = self.no_metadata.saturating_add(1);
+                Err(FolderFault::NoMetadata)
+            }
+            Err(TakeFault::Device) => {
+                self.device = self.device.saturating_add(1);
+                Err(FolderFault::Device)
+            }
+            Err(TakeFault::NoMemory) => Err(FolderFault::NoMemory),
+        }
+    }
+
     /// Returns the names of the files that the metadata of the folder at that path names; none if it is refused.
     pub fn names(&self, alloc: Global, folder: &str) -> Result<Vec<String>, FolderFault>
         ensures { IfOk result (λ names. AreFileNames (map string_bytes names.items)) }
@@ -63,18 +87,6 @@ impl<'a, R: Files> Disk<'a, R> {
     }
 }
 
-/// Loads what was taken of a folder.
-fn load_taken(alloc: Global, meta: Vec<u8>, taken: Taken) -> Result<Catalog, LoadFault>
-    ensures tables { IfOk result (MeansTaken None) }
-    ensures fault { IfErr result (λ e. IfSome (load_cause e) (RefusesTaken None)) }
-{
-    let Taken { files, over } = taken;
-    match Catalog::load(alloc, Limits::greatest(), meta, files) {
-        Ok(catalog) => Ok(catalog),
-        Err(fault) => Err(sized_fault(fault, over)),
-    }
-}
-
 impl<'a, R: Files> Folders for Disk<'a, R> {
     ghost folders = { λ s. record {
       took = λ _. None;
@@ -85,21 +97,12 @@ impl<'a, R: Files> Folders for Disk<'a, R> {
 
     /// Returns the catalog of the folder at that path.
     fn load(&mut self, alloc: Global, name: &str) -> Result<Catalog, FolderFault> {
-        self.loads = self.loads.saturating_add(1);
-        match take_folder(alloc, self.files, self.follows, name) {
-            Ok(Some((meta, taken))) => match load_taken(alloc, meta, taken) {
+        match self.begin(alloc, name) {
+            Ok(loading) => match loading.finish(alloc) {
                 Ok(catalog) => Ok(catalog),
                 Err(fault) => Err(FolderFault::Load(fault)),
             },
-            Ok(None) => {
-                self.no_metadata = self.no_metadata.saturating_add(1);
-                Err(FolderFault::NoMetadata)
-            }
-            Err(TakeFault::Device) => {
-                self.device = self.device.saturating_add(1);
-                Err(FolderFault::Device)
-            }
-            Err(TakeFault::NoMemory) => Err(FolderFault::NoMemory),
+            Err(fault) => Err(fault),
         }
     }
 }

@@ -2,6 +2,7 @@
 #![tactic(auto)]
 
 mod disk;
+mod disk_loading;
 mod folders;
 mod names;
 mod plain;
@@ -9,6 +10,7 @@ mod sizes;
 mod taken;
 
 pub use disk::Disk;
+pub use disk_loading::{DiskLoaded, DiskLoading};
 pub use folders::{
     BuiltIn, FolderFault, Folders, NOTES, NOTES_BYTES, NOTES_FILE, NOTES_METADATA, notes,
 };

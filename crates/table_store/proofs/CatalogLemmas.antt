@@ -10,6 +10,7 @@ use Rattle.table_store.specs.Table.{TableOf}
 use Rattle.table_store.specs.Fault.{TableCause, LoadCause, no_metadata, bad_meta, bad_table}
 use Rattle.row_keys.specs.Keys.{AreColumns}
 use Rattle.table_store.specs.Catalog.{HasTable, HasTableCause, HaveTables, IsFirstBadTable}
+use Rattle.table_store.specs.FolderSteps.{HaveFiles}
 use Rattle.table_store.specs.Loading.{IsRefusedTable, IsFirstRefused}
 
 -- the fault of a table, under its url
@@ -24,11 +25,7 @@ accepted_keys limits [] accepted = tt
 accepted_keys limits (schema ∷ schemas) accepted =
     ((accepted 0 schema (omega arith)).places, accepted_keys limits schemas (λ k d within. accepted (suc k) d (omega arith)))
 
--- each of these schemas has the file that it had
-abbrev pub HaveFiles : List FileOf → List FileOf → List SchemaOf → Type 0
-HaveFiles files now schemas = AllByRecursion (λ (schema : SchemaOf). file_named schema.url now ≡ file_named schema.url files) schemas
-
--- and has it still where a file of another name was taken
+-- each of these schemas still has its file where a file of another name was taken
 pub HaveFiles-past : (files now next : List FileOf) (url : List ℕ) (schemas : List SchemaOf)
     → ((other : List ℕ) → bytes_eq url other ≡ false → file_named other next ≡ file_named other now)
     → AllByRecursion (λ other. bytes_eq url other ≡ false) (map (λ (schema : SchemaOf). schema.url) schemas)

@@ -5,7 +5,6 @@ pub mod PartLemmas
 pub mod FitLemmas
 pub mod HeaderLemmas
 pub mod InsideLemmas
-pub mod CursorLemmas
 pub mod ColumnLemmas
 pub mod BlockLemmas
 pub mod LoadingLemmas
@@ -18,3 +17,5 @@ pub mod FirstMismatch
 pub mod FirstBadCell
 pub mod SummaryLemmas
 pub mod StretchLemmas
+pub mod StepLemmas
+pub mod FolderStepLemmas

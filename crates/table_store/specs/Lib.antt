@@ -2,14 +2,15 @@ pub mod File
 pub mod Table
 pub mod Block
 pub mod Fits
-pub mod Cursor
 pub mod Summaries
 pub mod Inside
 pub mod Fault
 pub mod Loading
 pub mod Parts
 pub mod Stretches
+pub mod Steps
 pub mod Catalog
+pub mod FolderSteps
 pub mod Laws
 pub mod Worked
 pub use Rattle.csv_grammar.specs.Files

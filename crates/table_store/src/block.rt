@@ -11,8 +11,6 @@ ghost use Rattle.table_store.specs.Block.{block_count, block_of, packed_cells, t
 ghost use Rattle.table_store.specs.Fits.{HasTableRows};
 ghost use Rattle.table_store.specs.Summaries.{IsSummaryOf};
 
-use crate::column_values::{packed_values, text_values};
-use crate::cursor::RowCursor;
 use crate::table::Table;
 use block_summary::{BLOCK_ROWS, PackedColumn, Summary};
 use cell_types::Value;
@@ -111,21 +109,6 @@ impl<'t> Block<'t> {
         self.table.shared(self.first / BLOCK_ROWS, col)
     }
 
-    /// Returns the values of a column, one for each row.
-    pub fn values(&self, alloc: Global, col: usize) -> Result<Vec<Value<'t>>, AllocError>
-        requires { col < length self.now.schema.columns }
-        ensures { IfOk result
-            (λ values. map value_view values.items ≡ column_of self.now.rows col) }
-    {
-        if let Some(column) = self.packed(col) {
-            return packed_values(alloc, column);
-        }
-        let Some(texts) = self.texts(col) else {
-            unreachable!();
-        };
-        text_values(alloc, &texts)
-    }
-
     /// Writes the number of each row in a column that is none of texts, and marks the nulls. A decimal is written in millionths, a day by its
     /// number ([`block_summary::day_number`]), false as 0 and true as 1; at a null stands any number.
     pub fn numbers(&self, col: usize, numbers: &mut [i64], nulls: &mut [bool])
@@ -148,13 +131,6 @@ impl<'t> Block<'t> {
         ensures { IsSummaryOf self.now result.now }
     {
         &self.table.summary()[self.first / BLOCK_ROWS]
-    }
-
-    /// Returns the rows of the block, one after another, the first one first.
-    pub fn cursor(&self) -> RowCursor<'t>
-        ensures { result ≡ self.now.rows }
-    {
-        self.table.rows_from(self.first, self.rows)
     }
 
     /// There are no more rows than a block has.

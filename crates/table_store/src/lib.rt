@@ -5,10 +5,9 @@
 
 mod block;
 mod catalog;
-mod column_values;
-mod cursor;
 mod fault;
 mod file;
+mod folder_loading;
 mod header;
 mod laws;
 mod loading;
@@ -17,12 +16,13 @@ mod reading;
 mod stretches;
 mod summaries;
 mod table;
+mod table_loading;
 
 pub use block::Block;
 pub use catalog::Catalog;
-pub use cursor::RowCursor;
 pub use fault::LoadFault;
 pub use file::NamedFile;
+pub use folder_loading::{Loaded, Loading};
 pub use laws::{
     first_bad_cell_is_first, first_mismatch_is_first, keys_of_tables, one_meaning,
     schemas_of_tables, worked_tables,

@@ -1,13 +1,14 @@
-//! Reading the rows of a table, part by part.
-ghost use Rattle.std.specs.Prelude.{◌≡◌, ◌≤◌, ◌^◌, None, IfOk, IfErr, IfSome, length, option_map};
+//! What is read of the rows of a table: their columns and their keys.
+ghost use Rattle.std.specs.Prelude.{◌≡◌, ◌≤◌, ◌^◌, List, None, IfOk, IfErr, IfSome, option_map};
+ghost use Rattle.csv_grammar.specs.Raw.{RawField};
 ghost use Rattle.csvw_meta.specs.Schema.{schema_view};
 ghost use Rattle.table_store.specs.Fault.{bad_cell, cell_cause};
-ghost use Rattle.raw_fields.specs.Values.{FitsColumns};
 ghost use Rattle.table_store.specs.Loading.{bad_cell_of, table_cause, ArePartsOf, HasKeyColumns, HasRowsCause};
+ghost use Rattle.table_store.specs.Steps.{IsReadingRows, ReadsRows};
 
-use crate::stretches::read_columns_of;
+use crate::stretches::RowsReading;
 use cell_types::CellFault;
-use csv_index::{IndexedText, TextFault};
+use csv_index::TextFault;
 use csvw_meta::Schema;
 use row_keys::{KeyFault, Keys};
 use std::alloc::Global;
@@ -41,24 +42,30 @@ pub struct TableParts {
     pub keys: Keys,
 }
 
-/// The columns and the keys of the rows of a file, each of whose cells has a value; or the first cell, row by row, that has none, and else why
-/// the rows have no keys. Each cell is read once. The file and its index are let go as they are read.
-pub fn read_rows(
+/// The columns and the keys of rows that were read, each of whose cells has a value; or the first cell, row by row, that has none, and else why
+/// the rows have no keys.
+pub fn parts_of(
     alloc: Global,
     schema: &Schema,
-    file: IndexedText,
+    reading: RowsReading,
 ) -> Result<TableParts, TableFault>
-    requires fits { FitsColumns (schema_view schema.now).columns file }
+    requires over { reading.first ≡ 0 }
+    requires reads { IsReadingRows (schema_view schema.now).columns reading }
     requires key { HasKeyColumns (schema_view schema.now) }
-    requires few { length file.rows ≤ 2 ^ 30 }
-    ensures values { IfOk result (λ _. bad_cell_of (schema_view schema.now) file.rows ≡ None) }
-    ensures parts { IfOk result (ArePartsOf (schema_view schema.now) file.rows) }
-    ensures fault { IfErr result (λ e.
-        IfSome (table_cause e) (HasRowsCause (schema_view schema.now) file.rows)) }
+    requires few { reading.rows ≤ 2 ^ 30 }
+    ensures values { IfOk result (λ _. (raws : List (List RawField))
+        → ReadsRows (schema_view schema.now).columns raws reading
+        → bad_cell_of (schema_view schema.now) raws ≡ None) }
+    ensures parts { IfOk result (λ parts. (raws : List (List RawField))
+        → ReadsRows (schema_view schema.now).columns raws reading
+        → ArePartsOf (schema_view schema.now) raws parts) }
+    ensures fault { IfErr result (λ e. (raws : List (List RawField))
+        → ReadsRows (schema_view schema.now).columns raws reading
+        → IfSome (table_cause e) (HasRowsCause (schema_view schema.now) raws)) }
     ensures memory { IfErr result (λ e. table_cause e ≡ None → e ≡ TableFault.NoMemory) }
 {
-    let rows = file.rows();
-    let columns = match read_columns_of(alloc, schema.columns.as_slice(), file) {
+    let rows = reading.rows;
+    let columns = match reading.finish() {
         Ok(columns) => columns,
         Err(bad) => return Err(fault_of(bad)),
     };

@@ -1,10 +1,12 @@
 //! Reading the rows of a file by stretches of whole blocks, the last stretch first. What was read of the file is let go, so that it and the columns
 //! are never both there in full.
-ghost use Rattle.std.specs.Prelude.{◌≡◌, ◌<◌, ◌≤◌, ◌-◌, IfOk, IfErr, drop, length, map};
+ghost use Rattle.std.specs.Prelude.{◌≡◌, ◌<◌, ◌≤◌, ◌-◌, List, IfOk, IfErr, drop, length, map};
 ghost use Rattle.cell_types.specs.Column.{column_view};
+ghost use Rattle.csv_grammar.specs.Raw.{RawField};
 ghost use Rattle.raw_fields.specs.Values.{FitsColumns};
 ghost use Rattle.table_store.specs.Stretches.{AreAppended, AreOfColumns, HasColumns, IsReadBefore, IsReadFrom, Join};
 ghost use Rattle.table_store.specs.Parts.{IsFirstBadIn};
+ghost use Rattle.table_store.specs.Steps.{GivesBadCell, GivesColumns, IsReadingRows, ReadsRows};
 ghost use Rattle.typed_columns.specs.TypedColumn.{AreWholeBlocks};
 
 use crate::loading::BadCell;
@@ -15,8 +17,8 @@ use csv_index::IndexedText;
 use std::alloc::Global;
 use typed_columns::{TypedColumn, column_readers, columns_read};
 
-/// How many stretches a file is read in at most.
-const STRETCHES: usize = 8;
+/// How many rows a stretch has: those of a block, which are read in about a millisecond.
+const STRETCH: usize = BLOCK_ROWS;
 
 /// Columns, or the first cell of their rows, row by row, that has no value.
 pub type ReadColumns = Result<Vec<TypedColumn>, BadCell>;
@@ -101,29 +103,67 @@ fn read_before(
     }
 }
 
-/// Returns how many rows a stretch of a file has.
-fn stretch_of(rows: usize) -> usize
-    ensures some { 0 < result }
-    ensures whole { AreWholeBlocks result }
-{
-    rows.div_ceil(BLOCK_ROWS).div_ceil(STRETCHES).max(1) * BLOCK_ROWS
+/// The rows of a file that are read a stretch at a time, the last stretch first.
+#[derive(Drop)]
+pub struct RowsReading {
+    file: IndexedText,
+    /// How many rows the file had.
+    pub rows: usize,
+    /// The first of the rows that were read.
+    pub first: usize,
+    read: ReadColumns,
 }
 
-/// Returns the columns of the rows of a file, each of whose cells has a value; or the first cell, row by row, that has none.
-pub fn read_columns_of(alloc: Global, columns: &[Column], file: IndexedText) -> ReadColumns
-    requires { FitsColumns (map column_view columns.now) file }
-    ensures columns { IfOk result
-        (λ read. HasColumns 0 (map column_view columns.now) file.rows read.items) }
-    ensures bad { IfErr result (IsFirstBadIn 0 (map column_view columns.now) file.rows) }
-{
-    let mut file = file;
-    let stretch = stretch_of(file.rows());
-    let mut first = file.rows().saturating_sub(1) / stretch * stretch;
-    let mut read = read_from(alloc, columns, &file, first);
-    while first >= stretch {
-        file.truncate(first);
-        first -= stretch;
-        read = read_before(alloc, columns, &file, first, read);
+impl RowsReading {
+    /// Reads the last stretch of the rows of a file.
+    pub fn start(alloc: Global, columns: &[Column], file: IndexedText) -> RowsReading
+        requires { FitsColumns (map column_view columns.now) file }
+        ensures { ReadsRows (map column_view columns.now) file.rows result }
+    {
+        let rows = file.rows();
+        let first = rows.saturating_sub(1) / STRETCH * STRETCH;
+        let read = read_from(alloc, columns, &file, first);
+        RowsReading {
+            file,
+            rows,
+            first,
+            read,
+        }
     }
-    read
+
+    /// Frees what was read of the file, and reads the stretch before it.
+    pub fn step(self, alloc: Global, columns: &[Column]) -> RowsReading
+        requires some { 0 < self.first }
+        requires reads { IsReadingRows (map column_view columns.now) self }
+        ensures reads { (rows : List (List RawField))
+            → ReadsRows (map column_view columns.now) rows self
+            → ReadsRows (map column_view columns.now) rows result }
+        ensures less { result.first < self.first }
+    {
+        let RowsReading {
+            mut file,
+            rows,
+            first,
+            read,
+        } = self;
+        file.truncate(first);
+        let before = first - STRETCH;
+        let read = read_before(alloc, columns, &file, before, read);
+        RowsReading {
+            file,
+            rows,
+            first: before,
+            read,
+        }
+    }
+
+    /// Returns the columns of the rows, each of whose cells has a value; or the first cell, row by row, that has none. The rest of the file is freed.
+    pub fn finish(self) -> ReadColumns
+        requires { self.first ≡ 0 }
+        ensures columns { IfOk result (λ read. GivesColumns self read.items) }
+        ensures bad { IfErr result (GivesBadCell self) }
+    {
+        let RowsReading { read, .. } = self;
+        read
+    }
 }

@@ -1,5 +1,5 @@
 //! A table of a folder: its schema, the values of its cells, and its rows by their keys.
-ghost use Rattle.std.specs.Prelude.{◌≡◌, ◌+◌, ◌^◌, ◌<◌, ◌≤◌, [], Some, None, IfOk, IsOk, IfErr, IfSome, length, map, slice_get, slice_index_or, option_and_then, option_map, take, drop, string_bytes};
+ghost use Rattle.std.specs.Prelude.{◌≡◌, ◌+◌, ◌^◌, ◌<◌, ◌≤◌, ℕ, List, Option, [], Some, None, IfOk, IsOk, IfErr, IfSome, length, map, slice_get, slice_index_or, option_and_then, option_map, take, drop, string_bytes};
 ghost use Rattle.std.specs.List.{AllByRecursion};
 ghost use Rattle.std.specs.Option.{option_copied};
 ghost use Rattle.cell_types.specs.Value.{value_view};
@@ -8,17 +8,15 @@ ghost use Rattle.csvw_meta.specs.Laws.{HasShortDefaults};
 ghost use Rattle.table_store.specs.Fits.{HasTableRows};
 ghost use Rattle.table_store.specs.Fault.{bad_table, load_cause};
 ghost use Rattle.table_store.specs.Catalog.{HasTable};
-ghost use Rattle.table_store.specs.File.{file_bytes};
 ghost use Rattle.row_keys.specs.Key.{row_of};
 ghost use Rattle.table_store.specs.Loading.{table_cause, HasKeyColumns, IsRefusedTable};
+ghost use Rattle.table_store.specs.Steps.{IsReadingTable, ReadsTable};
 ghost use Rattle.table_store.specs.Summaries.{AreSummariesOf};
 ghost use Rattle.table_store.specs.Table.{keys_of};
 
-use crate::column_values::row_values;
-use crate::cursor::RowCursor;
 use crate::fault::LoadFault;
-use crate::loading::{BadCell, TableFault};
-use crate::reading::read_table;
+use crate::loading::{BadCell, TableFault, parts_of};
+use crate::stretches::RowsReading;
 use crate::summaries::summaries_of;
 use block_summary::{BLOCK_ROWS, PackedColumn, Summary};
 use cell_types::Value;
@@ -96,15 +94,6 @@ impl Table {
         Ok(self.columns[col].value(row))
     }
 
-    /// Returns the values of a row, one for each column.
-    pub(crate) fn row(&self, alloc: Global, row: usize) -> Result<Vec<Value<'_>>, AllocError>
-        requires { row < length self.now.rows }
-        ensures { IfOk result (λ values.
-            map value_view values.items ≡ slice_index_or self.now.rows row []) }
-    {
-        row_values(alloc, self.columns.as_slice(), row)
-    }
-
     /// Returns how many blocks the rows are, each of [`BLOCK_ROWS`] and the last perhaps of fewer.
     pub fn blocks(&self) -> usize
         ensures { result ≡ block_count (length self.now.rows) }
@@ -147,19 +136,6 @@ impl Table {
         self.columns[col].shared(number)
     }
 
-    /// Returns `rows` rows from `first` on.
-    pub(crate) fn rows_from(&self, first: usize, rows: usize) -> RowCursor<'_>
-        requires within { first + rows ≤ length self.now.rows }
-        requires fits { first + rows < 2 ^ 64 }
-        ensures { result ≡ take rows (drop first self.now.rows) }
-    {
-        RowCursor {
-            table: self,
-            row: first,
-            end: first + rows,
-        }
-    }
-
     /// Each value is one that its column may have, no text has more than 2 to the 30 bytes, and there are no more rows than that.
     pub fn values_fit(&self)
         ensures { HasTableRows self.now }
@@ -176,23 +152,26 @@ impl Table {
             .find(self.columns.as_slice(), self.schema.key.as_slice(), key)
     }
 
-    /// Returns the table of a schema whose file has these bytes, at most as many as the limit; or why it is refused.
-    pub(crate) fn load(
+    /// Returns the table of a schema whose rows were read; or why it is refused.
+    pub(crate) fn finish(
         alloc: Global,
-        limit: u32,
         schema: Schema,
-        file: Option<Vec<u8>>,
+        reading: RowsReading,
     ) -> Result<Table, LoadFault>
-        requires limit { limit ≤ 2 ^ 30 }
+        requires over { reading.first ≡ 0 }
+        requires reads { IsReadingTable (schema_view schema) reading }
         requires key { HasKeyColumns (schema_view schema) }
         requires defaults { HasShortDefaults (schema_view schema) }
-        ensures table { IfOk result (HasTable limit (file_bytes file) (schema_view schema)) }
-        ensures fault { IfErr result (λ e.
-            IfSome (load_cause e) (IsRefusedTable limit (file_bytes file) (schema_view schema))) }
+        ensures table { IfOk result (λ table. (limit : ℕ) (file : Option (List ℕ))
+            → ReadsTable limit file (schema_view schema) reading
+            → HasTable limit file (schema_view schema) table) }
+        ensures fault { IfErr result (λ e. (limit : ℕ) (file : Option (List ℕ))
+            → ReadsTable limit file (schema_view schema) reading
+            → IfSome (load_cause e) (IsRefusedTable limit file (schema_view schema))) }
         ensures memory { IfErr result (λ e. load_cause e ≡ None → e ≡ LoadFault.NoMemory) }
     {
         cell_types::values_fit_columns();
-        let parts = match read_table(alloc, limit, &schema, file) {
+        let parts = match parts_of(alloc, &schema, reading) {
             Ok(parts) => parts,
             Err(fault) => return Err(fault_of(schema.url, fault)),
         };
@@ -210,7 +189,7 @@ impl Table {
 }
 
 /// Returns the error of a folder that the fault of the table of that url is.
-fn fault_of(table: String, fault: TableFault) -> LoadFault
+pub(crate) fn fault_of(table: String, fault: TableFault) -> LoadFault
     ensures cause { load_cause result
         ≡ option_map (bad_table (string_bytes table)) (table_cause fault) }
     ensures memory { fault ≡ TableFault.NoMemory → result ≡ LoadFault.NoMemory }

@@ -1,0 +1,12 @@
+use Rattle.std.proofs.Common.{refl, string_bytes}
+use Rattle.csvw_meta.specs.Schema.{schema_view}
+use Rattle.table_store.specs.Fault.{load_cause}
+use Rattle.table_store.specs.File.{file_bytes}
+use Rattle.table_store.specs.Loading.{table_cause}
+use Rattle.table_store.proofs.CatalogLemmas.{refused-table}
+use Rattle.table_store.proofs.table_loading.TableLoading.start.Goals as goal
+
+pub returns-in-Err-clause-fault : goal.returns-in-Err-clause-fault
+returns-in-Err-clause-fault c =
+    refused-table c.args.limit (file_bytes c.args.file) (schema_view c.args.schema) (string_bytes c.args.schema.url) (table_cause c.in-Err.fault) (load_cause c.fault_of.result)
+    c.fault_of.ensures.cause refl c.in-Err.ensures.fault
