@@ -1,6 +1,6 @@
 -- Three-valued logic on the rows that are wanted.
-use Rattle.std.proofs.Common.{◌≡◌, ◌≢◌, ℕ, ◌<◌, Bool, Option, Some, List, length, refl, subst, sym, ap, ◌∙◌, arith}
-use Rattle.std.specs.Prelude.{Err, IfOk, IfSome, Ok, Result, option_and_then, option_map}
+use Rattle.std.proofs.Common.{◌≡◌, ◌≢◌, ℕ, ◌<◌, Bool, false, Option, Some, List, length, get_or, refl, subst, sym, ap, ◌∙◌, arith}
+use Rattle.std.specs.Prelude.{Err, IfOk, Ok, Result, option_and_then, option_map}
 use Rattle.std.proofs.lemmas.List.{get_or_past}
 use Rattle.std.proofs.lemmas.Bool.{false≢true}
 use Rattle.row_eval.specs.declared.truth.Truth.{Truth}
@@ -89,6 +89,14 @@ same-gives e t truth columns wanted ts tree is has =
 pub within-gives : (e : TruthExprOf) (ranges : List RangeOf) (columns : List Column) (wanted : List Bool) (ts : List Truth) → AreOutcomes e columns wanted ts → AreOutcomesWithin e ranges columns wanted ts
 within-gives e ranges columns wanted ts are = record { each = λ row cells h at within_ranges. are.each row cells h at; long = are.long }
 
+-- where no row is wanted, any truths are right
+pub none-gives : (f : List CellValue → Option Truth) (ranges : List RangeOf) (columns : List Column) (wanted : List Bool) (truth : Truth) (ts : List Truth) → ((row : ℕ) → get_or wanted row false ≡ false)
+    → HasTruths (length wanted) (λ row. truth) ts → GivesTruthsWithin f ranges columns wanted ts
+none-gives f ranges columns wanted truth ts none has = record {
+  each = λ row cells h at within_ranges. absurd (false≢true (sym (none row) ∙ h));
+  long = has.long;
+}
+
 -- a truth that the ranges tell
 pub known-gives : (e : TruthExprOf) (truth : Truth) (ranges : List RangeOf) (columns : List Column) (wanted : List Bool) (ts : List Truth) → IsKnown e ranges truth
     → HasTruths (length wanted) (λ row. truth) ts → AreOutcomesWithin e ranges columns wanted ts
@@ -98,9 +106,6 @@ known-gives e truth ranges columns wanted ts known has = record {
 }
 
 -- ---- what a step gave
-
-pub some-gives : {X : Type 0} (known : Option X) (x : X) (P : X → Type 0) → known ≡ Some x → IfSome known P → P x
-some-gives known x P e h = subst (λ k. IfSome k P) e h
 
 pub ok-gives : {X E : Type 0} (r : Result X E) (P Q : X → Type 0) → ((x : X) → P x → Q x) → IfOk r P → IfOk r Q
 ok-gives (Ok x) P Q f h = f x h

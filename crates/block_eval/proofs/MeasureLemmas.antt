@@ -1,5 +1,5 @@
 -- The numbers of texts.
-use Rattle.std.proofs.Common.{◌≡◌, ℕ, Bool, None, Option, Some, List, refl, sym, subst, ap, ◌∙◌}
+use Rattle.std.proofs.Common.{◌≡◌, ℕ, Bool, None, Option, Some, List, sym, ap, ◌∙◌}
 use Rattle.std.specs.Prelude.{ℤ, option_map}
 use Rattle.cell_types.specs.Value.{CellValue}
 use Rattle.row_eval.specs.Outcome.{joined}
@@ -9,7 +9,6 @@ use Rattle.text_lanes.specs.declared.measures.TextMeasure.TheVariants.{IndexOf, 
 use Rattle.text_lanes.specs.declared.texts.Texts.{Texts}
 use Rattle.text_lanes.specs.Texts.{measured, text_lane, AreMeasured}
 use Rattle.block_lanes.specs.declared.numbers.Numbers.{Numbers}
-use Rattle.block_eval.specs.declared.bounded.Bounded.{Bounded}
 use Rattle.block_eval.specs.declared.columns.Column.{Column}
 use Rattle.block_eval.specs.Bounded.{GivesBounded}
 use Rattle.block_eval.specs.Columns.{IsRowAt}

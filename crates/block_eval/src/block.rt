@@ -1,7 +1,6 @@
 //! A condition on the rows of a block, a column at a time.
 
-ghost use Rattle.std.specs.Prelude.{IfOk, IfSome, List};
-ghost use Rattle.block_summary.specs.Ranges.{RangeOf};
+ghost use Rattle.std.specs.Prelude.{◌≡◌, ℕ, false, IfOk, IsTrue, slice_index_or};
 ghost use Rattle.typed_trees.specs.TypedTree.{truth_view};
 ghost use Rattle.block_eval.specs.Lanes.{AreOutcomesWithin};
 
@@ -15,42 +14,41 @@ use std::alloc::Global;
 use summary_eval::known_truth;
 use typed_trees::TruthExpr;
 
-/// Returns the truths of a condition on the wanted rows of a block, where the ranges tell them.
-fn known_truths(
-    alloc: Global,
-    expr: &TruthExpr,
-    summary: &Summary,
-    wanted: &[bool],
-) -> Result<Option<Vec<Truth>>, Fallback>
-    ensures { IfOk result (λ known. IfSome known (λ truths. (columns : List Column)
-        → AreOutcomesWithin (truth_view expr.now) summary.now columns wanted.now truths.items)) }
-{
-    match known_truth(expr, summary) {
-        Some(truth) => {
-            let truths = same_truth(alloc, truth, wanted)?;
-            Ok(Some(truths))
-        }
-        None => Ok(None),
-    }
-}
-
-/// Returns the truths of a condition that has no condition as a part, with a look at its rows.
+/// Returns the truths of a condition that has no condition as a part on the wanted rows of a block. If the ranges of the block decide its truth, no
+/// column is read.
 fn leaf_truths(
     alloc: Global,
     expr: &TruthExpr,
     columns: &[Column<'_>],
+    summary: &Summary,
     wanted: &[bool],
 ) -> Result<Vec<Truth>, Fallback>
-    ensures { IfOk result (λ truths. (ranges : List RangeOf)
-        → AreOutcomesWithin (truth_view expr.now) ranges columns.now wanted.now truths.items) }
+    ensures { IfOk result (λ truths. AreOutcomesWithin (truth_view expr.now) summary.now columns.now
+        wanted.now truths.items) }
 {
+    if let Some(truth) = known_truth(expr, summary) {
+        let truths = same_truth(alloc, truth, wanted)?;
+        return Ok(truths);
+    }
     let truths = eval_leaf(alloc, expr, columns, wanted)?;
     Ok(truths)
 }
 
+/// True if no row is wanted.
+fn none_is_wanted(wanted: &[bool]) -> bool
+    ensures { IsTrue result → (row : ℕ) → slice_index_or wanted.now row false ≡ false }
+{
+    for is_wanted in wanted {
+        if *is_wanted {
+            return false;
+        }
+    }
+    true
+}
+
 /// Returns the truths of a condition on the wanted rows of a block. If it falls back, the rows are to be evaluated one by one; nothing says
 /// when it does. The right side of `and` is evaluated on those rows alone whose left side is not false, that of `or` on those whose left
-/// side is not true. A condition whose truth the ranges of the block tell is not evaluated at all, and no column that it names is looked at.
+/// side is not true. Nothing is evaluated if no row is wanted.
 pub fn eval_block(
     alloc: Global,
     expr: &TruthExpr,
@@ -61,8 +59,8 @@ pub fn eval_block(
     ensures { IfOk result (λ truths. AreOutcomesWithin (truth_view expr.now) summary.now columns.now
         wanted.now truths.items) }
 {
-    if let Some(truths) = known_truths(alloc, expr, summary, wanted)? {
-        return Ok(truths);
+    if none_is_wanted(wanted) {
+        return Ok(same_truth(alloc, Truth::False, wanted)?);
     }
     match expr {
         TruthExpr::Not(operand) => {
@@ -90,6 +88,6 @@ pub fn eval_block(
             let truths = eval_block(alloc, operand, columns, summary, wanted)?;
             truths_among(alloc, truths.as_slice(), items)
         }
-        _ => leaf_truths(alloc, expr, columns, wanted),
+        _ => leaf_truths(alloc, expr, columns, summary, wanted),
     }
 }

@@ -1,10 +1,11 @@
 -- What conditions leave of the rows of a block.
 use Rattle.std.proofs.Common.{◌≡◌, ℕ, zero, suc, ◌+◌, ◌<◌, Bool, true, false, ◌&&◌, ◌||◌, cond, Option, None, Some, List, [], ◌∷◌, length, map, take, drop, replicate, get_or, refl, sym, ap, ◌∙◌, arith}
 use Rattle.std.specs.Prelude.{Box, count_by, filter, is_none, option_and_then}
-use Rattle.std.specs.List.{All, list_any}
+use Rattle.std.specs.List.{All, AllByRecursion, list_any}
 use Rattle.std.proofs.Math.Bool.{or-false}
 use Rattle.std.proofs.lemmas.Bool.{and_parts}
 use Rattle.std.proofs.lemmas.List.{drop_more, nil_from_length}
+use Rattle.std.proofs.lemmas.List.Elements.{recursion_from_All}
 use Rattle.std.proofs.lemmas.List.Sums.{sum_by-cons}
 use Rattle.cell_types.specs.Column.{ColumnOf}
 use Rattle.cell_types.specs.Rows.{IsTableRow}
@@ -217,3 +218,19 @@ none_wanted es left rows made none long so_far =
 pub next_condition : {A : Type 0} (conditions : List (Box TruthExpr A)) (i : ℕ) (condition : Box TruthExpr A) → i < length conditions → condition ≡ get_or conditions i condition
     → map boxed_truth (drop i conditions) ≡ boxed_truth condition ∷ map boxed_truth (drop (i + 1) conditions)
 next_condition conditions i condition h at = ap (map boxed_truth) (drop_more conditions i condition h ∙ ap (λ c. c ∷ drop (i + 1) conditions) (sym at))
+
+-- ---- rows that are listed
+
+alike_filtered : (p q : ℕ → Bool) (numbers : List ℕ) → AllByRecursion (λ n. p n ≡ q n) numbers → filter p numbers ≡ filter q numbers
+alike_filtered p q [] all = refl
+alike_filtered p q (n ∷ numbers) all =
+    ap (λ b. cond b (n ∷ filter p numbers) (filter p numbers)) all.0
+    ∙ ap (λ ns. cond (q n) (n ∷ ns) ns) (alike_filtered p q numbers all.1)
+
+-- of rows that were wanted those are wanted still on which the condition is true
+pub listed_pass : (e : TruthExprOf) (rows : List (List CellValue)) (was now : List Bool) (faulted : Bool) (numbers : List ℕ) → All (λ n. n < length rows) numbers
+    → All (λ n. get_or was n false ≡ true) numbers → Narrows e rows was now faulted → filter (λ n. get_or now n false) numbers ≡ filter (λ n. passes e (get_or rows n [])) numbers
+listed_pass e rows was now faulted numbers within wanted narrows =
+    alike_filtered (λ n. get_or now n false) (λ n. passes e (get_or rows n [])) numbers
+    (recursion_from_All (λ n. get_or now n false ≡ passes e (get_or rows n [])) numbers
+    (λ k d h. narrows.each (get_or numbers k d) (within k d h) ∙ ap (λ b. b && passes e (get_or rows (get_or numbers k d) [])) (wanted k d h)))

@@ -39,7 +39,7 @@ fn keep_true(truths: &[Truth], wanted: &mut [bool])
 
 /// Leaves those rows of a block wanted on which a condition is true: column by column if possible, else one wanted row after another. Returns whether the
 /// condition divides by zero on a wanted row.
-fn narrow_by(
+pub(crate) fn narrow_by(
     alloc: Global,
     condition: &TruthExpr,
     block: &Block<'_>,

@@ -1,11 +1,10 @@
 -- Aggregates of rows, or of groups of them.
-use Rattle.std.proofs.Common.{◌≡◌, ℕ, ◌<◌, ◌≤◌, ◌^◌, Option, Some, None, List, [], ◌∷◌, ◌++◌, append-nil, length, map, take, refl, sym, ap, ◌∙◌, subst, arith}
+use Rattle.std.proofs.Common.{◌≡◌, ℕ, ◌<◌, ◌^◌, Option, Some, None, List, [], ◌∷◌, ◌++◌, append-nil, length, map, refl, sym, ap, ◌∙◌, subst, arith}
 use Rattle.std.specs.Prelude.{IfSome, option_and_then}
 use Rattle.std.specs.Borrow.{Bor}
 use Rattle.std.specs.List.{All}
 use Rattle.std.proofs.lemmas.List.{get_or_default, length-append, length-map}
 use Rattle.std.proofs.lemmas.List.Elements.{recursion_from_All}
-use Rattle.block_summary.specs.declared.block.TheConstants.{BLOCK_ROWS}
 use Rattle.cell_types.specs.Value.{CellValue}
 use Rattle.odata_query.specs.declared.aggregate.Aggregate.{Aggregate}
 use Rattle.odata_query.specs.declared.aggregate.Aggregate.TheVariants.{Count, SumOfIntegers, SumOfDecimals, Min, Max, CountDistinct}
@@ -16,6 +15,7 @@ use Rattle.query_plan.specs.Fitting.{AggregateFits, IsFitNode}
 use Rattle.query_plan.specs.Plan.{node_names, node_result, nodes_result}
 use Rattle.table_store.specs.Table.{TableOf}
 use Rattle.row_columns.specs.Picked.{numbered}
+use Rattle.row_selection.specs.Numbers.{numbers_from}
 use Rattle.row_groups.specs.declared.gathering.Gathering.{Gathering}
 use Rattle.row_groups.specs.Gathered.{gathered_rows, gathered_width, lent_places, Adjoins, Gathers, HasGatheredRows, MayJoin}
 use Rattle.row_groups.specs.Tallies.{FitsAll}
@@ -29,8 +29,9 @@ use Rattle.query_exec.specs.Kept.{kept_names, kept_places, HasKept, HasSameColum
 use Rattle.query_exec.specs.Picked.{selected_rows}
 use Rattle.query_exec.specs.Sink.{HasGathered, MayPush, PushesOn, SinkMakes}
 use Rattle.query_exec.proofs.CountLemmas.{selected_long, selected_numbered}
+use Rattle.query_exec.proofs.EveryLemmas.{first_all}
 use Rattle.query_exec.proofs.KeptLemmas.{as_many}
-use Rattle.query_exec.proofs.StepLemmas.{all_numbered, first_numbers}
+use Rattle.query_exec.proofs.StepLemmas.{all_numbered}
 
 -- ---- the step
 
@@ -116,10 +117,10 @@ none_pushed s rows found none = record {
 }
 
 -- the rows of a block join them, and none is kept
-pub aggregate_pushed : (old new : AggregateSink) (rows more : List (List CellValue)) (found : Passed) → new.places ≡ old.places → new.aggregates ≡ old.aggregates → new.all ≡ old.all
+pub aggregate_pushed : (old new : AggregateSink) (rows more : List (List CellValue)) (found : Passed) → new.places ≡ old.places → new.aggregates ≡ old.aggregates
     → HasSameColumns old.kept new.kept → new.kept.columns.rows ≡ []
     → more ≡ selected_rows (kept_places old.kept) (numbered found.rows rows) → Adjoins old.gathering new.gathering more → PushesOn (sink.Aggregate old) (sink.Aggregate new) rows found
-aggregate_pushed old new rows more found places aggregates all_is columns none more_is joins =
+aggregate_pushed old new rows more found places aggregates columns none more_is joins =
     let node_is : aggregate_node (optional_numbers new.places) (aggregates_view new.aggregates) ≡ aggregate_node (optional_numbers old.places) (aggregates_view old.aggregates) =
     ap (λ (ps : _). aggregate_node (optional_numbers ps) (aggregates_view new.aggregates)) places ∙ ap (λ (as_many : _). aggregate_node (optional_numbers old.places) (aggregates_view as_many)) aggregates in
     record {
@@ -134,28 +135,27 @@ aggregate_pushed old new rows more found places aggregates all_is columns none m
                 (subst (Gathers new.gathering (optional_numbers old.places) (aggregates_view old.aggregates)) all
                 (joins (optional_numbers old.places) (aggregates_view old.aggregates) before has.gathers)));
             none = none;
-            all = subst (λ (ns : _). AreAllNumbers ns.items BLOCK_ROWS) (sym all_is) has.all;
           };
     }
 
 -- ---- the rows of a block, and the end
 
--- so many numbers are there for a block
-pub block_numbers : (numbers : List ℕ) (len : ℕ) → AreAllNumbers numbers BLOCK_ROWS → len ≤ BLOCK_ROWS → AreAllNumbers (take len numbers) len
-block_numbers numbers len all few = first_numbers numbers len (subst (AreAllNumbers numbers) (sym all.count) all) (omega (arith, few, all.count))
+all_are : (numbers : List ℕ) (len : ℕ) → numbers ≡ numbers_from 0 len → AreAllNumbers numbers len
+all_are numbers len is = subst (λ ns. AreAllNumbers ns len) (sym is) (first_all len)
 
-pub numbers_within : (numbers : List ℕ) (len : ℕ) → AreAllNumbers numbers len → All (λ n. n < len) numbers
-numbers_within numbers len all = λ k d h.
+pub numbers_within : (numbers : List ℕ) (len : ℕ) → numbers ≡ numbers_from 0 len → All (λ n. n < len) numbers
+numbers_within numbers len is = λ k d h.
+    let all = all_are numbers len is in
     let inside : k < len = omega (arith, h, all.count) in
     subst (λ n. n < len) (sym (get_or_default numbers k d 0 h ∙ all.each k inside)) inside
 
 module _ (old : AggregateSink) (kept : Kept) (block : TableOf) (found : Passed) (numbers : List ℕ) (may : MayPush (sink.Aggregate old) block found)
-    (has : HasKept old.kept kept (selected_rows (kept_places old.kept) (numbered numbers block.rows))) (all : AreAllNumbers numbers (length block.rows)) where
+    (has : HasKept old.kept kept (selected_rows (kept_places old.kept) (numbered numbers block.rows))) (is : numbers ≡ numbers_from 0 (length block.rows)) where
   -- the rows of the block are kept, all of them and no others
   kept_rows : kept.columns.rows ≡ selected_rows (kept_places old.kept) block.rows
   kept_rows =
       has.rows ∙ ap (λ rs. rs ++ selected_rows (kept_places old.kept) (numbered numbers block.rows)) may.pushed.none
-      ∙ ap (selected_rows (kept_places old.kept)) (all_numbered numbers block.rows all)
+      ∙ ap (selected_rows (kept_places old.kept)) (all_numbered numbers block.rows (all_are numbers (length block.rows) is))
 
   pub found_within : All (λ n. n < length kept.columns.rows) found.rows
   found_within =

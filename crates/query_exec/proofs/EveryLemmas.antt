@@ -6,7 +6,7 @@ use Rattle.typed_trees.specs.TypedTree.{TruthExprOf}
 use Rattle.row_columns.specs.Picked.{numbered}
 use Rattle.block_filter.specs.declared.block.Passed.{Passed}
 use Rattle.block_filter.specs.Passing.{unless_faulted, ArePassing}
-use Rattle.row_selection.specs.Numbers.{rising_from}
+use Rattle.row_selection.specs.Numbers.{numbers_from}
 use Rattle.row_selection.proofs.NumberLemmas.{get-from, length-from}
 use Rattle.query_exec.specs.Intermediate.{AreAllNumbers}
 use Rattle.query_exec.proofs.CountLemmas.{passed_count}
@@ -32,5 +32,5 @@ every_found rows most es len found unlimited none long all count still =
     (subst (λ fs. ArePassing fs None rows found) (sym none) (every_passes rows found (subst (AreAllNumbers found.rows) long all) (count ∙ long) still))
 
 -- the first so many are all of them
-pub first_all : (len : ℕ) → AreAllNumbers (rising_from 0 len) len
+pub first_all : (len : ℕ) → AreAllNumbers (numbers_from 0 len) len
 first_all len = record { count = length-from 0 len; each = λ k less. get-from 0 len k less ∙ omega arith }

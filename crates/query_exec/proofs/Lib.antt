@@ -3,6 +3,7 @@ pub mod CountLemmas
 pub mod StepLemmas
 pub mod KeptLemmas
 pub mod SliceLemmas
+pub mod CutoffLemmas
 pub mod TopNLemmas
 pub mod AggregateLemmas
 pub mod FitLemmas

@@ -201,7 +201,7 @@ fault_found old most rows found are faults before has =
     let none = none_first most (passing_all (conditions_of old) rows) (are.passed ∙ ap (λ f. unless_faulted f (numbered found.rows rows)) faults) in
     ap (λ passed. rows_joined before (option_map (selected_rows (places_of old)) passed)) none ∙ joined_none before
 
-pub faulted_taken : (old new : Run) (rows : List (List CellValue)) → new ≡ record old { left = new.left; room = new.room; lanes = new.lanes; faulted = new.faulted } → new.faulted ≡ true → new.left.items ≡ drop 1 old.left.items
+pub faulted_taken : (old new : Run) (rows : List (List CellValue)) → new ≡ record old { left = new.left; room = new.room; faulted = new.faulted } → new.faulted ≡ true → new.left.items ≡ drop 1 old.left.items
     → new.room ≡ room_behind old.room (count_by (passes_each (conditions_of old)) rows)
     → ((before : Option (List (List CellValue))) → HasPassed old before → rows_joined before (passed_rows old rows) ≡ None) → HasTakenIn old new rows
 faulted_taken old new rows is faults left room none = record {
@@ -223,13 +223,13 @@ pub passed_over : (old new : Run) (rows : List (List CellValue)) → old.faulted
     → new.left.items ≡ drop 1 old.left.items → HasTakenIn old new rows
 passed_over old new rows faults room is left =
     faulted_taken old new rows
-    (subst (λ (r : Run). r ≡ record old { left = r.left; room = r.room; lanes = r.lanes; faulted = r.faulted }) (sym is) refl)
+    (subst (λ (r : Run). r ≡ record old { left = r.left; room = r.room; faulted = r.faulted }) (sym is) refl)
     (ap (λ (r : Run). r.faulted) is ∙ faults) left
     (ap (λ (r : Run). r.room) is ∙ room ∙ ap (λ room. room_behind room (count_by (passes_each (conditions_of old)) rows)) (sym room))
     (λ before has. ap (λ passed. rows_joined passed (passed_rows old rows)) (none_passed old before has faults))
 
 pub pushed_taken : (old new : Run) (rows : List (List CellValue)) (found : Passed) → ArePassing (conditions_of old) (spare_of old.sink) rows found → old.faulted ≡ false
-    → found.faulted ≡ false → new ≡ record old { left = new.left; room = new.room; lanes = new.lanes; sink = new.sink } → new.left.items ≡ drop 1 old.left.items
+    → found.faulted ≡ false → new ≡ record old { left = new.left; room = new.room; sink = new.sink } → new.left.items ≡ drop 1 old.left.items
     → new.room ≡ room_behind old.room found.count → PushesOn old.sink new.sink rows found → HasTakenIn old new rows
 pushed_taken old new rows found are works still is left room pushes =
     let more = found_of (conditions_of old) (spare_of old.sink) rows found are still in

@@ -1,7 +1,7 @@
 -- Steps on the rows of columns by their numbers.
-use Rattle.std.proofs.Common.{◌≡◌, ℕ, ◌+◌, ◌<◌, ◌≤◌, Some, None, List, [], ◌∷◌, length, map, drop, take, get_or, refl, ap, ◌∙◌, subst, arith}
+use Rattle.std.proofs.Common.{◌≡◌, ℕ, ◌+◌, ◌<◌, ◌≤◌, Some, None, List, [], ◌∷◌, length, map, drop, get_or, refl, ap, ◌∙◌, subst, arith}
 use Rattle.std.specs.Prelude.{Err, string_bytes}
-use Rattle.std.proofs.lemmas.List.{drop_all, drop_more, ext_get_or, get_or-take, get_or_default, length-map, length-take-le}
+use Rattle.std.proofs.lemmas.List.{drop_all, drop_more, ext_get_or, get_or_default, length-map}
 use Rattle.std.proofs.Math.ListN.{get_or-map}
 use Rattle.cell_types.specs.Value.{CellValue}
 use Rattle.row_eval.specs.declared.fault.EvalFault.{EvalFault}
@@ -15,12 +15,6 @@ use Rattle.query_exec.specs.Intermediate.{intermediate_view, AreAllNumbers, Give
 use Rattle.query_exec.specs.declared.intermediate.Intermediate.{Intermediate}
 
 -- ---- rows by all of their numbers
-
-pub first_numbers : (numbers : List ℕ) (len : ℕ) → AreAllNumbers numbers (length numbers) → len ≤ length numbers → AreAllNumbers (take len numbers) len
-first_numbers numbers len all few = record {
-  count = length-take-le len numbers few;
-  each = λ k less. get_or-take len numbers k 0 less ∙ all.each k (omega (arith, less, few));
-}
 
 pub all_numbered : (numbers : List ℕ) (rows : List (List CellValue)) → AreAllNumbers numbers (length rows) → numbered numbers rows ≡ rows
 all_numbered numbers rows all =

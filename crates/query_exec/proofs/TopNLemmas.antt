@@ -1,19 +1,15 @@
 -- The first rows of an order that never divides by zero.
-use Rattle.std.proofs.Common.{◌≡◌, ℕ, ℤ, pos, suc, ◌+◌, ◌<◌, Bool, true, false, ◌||◌, ◌&&◌, cond, Option, Some, None, List, [], ◌∷◌, ◌++◌, append-nil, get_or, length, map, take, refl, sym, ap, ◌∙◌, subst, arith}
-use Rattle.std.specs.Prelude.{is_none, is_some, not, option_and_then, option_map, slice_get}
+use Rattle.std.proofs.Common.{◌≡◌, ℕ, ◌+◌, ◌<◌, Bool, true, false, ◌||◌, ◌&&◌, cond, Option, Some, None, List, [], ◌∷◌, ◌++◌, append-nil, get_or, length, map, take, refl, sym, ap, ◌∙◌, subst, arith}
+use Rattle.std.specs.Prelude.{is_none, is_some, not, option_and_then, option_map}
 use Rattle.std.specs.List.{All, AllByRecursion, list_any}
 use Rattle.std.proofs.lemmas.Bool.{and_parts}
 use Rattle.std.proofs.lemmas.List.{get_or-map, get_or-append-add, length-append, length-map}
-use Rattle.std.proofs.lemmas.List.Elements.{All-append, All-from_recursion, recursion_from_All}
-use Rattle.block_filter.specs.Columns.{unless_null}
-use Rattle.block_filter.specs.Lanes.{AreKeysAt, StandAt}
+use Rattle.std.proofs.lemmas.List.Elements.{All-append, All-from_recursion}
 use Rattle.block_filter.specs.declared.block.Passed.{Passed}
-use Rattle.block_summary.specs.Cells.{number_or_null}
-use Rattle.block_summary.specs.Types.{cell_of}
-use Rattle.block_summary.specs.declared.number.PackedType.{PackedType}
-use Rattle.cell_types.specs.Value.{CellValue, null}
+use Rattle.cell_types.specs.Value.{CellValue}
 use Rattle.typed_trees.specs.declared.tree.NumberKind.TheVariants as numbers
 use Rattle.typed_trees.specs.TypedTree as typed
+use Rattle.typed_trees.specs.declared.tree.TruthExpr.{TruthExpr}
 use Rattle.typed_trees.specs.TypedTree.{TypedExprOf}
 use Rattle.row_eval.specs.Bounds.{NumbersFit}
 use Rattle.row_eval.specs.Laws.{FaultsAreForeseen}
@@ -23,11 +19,9 @@ use Rattle.typed_trees.specs.CanFault.{can_fault}
 use Rattle.odata_query.specs.Query.{order_view}
 use Rattle.query_meaning.specs.Order.{Item, are_plain, order_faults, plain_column, rows_cmp, sorted}
 use Rattle.query_plan.specs.Plan.{choosing, nodes_result}
-use Rattle.row_columns.specs.Picked.{numbered, values_at}
-use Rattle.row_columns.specs.declared.keys.KeyColumn.{KeyColumn}
-use Rattle.row_columns.specs.declared.keys.Keys.{Keys}
+use Rattle.row_columns.specs.Picked.{numbered}
 use Rattle.row_order.specs.Best.{best_rows, BestInPieces}
-use Rattle.row_order.specs.InTime.{key_at, AreEnoughByKeys, HaveKeys, NeverFault}
+use Rattle.row_order.specs.Cutoffs.{NeverFault}
 use Rattle.query_exec.specs.declared.intermediate.Intermediate.{Intermediate}
 use Rattle.query_exec.specs.declared.sink.Sink.TheVariants as sink
 use Rattle.query_exec.specs.declared.top_n.TopNSink.{TopNSink}
@@ -37,8 +31,8 @@ use Rattle.query_exec.specs.Kept.{kept_names, kept_places, HasKept, HasReduced}
 use Rattle.query_exec.specs.declared.kept.Kept.{Kept}
 use Rattle.query_exec.specs.Picked.{selected_rows}
 use Rattle.query_exec.specs.Sink.{sink_items, MayPush, PushesOn, SinkMakes}
-use Rattle.query_exec.specs.TopN.{AreBestOf, AreTimely, HasCutRows, IsSourceOf}
-use Rattle.query_exec.proofs.CountLemmas.{selected_long, selected_numbered}
+use Rattle.query_exec.specs.Cutoffs.{HasCutoff}
+use Rattle.query_exec.specs.TopN.{AreBestOf, AreFirst, AreTimely, HasCutRows}
 use Rattle.query_exec.proofs.StepLemmas.{all_numbered}
 
 -- ---- items that are columns alone
@@ -121,64 +115,6 @@ best_behind faults law items most xs ys more safe e =
     let best = safe_best faults items most ys safe in
     sym (law.front items most xs more _ (e ∙ best)) ∙ law.front items most ys more _ best
 
--- ---- keys of rows
-
-cell_is : (b : Bool) (n : ℤ) → unless_null b n ≡ number_or_null b n
-cell_is true n = refl
-cell_is false n = refl
-
-there : (xs : List CellValue) (i : ℕ) (v : CellValue) → slice_get xs i ≡ Some v → get_or xs i null ≡ v
-there [] i v e = absurd (cc)
-there (x ∷ xs) ℕ.zero v e = cc
-there (x ∷ xs) (suc i) v e = there xs i v e
-
-have_keys : (rows : List (List CellValue)) (col : ℕ) (type : PackedType) (numbers : List ℤ) (nulls : List Bool) → StandAt rows col type numbers nulls
-    → HaveKeys col type (key_at numbers nulls) rows
-have_keys rows col type numbers nulls stand n inside =
-    there (get_or rows n []) col (cell_of type (unless_null (get_or nulls n true) (get_or numbers n (pos 0)))) (stand n inside)
-    ∙ ap (cell_of type) (cell_is (get_or nulls n true) (get_or numbers n (pos 0)))
-
--- the keys of a column are those of where it is kept
-kept_keys : (places : Option (List ℕ)) (place col : ℕ) (type : PackedType) (key : ℕ → Option ℤ) (rows : List (List CellValue)) → IsSourceOf places place col
-    → HaveKeys col type key rows → HaveKeys place type key (selected_rows places rows)
-kept_keys None place col type key rows is have n inside = subst (λ p. HaveKeys p type key rows) is have n inside
-kept_keys (Some places) place col type key rows is have n inside =
-    let long = length-map rows (values_at places) in
-    let within : n < length rows = omega (arith, inside, long) in
-    let row = get_or rows n [] in
-    ap (λ vs. get_or vs place null) (get_or-map (values_at places) rows n [] [] within)
-    ∙ value_at places place col row is ∙ have n within
-  where
-    value_at : (ps : List ℕ) (p c : ℕ) (row : List CellValue) → slice_get ps p ≡ Some c → get_or (values_at ps row) p null ≡ get_or row c null
-    value_at [] p c row e = absurd (cc)
-    value_at (q ∷ ps) ℕ.zero c row e = let same : q ≡ c = cc in ap (λ k. get_or row k null) same
-    value_at (q ∷ ps) (suc p) c row e = value_at ps p c row e
-
--- ---- rows of a block
-
--- what is enough for the order by the keys of a column is so behind the rows that are kept
-pub enough_is_timely : (s : TopNSink) (rows : List (List CellValue)) (numbers made : List ℕ) (col : ℕ) (column : KeyColumn) (keys : Keys)
-    → are_plain (sink_items s) ≡ true → IsSourceOf (kept_places s.kept) column.place col → AreKeysAt rows col column keys → All (λ n. n < length rows) numbers
-    → AreEnoughByKeys (sink_items s) s.most keys s.kept.columns.rows numbers made → AreTimely s rows numbers made
-enough_is_timely s rows numbers made col column keys plain source are within enough =
-    let places = kept_places s.kept in
-    let picked = selected_rows places rows in
-    let long = selected_long places rows in
-    let have = kept_keys places column.place col column.packed_type (key_at keys.numbers.now keys.nulls.now) rows source
-    (have_keys rows col column.packed_type keys.numbers.now keys.nulls.now are.stand) in
-    let here : HaveKeys keys.column.place keys.column.packed_type (key_at keys.numbers.now keys.nulls.now) picked =
-    subst (λ (c : KeyColumn). HaveKeys c.place c.packed_type (key_at keys.numbers.now keys.nulls.now) picked) (sym are.column_is) have in
-    let found = enough picked (long ∙ sym are.long) here in
-    let inside : All (λ n. n < length rows) made = subst (λ k. All (λ n. n < k) made) long found.within in
-    let as_picked : (numbers : List ℕ) → All (λ n. n < length rows) numbers → numbered numbers picked ≡ selected_rows places (numbered numbers rows) =
-    λ ns all. selected_numbered places rows ns (recursion_from_All (λ n. n < length rows) ns all) in
-    record {
-      within = inside;
-      first = ap (λ rs. best_rows (sink_items s) s.most (s.kept.columns.rows ++ rs)) (sym (as_picked made inside)) ∙ found.first
-          ∙ ap (λ rs. best_rows (sink_items s) s.most (s.kept.columns.rows ++ rs)) (as_picked numbers within);
-      fit = λ before. plain_rows_fit (sink_items s) (selected_rows places (numbered made rows)) plain;
-    }
-
 -- ---- the rows that are kept
 
 -- the first of them in their place
@@ -194,14 +130,22 @@ best_of s all numbers are within made = record {
   rows = ap (best_rows (sink_items s) s.most) (sym (all_numbered all s.kept.columns.rows are)) ∙ made;
 }
 
-pub cut_to : BestInPieces → (s : TopNSink) (kept : Kept) (numbers : List ℕ) → ItemsFit (sink_items s) s.kept.columns.rows → AreBestOf s numbers → HasReduced s.kept kept numbers → HasCutRows s (record s { kept = kept })
-cut_to law s kept numbers fit best has = record {
+pub first_are_kept : (s : TopNSink) (kept : Kept) (numbers : List ℕ) → AreBestOf s numbers → HasReduced s.kept kept numbers → AreFirst (record s { kept = kept })
+first_are_kept s kept numbers best has = record {
+  rows = s.kept.columns.rows;
+  best = best.rows ∙ ap (λ rows. Some rows) (sym has.rows);
+}
+
+pub cut_to : BestInPieces → (s : TopNSink) (kept : Kept) (cutoff : Option TruthExpr) (numbers : List ℕ) → ItemsFit (sink_items s) s.kept.columns.rows → AreBestOf s numbers → HasReduced s.kept kept numbers
+    → HasCutoff (record s { kept = kept; cutoff = cutoff }) → HasCutRows s (record s { kept = kept; cutoff = cutoff })
+cut_to law s kept cutoff numbers fit best has late = record {
   items = refl;
   most = refl;
   columns = has.same;
   fit =
       subst (ItemsFit (sink_items s)) (sym has.rows)
       (numbered_fit (λ row. All (λ item. NumbersFit item.0 row) (sink_items s)) s.kept.columns.rows numbers fit best.within);
+  cutoff = late;
   first = ap (best_rows (sink_items s) s.most) has.rows ∙ best_cut law (sink_items s) s.most s.kept.columns.rows (numbered numbers s.kept.columns.rows) best.rows;
 }
 
@@ -247,6 +191,7 @@ top_n_pushed faults law old new mid rows found numbers safe timely kept cut = re
       record {
         safe = ap (λ (items : _). none_can_fault (map order_view items.items)) cut.items ∙ safe;
         fit = subst (λ (items : _). ItemsFit (map order_view items.items) new.kept.columns.rows) (sym cut.items) cut.fit;
+        cutoff = cut.cutoff;
         first =
             subst (λ (items : _). best_rows (map order_view items.items) new.most new.kept.columns.rows ≡ best_rows (map order_view items.items) new.most (before ++ more)) (sym cut.items)
             (subst (λ most. best_rows (sink_items old) most new.kept.columns.rows ≡ best_rows (sink_items old) most (before ++ more)) (sym cut.most) same);

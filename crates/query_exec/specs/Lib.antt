@@ -12,6 +12,7 @@ pub mod Picked
 pub mod Kept
 pub mod Intermediate
 pub mod Items
+pub mod Cutoffs
 pub mod Sink
 pub mod TopN
 pub mod Run

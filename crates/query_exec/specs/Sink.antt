@@ -2,7 +2,6 @@
 -- makes of all of them.
 use Rattle.std.specs.Prelude.{◌≡◌, ◌<◌, ◌-◌, ◌^◌, ◌++◌, ⊤, ℕ, true, false, List, [], ◌∷◌, Option, Some, None, drop, length, map}
 use Rattle.std.specs.List.{All}
-use Rattle.block_summary.specs.declared.block.TheConstants.{BLOCK_ROWS}
 use Rattle.cell_types.specs.Value.{CellValue}
 use Rattle.odata_query.specs.Aggregate.{aggregates_view}
 use Rattle.odata_query.specs.Query.{optional_numbers, order_view}
@@ -25,7 +24,8 @@ use Rattle.query_exec.specs.declared.sink.Sink.{Sink}
 use Rattle.query_exec.specs.declared.sink.Sink.TheVariants.{Aggregate, Collect, Slice, TopN}
 use Rattle.query_exec.specs.declared.slice.SliceSink.{SliceSink}
 use Rattle.query_exec.specs.declared.top_n.TopNSink.{TopNSink}
-use Rattle.query_exec.specs.Intermediate.{aggregate_node, without_count, AreAllNumbers, Makes}
+use Rattle.query_exec.specs.Cutoffs.{HasCutoff}
+use Rattle.query_exec.specs.Intermediate.{aggregate_node, without_count, Makes}
 use Rattle.query_exec.specs.Items.{none_can_fault, ItemsFit}
 use Rattle.query_exec.specs.Kept.{kept_names, kept_places, AreKeptOf, AreKeptRows, HasSameColumns}
 use Rattle.query_exec.specs.Picked.{selected_rows}
@@ -53,17 +53,17 @@ pub record HasPiece (sink : SliceSink) (rows : List (List CellValue)) : Type 0 w
   pub piece : sink.kept.columns.rows ≡ first_rows sink.slice.top (drop sink.slice.skip rows)
   pub count : sink.count ≡ length rows
 
--- of an order that never divides by zero, rows are kept of which the first ones are those of all
+-- Of an order that never divides by zero, rows are kept of which the first ones are those of all. If there is a cutoff, a row that it does not pass comes late.
 pub record HasBest (sink : TopNSink) (rows : List (List CellValue)) : Type 0 where
   pub safe : none_can_fault (sink_items sink) ≡ true
   pub fit : ItemsFit (sink_items sink) sink.kept.columns.rows
+  pub cutoff : HasCutoff sink
   pub first : best_rows (sink_items sink) sink.most sink.kept.columns.rows ≡ best_rows (sink_items sink) sink.most rows
 
--- for aggregates none is kept, and the numbers of the rows of a block are there
+-- for aggregates none is kept
 pub record HasGathered (sink : AggregateSink) (rows : List (List CellValue)) : Type 0 where
   pub gathers : Gathers sink.gathering (optional_numbers sink.places) (aggregates_view sink.aggregates) rows
   pub none : sink.kept.columns.rows ≡ []
-  pub all : AreAllNumbers sink.all.items BLOCK_ROWS
 
 abbrev pub HasPushed : Sink → List (List CellValue) → Type 0
 HasPushed (Collect kept) rows = kept.columns.rows ≡ rows

@@ -1,19 +1,15 @@
 -- The rows that a sink keeps of an order.
-use Rattle.std.specs.Prelude.{◌≡◌, ◌<◌, ◌++◌, ℕ, List, Option, Some, None, length, slice_get}
+use Rattle.std.specs.Prelude.{◌≡◌, ◌<◌, ◌++◌, ℕ, List, Some, length}
 use Rattle.std.specs.List.{All}
 use Rattle.cell_types.specs.Value.{CellValue}
 use Rattle.row_columns.specs.Picked.{numbered}
 use Rattle.row_order.specs.Best.{best_rows}
 use Rattle.query_exec.specs.declared.top_n.TopNSink.{TopNSink}
+use Rattle.query_exec.specs.Cutoffs.{HasCutoff}
 use Rattle.query_exec.specs.Items.{ItemsFit}
 use Rattle.query_exec.specs.Kept.{kept_places, HasSameColumns}
 use Rattle.query_exec.specs.Picked.{selected_rows}
 use Rattle.query_exec.specs.Sink.{sink_items}
-
--- the column of a block that is kept in a place
-abbrev pub IsSourceOf : Option (List ℕ) → ℕ → ℕ → Type 0
-IsSourceOf None place col = col ≡ place
-IsSourceOf (Some places) place col = slice_get places place ≡ Some col
 
 -- of the rows of a block by their numbers the new ones are enough after those that are kept
 pub record AreTimely (sink : TopNSink) (rows : List (List CellValue)) (old new : List ℕ) : Type 0 where
@@ -33,4 +29,10 @@ pub record HasCutRows (old new : TopNSink) : Type 0 where
   pub most : new.most ≡ old.most
   pub columns : HasSameColumns old.kept new.kept
   pub fit : ItemsFit (sink_items old) new.kept.columns.rows
+  pub cutoff : HasCutoff new
   pub first : best_rows (sink_items old) old.most new.kept.columns.rows ≡ best_rows (sink_items old) old.most old.kept.columns.rows
+
+-- the rows that are kept are the first of others
+pub record AreFirst (sink : TopNSink) : Type 0 where
+  pub rows : List (List CellValue)
+  pub best : best_rows (sink_items sink) sink.most rows ≡ Some sink.kept.columns.rows

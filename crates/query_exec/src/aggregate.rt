@@ -5,13 +5,13 @@ ghost use Rattle.odata_query.specs.Query.{optional_numbers};
 ghost use Rattle.query_exec.specs.declared.sink.Sink.TheVariants as sink;
 ghost use Rattle.query_exec.specs.Sink.{HasPushed, SinkMakes, MayFinish, MayPush, PushesOn};
 
-use crate::intermediate::{Intermediate, all_numbers};
+use crate::intermediate::Intermediate;
 use crate::kept::Kept;
 use crate::names::aggregate_names;
 use block_filter::Passed;
-use block_summary::BLOCK_ROWS;
 use odata_query::NamedAggregate;
 use row_groups::Gathering;
+use row_selection::Selection;
 use std::alloc::{AllocError, Global};
 use table_store::Block;
 
@@ -23,8 +23,6 @@ pub(crate) struct AggregateSink {
     pub(crate) places: Option<Vec<usize>>,
     pub(crate) aggregates: Vec<NamedAggregate>,
     pub(crate) gathering: Gathering,
-    /// The numbers of the rows of a block with as many rows as a block can have.
-    pub(crate) all: Vec<usize>,
 }
 
 impl AggregateSink {
@@ -41,14 +39,12 @@ impl AggregateSink {
         ensures aggregates { IfOk result (λ made. made.aggregates ≡ aggregates) }
         ensures none { IfOk result (λ made. HasPushed (sink.Aggregate made) []) }
     {
-        let all = all_numbers(alloc, BLOCK_ROWS)?;
         let gathering = Gathering::new(alloc, places.as_deref(), aggregates.as_slice())?;
         Ok(AggregateSink {
             kept,
             places,
             aggregates,
             gathering,
-            all,
         })
     }
 
@@ -66,8 +62,8 @@ impl AggregateSink {
         if found.rows.len() == 0 {
             return Ok(());
         }
-        block.rows_are_few();
-        self.kept.take(alloc, block, &self.all[..block.rows()])?;
+        self.kept
+            .take_rows(alloc, block, Selection::all(block.rows()))?;
         let numbers = found.rows.to_vec(alloc)?;
         self.gathering
             .join(alloc, &self.kept.columns, numbers.as_slice())?;
@@ -85,7 +81,6 @@ impl AggregateSink {
             places,
             aggregates,
             gathering,
-            ..
         } = self;
         let names = aggregate_names(
             alloc,

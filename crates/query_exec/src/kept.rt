@@ -13,6 +13,7 @@ use crate::intermediate::Intermediate;
 use csvw_meta::Schema;
 use query_rows::{Rows, names_of, picked_names};
 use row_columns::Columns;
+use row_selection::Selection;
 use std::alloc::{AllocError, Global};
 use table_store::Block;
 
@@ -66,6 +67,24 @@ impl Kept {
         }
     }
 
+    /// Keeps the selected rows of a block, after the others.
+    pub(crate) fn take_rows(
+        &mut self,
+        alloc: Global,
+        block: &Block<'_>,
+        rows: Selection,
+    ) -> Result<(), AllocError>
+        requires columns { AreKeptOf self.old block.now.schema }
+        requires within { All (λ n. n < length block.now.rows) rows }
+        ensures { OnOk result (HasKept self.old self.new
+            (selected_rows (kept_places self.old) (numbered rows block.now.rows))) }
+    {
+        match &self.places {
+            Some(places) => self.columns.take_places(alloc, block, places, rows),
+            None => self.columns.take(alloc, block, rows),
+        }
+    }
+
     /// Keeps the rows of a block with these numbers, after the others.
     pub(crate) fn take(
         &mut self,
@@ -78,17 +97,9 @@ impl Kept {
         ensures { OnOk result (HasKept self.old self.new
             (selected_rows (kept_places self.old) (numbered numbers.now block.now.rows))) }
     {
-        match &self.places {
-            Some(places) => self.columns.take_places(alloc, block, places, numbers),
-            None => self.columns.take(alloc, block, numbers),
-        }
-    }
-
-    /// From now on the rows take a bit each, where enough of their table are kept.
-    pub(crate) fn compact(&mut self, alloc: Global) -> Result<(), AllocError>
-        ensures { OnOk result (self.new ≡ self.old) }
-    {
-        self.columns.compact(alloc)
+        block.rows_are_few();
+        let rows = Selection::of_numbers(alloc, numbers)?;
+        self.take_rows(alloc, block, rows)
     }
 
     /// Keeps of the rows those with these numbers, in their order.
@@ -131,7 +142,12 @@ impl Kept {
           count = count;
         }))) }
     {
-        let Kept { names, columns, .. } = self;
+        let Kept {
+            names,
+            mut columns,
+            ..
+        } = self;
+        columns.list(alloc)?;
         Intermediate::whole(alloc, names, columns, count)
     }
 

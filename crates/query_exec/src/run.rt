@@ -20,7 +20,7 @@ use crate::parts::{Parts, split};
 use crate::sink::Sink;
 use crate::slice::room_behind;
 use crate::steps::apply_all;
-use block_filter::{Lanes, conditions_in_turn};
+use block_filter::conditions_in_turn;
 use block_summary::{Summary, one_range};
 use csvw_meta::Schema;
 use query_plan::{Node, Plan, nodes_in_turn, scans_read_table_rows};
@@ -55,8 +55,6 @@ pub struct Run {
     room: Option<u64>,
     /// The conditions that the plan begins with.
     conditions: Vec<Box<TruthExpr>>,
-    /// The columns of a block that a condition names.
-    lanes: Lanes,
     /// Whether a condition divided by zero on a row.
     faulted: bool,
     /// What the rows go to that pass them, unless one divided by zero.
@@ -99,17 +97,6 @@ impl Run {
         Ok(Some(made.into_rows(alloc)?))
     }
 
-    /// Where no step is left, the rows that the sink keeps are those of the answer, in the order of the table: from now on they take a bit
-    /// each, where enough of it are kept.
-    fn compact(&mut self, alloc: Global) -> Result<(), AllocError>
-        ensures { OnOk result (self.new ≡ self.old) }
-    {
-        if !self.steps.is_empty() {
-            return Ok(());
-        }
-        self.sink.compact(alloc)
-    }
-
     /// Takes in the rows of the next block: those that pass the conditions go to the sink, until a condition divides by zero.
     #[tactic(auto, using(crate::proofs::RunLemmas::may_push, crate::proofs::RunLemmas::passed_over))]
     fn take_in(&mut self, alloc: Global, block: &Block<'_>) -> Result<(), AllocError>
@@ -127,8 +114,7 @@ impl Run {
             self.faulted = true;
             return Ok(());
         }
-        self.sink.push(alloc, block, found, &mut self.lanes)?;
-        self.compact(alloc)?;
+        self.sink.push(alloc, block, found)?;
         Ok(())
     }
 
@@ -175,12 +161,10 @@ impl Run {
         } = split(alloc, nodes)?;
         let kept = Kept::new(alloc, schema, places)?;
         let (sink, steps) = Sink::of(alloc, kept, steps)?;
-        let lanes = Lanes::new(alloc, schema.columns.len())?;
         Ok(Run {
             left,
             room: scan.stop,
             conditions,
-            lanes,
             faulted: false,
             sink,
             steps,

@@ -9,7 +9,7 @@ use crate::intermediate::Intermediate;
 use crate::kept::Kept;
 use crate::slice::SliceSink;
 use crate::top_n::{TopNSink, none_can_fault};
-use block_filter::{Lanes, Passed};
+use block_filter::Passed;
 use query_plan::Node;
 use query_rows::Rows;
 use std::alloc::{AllocError, Global};
@@ -49,7 +49,7 @@ impl Sink {
             }
             Node::Best(items, most) => {
                 if none_can_fault(&items) {
-                    return Ok((Sink::TopN(TopNSink { kept, items, most }), steps));
+                    return Ok((Sink::TopN(TopNSink::new(kept, items, most)), steps));
                 }
                 steps.insert(0, Node::Best(items, most))?;
                 Ok((Sink::Collect(kept), steps))
@@ -85,30 +85,15 @@ impl Sink {
         alloc: Global,
         block: &Block<'_>,
         found: Passed,
-        lanes: &mut Lanes,
     ) -> Result<(), AllocError>
         requires { MayPush self.old block.now found }
         ensures { OnOk result (PushesOn self.old self.new block.now.rows found) }
     {
         match self {
-            Sink::Collect(kept) => {
-                let numbers = found.rows.to_vec(alloc)?;
-                kept.take(alloc, block, numbers.as_slice())
-            }
+            Sink::Collect(kept) => kept.take_rows(alloc, block, found.rows),
             Sink::Slice(sink) => sink.push(alloc, block, found),
-            Sink::TopN(sink) => sink.push(alloc, block, found, lanes),
+            Sink::TopN(sink) => sink.push(alloc, block, found),
             Sink::Aggregate(sink) => sink.push(alloc, block, found),
-        }
-    }
-
-    /// From now on the rows that it keeps take a bit each, where enough of their table are kept and its step leaves them as they came.
-    pub(crate) fn compact(&mut self, alloc: Global) -> Result<(), AllocError>
-        ensures { OnOk result (self.new ≡ self.old) }
-    {
-        match self {
-            Sink::Collect(kept) => kept.compact(alloc),
-            Sink::Slice(sink) => sink.kept.compact(alloc),
-            Sink::TopN(_) | Sink::Aggregate(_) => Ok(()),
         }
     }
 

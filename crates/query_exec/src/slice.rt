@@ -8,7 +8,6 @@ use crate::kept::Kept;
 use block_filter::Passed;
 use query_plan::Slice;
 use query_rows::Rows;
-use row_order::piece;
 use std::alloc::{AllocError, Global};
 use table_store::Block;
 
@@ -42,7 +41,7 @@ impl SliceSink {
         room_behind(uncounted.room(), self.count)
     }
 
-    /// Returns the rows of a block that were found join those before them.
+    /// Takes in the rows of a block that were found, after those before them.
     #[tactic(auto, using(crate::proofs::SliceLemmas::slice_count))]
     pub(crate) fn push(
         &mut self,
@@ -56,9 +55,9 @@ impl SliceSink {
     {
         let skip = self.slice.skip.saturating_sub(self.count);
         self.count += found.count as u64;
-        let all = found.rows.to_vec(alloc)?;
-        let numbers = piece(all, skip, None);
-        self.kept.take(alloc, block, numbers.as_slice())?;
+        block.rows_are_few();
+        let rows = found.rows.after(alloc, skip)?;
+        self.kept.take_rows(alloc, block, rows)?;
         Ok(())
     }
 

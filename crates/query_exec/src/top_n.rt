@@ -1,23 +1,23 @@
 //! A sink of the first rows in an order that never divides by zero.
-ghost use Rattle.std.specs.Prelude.{◌≡◌, ◌<◌, IfOk, IfSome, OnOk, length, map, true};
+ghost use Rattle.std.specs.Prelude.{◌≡◌, ◌<◌, None, IfOk, IfSome, OnOk, length, map, true};
 ghost use Rattle.std.specs.List.{All};
-ghost use Rattle.odata_query.specs.Query.{optional_numbers, order_view};
+ghost use Rattle.typed_trees.specs.TypedTree.{truth_view};
+ghost use Rattle.odata_query.specs.Query.{order_view};
 ghost use Rattle.query_exec.specs.declared.sink.Sink.TheVariants as sink;
 ghost use Rattle.query_exec.specs.Items.{none_can_fault, ItemsFit};
-ghost use Rattle.query_exec.specs.Kept.{kept_places, AreKeptOf};
 ghost use Rattle.query_exec.specs.Sink.{sink_items, SinkMakes, MayFinish, MayPush, PushesOn};
-ghost use Rattle.query_exec.specs.TopN.{AreBestOf, AreTimely, HasCutRows, IsSourceOf};
+ghost use Rattle.query_exec.specs.Cutoffs.{CutsOff, HasCutoff, IsFirstColumn};
+ghost use Rattle.query_exec.specs.TopN.{AreBestOf, AreFirst, AreTimely, HasCutRows};
 
 use crate::intermediate::{Intermediate, all_numbers};
 use crate::kept::Kept;
-use block_filter::{Lanes, Passed};
+use block_filter::{Passed, Rank, guessed_value, passing_numbers};
 use odata_query::OrderBy;
-use query_plan::are_plain;
 use row_eval::{EvalFault, faults_are_foreseen};
-use row_order::{TopN, best_in_pieces, best_numbers, key_column, may_reach_top};
+use row_order::{best_in_pieces, best_numbers, cutoff, first_place, nearness, rows_are_cut_off};
 use std::alloc::{AllocError, Global};
 use table_store::Block;
-use typed_trees::can_fault;
+use typed_trees::{TruthExpr, can_fault};
 
 /// True if no item may divide by zero.
 pub(crate) fn none_can_fault(items: &[OrderBy]) -> bool
@@ -31,58 +31,102 @@ pub(crate) fn none_can_fault(items: &[OrderBy]) -> bool
     true
 }
 
+/// Up to this many rows of a block are kept without a look at the cutoff, or at the nearest of them.
+const FEW: usize = 64;
+
 /// The first rows in an order: the others are let go of once they are many.
 #[derive(Drop)]
 pub(crate) struct TopNSink {
     pub(crate) kept: Kept,
     pub(crate) items: Vec<OrderBy>,
     pub(crate) most: u64,
+    /// A condition on the rows of a block, once the rows that are kept were cut: a row on which it is not true comes too late.
+    pub(crate) cutoff: Option<TruthExpr>,
 }
 
 impl TopNSink {
-    /// Returns the place in a block of the column that is kept in a place.
-    fn source_of(&self, place: usize) -> Option<usize>
-        ensures { IfSome result (IsSourceOf (kept_places self.now.kept) place) }
+    /// Returns a sink that was cut at no row yet.
+    pub(crate) fn new(kept: Kept, items: Vec<OrderBy>, most: u64) -> TopNSink
+        ensures { result ≡ record {
+          kept = kept;
+          items = items;
+          most = most;
+          cutoff = None;
+        } }
     {
+        TopNSink {
+            kept,
+            items,
+            most,
+            cutoff: None,
+        }
+    }
+
+    /// Returns the place in a block of the column that the first item is.
+    fn first_column(&self) -> Option<usize>
+        ensures { IfSome result (IsFirstColumn (sink_items self.now) self.now.kept) }
+    {
+        let place = first_place(&self.items)?;
         match &self.kept.places {
             Some(places) => places.get(place).copied(),
             None => Some(place),
         }
     }
 
-    /// Of the rows of a block with these numbers those that may be among the first, after the rows that are kept. If the items are columns alone, it is
-    /// told by the numbers of the first.
+    /// Drops those of the rows of a block that come too late after the rows that are kept.
     fn timely(
         &self,
         alloc: Global,
         block: &Block<'_>,
         numbers: Vec<usize>,
-        lanes: &mut Lanes,
     ) -> Result<Vec<usize>, AllocError>
-        requires { All (λ n. n < length block.now.rows) numbers.items }
+        requires cutoff { HasCutoff self.now }
+        requires within { All (λ n. n < length block.now.rows) numbers.items }
         ensures { IfOk result (λ made. AreTimely self.now block.now.rows numbers.items made.items) }
     {
+        if numbers.len() <= FEW {
+            return Ok(numbers);
+        }
+        match &self.cutoff {
+            Some(cutoff) => passing_numbers(alloc, cutoff, block, numbers.as_slice()),
+            None => Ok(numbers),
+        }
+    }
+
+    /// Drops those of the rows of a block that come after enough others of it.
+    fn nearest(
+        &self,
+        alloc: Global,
+        block: &Block<'_>,
+        numbers: Vec<usize>,
+    ) -> Result<Vec<usize>, AllocError>
+        requires safe { none_can_fault (sink_items self.now) ≡ true }
+        requires within { All (λ n. n < length block.now.rows) numbers.items }
+        ensures { IfOk result (λ made. AreTimely self.now block.now.rows numbers.items made.items) }
+    {
+        rows_are_cut_off();
         faults_are_foreseen();
-        if !are_plain(&self.items) {
+        if numbers.len() <= FEW {
             return Ok(numbers);
         }
-        let Some(column) = key_column(&self.items) else {
+        let Some(col) = self.first_column() else {
             return Ok(numbers);
         };
-        let Some(col) = self.source_of(column.place) else {
-            return Ok(numbers);
-        };
-        if col >= block.schema().columns.len() {
-            return Ok(numbers);
-        }
-        let Some(keys) = lanes.keys(alloc, block, col, column)? else {
-            return Ok(numbers);
-        };
-        let top = TopN {
-            items: self.items.as_slice(),
+        let rank = Rank {
             most: self.most,
+            descending: matches!(self.items.first(), Some(item) if item.descending),
         };
-        may_reach_top(alloc, &self.kept.columns, keys, numbers, top)
+        let Some(bound) = guessed_value(alloc, block, numbers.as_slice(), col, rank)? else {
+            return Ok(numbers);
+        };
+        let Some(condition) = nearness(alloc, &self.items, col, &bound)? else {
+            return Ok(numbers);
+        };
+        let near = passing_numbers(alloc, &condition, block, numbers.as_slice())?;
+        if (near.len() as u64) < self.most {
+            return Ok(numbers);
+        }
+        Ok(near)
     }
 
     /// Returns the numbers of the first of the rows that are kept.
@@ -100,10 +144,36 @@ impl TopNSink {
         }
     }
 
+    /// Returns the condition on the rows of a block after the first rows, which are those that are kept.
+    fn cutoff_of(&self, alloc: Global) -> Result<Option<TruthExpr>, AllocError>
+        requires safe { none_can_fault (sink_items self.now) ≡ true }
+        requires best { AreFirst self.now }
+        ensures { IfOk result (λ made. IfSome made
+            (λ e. CutsOff (sink_items self.now) self.now.most self.now.kept (truth_view e))) }
+    {
+        rows_are_cut_off();
+        faults_are_foreseen();
+        let count = self.kept.columns.len();
+        if self.most == 0 || (count as u64) < self.most {
+            return Ok(None);
+        }
+        let Some(col) = self.first_column() else {
+            return Ok(None);
+        };
+        cutoff(
+            alloc,
+            &self.items,
+            &self.kept.columns,
+            self.most as usize - 1,
+            col,
+        )
+    }
+
     /// Lets go of the rows that are not among the first, once they are many.
     fn cut(&mut self, alloc: Global) -> Result<(), AllocError>
         requires safe { none_can_fault (sink_items self.old) ≡ true }
         requires fit { ItemsFit (sink_items self.old) self.old.kept.columns.rows }
+        requires cutoff { HasCutoff self.old }
         ensures { OnOk result (HasCutRows self.old self.new) }
     {
         best_in_pieces();
@@ -112,16 +182,16 @@ impl TopNSink {
         }
         let best = self.best(alloc)?;
         self.kept.reduce(alloc, best.as_slice())?;
+        self.cutoff = self.cutoff_of(alloc)?;
         Ok(())
     }
 
-    /// Returns the rows of a block that were found join those before them.
+    /// Takes in the rows of a block that were found, after those before them.
     pub(crate) fn push(
         &mut self,
         alloc: Global,
         block: &Block<'_>,
         found: Passed,
-        lanes: &mut Lanes,
     ) -> Result<(), AllocError>
         requires { MayPush (sink.TopN self.old) block.now found }
         ensures { OnOk result
@@ -130,7 +200,8 @@ impl TopNSink {
         best_in_pieces();
         faults_are_foreseen();
         let all = found.rows.to_vec(alloc)?;
-        let numbers = self.timely(alloc, block, all, lanes)?;
+        let before = self.timely(alloc, block, all)?;
+        let numbers = self.nearest(alloc, block, before)?;
         self.kept.take(alloc, block, numbers.as_slice())?;
         self.cut(alloc)?;
         Ok(())

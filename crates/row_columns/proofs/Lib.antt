@@ -1,5 +1,5 @@
 pub mod NumberLemmas
-pub mod MarkLemmas
+pub mod ChunkLemmas
 pub mod PieceLemmas
 pub mod StoreLemmas
 pub mod CodeLemmas

@@ -1,7 +1,6 @@
 -- Rows by number.
-use Rattle.std.proofs.Common.{◌≡◌, ℕ, zero, suc, ◌+◌, ◌-◌, ◌*◌, ◌/◌, ◌%◌, ◌<◌, ◌≤◌, List, [], ◌∷◌, ◌++◌, Option, None, Some, Vec, Global, Result, Ok, Err, length, map, get_or, refl, sym, ap, ◌∙◌, subst, arith, append_assoc}
-use Rattle.std.specs.Prelude.{option_and_then, slice_get, IfOk}
-use Rattle.std.specs.declared.alloc.AllocError.{AllocError}
+use Rattle.std.proofs.Common.{◌≡◌, ℕ, suc, ◌+◌, ◌*◌, ◌/◌, ◌%◌, ◌<◌, ◌≤◌, List, [], ◌∷◌, ◌++◌, Option, None, Some, Vec, Global, length, map, get_or, refl, sym, ap, ◌∙◌, subst, arith, append_assoc}
+use Rattle.std.specs.Prelude.{option_and_then, slice_get}
 use Rattle.std.specs.List.{All, AllByRecursion}
 use Rattle.std.proofs.lemmas.List.{get_or-map, get_or_append_left, get_or_push, length-append, length-map, length_push, map-append}
 use Rattle.std.proofs.lemmas.List.Elements.{All-from_recursion}
@@ -19,6 +18,7 @@ use Rattle.row_columns.specs.Picked.{numbered, values_at}
 use Rattle.row_columns.specs.Piece.{piece_row}
 use Rattle.row_columns.specs.declared.store.Store.TheVariants.{Blocks, Values}
 use Rattle.row_columns.specs.Store.{end_of, numbered_row, stored_kinds, stored_row, value_rows, IsPicked, IsStoredWide, HasTakenRows}
+use Rattle.row_columns.proofs.NumberLemmas.{all_from}
 use Rattle.row_columns.proofs.StoreLemmas.{stored_wide}
 
 module _ {X : Type 0} where
@@ -49,10 +49,6 @@ all_append P (n ∷ a) b pa pb = (pa.0, all_append P a b pa.1 pb)
 pub all_below : (end more : ℕ) (numbers : List ℕ) → end ≤ more → AllByRecursion (λ n. n < end) numbers → AllByRecursion (λ n. n < more) numbers
 all_below end more [] h all = tt
 all_below end more (n ∷ numbers) h all = (omega (arith, h, all.0), all_below end more numbers h all.1)
-
-pub all_from : (start count end : ℕ) → start + count ≤ end → AllByRecursion (λ n. n < end) (numbers_from start count)
-all_from start zero end h = tt
-all_from start (suc count) end h = (omega (arith, h), all_from (suc start) count end (omega (arith, h)))
 
 -- ---- numbers of numbers
 
@@ -210,32 +206,23 @@ all_rows P (r ∷ a) b pa pb = (pa.0, all_rows P a b pa.1 pb)
 
 pub values_taken : (width : ℕ) (rows new : Vec (Vec Value Global) Global) (taken : List (List CellValue)) (made : List ℕ)
     → value_rows new.items ≡ value_rows rows.items ++ taken → AllByRecursion (λ (r : List CellValue). length r ≡ width) taken → IsStoredWide (Values width rows)
-    → made ≡ numbers_from (length rows.items) (length new.items - length rows.items) → HasTakenRows (Values width rows) (Values width new) taken made
+    → made ≡ numbers_from (length rows.items) (length taken) → HasTakenRows (Values width rows) (Values width new) taken made
 values_taken width rows new taken made e long wide made_is =
     let none : List CellValue = [] in
     let many : length (value_rows rows.items) ≡ length rows.items = length-map rows.items (λ (r : Vec Value Global). map value_view r.items) in
     let all : length (value_rows new.items) ≡ length new.items = length-map new.items (λ (r : Vec Value Global). map value_view r.items) in
     let size : length new.items ≡ length rows.items + length taken =
     omega (arith, all, many, ap (λ (rs : List (List CellValue)). length rs) e, length-append (value_rows rows.items) taken) in
-    let count : length new.items - length rows.items ≡ length taken = omega (arith, size) in
     record {
       kinds = refl;
       wide = subst (AllByRecursion (λ (r : List CellValue). length r ≡ width)) (sym e) (all_rows (λ (r : List CellValue). length r ≡ width) (value_rows rows.items) taken wide long);
       end = omega (arith, size);
       stay = λ n h. ap (λ (rs : List (List CellValue)). get_or rs n none) e ∙ get_or_append_left (value_rows rows.items) taken none n (omega (arith, h, many));
-      within = subst (AllByRecursion (λ n. n < length new.items)) (sym made_is) (all_from (length rows.items) (length new.items - length rows.items) (length new.items) (omega (arith, size)));
-      come = ap (map (λ n. get_or (value_rows new.items) n none)) (made_is ∙ ap (numbers_from (length rows.items)) count ∙ ap (λ k. numbers_from k (length taken)) (sym many))
+      within = subst (AllByRecursion (λ n. n < length new.items)) (sym made_is) (all_from (length rows.items) (length taken) (length new.items) (omega (arith, size)));
+      come = ap (map (λ n. get_or (value_rows new.items) n none)) (made_is ∙ ap (λ k. numbers_from k (length taken)) (sym many))
           ∙ ap (λ (rs : List (List CellValue)). map (λ n. get_or rs n none) (numbers_from (length (value_rows rows.items)) (length taken))) e
           ∙ map_from (value_rows rows.items) taken none;
     }
-
-pub taken_ok : (old new : Store) (rows : List (List CellValue)) (numbers : List ℕ) (result : Result (List ℕ) AllocError)
-    → ((made : List ℕ) → made ≡ numbers → HasTakenRows old new rows made) → IfOk result (λ made. made ≡ numbers) → IfOk result (λ made. HasTakenRows old new rows made)
-taken_ok old new rows numbers (Ok made) are h = are made h
-taken_ok old new rows numbers (Err e) are h = tt
-
-pub none_taken : (store : Store) → IsStoredWide store → HasTakenRows store store [] []
-none_taken store wide = record { kinds = refl; wide = wide; end = omega arith; stay = λ n h. refl; within = tt; come = refl }
 
 -- the rows that stayed, and those that came
 pub rows_with : (old new : Store) (numbers made : List ℕ) (rows : List (List CellValue)) → HasTakenRows old new rows made → AllByRecursion (λ n. n < end_of old) numbers

@@ -5,7 +5,7 @@ pub mod Picked
 pub mod Columns
 pub mod Codes
 pub mod Numbers
-pub mod Marks
+pub mod Chunks
 pub mod Text
 pub mod Piece
 pub mod Store

@@ -1,7 +1,2 @@
 -- The numbers of rows.
-use Rattle.std.specs.Prelude.{ℕ, zero, suc, List, [], ◌∷◌}
-
--- so many numbers, from one on
-abbrev pub numbers_from : ℕ → ℕ → List ℕ
-numbers_from start zero = []
-numbers_from start (suc count) = start ∷ numbers_from (suc start) count
+pub use Rattle.row_selection.specs.Numbers.{numbers_from}

@@ -12,11 +12,11 @@ ghost use Rattle.row_columns.specs.Store.{value_rows};
 ghost use Rattle.row_columns.specs.Text.{text_of_cell};
 
 use crate::lent_row::LentRow;
-use crate::numbers::all_numbers;
 use crate::row_numbers::RowNumbers;
 use crate::store::{Store, types_at, types_of};
 use block_summary::PackedColumn;
 use cell_types::{Column, Value};
+use row_selection::Selection;
 use std::alloc::{AllocError, Global};
 use std::marker::Model;
 use std::mem;
@@ -93,7 +93,7 @@ impl Columns {
         ensures { IfOk result (λ made.
             made ≡ record { kinds = replicate width any; rows = value_rows rows.entry.items }) }
     {
-        let numbers = RowNumbers::between(alloc, 0, rows.len())?;
+        let numbers = RowNumbers::first(alloc, rows.len())?;
         Ok(Columns {
             store: Store::Values(width, rows),
             numbers,
@@ -108,23 +108,23 @@ impl Columns {
         self.numbers.clear();
     }
 
-    /// Appends the rows of a block with these numbers. If memory ran out, no column is left.
+    /// Appends the selected rows of a block. If memory ran out, no column is left.
     pub fn take(
         &mut self,
         alloc: Global,
         block: &Block<'_>,
-        numbers: &[usize],
+        rows: Selection,
     ) -> Result<(), AllocError>
         requires kinds { self.old.kinds ≡ kinds_of block.now.schema.columns }
-        requires within { All (λ number. number < length block.now.rows) numbers.now }
+        requires within { All (λ number. number < length block.now.rows) rows }
         ensures kinds { OnOk result (self.new.kinds ≡ self.old.kinds) }
         ensures rows { OnOk result
-            (self.new.rows ≡ self.old.rows ++ numbered numbers.now block.now.rows) }
+            (self.new.rows ≡ self.old.rows ++ numbered rows block.now.rows) }
         ensures refused { OnErr result (self.new ≡ no_columns) }
     {
         block.values_fit();
-        match all_numbers(alloc, block.schema().columns.len()) {
-            Ok(places) => self.take_places(alloc, block, places.as_slice(), numbers),
+        match Selection::all(block.schema().columns.len()).to_vec(alloc) {
+            Ok(places) => self.take_places(alloc, block, places.as_slice(), rows),
             Err(refused) => {
                 self.drop_all(alloc);
                 Err(refused)
@@ -132,26 +132,29 @@ impl Columns {
         }
     }
 
-    /// Appends the values that the rows of a block with these numbers have in the columns with these places. If memory ran out, no column is left.
+    /// Appends the values that the selected rows of a block have in the columns with these places. If memory ran out, no column is left.
     pub fn take_places(
         &mut self,
         alloc: Global,
         block: &Block<'_>,
         places: &[usize],
-        numbers: &[usize],
+        rows: Selection,
     ) -> Result<(), AllocError>
         requires kinds { self.old.kinds ≡ kinds_at places.now (kinds_of block.now.schema.columns) }
         requires places { All (λ place. place < length block.now.schema.columns) places.now }
-        requires within { All (λ number. number < length block.now.rows) numbers.now }
+        requires within { All (λ number. number < length block.now.rows) rows }
         ensures kinds { OnOk result (self.new.kinds ≡ self.old.kinds) }
         ensures rows { OnOk result (self.new.rows
-            ≡ self.old.rows ++ map (values_at places.now) (numbered numbers.now block.now.rows)) }
+            ≡ self.old.rows ++ map (values_at places.now) (numbered rows block.now.rows)) }
         ensures refused { OnErr result (self.new ≡ no_columns) }
     {
+        if rows.len() == 0 {
+            return Ok(());
+        }
         let mut store = mem::replace(&mut self.store, Store::none(alloc));
         let mut kept = mem::replace(&mut self.numbers, RowNumbers::none(alloc));
-        let made = store.take(alloc, block, places, numbers)?;
-        kept.append(&made)?;
+        let (start, rows) = store.take(alloc, block, places, rows)?;
+        kept.append(alloc, start, rows)?;
         self.store = store;
         self.numbers = kept;
         Ok(())
@@ -209,13 +212,16 @@ impl Columns {
         self.store.text(self.numbers.at(row) as usize, col)
     }
 
-    /// Returns a code for each row by its value in a column, counted from 0; nothing where the rows are not all of one block, or it has none for the column.
+    /// Returns a code for each row by its value in a column, counted from 0, or `None` if the rows are not all those of one block, in their order, or it has no codes for the column.
     pub fn codes(&self, alloc: Global, col: usize) -> Result<Option<Vec<u8>>, AllocError>
         requires { col < length self.now.kinds }
         ensures { IfOk result (λ codes.
             IfSome codes (λ codes. HaveCodes codes.items col self.now.rows)) }
     {
-        self.store.codes(alloc, &self.numbers, col)
+        match self.numbers.run() {
+            Some(run) => self.store.codes(alloc, run, col),
+            None => Ok(None),
+        }
     }
 
     /// Returns the cells of a column as they are packed, if the rows are all those of one block, in their order, or `None` if they are others, or the column has texts.
@@ -260,21 +266,14 @@ impl Columns {
         Ok(Columns { store, numbers })
     }
 
-    /// From now on the rows take a bit for each row of their table, where enough of it are kept. If memory ran out, no column is left.
-    pub fn compact(&mut self, alloc: Global) -> Result<(), AllocError>
-        ensures same { OnOk result (self.new ≡ self.old) }
-        ensures refused { OnErr result (self.new ≡ no_columns) }
+    /// Keeps the number of each row by itself, unless the rows follow on one another in their table, so that each is found at once.
+    pub fn list(&mut self, alloc: Global) -> Result<(), AllocError>
+        ensures { self.new ≡ self.old }
     {
-        let mut numbers = mem::replace(&mut self.numbers, RowNumbers::none(alloc));
-        if let Err(refused) = numbers.compact(alloc) {
-            self.drop_all(alloc);
-            return Err(refused);
-        }
-        self.numbers = numbers;
-        Ok(())
+        self.numbers.list(alloc)
     }
 
-    /// Returns the rows with these numbers, counted from 0, take the place of all. An error leaves the rows as they were.
+    /// Puts the rows with these numbers, counted from 0, in the place of all. An error leaves the rows as they were.
     pub fn put_in_order(&mut self, alloc: Global, numbers: &[usize]) -> Result<(), AllocError>
         requires { All (λ number. number < length self.old.rows) numbers.now }
         ensures kinds { self.new.kinds ≡ self.old.kinds }

@@ -3,10 +3,7 @@
 #![tactic(auto)]
 
 mod columns;
-mod keys;
 mod lent_row;
-mod marks;
-mod numbers;
 mod piece;
 mod row_numbers;
 mod store;
@@ -15,6 +12,5 @@ mod value_rows;
 mod values;
 
 pub use columns::Columns;
-pub use keys::{KeyColumn, Keys};
 pub use lent_row::LentRow;
 pub use values::{lent, owned};

@@ -1,68 +1,108 @@
-//! The numbers of rows that are kept. The first that rise one by one take no memory; others a bit for each row from then on, where enough are kept, and else
-//! four bytes each.
-ghost use Rattle.std.specs.Prelude.{◌≡◌, ◌+◌, ◌-◌, ◌++◌, ◌∷◌, ◌<◌, ◌≤◌, ◌^◌, [], IfOk, IfSome, IsTrue, OnOk, length, map, slice_index_or};
+//! The numbers of rows that are kept: of each block the rows that were selected, or numbers of any order, four bytes each.
+ghost use Rattle.std.specs.Prelude.{◌≡◌, ◌+◌, ◌++◌, ◌<◌, ◌≤◌, ◌^◌, [], IfOk, IfSome, OnErr, OnOk, length, map, slice_index_or};
 ghost use Rattle.std.specs.List.{All};
+ghost use Rattle.row_columns.specs.Chunks.{chunk_numbers, chunked_numbers, no_chunk, AreCounted};
 ghost use Rattle.row_columns.specs.Numbers.{numbers_from};
 
-use crate::marks::Marks;
-use crate::numbers::numbers_after;
-use block_summary::BLOCK_ROWS;
+use row_selection::Selection;
 use std::alloc::{AllocError, Global};
 use std::marker::Model;
-use std::mem;
 
 /// How many numbers 32 bits tell.
 const NUMBERS: usize = 1 << 32;
 
-/// Numbers: a range, others that are marked, and others after them. They are seen as one list.
+/// Selected rows, whose numbers are greater by a start.
+#[derive(Drop)]
+struct Chunk {
+    /// How many numbers come before those of the chunk.
+    before: usize,
+    start: usize,
+    rows: Selection,
+}
+
+/// Numbers: those of chunks, and others after them. They are seen as one list.
 #[derive(Drop)]
 pub(crate) struct RowNumbers {
-    first: usize,
+    chunks: Vec<Chunk>,
+    /// How many numbers the chunks have.
     count: usize,
-    marks: Marks,
     listed: Vec<u32>,
 }
 
 impl Model for RowNumbers {
-    ghost use Rattle.std.specs.Prelude.{◌+◌, ◌++◌, ◌≤◌, ◌^◌, ℕ, List};
-    ghost use Rattle.row_columns.specs.Numbers.{numbers_from};
+    ghost use Rattle.std.specs.Prelude.{ℕ, List};
+    ghost use Rattle.row_columns.specs.Chunks.{numbers_view, AreChunked};
 
     ghost Value = { List ℕ };
 
-    ghost view = { λ numbers. numbers_from numbers.first numbers.count ++ numbers.marks ++ numbers.listed.items };
+    ghost view = { numbers_view };
 
-    ghost invariant = { λ numbers. numbers.first + numbers.count ≤ 2 ^ 32 };
+    ghost invariant = { AreChunked };
 }
 
-/// True if numbers go from one on, each greater by 1. All are looked at, so that it runs in lanes.
-fn rise_from(numbers: &[usize], first: usize) -> bool
-    requires { first + length numbers.now < 2 ^ 64 }
-    ensures { IsTrue result → numbers.now ≡ numbers_from first (length numbers.now) }
+/// Appends a chunk. The first rows of a block that go on from those of one chunk before them become one chunk with them.
+fn push_chunk(chunks: &mut Vec<Chunk>, chunk: Chunk) -> Result<(), AllocError>
+    requires counted { AreCounted 0 chunks.old.items }
+    requires before { chunk.before ≡ length (chunked_numbers chunks.old.items) }
+    requires few { chunk.before + length chunk.rows ≤ 2 ^ 32 }
+    ensures counted { AreCounted 0 chunks.new.items }
+    ensures came { OnOk result
+        (chunked_numbers chunks.new.items
+        ≡ chunked_numbers chunks.old.items ++ chunk_numbers chunk) }
+    ensures refused { OnErr result (chunks.new.items ≡ chunks.old.items) }
 {
-    let mut same = true;
-    for i in 0..numbers.len() {
-        same = same & (numbers[i] == first + i);
+    if chunks.len() == 1 && chunks[0].rows.is_all() && chunk.rows.is_all() {
+        let start = chunks[0].start;
+        if start <= chunk.start && chunk.start - start == chunk.before {
+            chunks[0].rows = Selection::all(chunk.before + chunk.rows.len());
+            return Ok(());
+        }
     }
-    same
-}
-
-/// Appends `count` numbers from `first` on.
-fn push_run(listed: &mut Vec<u32>, first: usize, count: usize) -> Result<(), AllocError>
-    requires { first + count ≤ 2 ^ 32 }
-    ensures { OnOk result (listed.new.items ≡ listed.old.items ++ numbers_from first count) }
-{
-    for i in 0..count {
-        listed.push((first + i) as u32)?;
-    }
+    chunks.push(chunk)?;
     Ok(())
 }
 
-/// Those that are marked come after the others.
-fn push_marks(listed: &mut Vec<u32>, marks: &Marks) -> Result<(), AllocError>
-    ensures { OnOk result (listed.new.items ≡ listed.old.items ++ marks.now) }
+/// Returns the place of the last chunk that has at most `place` numbers before it.
+fn chunk_of(chunks: &[Chunk], place: usize) -> usize
+    requires some { 0 < length chunks.now }
+    requires first { (slice_index_or chunks.now 0 no_chunk).before ≤ place }
+    ensures within { result < length chunks.now }
+    ensures before { (slice_index_or chunks.now result no_chunk).before ≤ place }
+    ensures next { result + 1 < length chunks.now
+        → place < (slice_index_or chunks.now (result + 1) no_chunk).before }
 {
-    for place in 0..marks.len() {
-        listed.push(marks.at(place))?;
+    let mut low = 0;
+    let mut high = chunks.len();
+    while high - low > 1 {
+        let middle = low + (high - low) / 2;
+        if chunks[middle].before <= place {
+            low = middle;
+        } else {
+            high = middle;
+        }
+    }
+    low
+}
+
+/// Returns the number at a place of chunks, one after another.
+fn number_in(chunks: &[Chunk], place: usize) -> u32
+    requires counted { AreCounted 0 chunks.now }
+    requires fit { All (λ number. number < 2 ^ 32) (chunked_numbers chunks.now) }
+    requires place { place < length (chunked_numbers chunks.now) }
+    ensures { result ≡ slice_index_or (chunked_numbers chunks.now) place 0 }
+{
+    let chunk = &chunks[chunk_of(chunks, place)];
+    (chunk.start + chunk.rows.at(place - chunk.before)) as u32
+}
+
+/// Appends the numbers of a chunk.
+fn push_rows(alloc: Global, listed: &mut Vec<u32>, chunk: &Chunk) -> Result<(), AllocError>
+    requires { All (λ number. number < 2 ^ 32) (chunk_numbers chunk.now) }
+    ensures { OnOk result (listed.new.items ≡ listed.old.items ++ chunk_numbers chunk.now) }
+{
+    let rows = chunk.rows.to_vec(alloc)?;
+    for row in rows.as_slice() {
+        listed.push((chunk.start + *row) as u32)?;
     }
     Ok(())
 }
@@ -72,76 +112,38 @@ impl RowNumbers {
     pub(crate) fn none(alloc: Global) -> RowNumbers
         ensures { result ≡ [] }
     {
-        RowNumbers {
-            first: 0,
-            count: 0,
-            marks: Marks::none(alloc),
-            listed: Vec::new(alloc),
-        }
+        RowNumbers::listed(alloc, Vec::new(alloc))
     }
 
-    /// Returns the numbers from one on up to another.
-    pub(crate) fn between(alloc: Global, start: usize, end: usize) -> Result<RowNumbers, AllocError>
-        requires { start ≤ end }
-        ensures { IfOk result (λ made. made ≡ numbers_from start (end - start)) }
+    /// Returns the first `count` numbers.
+    pub(crate) fn first(alloc: Global, count: usize) -> Result<RowNumbers, AllocError>
+        ensures { IfOk result (λ made. made ≡ numbers_from 0 count) }
     {
         // That many rows of values would not fit in memory.
-        if end > NUMBERS {
+        if count > NUMBERS {
             return Err(AllocError);
         }
-        Ok(RowNumbers {
-            first: start,
-            count: end - start,
-            marks: Marks::none(alloc),
-            listed: Vec::new(alloc),
-        })
+        let mut made = RowNumbers::none(alloc);
+        made.append(alloc, 0, Selection::all(count))?;
+        Ok(made)
     }
 
-    /// Returns the numbers, each greater by a start.
-    pub(crate) fn after(
-        alloc: Global,
-        start: usize,
-        numbers: &[usize],
-    ) -> Result<RowNumbers, AllocError>
-        requires { All (λ number. start + number < 2 ^ 32) numbers.now }
-        ensures { IfOk result (λ made. made ≡ map (λ number. start + number) numbers.now) }
+    /// Returns these numbers.
+    fn listed(alloc: Global, numbers: Vec<u32>) -> RowNumbers
+        ensures { result ≡ numbers.items }
     {
-        match numbers.first() {
-            Some(first) if numbers.len() <= BLOCK_ROWS && rise_from(numbers, *first) => {
-                RowNumbers::between(alloc, start + *first, start + *first + numbers.len())
-            }
-            _ => RowNumbers::listed(alloc, numbers_after(alloc, start, numbers)?),
-        }
-    }
-
-    /// These numbers.
-    fn listed(alloc: Global, numbers: Vec<u32>) -> Result<RowNumbers, AllocError>
-        ensures { IfOk result (λ made. made ≡ numbers.items) }
-    {
-        Ok(RowNumbers {
-            first: 0,
+        RowNumbers {
+            chunks: Vec::new(alloc),
             count: 0,
-            marks: Marks::none(alloc),
             listed: numbers,
-        })
-    }
-
-    /// Replaces all numbers by `count` from `first` on.
-    fn set_run(&mut self, first: usize, count: usize)
-        requires { first + count ≤ 2 ^ 32 }
-        ensures { self.new ≡ numbers_from first count }
-    {
-        self.first = first;
-        self.count = count;
-        self.marks.clear();
-        self.listed.clear();
+        }
     }
 
     /// Returns how many there are.
     pub(crate) fn len(&self) -> usize
         ensures { result ≡ length self.now }
     {
-        self.count + self.marks.len() + self.listed.len()
+        self.count + self.listed.len()
     }
 
     /// Returns the number at a place.
@@ -150,35 +152,28 @@ impl RowNumbers {
         requires { place < length self.now }
         ensures { result ≡ slice_index_or self.now place 0 }
     {
-        if place < self.count {
-            return (self.first + place) as u32;
+        if place >= self.count {
+            return self.listed[place - self.count];
         }
-        let after = place - self.count;
-        if after < self.marks.len() {
-            self.marks.at(after)
-        } else {
-            self.listed[after - self.marks.len()]
-        }
+        number_in(self.chunks.as_slice(), place)
     }
 
-    /// Returns the first of them and how many they are, if they rise one by one.
+    /// Returns the first of them and how many they are, if they are kept as rows that follow on one another.
     pub(crate) fn run(&self) -> Option<(usize, usize)>
-        ensures run { IfSome result (λ run. self.now ≡ numbers_from run.0 run.1) }
-        ensures few { IfSome result (λ run. run.0 + run.1 ≤ 2 ^ 32) }
+        ensures { IfSome result (λ run. self.now ≡ numbers_from run.0 run.1) }
     {
-        if self.marks.len() == 0 && self.listed.is_empty() {
-            Some((self.first, self.count))
-        } else {
-            None
+        if self.chunks.len() != 1 || !self.chunks[0].rows.is_all() || !self.listed.is_empty() {
+            return None;
         }
+        Some((self.chunks[0].start, self.count))
     }
 
-    /// True if each is greater than the one before it. So it is if none is listed; where only some are, it is not looked for, and the answer is no.
+    /// Returns true if each is greater than the one before it. So it is if none is listed; where only some are, it is not looked for, and the answer is no.
     pub(crate) fn rise(&self) -> bool {
         if self.listed.is_empty() {
             return true;
         }
-        let mut rise = self.count == 0 && self.marks.len() == 0;
+        let mut rise = self.count == 0;
         let listed = self.listed.as_slice();
         for i in 1..listed.len() {
             rise = rise & (listed[i - 1] < listed[i]);
@@ -186,62 +181,54 @@ impl RowNumbers {
         rise
     }
 
-    /// Returns all of them, one by one.
-    pub(crate) fn to_vec(&self, alloc: Global) -> Result<Vec<u32>, AllocError>
-        ensures { IfOk result (λ made. made.items ≡ self.now) }
+    /// Appends the selected rows, each number greater by `start`. If memory ran out, not all of them are there.
+    pub(crate) fn append(
+        &mut self,
+        alloc: Global,
+        start: usize,
+        rows: Selection,
+    ) -> Result<(), AllocError>
+        requires { All (λ number. number < 2 ^ 32) (map (λ row. start + row) rows) }
+        ensures { OnOk result (self.new ≡ self.old ++ map (λ row. start + row) rows) }
     {
-        let mut made = Vec::with_capacity(alloc, self.len())?;
-        push_run(&mut made, self.first, self.count)?;
-        push_marks(&mut made, &self.marks)?;
-        made.extend_from_slice(self.listed.as_slice())?;
-        Ok(made)
-    }
-
-    /// Others come after them.
-    pub(crate) fn append(&mut self, more: &RowNumbers) -> Result<(), AllocError>
-        ensures { OnOk result (self.new ≡ self.old ++ more.now) }
-    {
-        if let (Some((first, count)), Some((next, others))) = (self.run(), more.run()) {
-            if count == 0 {
-                self.set_run(next, others);
-                return Ok(());
-            }
-            if first + count == next {
-                self.set_run(first, count + others);
-                return Ok(());
-            }
+        let len = rows.len();
+        let before = self.count;
+        let chunk = Chunk {
+            before,
+            start,
+            rows,
+        };
+        if !self.listed.is_empty() {
+            return push_rows(alloc, &mut self.listed, &chunk);
         }
-        push_run(&mut self.listed, more.first, more.count)?;
-        push_marks(&mut self.listed, &more.marks)?;
-        self.listed.extend_from_slice(more.listed.as_slice())
-    }
-
-    /// One more comes after them, marked if that may be.
-    fn push(&mut self, number: u32) -> Result<(), AllocError>
-        ensures { OnOk result (self.new ≡ self.old ++ number ∷ []) }
-    {
-        if !self.listed.is_empty() || !self.marks.push(number)? {
-            self.listed.push(number)?;
+        // That many rows of values would not fit in memory.
+        if len > NUMBERS - before {
+            return Err(AllocError);
         }
+        push_chunk(&mut self.chunks, chunk)?;
+        self.count = before + len;
         Ok(())
     }
 
-    /// Those that are listed take a bit each from now on, where they rise and enough of their table's are kept. If memory ran out, not all are left.
-    pub(crate) fn compact(&mut self, alloc: Global) -> Result<(), AllocError>
-        ensures { OnOk result (self.new ≡ self.old) }
+    /// Lists the numbers one by one, unless they are kept as rows that follow on one another, so that each is found at once.
+    pub(crate) fn list(&mut self, alloc: Global) -> Result<(), AllocError>
+        ensures { self.new ≡ self.old }
     {
-        match self.listed.first() {
-            Some(first) if self.marks.has_room(*first) => (),
-            _ => return Ok(()),
+        if self.chunks.is_empty() || self.run().is_some() {
+            return Ok(());
         }
-        let listed = mem::replace(&mut self.listed, Vec::new(alloc));
-        for number in listed.as_slice() {
-            self.push(*number)?;
+        let mut listed = Vec::with_capacity(alloc, self.len())?;
+        for chunk in self.chunks.as_slice() {
+            push_rows(alloc, &mut listed, chunk)?;
         }
+        listed.extend_from_slice(self.listed.as_slice())?;
+        self.chunks.clear();
+        self.count = 0;
+        self.listed = listed;
         Ok(())
     }
 
-    /// Those that have these places.
+    /// Returns those that have these places.
     pub(crate) fn picked(&self, alloc: Global, places: &[usize]) -> Result<RowNumbers, AllocError>
         requires { All (λ place. place < length self.now) places.now }
         ensures { IfOk result
@@ -251,13 +238,15 @@ impl RowNumbers {
         for place in places {
             made.push(self.at(*place))?;
         }
-        RowNumbers::listed(alloc, made)
+        Ok(RowNumbers::listed(alloc, made))
     }
 
     /// Drops all of them.
     pub(crate) fn clear(&mut self)
         ensures { self.new ≡ [] }
     {
-        self.set_run(0, 0);
+        self.chunks.clear();
+        self.count = 0;
+        self.listed.clear();
     }
 }

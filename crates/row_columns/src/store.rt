@@ -1,5 +1,5 @@
 //! Where rows stand.
-ghost use Rattle.std.specs.Prelude.{◌≡◌, ◌<◌, [], IfOk, IfSome, length, map, option_map, slice_index_or};
+ghost use Rattle.std.specs.Prelude.{◌≡◌, ◌+◌, ◌<◌, ◌≤◌, ◌^◌, [], IfOk, IfSome, length, map, option_map, slice_index_or};
 ghost use Rattle.std.specs.List.{All};
 ghost use Rattle.block_summary.specs.Ranges.{column_of};
 ghost use Rattle.cell_types.specs.Column.{column_view};
@@ -12,15 +12,17 @@ ghost use Rattle.row_columns.specs.Piece.{piece_at};
 ghost use Rattle.row_columns.specs.Store.{end_of, kind_of_type, stored_kinds, stored_row, IsPicked, IsStoredWide, HasTakenRows};
 ghost use Rattle.row_columns.specs.Text.{text_of_cell};
 
-use crate::numbers::{are_of_block, codes_at};
 use crate::piece::Piece;
-use crate::row_numbers::RowNumbers;
 use crate::value_rows::{rows_picked, rows_taken, text_of};
 use crate::values::lent;
 use block_summary::{BLOCK_ROWS, PackedColumn, PackedType, packed_type_of};
 use cell_types::{Column, Value};
+use row_selection::Selection;
 use std::alloc::{AllocError, Global};
 use table_store::Block;
+
+/// How many numbers 32 bits tell.
+const NUMBERS: usize = 1 << 32;
 
 /// How many blocks have rows with numbers.
 const MOST_PIECES: usize = 1 << 20;
@@ -170,39 +172,34 @@ impl Store {
         Some(cells)
     }
 
-    /// Returns the codes of the rows with these numbers by their values in a column, where all are of the last block and it has such codes.
+    /// Returns the codes of the rows by their values in a column if the numbers of `run` are exactly those of the last block, and it has such codes.
     pub(crate) fn codes(
         &self,
         alloc: Global,
-        numbers: &RowNumbers,
+        run: (usize, usize),
         col: usize,
     ) -> Result<Option<Vec<u8>>, AllocError>
         requires wide { IsStoredWide self.now }
         requires col { col < length (stored_kinds self.now) }
-        ensures { IfOk result (λ codes. IfSome codes
-            (λ codes. HaveCodes codes.items col (map (stored_row self.now) numbers.now))) }
+        ensures { IfOk result (λ codes. IfSome codes (λ codes. HaveCodes codes.items col
+            (map (stored_row self.now) (numbers_from run.0 run.1)))) }
     {
         let Store::Blocks(_, pieces) = self else {
             return Ok(None);
         };
-        if pieces.is_empty() || pieces.len() > MOST_PIECES {
+        let (first, count) = run;
+        if pieces.is_empty() || pieces.len() > MOST_PIECES || count > BLOCK_ROWS {
             return Ok(None);
         }
         let last = pieces.len() - 1;
         let Some(codes) = pieces[last].codes(col) else {
             return Ok(None);
         };
-        if let Some((first, count)) = numbers.run() {
-            if first == last * BLOCK_ROWS && count == codes.len() && count <= BLOCK_ROWS {
-                let all = Vec::from_slice(alloc, codes)?;
-                return Ok(Some(all));
-            }
-        }
-        let listed = numbers.to_vec(alloc)?;
-        if !are_of_block(listed.as_slice(), last) {
+        if codes.len() != count || first != last * BLOCK_ROWS {
             return Ok(None);
         }
-        codes_at(alloc, codes, listed.as_slice())
+        let all = Vec::from_slice(alloc, codes)?;
+        Ok(Some(all))
     }
 
     /// Returns the rows under the same numbers, in the columns with these places.
@@ -223,25 +220,24 @@ impl Store {
         }
     }
 
-    /// Takes the values that the rows of a block with these numbers have in the columns with these places: the numbers of these rows among all.
+    /// Takes the values that the selected rows of a block have in the columns with these places: the numbers of these rows among all, each after a start.
     pub(crate) fn take(
         &mut self,
         alloc: Global,
         block: &Block<'_>,
         places: &[usize],
-        numbers: &[usize],
-    ) -> Result<RowNumbers, AllocError>
+        rows: Selection,
+    ) -> Result<(usize, Selection), AllocError>
         requires wide { IsStoredWide self.old }
         requires width { length (stored_kinds self.old) ≡ length places.now }
         requires places { All (λ place. place < length block.now.schema.columns) places.now }
-        requires within { All (λ number. number < length block.now.rows) numbers.now }
-        ensures { IfOk result (λ made. HasTakenRows self.old self.new
-            (map (values_at places.now) (numbered numbers.now block.now.rows)) made) }
+        requires within { All (λ number. number < length block.now.rows) rows }
+        ensures taken { IfOk result (λ made. HasTakenRows self.old self.new
+            (map (values_at places.now) (numbered rows block.now.rows))
+            (map (λ row. made.0 + row) made.1)) }
+        ensures few { IfOk result (λ _. end_of self.new ≤ 2 ^ 32) }
     {
         block.rows_are_few();
-        if numbers.is_empty() {
-            return Ok(RowNumbers::none(alloc));
-        }
         match self {
             Store::Blocks(_, pieces) => {
                 if pieces.len() >= MOST_PIECES {
@@ -249,12 +245,17 @@ impl Store {
                 }
                 let start = pieces.len() * BLOCK_ROWS;
                 pieces.push(Piece::of_places(alloc, block, places)?)?;
-                RowNumbers::after(alloc, start, numbers)
+                Ok((start, rows))
             }
-            Store::Values(_, rows) => {
-                let start = rows.len();
-                rows_taken(alloc, rows, block, places, numbers)?;
-                RowNumbers::between(alloc, start, rows.len())
+            Store::Values(_, values) => {
+                let start = values.len();
+                let numbers = rows.to_vec(alloc)?;
+                rows_taken(alloc, values, block, places, numbers.as_slice())?;
+                // That many rows of values would not fit in memory.
+                if values.len() > NUMBERS {
+                    return Err(AllocError);
+                }
+                Ok((start, Selection::all(numbers.len())))
             }
         }
     }

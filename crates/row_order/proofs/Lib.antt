@@ -5,12 +5,10 @@ pub mod SortingLemmas
 pub mod KeyedLemmas
 pub mod PrefixLemmas
 pub mod TextKeyLemmas
-pub mod TextsLateLemmas
 pub mod NumberLemmas
 pub mod BestLemmas
 pub mod PlainLemmas
 pub mod KeptLemmas
-pub mod KeyLemmas
 pub mod NearLemmas
-pub mod KeyColumnLemmas
-pub mod InTimeLemmas
+pub mod CutoffLemmas
+pub mod ColumnTestLemmas

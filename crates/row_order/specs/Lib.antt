@@ -8,5 +8,4 @@ pub mod Keys
 pub mod Best
 pub mod Plain
 pub mod TextKeys
-pub mod TextsLate
-pub mod InTime
+pub mod Cutoffs

@@ -3,22 +3,20 @@
 #![tactic(auto)]
 
 mod best;
-mod in_time;
+mod cutoffs;
 mod keyed;
 mod keys;
-mod keys_in_time;
 mod law;
 mod passing;
 mod pieces;
 mod plain;
 mod sorting;
 mod text_keys;
-mod texts_late;
 mod top_n;
 
 pub use best::best_numbers;
-pub use in_time::{key_column, may_reach_top};
-pub use law::best_in_pieces;
+pub use cutoffs::{cutoff, first_place, nearness};
+pub use law::{best_in_pieces, rows_are_cut_off};
 pub use passing::passing_numbers;
 pub use pieces::piece;
 pub use sorting::sorted_numbers;

@@ -1,3 +1,4 @@
 pub mod NumberLemmas
 pub mod BitLemmas
 pub mod MarkLemmas
+pub mod CountLemmas

@@ -5,7 +5,7 @@ use Rattle.std.proofs.lemmas.Bool.{cases_lt, true≢false}
 use Rattle.std.proofs.lemmas.List.{drop-take, length-take-le, take_all, take-append-drop, take-take}
 use Rattle.std.proofs.lemmas.List.Elements.{All-take}
 use Rattle.row_selection.specs.Marks.{marked_numbers}
-use Rattle.row_selection.specs.Numbers.{rising_from}
+use Rattle.row_selection.specs.Numbers.{numbers_from}
 use Rattle.row_selection.proofs.NumberLemmas.{take-from}
 
 -- one mark more
@@ -45,7 +45,7 @@ marked_few start [] = omega arith
 marked_few start (true ∷ marks) = let few = marked_few (suc start) marks in omega (arith, few)
 marked_few start (false ∷ marks) = let few = marked_few (suc start) marks in omega (arith, few)
 
-pub marked_every : (start : ℕ) (marks : List Bool) → length (marked_numbers start marks) ≡ length marks → marked_numbers start marks ≡ rising_from start (length marks)
+pub marked_every : (start : ℕ) (marks : List Bool) → length (marked_numbers start marks) ≡ length marks → marked_numbers start marks ≡ numbers_from start (length marks)
 marked_every start [] long = refl
 marked_every start (true ∷ marks) long = ap (λ ns. start ∷ ns) (marked_every (suc start) marks (omega (arith, long)))
 marked_every start (false ∷ marks) long = absurd (omega (arith, long, marked_few (suc start) marks))
@@ -92,7 +92,7 @@ marked_word marks w from end group at within ends is =
 -- ---- the rows that are selected
 
 pub every_selected : (marks : List Bool) (count most len : ℕ) → count ≡ length (marked_numbers 0 marks) → len ≡ min count most → count ≡ length marks
-    → rising_from 0 len ≡ take most (marked_numbers 0 marks)
+    → numbers_from 0 len ≡ take most (marked_numbers 0 marks)
 every_selected marks count most len is least all =
     let ns = marked_numbers 0 marks in
     sym (take-from 0 (length marks) len (omega (arith, least, all)))

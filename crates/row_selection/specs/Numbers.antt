@@ -2,6 +2,6 @@
 use Rattle.std.specs.Prelude.{ℕ, zero, suc, List, [], ◌∷◌}
 
 -- so many numbers, from one on
-abbrev pub rising_from : ℕ → ℕ → List ℕ
-rising_from start zero = []
-rising_from start (suc count) = start ∷ rising_from (suc start) count
+abbrev pub numbers_from : ℕ → ℕ → List ℕ
+numbers_from start zero = []
+numbers_from start (suc count) = start ∷ numbers_from (suc start) count

@@ -3,10 +3,10 @@ use Rattle.std.specs.Prelude.{ℕ, List}
 use Rattle.row_selection.specs.declared.selection.Rows.{Rows}
 use Rattle.row_selection.specs.declared.selection.Rows.TheVariants.{All, Bits, Few}
 use Rattle.row_selection.specs.declared.selection.Selection.TheInside.{Inside}
-use Rattle.row_selection.specs.Numbers.{rising_from}
+use Rattle.row_selection.specs.Numbers.{numbers_from}
 
 abbrev pub chosen_view : Rows → List ℕ
-chosen_view (All count) = rising_from 0 count
+chosen_view (All count) = numbers_from 0 count
 chosen_view (Bits bits) = bits
 chosen_view (Few rows) = rows.items
 

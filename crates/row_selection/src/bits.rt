@@ -1,7 +1,9 @@
 //! Numbers that rise, as the set bits of words of 64.
-ghost use Rattle.std.specs.Prelude.{◌≡◌, ◌+◌, ◌<◌, ◌≤◌, ◌^◌, ◌++◌, ◌∷◌, ℕ, IfOk, OnOk, false, length, slice_index_or};
+ghost use Rattle.std.specs.Prelude.{◌≡◌, ◌+◌, ◌*◌, ◌<◌, ◌≤◌, ◌^◌, ◌++◌, ◌∷◌, ℕ, IfOk, OnOk, false, get_or, length, slice_index_or};
+ghost use Rattle.quote_parity.specs.Words.{ones_below};
 ghost use Rattle.row_selection.specs.Marks.{marked_numbers, bit_numbers};
 
+use quote_parity::select;
 use std::alloc::{AllocError, Global};
 use std::marker::Model;
 
@@ -12,6 +14,8 @@ const WORD_BITS: usize = 64;
 #[derive(Drop)]
 pub(crate) struct Bits {
     words: Vec<u64>,
+    /// How many bits are set before each of them.
+    before: Vec<u32>,
     /// How many bits are set.
     count: usize,
 }
@@ -80,6 +84,40 @@ fn push_word(numbers: &mut Vec<usize>, start: usize, word: u64) -> Result<(), Al
     Ok(())
 }
 
+/// Returns the number of the set bit that has `n` set bits below it in its word.
+#[inline(always)]
+fn number_of(number: usize, word: u64, n: usize) -> usize
+    requires set { n < ones_below word 64 }
+    requires number { number < 2 ^ 26 }
+    ensures { result ≡ get_or (bit_numbers (number * 64) word 64) n 0 }
+{
+    match select(word, n as u32) {
+        Some(bit) => number * WORD_BITS + bit as usize,
+        None => 0,
+    }
+}
+
+/// Returns the last index whose element is at most `n`, by halving.
+fn last_before(before: &[u32], n: usize) -> usize
+    requires some { 0 < length before.now }
+    requires first { get_or before.now 0 0 ≤ n }
+    ensures within { result < length before.now }
+    ensures before { get_or before.now result 0 ≤ n }
+    ensures next { result + 1 < length before.now → n < get_or before.now (result + 1) 0 }
+{
+    let mut low = 0;
+    let mut high = before.len();
+    while high - low > 1 {
+        let middle = low + (high - low) / 2;
+        if before[middle] as usize <= n {
+            low = middle;
+        } else {
+            high = middle;
+        }
+    }
+    low
+}
+
 impl Bits {
     /// Returns the places of the marks that are true, of which there are `count`.
     pub(crate) fn of_marks(alloc: Global, marks: &[bool], count: usize) -> Result<Bits, AllocError>
@@ -89,12 +127,21 @@ impl Bits {
     {
         let len = (marks.len() + WORD_BITS - 1) / WORD_BITS;
         let mut words = Vec::with_capacity(alloc, len)?;
+        let mut before = Vec::with_capacity(alloc, len)?;
+        let mut ones = 0;
         for word in 0..len {
             let from = word * WORD_BITS;
             let end = marks.len().min(from + WORD_BITS);
-            words.push(word_of(&marks[from..end]))?;
+            let bits = word_of(&marks[from..end]);
+            words.push(bits)?;
+            before.push(ones)?;
+            ones += bits.count_ones();
         }
-        Ok(Bits { words, count })
+        Ok(Bits {
+            words,
+            before,
+            count,
+        })
     }
 
     /// Returns how many numbers there are.
@@ -103,6 +150,15 @@ impl Bits {
         ensures { result ≡ length self.now }
     {
         self.count
+    }
+
+    /// Returns the number at a place.
+    pub(crate) fn at(&self, place: usize) -> usize
+        requires { place < length self.now }
+        ensures { result ≡ slice_index_or self.now place 0 }
+    {
+        let word = last_before(self.before.as_slice(), place);
+        number_of(word, self.words[word], place - self.before[word] as usize)
     }
 
     /// Returns the numbers, one by one.

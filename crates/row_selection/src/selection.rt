@@ -1,8 +1,8 @@
 //! Rows of a block that are selected.
-ghost use Rattle.std.specs.Prelude.{◌≡◌, ◌<◌, ◌≤◌, ◌^◌, IfOk, length, take};
+ghost use Rattle.std.specs.Prelude.{◌≡◌, ◌<◌, ◌≤◌, ◌^◌, IfOk, IsTrue, drop, length, slice_index_or, take};
 ghost use Rattle.std.specs.List.{All};
 ghost use Rattle.row_selection.specs.Marks.{marked_numbers};
-ghost use Rattle.row_selection.specs.Numbers.{rising_from};
+ghost use Rattle.row_selection.specs.Numbers.{numbers_from};
 
 use crate::bits::Bits;
 use std::alloc::{AllocError, Global};
@@ -37,7 +37,7 @@ impl Model for Selection {
 
 /// Returns the first `count` numbers.
 fn first_numbers(alloc: Global, count: usize) -> Result<Vec<usize>, AllocError>
-    ensures { IfOk result (λ made. made.items ≡ rising_from 0 count) }
+    ensures { IfOk result (λ made. made.items ≡ numbers_from 0 count) }
 {
     let mut numbers = Vec::with_capacity(alloc, count)?;
     for number in 0..count {
@@ -60,7 +60,7 @@ fn wide(alloc: Global, rows: &[u16]) -> Result<Vec<usize>, AllocError>
 impl Selection {
     /// Selects the first `count` rows. It takes no memory.
     pub fn all(count: usize) -> Selection
-        ensures { result ≡ rising_from 0 count }
+        ensures { result ≡ numbers_from 0 count }
     {
         Selection {
             rows: Rows::All(count),
@@ -68,7 +68,7 @@ impl Selection {
     }
 
     /// Selects the rows with these numbers, one by one.
-    fn few(alloc: Global, numbers: &[usize]) -> Result<Selection, AllocError>
+    pub fn of_numbers(alloc: Global, numbers: &[usize]) -> Result<Selection, AllocError>
         requires { All (λ number. number < 2 ^ 16) numbers.now }
         ensures { IfOk result (λ made. made ≡ numbers.now) }
     {
@@ -107,7 +107,7 @@ impl Selection {
             });
         }
         let numbers = bits.to_vec(alloc)?;
-        let rows = Selection::few(alloc, &numbers[..len])?;
+        let rows = Selection::of_numbers(alloc, &numbers[..len])?;
         Ok(rows)
     }
 
@@ -121,6 +121,41 @@ impl Selection {
             Rows::Bits(bits) => bits.len(),
             Rows::Few(rows) => rows.len(),
         }
+    }
+
+    /// Returns true if the rows are kept as the first ones.
+    pub fn is_all(&self) -> bool
+        ensures { IsTrue result → self.now ≡ numbers_from 0 (length self.now) }
+    {
+        matches!(&self.rows, Rows::All(_))
+    }
+
+    /// Returns the number of the row at a place.
+    #[inline(always)]
+    pub fn at(&self, place: usize) -> usize
+        requires { place < length self.now }
+        ensures { result ≡ slice_index_or self.now place 0 }
+    {
+        match &self.rows {
+            Rows::All(_) => place,
+            Rows::Bits(bits) => bits.at(place),
+            Rows::Few(rows) => usize::from(rows[place]),
+        }
+    }
+
+    /// Returns the rows without the first `skip`.
+    pub fn after(self, alloc: Global, skip: u64) -> Result<Selection, AllocError>
+        requires { All (λ row. row < 2 ^ 16) self }
+        ensures { IfOk result (λ made. made ≡ drop skip self) }
+    {
+        if skip == 0 {
+            return Ok(self);
+        }
+        if skip >= self.len() as u64 {
+            return Ok(Selection::all(0));
+        }
+        let numbers = self.to_vec(alloc)?;
+        Selection::of_numbers(alloc, &numbers[skip as usize..])
     }
 
     /// Returns the numbers of the rows, one by one.

@@ -1,18 +1,17 @@
 -- Conditions whose truth the ranges of a block tell.
 use Rattle.std.proofs.Common.{◌≡◌, ℕ, Option, Some, None, List, [], ◌∷◌, zero, suc, refl, sym, ap, ◌∙◌, subst}
-use Rattle.std.specs.Prelude.{IfSome, option_and_then, option_map}
+use Rattle.std.specs.Prelude.{IfSome}
 use Rattle.std.specs.Cmp.Lexicographic.{slice_cmp}
 use Rattle.std.specs.Ordering.{nat_cmp}
 use Rattle.cell_types.specs.Value.{CellValue, null}
 use Rattle.block_summary.specs.Ranges.{RangeOf}
 use Rattle.typed_trees.specs.declared.operator.ComparisonOperator.{ComparisonOperator}
-use Rattle.typed_trees.specs.TypedTree.{TextExprOf, TruthExprOf, compare_texts, conjunction, disjunction, negation}
+use Rattle.typed_trees.specs.TypedTree.{TextExprOf, compare_texts}
 use Rattle.typed_trees.specs.TypedTree as typed
 use Rattle.row_eval.specs.declared.truth.Truth.{Truth}
-use Rattle.row_eval.specs.declared.truth.Truth.TheVariants.{False, Null, True}
 use Rattle.row_eval.specs.Comparison.{compared, holds}
-use Rattle.row_eval.specs.Logic.{and_then, greatest, least, opposite, or_then, truth_of, truth_of_option}
-use Rattle.row_eval.specs.Outcome.{text_outcome, truth_outcome}
+use Rattle.row_eval.specs.Logic.{truth_of, truth_of_option}
+use Rattle.row_eval.specs.Outcome.{text_outcome}
 use Rattle.row_eval.specs.Row.{boolean_in, cell, text_in}
 use Rattle.summary_eval.specs.declared.kinds.Kind.TheVariants.{Text}
 use Rattle.summary_eval.specs.Known.{cell_at_place, HaveCellAlone, HasTruth, IsConstantText, IsKnown}
@@ -40,41 +39,7 @@ texts-tell (Some truth) o place left right literal ranges e constant has =
 
 -- ---- truths
 
-both_known : (a b : Truth) → and_then a (Some b) ≡ Some (least a b)
-both_known False False = refl
-both_known False Null = refl
-both_known False True = refl
-both_known Null b = refl
-both_known True b = refl
-
-either_known : (a b : Truth) → or_then a (Some b) ≡ Some (greatest a b)
-either_known True False = refl
-either_known True Null = refl
-either_known True True = refl
-either_known Null b = refl
-either_known False b = refl
-
 pub column-known : (place : ℕ) (value : CellValue) (ranges : List RangeOf) (truth : Truth) → truth_of_option (boolean_in value) ≡ truth → HaveCellAlone value ranges place
     → IsKnown (typed.truth_column place) ranges truth
 column-known place value ranges truth e all cells is =
     ap (λ x. Some (truth_of_option x)) (cell-at boolean_in refl cells place ∙ ap boolean_in (all cells is)) ∙ ap (λ t. Some t) e
-
-module _ (ranges : List RangeOf) (a b : TruthExprOf) where
-  pub negation-known : (truth : Truth) → IsKnown a ranges truth → IsKnown (negation a) ranges (opposite truth)
-  negation-known truth known cells is = ap (option_map opposite) (known cells is)
-
-  pub conjunction-false : IsKnown a ranges False → IsKnown (conjunction a b) ranges False
-  conjunction-false known cells is = ap (option_and_then (λ x. and_then x (truth_outcome b cells))) (known cells is)
-
-  pub disjunction-true : IsKnown a ranges True → IsKnown (disjunction a b) ranges True
-  disjunction-true known cells is = ap (option_and_then (λ x. or_then x (truth_outcome b cells))) (known cells is)
-
-  pub conjunction-known : (left right : Truth) → IsKnown a ranges left → IsKnown b ranges right → IsKnown (conjunction a b) ranges (least left right)
-  conjunction-known left right known known_right cells is =
-      ap (option_and_then (λ x. and_then x (truth_outcome b cells))) (known cells is)
-      ∙ ap (and_then left) (known_right cells is) ∙ both_known left right
-
-  pub disjunction-known : (left right : Truth) → IsKnown a ranges left → IsKnown b ranges right → IsKnown (disjunction a b) ranges (greatest left right)
-  disjunction-known left right known known_right cells is =
-      ap (option_and_then (λ x. or_then x (truth_outcome b cells))) (known cells is)
-      ∙ ap (or_then left) (known_right cells is) ∙ either_known left right

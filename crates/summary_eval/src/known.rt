@@ -10,7 +10,7 @@ use crate::numbers::{kind_of, number_value};
 use crate::tests::{is_each, known_comparison};
 use block_summary::Summary;
 use cell_types::{Value, dates_read_back};
-use row_eval::{Truth, dates_are_compared, greatest, least, opposite, truth_of};
+use row_eval::{Truth, dates_are_compared, truth_of};
 use typed_trees::{ComparisonOperator, NumberExpr, TextExpr, TruthExpr};
 
 /// Returns a column of numbers, compared with a number.
@@ -65,8 +65,9 @@ fn known_column(summary: &Summary, place: usize) -> Option<Truth>
     }
 }
 
-/// Returns the truth on each row of a condition that has no condition as a part.
-fn known_leaf(expr: &TruthExpr, summary: &Summary) -> Option<Truth>
+/// Returns the truth that a condition has on each row of a block with these ranges, or `None` if the ranges do not tell. Nothing says when they do; of a
+/// condition that has a condition as a part they never do.
+pub fn known_truth(expr: &TruthExpr, summary: &Summary) -> Option<Truth>
     ensures { IfSome result (IsKnown (truth_view expr.now) summary.now) }
 {
     match expr {
@@ -80,31 +81,5 @@ fn known_leaf(expr: &TruthExpr, summary: &Summary) -> Option<Truth>
             known_texts(summary, *operator, left, right)
         }
         _ => None,
-    }
-}
-
-/// Returns the truth that a condition has on each row of a block with these ranges, or `None` if the ranges do not tell. Nothing says when they do.
-pub fn known_truth(expr: &TruthExpr, summary: &Summary) -> Option<Truth>
-    ensures { IfSome result (IsKnown (truth_view expr.now) summary.now) }
-{
-    match expr {
-        TruthExpr::Not(operand) => Some(opposite(known_truth(operand, summary)?)),
-        TruthExpr::And(left, right) => {
-            let left = known_truth(left, summary)?;
-            if left == Truth::False {
-                return Some(Truth::False);
-            }
-            let right = known_truth(right, summary)?;
-            Some(least(left, right))
-        }
-        TruthExpr::Or(left, right) => {
-            let left = known_truth(left, summary)?;
-            if left == Truth::True {
-                return Some(Truth::True);
-            }
-            let right = known_truth(right, summary)?;
-            Some(greatest(left, right))
-        }
-        _ => known_leaf(expr, summary),
     }
 }

@@ -1,12 +1,10 @@
-use Rattle.std.proofs.Common.{◌≡◌, List, length, sym, ap, subst, ◌∙◌}
-use Rattle.block_summary.specs.Ranges.{RangeOf}
+use Rattle.std.proofs.Common.{◌≡◌, length, sym, ap, subst, ◌∙◌}
 use Rattle.row_eval.specs.declared.truth.Truth.TheVariants.{False, True}
 use Rattle.typed_trees.specs.TypedTree.{compare_truths, conjunction, disjunction, negation, truth_view}
 use Rattle.row_eval.specs.Outcome.{truth_outcome}
 use Rattle.block_eval.specs.Lanes.{truth_lane, AreAsked, AreOutcomesWithin, HasTruths}
-use Rattle.block_eval.specs.declared.columns.Column.{Column}
 use Rattle.block_eval.specs.Truths.{truth_comparison}
-use Rattle.block_eval.proofs.LogicLemmas.{both-gives, either-gives, ok-gives, opposite-gives, some-gives}
+use Rattle.block_eval.proofs.LogicLemmas.{both-gives, either-gives, ok-gives, none-gives, opposite-gives}
 use Rattle.block_eval.proofs.TruthLemmas.{compared-gives}
 use Rattle.block_eval.proofs.block.+eval_block.Goals as goal
 
@@ -56,18 +54,10 @@ returns-in_ok-truths-in-Not t c =
     subst (λ tree. AreOutcomesWithin tree ranges columns wanted c.negation.result.items) e
     (opposite-gives (truth_outcome a) ranges columns wanted c.in_ok-truths-in-Not.truths.items c.negation.result.items c.in_ok-truths-in-Not.ensures c.negation.ensures)
 
-pub returns-in-Some : goal.returns-in-Some
-returns-in-Some t c =
-    some-gives c.in_ok-truths.field-0 c.in-Some.truths (λ truths. (columns : List Column) → AreOutcomesWithin (truth_view c.args.expr.now) c.args.summary.now columns c.args.wanted.now truths.items)
-    c.in-Some.is c.in_ok-truths.ensures c.args.columns.now
-
-pub returns-in_default-expr : goal.returns-in_default-expr
-returns-in_default-expr t c =
-    let e = truth_view c.args.expr.now in
-    let columns = c.args.columns.now in
-    let wanted = c.args.wanted.now in
-    ok-gives c.leaf_truths.result (λ truths. (ranges : List RangeOf) → AreOutcomesWithin e ranges columns wanted truths.items)
-    (λ truths. AreOutcomesWithin e c.args.summary.now columns wanted truths.items) (λ truths are. are c.args.summary.now) c.leaf_truths.ensures
+pub returns-then-none_is_wanted : goal.returns-then-none_is_wanted
+returns-then-none_is_wanted t c =
+    none-gives (truth_outcome (truth_view c.args.expr.now)) c.args.summary.now c.args.columns.now c.args.wanted.now False c.in_ok-same_truth.field-0.items
+    (c.none_is_wanted.ensures c.if-none_is_wanted.true) c.in_ok-same_truth.ensures
 
 pub returns-in_ok-right-in-CompareTruths : goal.returns-in_ok-right-in-CompareTruths
 returns-in_ok-right-in-CompareTruths t c =

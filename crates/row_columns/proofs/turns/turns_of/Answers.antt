@@ -4,7 +4,7 @@ use Rattle.std.proofs.lemmas.List.{map-append}
 use Rattle.std.proofs.lemmas.List.Sorted.{IsPermutation-map}
 use Rattle.row_columns.specs.Numbers.{numbers_from}
 use Rattle.row_columns.specs.declared.turns.Turn.{Turn}
-use Rattle.row_columns.proofs.NumberLemmas.{numbers_more}
+use Rattle.row_selection.proofs.NumberLemmas.{numbers_more}
 use Rattle.row_columns.proofs.turns.turns_of.Goals as goal
 
 pub loop-place-preserved : goal.loop-place-preserved

@@ -1,10 +1,9 @@
-use Rattle.std.proofs.Common.{◌≡◌, ap, false, map, refl, rules, subst, sym, List, Option, None, ◌∙◌}
+use Rattle.std.proofs.Common.{◌≡◌, ap, false, map, refl, rules, subst, List, Option, None, ◌∙◌}
 use Rattle.cell_types.specs.Value.{CellValue}
 use Rattle.typed_trees.specs.TypedTree.{boxed_truth}
 use Rattle.block_filter.specs.Conditions.{rows_joined}
 use Rattle.block_filter.specs.Passing.{ArePassing}
-use Rattle.query_exec.specs.declared.run.Run.{Run}
-use Rattle.query_exec.specs.Run.{conditions_of, passed_rows, HasPassed, HasTakenIn}
+use Rattle.query_exec.specs.Run.{conditions_of, passed_rows, HasPassed}
 use Rattle.query_exec.specs.Sink.{room_behind, spare_of}
 use Rattle.query_exec.proofs.RunLemmas.{fault_before, fault_found, faulted_taken, pushed_taken}
 use Rattle.query_exec.proofs.run.Run.take_in.Goals as goal
@@ -35,5 +34,4 @@ returns c =
     (subst (λ cs. ArePassing (map boxed_truth cs) c.spare-most.result rows found) c.deref.ensures.value c.in_ok-found.ensures) in
     let works : old.faulted ≡ false = search rules in
     let still : found.faulted ≡ false = search rules in
-    subst (λ (r : Run). HasTakenIn old r rows) (sym c.in_ok-compact.ensures)
-    (pushed_taken old _ rows found are works still refl c.pop_front-number.ensures.rest c.room_behind-self.ensures c.in_ok-push.ensures)
+    pushed_taken old _ rows found are works still refl c.pop_front-number.ensures.rest c.room_behind-self.ensures c.in_ok-push.ensures

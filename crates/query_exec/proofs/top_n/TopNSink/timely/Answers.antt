@@ -1,32 +1,25 @@
-use Rattle.std.proofs.Common.{◌≡◌, ap, map, sym, true, ◌∙◌}
+use Rattle.std.proofs.Common.{◌≡◌, [], filter, get_or}
 use Rattle.std.proofs.lemmas.Result.{IfOk-weaker}
-use Rattle.odata_query.specs.Query.{order_view}
-use Rattle.query_meaning.specs.Order.{are_plain}
-use Rattle.row_order.specs.InTime.{AreEnoughByKeys}
-use Rattle.block_filter.specs.Lanes.{AreKeysAt}
-use Rattle.query_exec.specs.Kept.{kept_places}
+use Rattle.typed_trees.specs.TypedTree.{truth_view}
+use Rattle.query_meaning.specs.Filter.{passes}
+use Rattle.query_exec.specs.Cutoffs.{CutsOff}
 use Rattle.query_exec.specs.Sink.{sink_items}
-use Rattle.query_exec.specs.TopN.{AreTimely, IsSourceOf}
-use Rattle.query_exec.proofs.TopNLemmas.{enough_is_timely, plain_is_safe, safe_never_faults}
+use Rattle.query_exec.specs.TopN.{AreTimely}
+use Rattle.query_exec.proofs.CutoffLemmas.{passing_are_timely}
 use Rattle.query_exec.proofs.top_n.TopNSink.timely.Goals as goal
 
-pub may_reach_top-requires-clause-plain : goal.may_reach_top-requires-clause-plain
-may_reach_top-requires-clause-plain c =
-    let plain : are_plain (sink_items c.args.self.now) ≡ true =
-    ap (λ is. are_plain (map order_view is)) (sym c.deref.ensures.value) ∙ sym c.are_plain.ensures ∙ c.if-not-are_plain.false in
-    rw c.as_slice.ensures.value (safe_never_faults c.faults_are_foreseen.ensures (sink_items c.args.self.now) (plain_is_safe (sink_items c.args.self.now) plain))
+pub passing_numbers-requires-clause-fits : goal.passing_numbers-requires-clause-fits
+passing_numbers-requires-clause-fits c =
+    let s = c.args.self.now in
+    let cuts : CutsOff (sink_items s) s.most s.kept (truth_view c.in-Some.cutoff) = rw c.in-Some.is at c.requires.cutoff in
+    λ k d h. cuts.fits (get_or c.args.block.now.rows k d)
 
-pub returns : goal.returns
-returns c =
+pub returns-in-Some : goal.returns-in-Some
+returns-in-Some c =
     let s = c.args.self.now in
     let rows = c.args.block.now.rows in
     let numbers = c.args.numbers.items in
-    let column = c.in-Some.column in
-    let col = c.in-Some-source_of.col in
-    let keys = c.in-Some-2.keys in
-    let plain : are_plain (sink_items s) ≡ true = ap (λ is. are_plain (map order_view is)) (sym c.deref.ensures.value) ∙ sym c.are_plain.ensures ∙ c.if-not-are_plain.false in
-    let source : IsSourceOf (kept_places s.kept) column.place col = c.in-Some-source_of.ensures in
-    let are : AreKeysAt rows col column keys = rw c.in-Some-2.is at c.in_ok-keys.ensures.keys in
-    IfOk-weaker c.may_reach_top.result (λ made. AreEnoughByKeys (sink_items s) s.most keys s.kept.columns.rows numbers made.items) (λ made. AreTimely s rows numbers made.items)
-    (λ made enough. enough_is_timely s rows numbers made.items col column keys plain source are c.requires enough)
-    (rw c.as_slice.ensures.value at c.may_reach_top.ensures)
+    let e = truth_view c.in-Some.cutoff in
+    let cuts : CutsOff (sink_items s) s.most s.kept e = rw c.in-Some.is at c.requires.cutoff in
+    IfOk-weaker c.passing_numbers.result (λ made. made.items ≡ filter (λ n. passes e (get_or rows n [])) numbers) (λ made. AreTimely s rows numbers made.items)
+    (λ made is. passing_are_timely s e rows numbers made.items cuts c.requires.within is) (rw c.as_slice.ensures.value at c.passing_numbers.ensures)

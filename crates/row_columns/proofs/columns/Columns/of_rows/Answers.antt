@@ -7,7 +7,8 @@ use Rattle.row_columns.specs.Columns.{ColumnsOf}
 use Rattle.row_columns.specs.Kinds.{any}
 use Rattle.row_columns.specs.Numbers.{numbers_from}
 use Rattle.row_columns.specs.Store.{value_rows}
-use Rattle.row_columns.proofs.RowLemmas.{all_from, map_from}
+use Rattle.row_columns.proofs.NumberLemmas.{all_from}
+use Rattle.row_columns.proofs.RowLemmas.{map_from}
 use Rattle.row_columns.proofs.columns.Columns.of_rows.Goals as goal
 
 pub invariant_of-result : goal.invariant_of-result

@@ -9,4 +9,4 @@ pub returns : goal.returns
 returns c =
     let store = c.self.inside.store in
     subst (λ (s : ColumnsOf). IfSome c.packed.result (λ cells. cells.now ≡ column_of s.rows c.args.col)) c.self.view_is
-    (subst (λ (ns : List ℕ). IfSome c.packed.result (λ cells. cells.now ≡ column_of (map (stored_row store) ns) c.args.col)) (sym c.in_ok-run.ensures.run) c.packed.ensures)
+    (subst (λ (ns : List ℕ). IfSome c.packed.result (λ cells. cells.now ≡ column_of (map (stored_row store) ns) c.args.col)) (sym c.in_ok-run.ensures) c.packed.ensures)

@@ -10,7 +10,8 @@ use Rattle.row_columns.specs.Kinds.{kind_of_datatype, kinds_of}
 use Rattle.row_columns.specs.Numbers.{numbers_from}
 use Rattle.row_columns.specs.Picked.{kinds_at, numbered, values_at}
 use Rattle.row_columns.proofs.KindLemmas.{kinds_whole}
-use Rattle.row_columns.proofs.RowLemmas.{all_from, numbered_wide, table_rows_picked}
+use Rattle.row_columns.proofs.NumberLemmas.{all_from}
+use Rattle.row_columns.proofs.RowLemmas.{numbered_wide, table_rows_picked}
 use Rattle.row_columns.proofs.columns.Columns.take.Goals as goal
 
 pub take_places-requires-clause-kinds : goal.take_places-requires-clause-kinds
@@ -19,7 +20,7 @@ take_places-requires-clause-kinds c =
     let count : c.len.result ≡ length columns =
     omega (arith, c.len.ensures, length-map c.schema.result.now.columns.items column_view, ap (λ (s : SchemaOf). length s.columns) c.schema.ensures, c.schema.result.now.columns.ok.0) in
     let places : c.as_slice.result.now ≡ numbers_from 0 (length (kinds_of columns)) =
-    c.as_slice.ensures.value ∙ c.in-Ok.ensures ∙ ap (numbers_from 0) (count ∙ sym (length-map columns (λ (column : ColumnOf). kind_of_datatype column.datatype))) in
+    c.as_slice.ensures.value ∙ c.in-Ok.ensures ∙ c.all.ensures ∙ ap (numbers_from 0) (count ∙ sym (length-map columns (λ (column : ColumnOf). kind_of_datatype column.datatype))) in
     c.requires.kinds ∙ sym (kinds_whole (kinds_of columns)) ∙ ap (λ (ps : List ℕ). kinds_at ps (kinds_of columns)) (sym places)
 
 pub take_places-requires-clause-places : goal.take_places-requires-clause-places
@@ -28,18 +29,18 @@ take_places-requires-clause-places c =
     let width = length columns in
     let count : c.len.result ≡ width =
     omega (arith, c.len.ensures, length-map c.schema.result.now.columns.items column_view, ap (λ (s : SchemaOf). length s.columns) c.schema.ensures, c.schema.result.now.columns.ok.0) in
-    let places : c.as_slice.result.now ≡ numbers_from 0 width = c.as_slice.ensures.value ∙ c.in-Ok.ensures ∙ ap (numbers_from 0) count in
+    let places : c.as_slice.result.now ≡ numbers_from 0 width = c.as_slice.ensures.value ∙ c.in-Ok.ensures ∙ c.all.ensures ∙ ap (numbers_from 0) count in
     subst (All (λ place. place < width)) (sym places) (All-from_recursion (λ place. place < width) (numbers_from 0 width) (all_from 0 width width (omega arith)))
 
 pub returns-in-Ok-clause-rows : goal.returns-in-Ok-clause-rows
 returns-in-Ok-clause-rows c =
     let columns = c.args.block.now.schema.columns in
     let width = length columns in
-    let rows = numbered c.args.numbers.now c.args.block.now.rows in
+    let rows = numbered c.args.rows c.args.block.now.rows in
     let count : c.len.result ≡ width =
     omega (arith, c.len.ensures, length-map c.schema.result.now.columns.items column_view, ap (λ (s : SchemaOf). length s.columns) c.schema.ensures, c.schema.result.now.columns.ok.0) in
-    let places : c.as_slice.result.now ≡ numbers_from 0 width = c.as_slice.ensures.value ∙ c.in-Ok.ensures ∙ ap (numbers_from 0) count in
+    let places : c.as_slice.result.now ≡ numbers_from 0 width = c.as_slice.ensures.value ∙ c.in-Ok.ensures ∙ c.all.ensures ∙ ap (numbers_from 0) count in
     let all : map (values_at c.as_slice.result.now) rows ≡ rows =
     ap (λ (ps : List ℕ). map (values_at ps) rows) places
-    ∙ table_rows_picked rows width (numbered_wide columns c.args.block.now.rows c.args.numbers.now c.values_fit.ensures.each c.requires.within) in
+    ∙ table_rows_picked rows width (numbered_wide columns c.args.block.now.rows c.args.rows c.values_fit.ensures.each c.requires.within) in
     subst (λ (rs : List (List CellValue)). OnOk c.take_places.result (c.take_places.new.self.rows ≡ c.args.self.now.rows ++ rs)) all c.take_places.ensures.rows

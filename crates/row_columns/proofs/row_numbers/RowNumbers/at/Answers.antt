@@ -1,39 +1,22 @@
-use Rattle.std.proofs.Common.{append_assoc, ◌-◌, ◌<◌, ◌++◌, ◌∙◌, List, ℕ, ap, arith, get_or, length, length-append, sym}
-use Rattle.std.proofs.lemmas.List.{get_or_append_left, get_or-append_right}
-use Rattle.row_columns.specs.Numbers.{numbers_from}
-use Rattle.row_columns.proofs.NumberLemmas.{get-any, get-first, get-listed, length-both}
+use Rattle.std.proofs.Common.{◌<◌, ◌^◌, List, ap, arith, get_or, length, subst, sym, ◌∙◌, ℕ}
+use Rattle.std.specs.List.{All}
+use Rattle.std.proofs.lemmas.List.{get_or_append_left}
+use Rattle.row_columns.specs.declared.row_numbers.Chunk.{Chunk}
+use Rattle.row_columns.specs.Chunks.{chunked_numbers, AreCounted}
 use Rattle.row_columns.proofs.row_numbers.RowNumbers.at.Goals as goal
 
-pub returns-then-place-self : goal.returns-then-place-self
-returns-then-place-self c =
-    let v = c.self.inside in
-    let view = sym (append_assoc (numbers_from v.first v.count) v.marks v.listed.items) ∙ c.self.view_is in
-    sym (get-first v.first v.count (v.marks ++ v.listed.items) c.args.place c.if-place-self.true) ∙ ap (λ (ns : List ℕ). get_or ns c.args.place 0) view
+pub number_in-requires-clause-counted : goal.number_in-requires-clause-counted
+number_in-requires-clause-counted c = subst (AreCounted 0) (sym c.as_slice.ensures.value) c.self.invariant.counted
 
-pub index-requires : goal.index-requires
-index-requires c =
-    let v = c.self.inside in
-    let view = sym (append_assoc (numbers_from v.first v.count) v.marks v.listed.items) ∙ c.self.view_is in
-    omega (arith, c.requires, c.if-place-self.false, c.if-after-len.false, c.len.ensures.all, c.len-else-after-len.ensures.all, v.listed.ok.0, length-append v.marks v.listed.items, length-both v.first v.count (v.marks ++ v.listed.items), ap (λ (ns : List ℕ). length ns) view)
+pub number_in-requires-clause-fit : goal.number_in-requires-clause-fit
+number_in-requires-clause-fit c = subst (λ (cs : List Chunk). All (λ n. n < 2 ^ 32) (chunked_numbers cs)) (sym c.as_slice.ensures.value) c.self.invariant.fit
 
-pub returns-then-after-len : goal.returns-then-after-len
-returns-then-after-len c =
-    let v = c.self.inside in
-    let view = sym (append_assoc (numbers_from v.first v.count) v.marks v.listed.items) ∙ c.self.view_is in
-    let k = c.args.place - v.count in
-    let inside : k < length v.marks = omega (arith, c.if-after-len.true, c.len.ensures.all) in
-    c.at.ensures ∙ sym (get_or_append_left v.marks v.listed.items 0 k inside) ∙ sym (get-listed v.first v.count (v.marks ++ v.listed.items) c.args.place c.if-place-self.false)
-    ∙ ap (λ (ns : List ℕ). get_or ns c.args.place 0) view
+pub number_in-requires-clause-place : goal.number_in-requires-clause-place
+number_in-requires-clause-place c = omega (arith, c.if-place-self.false, c.self.invariant.count, ap (λ (cs : List Chunk). length (chunked_numbers cs)) c.as_slice.ensures.value)
 
-pub returns-else-after-len : goal.returns-else-after-len
-returns-else-after-len c =
+pub returns : goal.returns
+returns c =
     let v = c.self.inside in
-    let view = sym (append_assoc (numbers_from v.first v.count) v.marks v.listed.items) ∙ c.self.view_is in
-    let j = c.args.place - v.count in
-    let k = j - c.len-else-after-len.result in
-    let inside : k < length v.listed.items =
-    omega (arith, c.requires, c.if-place-self.false, c.if-after-len.false, c.len.ensures.all, c.len-else-after-len.ensures.all, length-append v.marks v.listed.items, length-both v.first v.count (v.marks ++ v.listed.items), ap (λ (ns : List ℕ). length ns) view) in
-    c.index.ensures ∙ get-any v.listed.items k c.index.result.now 0 inside
-    ∙ sym (get_or-append_right v.marks v.listed.items c.len-else-after-len.result j 0 (sym c.len-else-after-len.ensures.all) (omega (arith, c.if-after-len.false, c.len.ensures.all, c.len-else-after-len.ensures.all)))
-    ∙ sym (get-listed v.first v.count (v.marks ++ v.listed.items) c.args.place c.if-place-self.false)
-    ∙ ap (λ (ns : List ℕ). get_or ns c.args.place 0) view
+    c.number_in.ensures ∙ ap (λ (cs : List Chunk). get_or (chunked_numbers cs) c.args.place 0) c.as_slice.ensures.value
+    ∙ sym (get_or_append_left (chunked_numbers v.chunks.items) v.listed.items 0 c.args.place (omega (arith, c.if-place-self.false, c.self.invariant.count)))
+    ∙ ap (λ (ns : List ℕ). get_or ns c.args.place 0) c.self.view_is

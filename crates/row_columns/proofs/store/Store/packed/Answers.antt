@@ -6,7 +6,7 @@ use Rattle.row_columns.specs.declared.store.Store.{Store}
 use Rattle.row_columns.specs.declared.store.Store.TheVariants.{Blocks}
 use Rattle.row_columns.specs.Numbers.{numbers_from}
 use Rattle.row_columns.specs.Store.{kind_of_type, stored_kinds, stored_row, IsStoredWide}
-use Rattle.row_columns.proofs.NumberLemmas.{get-from, length-from}
+use Rattle.row_selection.proofs.NumberLemmas.{get-from, length-from}
 use Rattle.row_columns.proofs.PackedLemmas.{packed_rows}
 use Rattle.row_columns.proofs.StoreLemmas.{piece_wide, some_there}
 use Rattle.row_columns.proofs.store.Store.packed.Goals as goal

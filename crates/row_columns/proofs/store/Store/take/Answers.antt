@@ -1,5 +1,5 @@
-use Rattle.std.proofs.Common.{◌≡◌, ◌+◌, ◌-◌, ◌*◌, ℕ, List, length, map, sym, subst, ap, ◌∙◌, arith}
-use Rattle.std.specs.Prelude.{replicate, IfOk}
+use Rattle.std.proofs.Common.{◌≡◌, ◌+◌, ◌*◌, ◌++◌, ℕ, List, [], get_or, length, map, sym, subst, ap, ◌∙◌, arith}
+use Rattle.std.specs.Prelude.{replicate}
 use Rattle.std.specs.List.{AllByRecursion}
 use Rattle.std.proofs.lemmas.List.{length-map, length-replicate}
 use Rattle.block_summary.specs.declared.block.TheConstants.{BLOCK_ROWS}
@@ -8,42 +8,44 @@ use Rattle.row_columns.specs.declared.store.Store.TheVariants.{Blocks, Values}
 use Rattle.row_columns.specs.Kinds.{any}
 use Rattle.row_columns.specs.Numbers.{numbers_from}
 use Rattle.row_columns.specs.Picked.{numbered, values_at}
-use Rattle.row_columns.specs.Store.{kind_of_type, IsStoredWide}
-use Rattle.row_columns.proofs.RowLemmas.{blocks_taken, taken_ok, values_taken}
+use Rattle.row_columns.specs.Store.{kind_of_type, value_rows, IsStoredWide}
+use Rattle.row_columns.proofs.NumberLemmas.{from-start}
+use Rattle.row_columns.proofs.RowLemmas.{blocks_taken, values_taken}
 use Rattle.row_columns.proofs.StoreLemmas.{rows_wide}
 use Rattle.row_columns.proofs.store.Store.take.Goals as goal
 
-pub returns-in_ok-push-in-Blocks : goal.returns-in_ok-push-in-Blocks
-returns-in_ok-push-in-Blocks c =
+pub returns-in_ok-push-in-Blocks-clause-taken : goal.returns-in_ok-push-in-Blocks-clause-taken
+returns-in_ok-push-in-Blocks-clause-taken c =
     let arm = c.in-Blocks in
     let places = c.args.places.now in
-    let numbers = c.args.numbers.now in
+    let numbers = c.args.rows in
     let rows = c.args.block.now.rows in
     let piece = c.in_ok-of_places-in-Blocks.field-0 in
     let wide : IsStoredWide (Blocks arm.field-0 arm.pieces) = rw arm.is at c.requires.wide in
     let width : length (map kind_of_type arm.field-0.items) ≡ length places = rw arm.is at c.requires.width in
     let long : length piece ≡ length arm.field-0.items = c.in_ok-of_places-in-Blocks.ensures.wide ∙ sym width ∙ length-map arm.field-0.items kind_of_type in
     let count : c.len-start.result ≡ length arm.pieces.items = omega (arith, c.len-start.ensures, arm.pieces.ok.0) in
-    let made = subst (λ k. IfOk c.after.result (λ made. made ≡ map (λ n. k * BLOCK_ROWS + n) numbers)) count c.after.ensures in
-    rw arm.is (taken_ok (Blocks arm.field-0 arm.pieces) (Blocks arm.field-0 c.push.new.self) (map (values_at places) (numbered numbers rows))
-    (map (λ n. length arm.pieces.items * BLOCK_ROWS + n) numbers) c.after.result
-    (λ made is. blocks_taken places numbers made arm.field-0 arm.pieces c.push.new.self piece rows c.in_ok-push-in-Blocks.ensures.items long wide c.rows_are_few.ensures
-    c.in_ok-of_places-in-Blocks.ensures.rows c.requires.within is) made)
+    rw arm.is (blocks_taken places numbers (map (λ n. c.len-start.result * BLOCK_ROWS + n) numbers) arm.field-0 arm.pieces c.push.new.self piece rows c.in_ok-push-in-Blocks.ensures.items long wide
+    c.rows_are_few.ensures c.in_ok-of_places-in-Blocks.ensures.rows c.requires.within (ap (λ k. map (λ n. k * BLOCK_ROWS + n) numbers) count))
 
-pub returns-in_ok-rows_taken-in-Values : goal.returns-in_ok-rows_taken-in-Values
-returns-in_ok-rows_taken-in-Values c =
+pub returns-else-len-gt-NUMBERS-clause-taken : goal.returns-else-len-gt-NUMBERS-clause-taken
+returns-else-len-gt-NUMBERS-clause-taken c =
     let arm = c.in-Values in
     let places = c.args.places.now in
-    let numbers = c.args.numbers.now in
-    let taken = map (values_at places) (numbered numbers c.args.block.now.rows) in
+    let found = numbered c.args.rows c.args.block.now.rows in
+    let taken = map (values_at places) found in
     let new = c.rows_taken.new.rows in
-    let wide : IsStoredWide (Values arm.field-0 arm.rows) = rw arm.is at c.requires.wide in
+    let start = c.len-start-in-Values.result in
+    let count = c.len-in-Values-2.result in
+    let wide : IsStoredWide (Values arm.field-0 arm.values) = rw arm.is at c.requires.wide in
     let width : length (replicate arm.field-0 any) ≡ length places = rw arm.is at c.requires.width in
-    let same : length places ≡ arm.field-0 = sym width ∙ length-replicate arm.field-0 any in
-    let long = subst (λ k. AllByRecursion (λ (r : List CellValue). length r ≡ k) taken) same (rows_wide places (numbered numbers c.args.block.now.rows)) in
-    let first : c.len-start-in-Values.result ≡ length arm.rows.items = omega (arith, c.len-start-in-Values.ensures, arm.rows.ok.0) in
-    let last : c.len-in-Values.result ≡ length new.items = omega (arith, c.len-in-Values.ensures, new.ok.0) in
-    let between = ap (λ a. numbers_from a (c.len-in-Values.result - a)) first ∙ ap (λ b. numbers_from (length arm.rows.items) (b - length arm.rows.items)) last in
-    let made = subst (λ (k : List ℕ). IfOk c.between.result (λ made. made ≡ k)) between c.between.ensures in
-    rw arm.is (taken_ok (Values arm.field-0 arm.rows) (Values arm.field-0 new) taken (numbers_from (length arm.rows.items) (length new.items - length arm.rows.items)) c.between.result
-    (λ made is. values_taken arm.field-0 arm.rows new taken made c.in_ok-rows_taken-in-Values.ensures long wide is) made)
+    let long = subst (λ k. AllByRecursion (λ (r : List CellValue). length r ≡ k) taken) (sym width ∙ length-replicate arm.field-0 any) (rows_wide places found) in
+    let numbers : c.as_slice.result.now ≡ c.args.rows = c.as_slice.ensures.value ∙ c.in_ok-numbers-in-Values.ensures in
+    let came : value_rows new.items ≡ value_rows arm.values.items ++ taken =
+    c.in_ok-rows_taken-in-Values.ensures ∙ ap (λ (ns : List ℕ). value_rows arm.values.items ++ map (values_at places) (numbered ns c.args.block.now.rows)) numbers in
+    let first : start ≡ length arm.values.items = omega (arith, c.len-start-in-Values.ensures, arm.values.ok.0) in
+    let many : count ≡ length taken =
+    omega (arith, c.len-in-Values-2.ensures, c.in_ok-numbers-in-Values.numbers.ok.0, ap (λ (ns : List ℕ). length ns) c.in_ok-numbers-in-Values.ensures, length-map found (values_at places), length-map c.args.rows (λ n. get_or c.args.block.now.rows n [])) in
+    let made : map (λ row. start + row) c.all.result ≡ numbers_from (length arm.values.items) (length taken) =
+    ap (map (λ row. start + row)) c.all.ensures ∙ from-start start count ∙ ap (λ a. numbers_from a count) first ∙ ap (numbers_from (length arm.values.items)) many in
+    rw arm.is (values_taken arm.field-0 arm.values new taken (map (λ row. start + row) c.all.result) came long wide made)

@@ -25,8 +25,8 @@ returns-then-len-eq0-clause-within c =
 pub returns-then-len-gt-FEW-clause-within : goal.returns-then-len-gt-FEW-clause-within
 returns-then-len-gt-FEW-clause-within c = subst (All (λ n. n < length c.args.marks.now)) (sym c.in_ok-bits.ensures) (marked_within c.args.marks.now)
 
-pub few-requires : goal.few-requires
-few-requires c = few_within c.args.marks.now c.deref.result.now c.min-len.result (c.deref.ensures.value ∙ c.in_ok-numbers.ensures ∙ c.in_ok-bits.ensures) c.requires.few
+pub of_numbers-requires : goal.of_numbers-requires
+of_numbers-requires c = few_within c.args.marks.now c.deref.result.now c.min-len.result (c.deref.ensures.value ∙ c.in_ok-numbers.ensures ∙ c.in_ok-bits.ensures) c.requires.few
 
 pub returns-clause-rows : goal.returns-clause-rows
 returns-clause-rows c =

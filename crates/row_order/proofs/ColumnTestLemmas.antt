@@ -1,0 +1,280 @@
+-- Conditions that test a column.
+use Rattle.std.proofs.Common.{◌≡◌, inl, inr, ℕ, ℤ, Bool, true, false, not, cond, Some, None, Option, List, [], ◌∷◌, get_or, length, ltb, map, refl, sym, ap, ◌∙◌, subst, arith}
+use Rattle.std.specs.Prelude.{Err, IfOk, IfSome, Ok, Result, option_map, slice_get}
+use Rattle.std.specs.declared.alloc.AllocError.{AllocError}
+use Rattle.std.specs.Cmp.{IsTotalOrder}
+use Rattle.std.specs.Cmp.Lexicographic.{slice_cmp}
+use Rattle.std.specs.Option.{unwrap_or}
+use Rattle.std.specs.Ordering.{bool_cmp, int_cmp, nat_cmp, is_lt, ordering_reverse}
+use Rattle.std.specs.declared.cmp.Ordering.{Ordering}
+use Rattle.std.specs.declared.cmp.Ordering.TheVariants.{Less, Equal, Greater}
+use Rattle.std.proofs.lemmas.Bool.{cases_Bool, false≢true, ltb-false}
+use Rattle.block_summary.specs.Ranges.{is_null}
+use Rattle.cell_types.specs.Value.{CellValue, boolean, date, decimal, integer, null, text, value_cmp}
+use Rattle.typed_trees.specs.declared.operator.ComparisonOperator.{ComparisonOperator}
+use Rattle.typed_trees.specs.declared.operator.ComparisonOperator.TheVariants.{GreaterOrEqual, GreaterThan, NotEqual}
+use Rattle.typed_trees.specs.declared.tree.NumberKind.TheVariants as numbers
+use Rattle.typed_trees.specs.TypedTree.{NumberExprOf, TextExprOf, TruthExprOf, compare_numbers, compare_texts, compare_truths, negation, number_column, text_column, truth_column, truth_view, typed_view}
+use Rattle.typed_trees.specs.declared.tree.TruthExpr.{TruthExpr}
+use Rattle.odata_query.specs.Query.{order_view}
+use Rattle.odata_query.specs.declared.query.OrderBy.{OrderBy}
+use Rattle.row_eval.specs.Bounds.{NumberFits, TruthFits}
+use Rattle.row_eval.specs.Comparison.{compared, holds}
+use Rattle.row_eval.specs.Logic.{opposite, option_of_truth, truth_of, truth_of_option}
+use Rattle.row_eval.specs.declared.truth.Truth.{Truth}
+use Rattle.row_eval.specs.Outcome.{both, day_value, number_outcome, or_null, text_outcome, truth_outcome}
+use Rattle.row_eval.specs.Row.{boolean_in, cell, day_in, decimal_in, integer_in, text_in}
+use Rattle.query_meaning.specs.Order.{Item, item_value}
+use Rattle.row_order.specs.Cutoffs.{first_value, is_before, is_near, may_precede, moved_to, order_between, IsComparison, IsTest, IsTestOfColumn}
+use Rattle.row_order.specs.Plain.{column_value, place_in, IsPlainColumn}
+use Rattle.row_order.specs.declared.plain.PlainColumn.{PlainColumn}
+use Rattle.row_order.specs.declared.plain.PlainColumn.TheVariants as plain
+use Rattle.row_order.proofs.PlainLemmas.{read_there, truth_again}
+
+-- ---- a column, compared with a value
+
+integers_between : (x y : Option ℤ) → compared int_cmp x y ≡ order_between (or_null integer x) (or_null integer y)
+unfolding value_cmp
+integers_between None None = refl
+integers_between None (Some y) = refl
+integers_between (Some x) None = refl
+integers_between (Some x) (Some y) = refl
+
+decimals_between : (x y : Option ℤ) → compared int_cmp x y ≡ order_between (or_null decimal x) (or_null decimal y)
+unfolding value_cmp
+decimals_between None None = refl
+decimals_between None (Some y) = refl
+decimals_between (Some x) None = refl
+decimals_between (Some x) (Some y) = refl
+
+texts_between : (x y : Option (List ℕ)) → compared (slice_cmp nat_cmp) x y ≡ order_between (or_null text x) (or_null text y)
+unfolding value_cmp
+texts_between None None = refl
+texts_between None (Some y) = refl
+texts_between (Some x) None = refl
+texts_between (Some x) (Some y) = refl
+
+truths_between : (x y : Option Bool) → compared bool_cmp x y ≡ order_between (or_null boolean x) (or_null boolean y)
+unfolding value_cmp
+truths_between None None = refl
+truths_between None (Some y) = refl
+truths_between (Some x) None = refl
+truths_between (Some x) (Some y) = refl
+
+pub integers_compared : (o : ComparisonOperator) (col : ℕ) (operand : NumberExprOf) (n : Option ℤ) → ((row : List CellValue) → number_outcome operand row ≡ Some n)
+    → ((row : List CellValue) → NumberFits operand row) → IsComparison o (plain.Integer col) (or_null integer n) (compare_numbers o (number_column numbers.Integer col) operand)
+integers_compared o col operand n is fits = record {
+  outcome = λ row.
+      ap (both (λ x y. truth_of (holds o (compared int_cmp x y))) (Some (cell integer_in row col))) (is row)
+      ∙ ap (λ x. Some (truth_of (holds o (compared int_cmp x n)))) (read_there integer_in refl row col)
+      ∙ ap (λ order. Some (truth_of (holds o order))) (integers_between (integer_in (get_or row col null)) n);
+  fits = λ row. (tt, fits row);
+}
+
+pub decimals_compared : (o : ComparisonOperator) (col : ℕ) (operand : NumberExprOf) (n : Option ℤ) → ((row : List CellValue) → number_outcome operand row ≡ Some n)
+    → ((row : List CellValue) → NumberFits operand row) → IsComparison o (plain.Decimal col) (or_null decimal n) (compare_numbers o (number_column numbers.Decimal col) operand)
+decimals_compared o col operand n is fits = record {
+  outcome = λ row.
+      ap (both (λ x y. truth_of (holds o (compared int_cmp x y))) (Some (cell decimal_in row col))) (is row)
+      ∙ ap (λ x. Some (truth_of (holds o (compared int_cmp x n)))) (read_there decimal_in refl row col)
+      ∙ ap (λ order. Some (truth_of (holds o order))) (decimals_between (decimal_in (get_or row col null)) n);
+  fits = λ row. (tt, fits row);
+}
+
+pub texts_compared : (o : ComparisonOperator) (col : ℕ) (operand : TextExprOf) (t : Option (List ℕ)) → ((row : List CellValue) → text_outcome operand row ≡ t)
+    → IsComparison o (plain.Text col) (or_null text t) (compare_texts o (text_column col) operand)
+texts_compared o col operand t is = record {
+  outcome = λ row.
+      ap (λ y. Some (truth_of (holds o (compared (slice_cmp nat_cmp) (cell text_in row col) y)))) (is row)
+      ∙ ap (λ x. Some (truth_of (holds o (compared (slice_cmp nat_cmp) x t)))) (read_there text_in refl row col)
+      ∙ ap (λ order. Some (truth_of (holds o order))) (texts_between (text_in (get_or row col null)) t);
+  fits = λ row. tt;
+}
+
+pub truth_operand : (b : Bool) → option_of_truth (truth_of b) ≡ Some b
+truth_operand true = refl
+truth_operand false = refl
+
+pub truths_compared : (o : ComparisonOperator) (col : ℕ) (operand : TruthExprOf) (t : Truth) (b : Option Bool) → ((row : List CellValue) → truth_outcome operand row ≡ Some t)
+    → option_of_truth t ≡ b → ((row : List CellValue) → TruthFits operand row) → IsComparison o (plain.Boolean col) (or_null boolean b) (compare_truths o (truth_column col) operand)
+truths_compared o col operand t b is same fits = record {
+  outcome = λ row.
+      let x = cell boolean_in row col in
+      ap (both (λ x y. truth_of (holds o (compared bool_cmp (option_of_truth x) (option_of_truth y)))) (Some (truth_of_option x))) (is row)
+      ∙ ap (λ y. Some (truth_of (holds o (compared bool_cmp (option_of_truth (truth_of_option x)) y)))) same
+      ∙ ap (λ x. Some (truth_of (holds o (compared bool_cmp x b)))) (truth_again x ∙ read_there boolean_in refl row col)
+      ∙ ap (λ order. Some (truth_of (holds o order))) (truths_between (boolean_in (get_or row col null)) b);
+  fits = λ row. (tt, fits row);
+}
+
+-- ---- from a comparison to an order
+
+opposite_truth : (b : Bool) → opposite (truth_of b) ≡ truth_of (not b)
+opposite_truth true = refl
+opposite_truth false = refl
+
+pub test_turned : (column : PlainColumn) (test : CellValue → Bool) (e : TruthExprOf) → IsTestOfColumn column test e → IsTestOfColumn column (λ v. not (test v)) (negation e)
+test_turned column test e is = record {
+  outcome = λ row. ap (option_map opposite) (is.outcome row) ∙ ap (λ t. Some t) (opposite_truth (test (column_value column row)));
+  fits = λ row. is.fits row;
+}
+
+pub test_as : (column : PlainColumn) (test other : CellValue → Bool) (e : TruthExprOf) → ((v : CellValue) → test v ≡ other v) → IsTestOfColumn column test e → IsTestOfColumn column other e
+test_as column test other e same is = record {
+  outcome = λ row. is.outcome row ∙ ap (λ b. Some (truth_of b)) (same (column_value column row));
+  fits = is.fits;
+}
+
+-- null is before each other value
+null_before : (v : CellValue) → is_null v ≡ false → value_cmp null v ≡ Less
+unfolding value_cmp
+null_before null e = absurd (cc)
+null_before (integer n) e = refl
+null_before (text t) e = refl
+null_before (boolean b) e = refl
+null_before (date y m d) e = refl
+null_before (decimal n) e = refl
+
+null_after : (v : CellValue) → is_lt (value_cmp v null) ≡ false
+unfolding value_cmp
+null_after null = refl
+null_after (integer n) = refl
+null_after (text t) = refl
+null_after (boolean b) = refl
+null_after (date y m d) = refl
+null_after (decimal n) = refl
+
+null_is : (v : CellValue) → is_null v ≡ true → v ≡ null
+null_is null e = refl
+null_is (integer n) e = absurd (cc)
+null_is (text t) e = absurd (cc)
+null_is (boolean b) e = absurd (cc)
+null_is (date y m d) e = absurd (cc)
+null_is (decimal n) e = absurd (cc)
+
+pub none_before_null : (column : PlainColumn) (e : TruthExprOf) → ((row : List CellValue) → truth_outcome e row ≡ Some (truth_of false)) → ((row : List CellValue) → TruthFits e row)
+    → IsTestOfColumn column (λ v. is_before false v null) e
+none_before_null column e is fits = record {
+  outcome = λ row. is row ∙ ap (λ b. Some (truth_of b)) (sym (null_after (column_value column row)));
+  fits = fits;
+}
+
+order_null : (b : CellValue) → is_null b ≡ false → order_between null b ≡ None
+order_null b some = ap (λ c. cond c (Some Equal) None) some
+
+order_some : (v b : CellValue) → is_null v ≡ false → is_null b ≡ false → order_between v b ≡ Some (value_cmp v b)
+order_some v b n some =
+    ap (λ c. cond c (cond (is_null b) (Some Equal) None) (cond (is_null b) None (Some (value_cmp v b)))) n
+    ∙ ap (λ c. cond c None (Some (value_cmp v b))) some
+
+order_of_null : (v : CellValue) → is_null v ≡ false → order_between v null ≡ None
+order_of_null v n = ap (λ c. cond c (Some Equal) None) n
+
+before_turned : (o : Ordering) → not (holds GreaterOrEqual (Some o)) ≡ is_lt o
+before_turned Less = refl
+before_turned Equal = refl
+before_turned Greater = refl
+
+after_turned : (o p : Ordering) → o ≡ ordering_reverse p → holds GreaterThan (Some o) ≡ is_lt p
+after_turned o Less e = ap (λ o. holds GreaterThan (Some o)) e
+after_turned o Equal e = ap (λ o. holds GreaterThan (Some o)) e
+after_turned o Greater e = ap (λ o. holds GreaterThan (Some o)) e
+
+-- what is not at least a value is before it
+pub before_ascending : (b : CellValue) → is_null b ≡ false → (v : CellValue) → not (holds GreaterOrEqual (order_between v b)) ≡ is_before false v b
+before_ascending b some v = elim (cases_Bool (is_null v)) [
+  | inl n ↦
+      subst (λ v. not (holds GreaterOrEqual (order_between v b)) ≡ is_before false v b) (sym (null_is v n))
+      (ap (λ o. not (holds GreaterOrEqual o)) (order_null b some) ∙ sym (ap is_lt (null_before b some)))
+  | inr n ↦ ap (λ o. not (holds GreaterOrEqual o)) (order_some v b n some) ∙ before_turned (value_cmp v b)
+]
+
+pub before_descending : IsTotalOrder value_cmp → (b : CellValue) → is_null b ≡ false → (v : CellValue) → holds GreaterThan (order_between v b) ≡ is_before true v b
+before_descending values b some v = elim (cases_Bool (is_null v)) [
+  | inl n ↦
+      subst (λ v. holds GreaterThan (order_between v b) ≡ is_before true v b) (sym (null_is v n))
+      (ap (λ o. holds GreaterThan o) (order_null b some) ∙ sym (null_after b))
+  | inr n ↦ ap (λ o. holds GreaterThan o) (order_some v b n some) ∙ after_turned (value_cmp v b) (value_cmp b v) (values.antisymm v b)
+]
+
+pub before_null : (v : CellValue) → holds NotEqual (order_between v null) ≡ is_before true v null
+before_null v = elim (cases_Bool (is_null v)) [
+  | inl n ↦ subst (λ v. holds NotEqual (order_between v null) ≡ is_before true v null) (sym (null_is v n)) (sym (null_after null))
+  | inr n ↦ ap (λ o. holds NotEqual o) (order_of_null v n) ∙ sym (ap is_lt (null_before v n))
+]
+
+-- the other direction
+pub turned : (descending : Bool) (bound v : CellValue) → not (is_before (not descending) v bound) ≡ not (is_before descending bound v)
+turned true bound v = refl
+turned false bound v = refl
+
+-- ---- an item that is a column
+
+moved_value : (column : PlainColumn) (col : ℕ) (row picked : List CellValue) → get_or row col null ≡ get_or picked (place_in column) null
+    → column_value (moved_to col column) row ≡ column_value column picked
+moved_value (plain.Integer place) col row picked e = ap (λ v. or_null integer (integer_in v)) e
+moved_value (plain.Text place) col row picked e = ap (λ v. or_null text (text_in v)) e
+moved_value (plain.Boolean place) col row picked e = ap (λ v. or_null boolean (boolean_in v)) e
+moved_value (plain.Date place) col row picked e = ap (λ v. or_null day_value (day_in v)) e
+moved_value (plain.Decimal place) col row picked e = ap (λ v. or_null decimal (decimal_in v)) e
+
+value_is : (item : Item) (column : PlainColumn) (row : List CellValue) → IsPlainColumn item.0 column → item_value item row ≡ column_value column row
+value_is item column row is = ap (λ o. unwrap_or o null) (is.value row)
+
+item_test : (item : Item) (others : List Item) (column : PlainColumn) (col : ℕ) (test : CellValue → Bool) (e : TruthExprOf) → IsPlainColumn item.0 column
+    → IsTestOfColumn (moved_to col column) test e → IsTest (item ∷ others) col (λ row. test (item_value item row)) e
+item_test item others column col test e is tests = record {
+  outcome = λ place row picked at same.
+      let here : place ≡ place_in column = (let both = sym at ∙ is.place in cc) in
+      tests.outcome row
+      ∙ ap (λ v. Some (truth_of (test v))) (moved_value column col row picked (same ∙ ap (λ p. get_or picked p null) here) ∙ sym (value_is item column picked is));
+  fits = tests.fits;
+}
+
+module _ (o : OrderBy) (column : PlainColumn) (col : ℕ) (bound : CellValue) (e : TruthExprOf) (is : IsPlainColumn (typed_view o.expression) column) where
+  pub nearness_tests : (os : List OrderBy) → slice_get os 0 ≡ Some o → IsTestOfColumn (moved_to col column) (λ v. not (is_before o.descending bound v)) e
+      → IsTest (map order_view os) col (is_near (map order_view os) bound) e
+  nearness_tests [] at tests = absurd (cc)
+  nearness_tests (x ∷ os) at tests =
+      let same : o ≡ x = cc in
+      subst (λ y. IsTest (order_view y ∷ map order_view os) col (is_near (order_view y ∷ map order_view os) bound) e) same
+      (item_test (order_view o) (map order_view os) column col (λ v. not (is_before o.descending bound v)) e is tests)
+
+  module _ (last : List CellValue) (bound_is : bound ≡ column_value column last) where
+    abbrev pub Cuts : List OrderBy → Type 0
+    Cuts os = IsTest (map order_view os) col (may_precede (map order_view os) (first_value (map order_view os) last)) e
+
+    last_is : bound ≡ item_value (order_view o) last
+    last_is = bound_is ∙ sym (value_is (order_view o) column last is)
+
+    pub cutoff_alone : (os : List OrderBy) → slice_get os 0 ≡ Some o → ltb 1 (length os) ≡ false → IsTestOfColumn (moved_to col column) (λ v. is_before o.descending v bound) e → Cuts os
+    cutoff_alone [] at alone tests = absurd (cc)
+    cutoff_alone (x ∷ []) at alone tests =
+        let same : o ≡ x = cc in
+        subst (λ y. Cuts (y ∷ [])) same
+        (subst (λ b. IsTest (order_view o ∷ []) col (may_precede (order_view o ∷ []) b) e) last_is
+        (item_test (order_view o) [] column col (λ v. is_before o.descending v bound) e is tests))
+    cutoff_alone (x ∷ y ∷ os) at alone tests = let few = ltb-false 1 (length (x ∷ y ∷ os)) alone in absurd (omega (arith, few))
+
+    pub cutoff_among : (os : List OrderBy) → slice_get os 0 ≡ Some o → ltb 1 (length os) ≡ true → IsTestOfColumn (moved_to col column) (λ v. not (is_before o.descending bound v)) e → Cuts os
+    cutoff_among [] at many tests = absurd (cc)
+    cutoff_among (x ∷ []) at many tests = absurd (false≢true many)
+    cutoff_among (x ∷ y ∷ os) at many tests =
+        let same : o ≡ x = cc in
+        subst (λ z. Cuts (z ∷ y ∷ os)) same
+        (subst (λ b. IsTest (order_view o ∷ map order_view (y ∷ os)) col (may_precede (order_view o ∷ map order_view (y ∷ os)) b) e) last_is
+        (item_test (order_view o) (map order_view (y ∷ os)) column col (λ v. not (is_before o.descending bound v)) e is tests))
+
+-- ---- what a step made
+
+pub compared_as : (r : Result (Option TruthExpr) AllocError) (o : ComparisonOperator) (column : PlainColumn) (value : CellValue) (tree : TruthExprOf) → IsComparison o column value tree
+    → IfOk r (λ made. IfSome made (λ e. truth_view e ≡ tree)) → IfOk r (λ made. IfSome made (λ e. IsComparison o column value (truth_view e)))
+compared_as (Ok None) o column value tree is h = tt
+compared_as (Ok (Some e)) o column value tree is h = subst (IsComparison o column value) (sym h) is
+compared_as (Err fault) o column value tree is h = h
+
+pub made_as : (r : Result (Option TruthExpr) AllocError) (P Q : TruthExprOf → Type 0) → ((e : TruthExprOf) → P e → Q e)
+    → IfOk r (λ made. IfSome made (λ e. P (truth_view e))) → IfOk r (λ made. IfSome made (λ e. Q (truth_view e)))
+made_as (Ok None) P Q f h = tt
+made_as (Ok (Some e)) P Q f h = f (truth_view e) h
+made_as (Err fault) P Q f h = h
