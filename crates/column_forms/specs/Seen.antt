@@ -1,6 +1,7 @@
--- Cells as they are read: with plain spaces, and without spaces at their ends.
-use Rattle.std.specs.Prelude.{◌≡◌, ◌⊎◌, ℕ, List, [], ◌∷◌, ◌++◌}
-use Rattle.std.specs.Str.{IsTrimAscii}
+-- Cells as they are read: with plain spaces, and without spaces at their ends; and those that may stand for null.
+use Rattle.std.specs.Prelude.{◌≡◌, ◌⊎◌, ℕ, Bool, List, [], ◌∷◌, codes}
+use Rattle.std.specs.List.{list_any}
+use Rattle.std.specs.Str.{IsTrimAscii, bytes_eq}
 
 -- a no-break space, a narrow one or a thin one (U+00A0, U+202F, U+2009), and the rest
 abbrev pub BeginsWithSpace : List ℕ → List ℕ → Type 0
@@ -19,3 +20,11 @@ pub data HasPlainSpaces : List ℕ → List ℕ → Type 0 where
 -- a cell with plain spaces, without spaces at its ends
 abbrev pub IsSeen : List ℕ → List ℕ → Type 0
 IsSeen cell text = (plain : List ℕ) × HasPlainSpaces cell plain × IsTrimAscii plain text
+
+-- the texts that may stand for null
+abbrev pub null_texts : List (List ℕ)
+null_texts =
+    codes "NA" ∷ codes "N/A" ∷ codes "n/a" ∷ codes "NULL" ∷ codes "null" ∷ codes "-" ∷ codes "." ∷ codes ".." ∷ codes "#N/A" ∷ []
+
+abbrev pub is_null_word : List ℕ → Bool
+is_null_word cell = list_any (λ text. bytes_eq text cell) null_texts

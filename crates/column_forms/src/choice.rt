@@ -1,4 +1,7 @@
 //! The form that the cells of a column have: a guess.
+ghost use Rattle.std.specs.Prelude.{◌≡◌};
+ghost use Rattle.column_forms.specs.Choice.{is_plain_form};
+
 use crate::seen::Seen;
 use crate::wants::Wants;
 use value_forms::{DayForm, Form, NumberForm, Order, Scale};
@@ -12,7 +15,9 @@ fn has_point(form: Form<'_>, point: u8) -> bool {
 }
 
 /// Returns true if a form is that of numbers that are read as they are.
-pub fn is_plain(form: Form<'_>) -> bool {
+pub fn is_plain(form: Form<'_>) -> bool
+    ensures { result ≡ is_plain_form form.entry }
+{
     match form {
         Form::Number(
             NumberForm {

@@ -1,6 +1,6 @@
 //! The cells of a column, as far as they are read.
-ghost use Rattle.std.specs.Prelude.{◌≡◌, [], IfOk, IfSome, MatchOption};
-ghost use Rattle.column_forms.specs.Seen.{BeginsWithSpace, HasPlainSpaces, IsPlainByte, IsSeen};
+ghost use Rattle.std.specs.Prelude.{◌≡◌, ◌<◌, [], IfOk, IfSome, MatchOption, is_some, slice_index_or};
+ghost use Rattle.column_forms.specs.Seen.{BeginsWithSpace, HasPlainSpaces, IsPlainByte, IsSeen, is_null_word, null_texts};
 
 use crate::candidates::candidates_of;
 use std::alloc::{AllocError, Global};
@@ -73,10 +73,20 @@ pub fn seen_text(alloc: Global, cell: &[u8]) -> Result<Vec<u8>, AllocError>
     Vec::from_slice(alloc, made.as_slice().trim_ascii())
 }
 
-/// Returns the number of the text of [`NULLS`] that a cell is.
-pub fn null_place(cell: &[u8]) -> Option<usize> {
-    for (place, word) in NULLS.iter().enumerate() {
-        if word.as_bytes() == cell {
+/// Returns the text of [`NULLS`] with a number.
+fn null_text(place: usize) -> &'static str
+    requires { place < 9 }
+    ensures { result.now ≡ slice_index_or null_texts place [] }
+{
+    NULLS[place]
+}
+
+/// Returns the number of the text of [`NULLS`] that a cell is; `None` if it is none of them.
+pub fn null_place(cell: &[u8]) -> Option<usize>
+    ensures { is_some result ≡ is_null_word cell.now }
+{
+    for place in 0..NULLS.len() {
+        if null_text(place).as_bytes() == cell {
             return Some(place);
         }
     }

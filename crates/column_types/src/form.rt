@@ -1,6 +1,34 @@
 //! How the cells of a column look: as codes, or as versions.
 use crate::cells::{are_digits, is_padded, last_is_zero};
 
+/// How many words of 64 bits a set of whole numbers has.
+const WORDS: usize = 34;
+
+/// A set of whole numbers below 2,176: the first parts of versions, years among them.
+#[derive(Drop)]
+struct Wholes {
+    bits: [u64; WORDS],
+}
+
+impl Wholes {
+    /// Adds a number, if it is not too great.
+    fn insert(&mut self, whole: &str) {
+        if let Ok(number) = whole.parse::<usize>()
+            && let Some(word) = self.bits.get_mut(number / 64)
+        {
+            *word |= 1u64 << (number % 64);
+        }
+    }
+
+    /// Returns true if a number is in both sets.
+    fn meets(&self, other: &Wholes) -> bool {
+        self.bits
+            .iter()
+            .zip(other.bits.iter())
+            .any(|(one, two)| *one & *two != 0)
+    }
+}
+
 /// How the cells of a column look that have a value. White space at their ends is left out.
 #[derive(Drop)]
 pub struct Form {
@@ -8,10 +36,10 @@ pub struct Form {
     pub padded: bool,
     /// All cells have one point between digits.
     pub points: bool,
-    /// If they have: some cell has one place after the point.
-    pub one_place: bool,
-    /// If they have: some cell has more places, and the last is 0.
-    pub zero: bool,
+    /// If they have: what is before the point in cells with one place after it.
+    one_place: Wholes,
+    /// If they have: what is before the point in cells with more places, the last of which is 0.
+    zero: Wholes,
 }
 
 impl Form {
@@ -20,8 +48,8 @@ impl Form {
         Form {
             padded: false,
             points: true,
-            one_place: false,
-            zero: false,
+            one_place: Wholes { bits: [0; WORDS] },
+            zero: Wholes { bits: [0; WORDS] },
         }
     }
 
@@ -36,12 +64,16 @@ impl Form {
             return;
         };
         self.points = are_digits(whole) && are_digits(places);
-        self.one_place |= places.len() == 1;
-        self.zero |= last_is_zero(places);
+        if places.len() == 1 {
+            self.one_place.insert(whole);
+        }
+        if last_is_zero(places) {
+            self.zero.insert(whole);
+        }
     }
 
-    /// Returns true if 4.10 comes after 4.9 among the cells.
+    /// Returns true if 4.10 comes after 4.9 among the cells, and not 4.50 after 3.5, as among prices.
     pub fn are_versions(&self) -> bool {
-        self.points && self.one_place && self.zero
+        self.points && self.one_place.meets(&self.zero)
     }
 }

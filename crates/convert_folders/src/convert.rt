@@ -1,8 +1,9 @@
 //! The conversion of a folder's files into a new folder that is served.
 use crate::metadata::{fit_schema, metadata_of};
-use crate::places::{place_files, table_of, tables_in};
-use crate::publish::publish_folder;
+use crate::places::{table_of, tables_in};
+use crate::publish::Half;
 use crate::rules::{ColumnRule, rules_in, rules_of};
+use crate::warnings::warnings_of;
 use convert_report::{Entry, Status, entries_of, entry_line, refusal_of, report_json};
 use csvw_guess::{Aims, DraftFault, Guess, guess_of};
 use csvw_meta::{Limits, Schema};
@@ -58,18 +59,19 @@ fn asks_of<'a>(asks: &Conversion<'a>, rules: &'a [file_convert::Rule<'a>]) -> As
     }
 }
 
-/// Returns what a draft guesses of a file that is converted.
-fn guess_file(rt: &HostRuntime, name: &str, converted: &mut Converted) -> io::Result<Guess> {
+/// Returns what a draft guesses of a file.
+fn guess_file(rt: &HostRuntime, files: &[NamedFile]) -> io::Result<Guess> {
     let limits = Limits::greatest();
     let aims = Aims { limits, keys: true };
-    let bytes = match converted.guess.take() {
-        Some(bytes) => bytes,
-        None => Vec::from_slice(rt.alloc(), converted.bytes.as_slice())?,
-    };
+    Ok(guess_of(rt.alloc(), aims, files)?)
+}
+
+/// Returns a file under a name, alone in a list.
+fn file_alone(rt: &HostRuntime, name: &str, bytes: Vec<u8>) -> io::Result<Vec<NamedFile>> {
     let name = String::from_str(rt.alloc(), name)?;
     let mut files = Vec::new(rt.alloc());
     files.push(NamedFile { name, bytes })?;
-    Ok(guess_of(rt.alloc(), aims, files.as_slice())?)
+    Ok(files)
 }
 
 /// Adds a file that is converted, under the name that it gets.
@@ -77,22 +79,39 @@ fn add_converted(
     rt: &HostRuntime,
     folder: &mut Folder,
     names: (&str, &str),
-    mut converted: Converted,
+    converted: Converted,
 ) -> io::Result<()> {
     let (file, name) = names;
     let entries = entries_of(rt.alloc(), table_of(name), &converted)?;
     for entry in entries {
         folder.report(file, entry)?;
     }
-    let mut guess = guess_file(rt, name, &mut converted)?;
-    if let Some(mut schema) = guess.schemas.pop() {
-        fit_schema(rt.alloc(), &mut schema, converted.columns.as_slice())?;
-        let name = String::from_str(rt.alloc(), name)?;
+    let Converted {
+        columns,
+        bytes,
+        guess,
+        ..
+    } = converted;
+    let files = file_alone(rt, name, bytes)?;
+    let mut guess = match guess {
+        Some(bytes) => guess_file(rt, file_alone(rt, name, bytes)?.as_slice())?,
+        None => guess_file(rt, files.as_slice())?,
+    };
+    if let Some(schema) = guess.schemas.first_mut() {
+        fit_schema(rt.alloc(), schema, columns.as_slice())?;
+    }
+    for written in files.as_slice() {
+        for entry in warnings_of(rt.alloc(), &guess, columns.as_slice(), written)? {
+            folder.report(name, entry)?;
+        }
+    }
+    if let Some(schema) = guess.schemas.pop() {
         let title = String::from_str(rt.alloc(), file)?;
-        let bytes = converted.bytes;
         folder.schemas.push(schema)?;
-        folder.files.push(NamedFile { name, bytes })?;
         folder.titles.push(title)?;
+        for file in files {
+            folder.files.push(file)?;
+        }
     }
     Ok(())
 }
@@ -151,8 +170,8 @@ fn refuse_metadata(rt: &HostRuntime, fault: &DraftFault) -> io::Result<u8> {
     }
 }
 
-/// Writes what is converted into a new folder, and returns the exit status.
-fn write_folder(rt: &HostRuntime, asks: &Conversion<'_>, folder: Folder) -> io::Result<u8> {
+/// Returns the metadata of what is converted, or `None` after the reason why there is none is reported.
+fn accepted_metadata(rt: &HostRuntime, folder: Folder) -> io::Result<Option<Vec<u8>>> {
     let Folder {
         files,
         titles,
@@ -160,25 +179,42 @@ fn write_folder(rt: &HostRuntime, asks: &Conversion<'_>, folder: Folder) -> io::
         entries: _,
         refused: _,
     } = folder;
-    let copies = if asks.dry_run {
-        Vec::new(rt.alloc())
-    } else {
-        place_files(rt.alloc(), files.as_slice())?
-    };
     let tables = (schemas.as_slice(), titles.as_slice());
-    let made = metadata_of(rt.alloc(), Limits::greatest(), tables, files);
-    let text = match made {
-        Ok(text) => text,
-        Err(fault) => return refuse_metadata(rt, &fault),
-    };
-    if asks.dry_run {
-        return Ok(DONE);
+    match metadata_of(rt.alloc(), Limits::greatest(), tables, files) {
+        Ok(text) => Ok(Some(text)),
+        Err(fault) => {
+            refuse_metadata(rt, &fault)?;
+            Ok(None)
+        }
     }
-    publish_folder(rt, asks.out, copies.as_slice(), text.as_slice())?;
+}
+
+/// Writes what is converted into a new folder, and returns the exit status. The files are written first, since the check of the metadata consumes them.
+fn write_folder(rt: &HostRuntime, asks: &Conversion<'_>, folder: Folder) -> io::Result<u8> {
+    let half = Half::of_files(rt, asks.out, folder.files.as_slice())?;
+    match accepted_metadata(rt, folder) {
+        Ok(Some(text)) => half.publish(rt, asks.out, text.as_slice())?,
+        Ok(None) => {
+            half.remove(rt);
+            return Ok(REFUSED);
+        }
+        Err(error) => {
+            half.remove(rt);
+            return Err(error);
+        }
+    }
     if !asks.json {
         println!(rt; "wrote {}", asks.out)?;
     }
     Ok(DONE)
+}
+
+/// Returns the exit status of a conversion that writes nothing.
+fn try_folder(rt: &HostRuntime, folder: Folder) -> io::Result<u8> {
+    match accepted_metadata(rt, folder)? {
+        Some(_) => Ok(DONE),
+        None => Ok(REFUSED),
+    }
 }
 
 /// Converts the files of a folder that are there, and reports and writes them.
@@ -206,6 +242,9 @@ fn convert_files(
         let refused = folder.refused;
         eprintln!(rt; "refused: {refused} files: --skip-refused converts the others")?;
         return Ok(REFUSED);
+    }
+    if asks.dry_run {
+        return try_folder(rt, folder);
     }
     write_folder(rt, asks, folder)
 }

@@ -7,6 +7,7 @@ mod metadata;
 mod places;
 mod publish;
 mod rules;
+mod warnings;
 
 pub use convert::convert_folder;
 pub use metadata::metadata_of;

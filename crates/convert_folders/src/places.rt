@@ -2,7 +2,6 @@
 use std::alloc::{AllocError, Global};
 use std::fs;
 use std::io::{self, ErrorKind};
-use table_store::NamedFile;
 
 /// The ends of the names of files that are converted.
 const ENDS: [&str; 4] = [".csv", ".tsv", ".txt", ".tab"];
@@ -101,15 +100,4 @@ fn push_name(alloc: Global, found: &mut Vec<String>, name: &str) -> io::Result<(
         found.push(String::from_str(alloc, name)?)?;
     }
     Ok(())
-}
-
-/// Returns copies of files.
-pub fn place_files(alloc: Global, files: &[NamedFile]) -> Result<Vec<NamedFile>, AllocError> {
-    let mut copies = Vec::new(alloc);
-    for file in files {
-        let name = String::from_str(alloc, file.name.as_str())?;
-        let bytes = Vec::from_slice(alloc, file.bytes.as_slice())?;
-        copies.push(NamedFile { name, bytes }).or(Err(AllocError))?;
-    }
-    Ok(copies)
 }

@@ -11,6 +11,8 @@ pub enum Status {
     Changed,
     /// Something would be changed if it were asked for.
     Proposed,
+    /// The publisher should look at what is written.
+    Warned,
     /// The file is not converted.
     Refused,
 }
@@ -31,7 +33,7 @@ pub struct Entry {
 
 impl Entry {
     /// Returns an entry of a whole file.
-    pub(crate) fn of_file(status: Status, message: String, count: usize) -> Entry {
+    pub fn of_file(status: Status, message: String, count: usize) -> Entry {
         Entry {
             status,
             column: None,
@@ -48,6 +50,7 @@ pub(crate) fn status_word(status: Status) -> &'static str {
     match status {
         Status::Changed => "changed",
         Status::Proposed => "proposed",
+        Status::Warned => "warning",
         Status::Refused => "refused",
     }
 }

@@ -3,7 +3,6 @@
 #![tactic(auto)]
 
 mod add;
-mod cells;
 mod command;
 mod draft;
 mod explain;

@@ -1,9 +1,7 @@
 -- What the columns write, one after another.
-use Rattle.std.proofs.Common.{◌≡◌, ◌∙◌, ℕ, zero, suc, ◌+◌, ◌<◌, List, [], ◌∷◌, ◌++◌, length, map, ap, refl, sym, subst, add-one, arith, get_or, slice_get, eqb-true, true, false, ◌==◌, Vec, Global, Option, Some, None}
-use Rattle.std.specs.Prelude.{IfSome, IfOk, OnOk, Result, Ok, Err, option_map}
+use Rattle.std.proofs.Common.{◌≡◌, ◌∙◌, ℕ, zero, suc, ◌+◌, ◌<◌, List, [], ◌∷◌, ◌++◌, length, map, ap, refl, sym, subst, add-one, arith, get_or, slice_get, eqb-true, true, false, ◌==◌, Vec, Global, Some}
+use Rattle.std.specs.Prelude.{IfOk, OnOk, Result, Ok, Err}
 use Rattle.std.proofs.Math.ListN.{set}
-use Rattle.value_forms.specs.Forms.{CellMade, cell_made}
-use Rattle.value_forms.specs.declared.form.Made.{Made}
 use Rattle.file_convert.specs.Rows.{Plan, is_empty_line, AppendsCells, AreTitled, AreWritten, next_column, next_title, nth_cell, title_cells}
 
 pub slice_get-map : {X Y : Type 0} (f : X → Y) (xs : List X) (i : ℕ) (d : X) → i < length xs → slice_get (map f xs) i ≡ Some (f (get_or xs i d))
@@ -26,10 +24,6 @@ pub one_more_title : (plans : List Plan) (titles : List (List ℕ)) (place : ℕ
     → slice_get plans place ≡ Some plan → more ≡ row ++ title_cells plan.kind (nth_cell titles place) → AreTitled plans titles (place + 1) more
 one_more_title plans titles place plan row more are e after =
     rw add-one (subst (AreTitled plans titles (suc place)) (sym after) (next_title place plan row are e))
-
-pub made_is : (P : CellMade → Type 0) (made : Option Made) → IfSome made (λ m. P (cell_made m)) → (value : CellMade) → option_map cell_made made ≡ Some value → P value
-made_is P None is value e = absurd (cc)
-made_is P (Some m) is value e = let same : cell_made m ≡ value = cc in subst P same is
 
 pub is_blank_row : (row : List (List ℕ)) → is_empty_line row ≡ true → row ≡ [] ∷ []
 is_blank_row [] e = absurd (cc)

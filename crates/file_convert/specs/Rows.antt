@@ -1,9 +1,10 @@
 -- What the columns of a table write for the cells of its records.
-use Rattle.std.specs.Prelude.{◌≡◌, ◌⊎◌, ℕ, suc, Bool, true, false, List, [], ◌∷◌, ◌++◌, codes, if◌then◌else◌, slice_get, slice_index_or, Option, Some, None, unwrap_or}
+use Rattle.std.specs.Prelude.{◌≡◌, ℕ, suc, Bool, true, false, List, [], ◌∷◌, ◌++◌, codes, if◌then◌else◌, slice_get, slice_index_or, Option, Some, None, unwrap_or}
 use Rattle.value_forms.specs.declared.form.Form.{Form}
 use Rattle.value_forms.specs.declared.form.Form.TheVariants.{Number, Round, DayAndTime}
 use Rattle.value_forms.specs.Forms.{CellMade, IsMadeBy}
-use Rattle.column_forms.specs.Seen.{IsSeen}
+use Rattle.column_forms.specs.Choice.{is_plain_form}
+use Rattle.column_forms.specs.Seen.{IsSeen, is_null_word}
 use Rattle.file_convert.specs.declared.report.ColumnReport.{ColumnReport}
 use Rattle.file_convert.specs.declared.report.Kind.{Kind}
 use Rattle.file_convert.specs.declared.report.Kind.TheVariants.{Form as OfForm, Empty}
@@ -39,11 +40,21 @@ abbrev pub rounding : Bool → Form → Form
 rounding rounds (Number form) = Number (record form { rounds = rounds })
 rounding rounds form = form
 
--- the value is that of the cell, without spaces at its ends and with plain spaces, in the form of the column; or the cell in six decimal places, if this is asked
-abbrev pub IsMadeIn : Kind → Bool → List ℕ → CellMade → Type 0
-IsMadeIn kind rounds cell made =
-    (form : Form) × (kind ≡ OfForm form)
-    × (((rounds ≡ true) × IsMadeBy Round cell made) ⊎ ((text : List ℕ) × IsSeen cell text × IsMadeBy (rounding rounds form) text made))
+-- the value of a cell that is no null, without spaces at its ends and with plain spaces, in the form of the column; or the cell in six decimal places, if its numbers are
+-- read as they are and this is asked
+abbrev pub IsMadeOf : Bool → Bool → Form → List ℕ → Option CellMade → Type 0
+IsMadeOf true true form cell made = IsMadeBy Round cell made
+IsMadeOf true false form cell made = made ≡ None
+IsMadeOf false rounds form cell made = (text : List ℕ) × IsSeen cell text × IsMadeBy (rounding rounds form) text made
+
+-- what is made of a cell: nothing of one that stands for null, or is not of the form
+abbrev pub IsMadeUnlessNull : Bool → Bool → Form → List ℕ → Option CellMade → Type 0
+IsMadeUnlessNull true rounds form cell made = made ≡ None
+IsMadeUnlessNull false rounds form cell made = IsMadeOf (is_plain_form form) rounds form cell made
+
+abbrev pub IsMadeIn : Kind → Bool → List ℕ → Option CellMade → Type 0
+IsMadeIn (OfForm form) rounds cell made = IsMadeUnlessNull (is_null_word cell) rounds form cell made
+IsMadeIn _ rounds cell made = made ≡ None
 
 abbrev pub cell_text : List ℕ → Option CellMade → List ℕ
 cell_text cell None = cell
@@ -62,10 +73,10 @@ abbrev pub title_cells : Kind → List ℕ → List (List ℕ)
 title_cells kind title =
     if is_dropped kind then [] else title ∷ (if has_time kind then (title ++ codes "_time") ∷ [] else [])
 
--- what a column writes for a cell: its value, or the cell as it is
+-- what a column writes for a cell: its value, or the cell as it is if it has none in the column's form
 pub record IsWritten (plan : Plan) (cell : List ℕ) (outs : List (List ℕ)) : Type 0 where
   pub made : Option CellMade
-  pub is : (value : CellMade) → made ≡ Some value → IsMadeIn plan.kind plan.rounds cell value
+  pub is : IsMadeIn plan.kind plan.rounds cell made
   pub outs_are : outs ≡ out_cells plan.kind cell made
 
 -- cells, and after them what a column writes for a cell

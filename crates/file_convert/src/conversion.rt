@@ -4,13 +4,14 @@ ghost use Rattle.file_convert.specs.Conversion.{IsConversion};
 
 use crate::asks::Asks;
 use crate::fault::ConvertFault;
-use crate::report::{ColumnReport, Converted};
+use crate::guess::guess_text;
+use crate::report::Converted;
 use crate::reports::reports_of;
 use crate::sight::{Sight, see_text};
 use crate::source::{Source, source_of};
 use crate::table::{Output, Reading, write_table};
 use crate::titles::{short_lines, title_lines};
-use std::alloc::Global;
+use std::alloc::{AllocError, Global};
 use text_encodings::text_of;
 
 /// Returns the fault of lines that look like a title, if there are such.
@@ -50,26 +51,12 @@ fn sight_of(alloc: Global, asks: &Asks<'_>, source: &Source) -> Result<Sight, Co
     Ok(sight)
 }
 
-/// Returns true if a text that a draft does not know stands for null in a column.
-fn has_guess(column: &ColumnReport) -> bool {
-    let nulls = column.nulls.as_slice();
-    [2, 7].iter().any(|place: &usize| nulls.get(*place).is_some_and(|count| *count > 0))
-}
-
-/// Returns what is written so far of these columns: nothing.
-fn no_output(alloc: Global, columns: &[ColumnReport]) -> Output
-    ensures { result.bytes.items ≡ [] }
+/// Returns what is written so far, nothing, with room for a text.
+fn no_output(alloc: Global, text: &[u8]) -> Result<Output, AllocError>
+    ensures { IfOk result (λ out. out.bytes.items ≡ []) }
 {
-    let guess = if columns.iter().any(has_guess) {
-        Some(Vec::new(alloc))
-    } else {
-        None
-    };
-    Output {
-        alloc,
-        bytes: Vec::new(alloc),
-        guess,
-    }
+    let bytes = Vec::with_capacity(alloc, text.len())?;
+    Ok(Output { alloc, bytes })
 }
 
 /// Returns a file as a table of RFC 4180 in UTF-8 whose cells have forms that CSVW reads, and all that is changed in it; or why it is none.
@@ -91,19 +78,22 @@ pub fn convert(alloc: Global, asks: &Asks<'_>, bytes: Vec<u8>) -> Result<Convert
         pads: asks.pads,
     };
     let line = asks.skip_lines.saturating_add(1);
-    let none = no_output(alloc, columns.as_slice());
     let text = source.text.as_slice();
+    let none = no_output(alloc, text)?;
     let out = write_table(none, columns.as_mut_slice(), how, text, line)?;
+    let (separator, returns) = (source.separator, source.returns);
+    drop(source);
+    let guess = guess_text(alloc, columns.as_slice(), out.bytes.as_slice())?;
     Ok(Converted {
         encoding,
-        separator: source.separator,
+        separator,
         skipped: asks.skip_lines,
-        returns: source.returns,
+        returns,
         blank: sight.blank,
         padded: sight.short,
         columns,
         rows: sight.rows,
         bytes: out.bytes,
-        guess: out.guess,
+        guess,
     })
 }

@@ -6,6 +6,7 @@ mod asks;
 mod cells;
 mod conversion;
 mod fault;
+mod guess;
 mod made;
 mod records;
 mod report;

@@ -1,5 +1,5 @@
 //! What is written for a cell.
-ghost use Rattle.std.specs.Prelude.{◌≡◌, ◌++◌, IfOk, IfSome, OnOk, map, option_map};
+ghost use Rattle.std.specs.Prelude.{◌≡◌, ◌++◌, IfOk, OnOk, map, option_map};
 ghost use Rattle.value_forms.specs.Forms.{cell_made};
 ghost use Rattle.file_convert.specs.Rows.{IsMadeIn, has_time, is_dropped, out_cells, rounding, title_cells};
 
@@ -43,8 +43,7 @@ pub(crate) fn made_in(
     rounds: bool,
     cell: &[u8],
 ) -> Result<Option<Made>, AllocError>
-    ensures { IfOk result (λ made. IfSome made
-        (λ made. IsMadeIn kind rounds cell.now (cell_made made))) }
+    ensures { IfOk result (λ made. IsMadeIn kind rounds cell.now (option_map cell_made made)) }
 {
     let Kind::Form(form) = kind else {
         return Ok(None);

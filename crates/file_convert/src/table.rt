@@ -9,7 +9,6 @@ use crate::cells::{is_blank, lines_before, record_at};
 use crate::fault::ConvertFault;
 use crate::report::ColumnReport;
 use crate::rows::{header_of, row_of};
-use column_forms::null_place;
 use csv_records::{push_row, rows_read_back};
 use std::alloc::{AllocError, Global};
 
@@ -18,8 +17,6 @@ use std::alloc::{AllocError, Global};
 pub(crate) struct Output {
     pub(crate) alloc: Global,
     pub(crate) bytes: Vec<u8>,
-    /// The same with empty cells in the place of texts that stand for null and that a draft does not know, if there are such.
-    pub(crate) guess: Option<Vec<u8>>,
 }
 
 /// How a table is read: its separator, the cells of its header, and whether short rows get empty cells.
@@ -30,27 +27,13 @@ pub(crate) struct Reading {
     pub(crate) pads: bool,
 }
 
-/// Appends a row with empty cells in the place of texts that a draft does not know.
-fn push_guess(guess: &mut Option<Vec<u8>>, mut row: Vec<Vec<u8>>) -> Result<(), AllocError> {
-    let Some(guess) = guess else {
-        return Ok(());
-    };
-    for cell in &mut row {
-        if matches!(null_place(cell.as_slice()), Some(2 | 7)) {
-            cell.clear();
-        }
-    }
-    push_row(guess, row.as_slice())
-}
-
 impl Output {
     /// Writes a row.
-    fn put(&mut self, row: Vec<Vec<u8>>) -> Result<(), AllocError>
+    fn put(&mut self, row: &[Vec<u8>]) -> Result<(), AllocError>
         ensures { OnOk result (self.new.bytes.items
-            ≡ self.old.bytes.items ++ row_bytes (map (λ cell. cell.items) row.items)) }
+            ≡ self.old.bytes.items ++ row_bytes (map (λ cell. cell.items) row.now)) }
     {
-        push_row(&mut self.bytes, row.as_slice())?;
-        push_guess(&mut self.guess, row)
+        push_row(&mut self.bytes, row)
     }
 }
 
@@ -82,7 +65,7 @@ fn put_row(
     if row.is_empty() {
         return Err(ConvertFault::Empty);
     }
-    Ok(out.put(row)?)
+    Ok(out.put(row.as_slice())?)
 }
 
 /// Writes what the columns write for the records of a text.
@@ -131,7 +114,7 @@ pub(crate) fn write_table(
     if titles.as_slice().is_empty() || width > reports.len() {
         return Err(ConvertFault::Empty);
     }
-    out.put(titles)?;
+    out.put(titles.as_slice())?;
     let line = first_line.saturating_add(lines_before(text, header.rest));
     let how = Reading { width, ..how };
     put_rows(&mut out, reports, how, header.rest, line)?;

@@ -1,20 +1,27 @@
 -- Dates whose parts are in another order (Unicode Technical Standard 35, part 4: the fields `y`, `M` and `d` of a date pattern), and the same days as `yyyy-MM-dd`.
-use Rattle.std.specs.Prelude.{◌≡◌, ◌⊎◌, ℕ, ◌+◌, ◌<◌, ◌==◌, Bool, true, false, List, [], ◌∷◌, ◌++◌, codes, if◌then◌else◌, map, take}
-use Rattle.std.specs.Char.{to_ascii_lowercase}
-use Rattle.cell_types.specs.Date.{date_text, four_digits, two_digits}
+use Rattle.std.specs.Prelude.{ℕ, zero, suc, ◌+◌, ◌-◌, ◌*◌, ◌==◌, ◌&&◌, ◌||◌, Bool, true, false, List, [], ◌∷◌, codes, if◌then◌else◌, map, take, Option, Some, None, unwrap_or}
+use Rattle.std.specs.Char.{is_ascii_digit, to_ascii_lowercase}
+use Rattle.std.specs.List.{after_first, before_first, list_any}
+use Rattle.std.specs.Str.{bytes_eq}
+use Rattle.cell_types.specs.Date.{date_text, is_date}
 use Rattle.cell_types.specs.declared.datatype.DateForm.TheVariants.{YearMonthDay}
 use Rattle.value_forms.specs.declared.date.DayForm.{DayForm}
 use Rattle.value_forms.specs.declared.date.Order.{Order}
 use Rattle.value_forms.specs.declared.date.Order.TheVariants.{YearFirst, DayFirst, MonthFirst}
+use Rattle.value_forms.specs.Numbers.{before_end}
 
 -- the number of a day or a month: one digit, or two
-abbrev pub IsDayNumber : List ℕ → ℕ → Type 0
-IsDayNumber text number =
-    ((number < 10) × (text ≡ (48 + number) ∷ [])) ⊎ ((number < 100) × (text ≡ two_digits number))
+abbrev pub short_number : List ℕ → Option ℕ
+short_number (ones ∷ []) = if is_ascii_digit ones then Some (ones - 48) else None
+short_number (tens ∷ (ones ∷ [])) = if is_ascii_digit tens && is_ascii_digit ones then Some ((tens - 48) * 10 + (ones - 48)) else None
+short_number _ = None
 
 -- the number of a year: four digits
-abbrev pub IsYearNumber : List ℕ → ℕ → Type 0
-IsYearNumber text number = (number < 10_000) × (text ≡ four_digits number)
+abbrev pub year_number : List ℕ → Option ℕ
+year_number (a ∷ (b ∷ (c ∷ (d ∷ [])))) =
+    if is_ascii_digit a && is_ascii_digit b && is_ascii_digit c && is_ascii_digit d
+    then Some ((a - 48) * 1000 + (b - 48) * 100 + (c - 48) * 10 + (d - 48)) else None
+year_number _ = None
 
 -- the name of a month in English, by its number
 abbrev pub month_name : ℕ → List ℕ
@@ -25,18 +32,39 @@ month_name number =
     else (if number == 10 then codes "october" else (if number == 11 then codes "november" else codes "december"))))))))))
 
 -- the name of a month, or its first three letters, in capitals or not
-abbrev pub IsMonthName : List ℕ → ℕ → Type 0
-IsMonthName text number =
-    (map to_ascii_lowercase (month_name number) ≡ map to_ascii_lowercase text)
-    ⊎ (map to_ascii_lowercase (take 3 (month_name number)) ≡ map to_ascii_lowercase text)
+abbrev pub is_month : ℕ → List ℕ → Bool
+is_month number text =
+    bytes_eq (map to_ascii_lowercase (month_name number)) (map to_ascii_lowercase text)
+    || bytes_eq (map to_ascii_lowercase (take 3 (month_name number))) (map to_ascii_lowercase text)
 
-abbrev pub IsMonthNumber : Bool → List ℕ → ℕ → Type 0
-IsMonthNumber true text number = IsMonthName text number
-IsMonthNumber false text number = IsDayNumber text number
+-- the first of `count` months, from one on, of which a text is the name
+abbrev pub first_month : ℕ → ℕ → List ℕ → Option ℕ
+first_month zero number text = None
+first_month (suc count) number text = if is_month number text then Some number else first_month count (number + 1) text
 
--- a day with a comma after it, where the month is a name
-abbrev pub IsDayPart : Bool → List ℕ → ℕ → Type 0
-IsDayPart is_named text number = IsDayNumber text number ⊎ ((is_named ≡ true) × ((day : List ℕ) × (text ≡ day ++ codes ",") × IsDayNumber day number))
+unfoldable pub named_month : List ℕ → Option ℕ
+named_month text = first_month 12 1 text
+
+abbrev pub month_number : Bool → List ℕ → Option ℕ
+month_number true text = named_month text
+month_number false text = short_number text
+
+-- the digits of a day, after which a comma may be if the month is a name
+abbrev pub digits_of_day : Bool → List ℕ → List ℕ
+digits_of_day true text = unwrap_or (before_end 44 text) text
+digits_of_day false text = text
+
+-- the bytes before the first separator, and those after it
+abbrev pub before_separator : ℕ → List ℕ → List ℕ
+before_separator separator text = before_first (λ byte. byte == separator) text
+
+abbrev pub after_separator : ℕ → List ℕ → List ℕ
+after_separator separator text = after_first (λ byte. byte == separator) text
+
+-- the separator is there twice
+abbrev pub has_parts : ℕ → List ℕ → Bool
+has_parts separator text =
+    list_any (λ byte. byte == separator) text && list_any (λ byte. byte == separator) (after_separator separator text)
 
 -- the parts of a date, by which one comes first
 abbrev pub year_among : Order → List ℕ → List ℕ → List ℕ → List ℕ
@@ -54,16 +82,20 @@ day_among YearFirst first second third = third
 day_among DayFirst first second third = first
 day_among MonthFirst first second third = second
 
--- the text has three parts with the separator between them, which are a year, a month and a day, and `made` is that day as `yyyy-MM-dd`
-pub record IsDayIn (form : DayForm) (text made : List ℕ) : Type 0 where
-  pub first : List ℕ
-  pub second : List ℕ
-  pub third : List ℕ
-  pub parts : text ≡ first ++ form.separator ∷ (second ++ form.separator ∷ third)
-  pub year : ℕ
-  pub month : ℕ
-  pub day : ℕ
-  pub year_is : IsYearNumber (year_among form.order first second third) year
-  pub month_is : IsMonthNumber form.is_named (month_among form.order first second third) month
-  pub day_is : IsDayPart form.is_named (day_among form.order first second third) day
-  pub made_is : made ≡ date_text YearMonthDay year month day
+-- a day of the calendar as `yyyy-MM-dd`
+abbrev pub text_of_day : Option ℕ → Option ℕ → Option ℕ → Option (List ℕ)
+text_of_day (Some year) (Some month) (Some day) = if is_date year month day then Some (date_text YearMonthDay year month day) else None
+text_of_day _ _ _ = None
+
+-- the day of three parts
+abbrev pub day_of_parts : DayForm → List ℕ → List ℕ → List ℕ → Option (List ℕ)
+day_of_parts form first second third =
+    text_of_day (year_number (year_among form.order first second third)) (month_number form.is_named (month_among form.order first second third))
+    (short_number (digits_of_day form.is_named (day_among form.order first second third)))
+
+-- the day that a text is, whose three parts the separator separates
+unfoldable pub form_day : DayForm → List ℕ → Option (List ℕ)
+form_day form text =
+    let rest = after_separator form.separator text in
+    if has_parts form.separator text
+    then day_of_parts form (before_separator form.separator text) (before_separator form.separator rest) (after_separator form.separator rest) else None

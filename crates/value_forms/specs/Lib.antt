@@ -1,6 +1,9 @@
 pub mod Dates
 pub mod Forms
 pub mod Numbers
+pub mod Rounding
 pub mod Scale
+pub mod Times
 pub mod Truths
+pub mod Units
 pub mod Worked

@@ -1,10 +1,14 @@
 -- Numbers with marks of their own for the decimal point and between thousands, and their texts with a point and no marks (Metadata Vocabulary for Tabular Data, section
 -- 5.11.2: `decimalChar` and `groupChar`).
-use Rattle.std.specs.Prelude.{ℕ, ◌%◌, Bool, true, false, ◌==◌, ◌&&◌, ◌||◌, List, [], ◌∷◌, ◌++◌, length, codes, filter, if◌then◌else◌, Option, Some, None}
+use Rattle.std.specs.Prelude.{ℕ, ◌%◌, ◌-◌, Bool, true, false, ◌==◌, ◌&&◌, ◌||◌, List, [], ◌∷◌, ◌++◌, length, codes, filter, if◌then◌else◌, nat_eq, take, Option, Some, None}
 use Rattle.std.specs.Char.{is_ascii_digit}
-use Rattle.std.specs.List.{after_first, before_first, list_all}
+use Rattle.std.specs.List.{after_first, before_first, ends_with, list_all}
 use Rattle.std.specs.Str.Parse.{starts_with_minus, without_leading_sign}
 use Rattle.value_forms.specs.declared.number.Marks.{Marks}
+
+-- what is before a byte at the end of a text
+abbrev pub before_end : ℕ → List ℕ → Option (List ℕ)
+before_end byte text = if ends_with nat_eq text (byte ∷ []) then Some (take (length text - 1) text) else None
 
 -- the sign of a number: a plus is left out
 abbrev pub sign_text : List ℕ → List ℕ

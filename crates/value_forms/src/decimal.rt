@@ -1,11 +1,22 @@
 //! The parts of a decimal.
-ghost use Rattle.std.specs.Prelude.{◌≡◌, ◌==◌, ◌≤◌, IfOk, OnOk, ◌++◌, length};
+ghost use Rattle.std.specs.Prelude.{◌≡◌, ◌==◌, ◌≤◌, IfOk, OnOk, ◌++◌, length, option_map};
 ghost use Rattle.std.specs.Char.{is_ascii_digit};
 ghost use Rattle.std.specs.List.{after_first, before_first, list_all, position_or_len};
 ghost use Rattle.std.specs.Str.Parse.{starts_with_minus, without_leading_sign};
-ghost use Rattle.value_forms.specs.Numbers.{places_text, sign_text};
+ghost use Rattle.value_forms.specs.Numbers.{before_end, places_text, sign_text};
 
 use std::alloc::{AllocError, Global};
+
+/// Returns what is before a byte at the end of a text; `None` if the text ends otherwise.
+pub(crate) fn before_end(byte: u8, text: &[u8]) -> Option<&[u8]>
+    ensures { option_map (λ front. front.now) result ≡ before_end byte text.now }
+{
+    if text.ends_with(&[byte]) {
+        Some(&text[..text.len() - 1])
+    } else {
+        None
+    }
+}
 
 /// Returns a text without its sign.
 pub(crate) fn without_sign(text: &[u8]) -> &[u8]

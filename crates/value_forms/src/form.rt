@@ -1,6 +1,7 @@
 //! The form of a column's cells, and the values of cells in it.
-ghost use Rattle.std.specs.Prelude.{◌≡◌, IfOk, IfSome, None, option_map};
-ghost use Rattle.value_forms.specs.Forms.{IsDayWithTime, IsMadeBy, IsNumberMade, IsScaled, cell_made, alone_made};
+ghost use Rattle.std.specs.Prelude.{◌≡◌, IfOk, None, option_map};
+ghost use Rattle.value_forms.specs.Forms.{IsMadeBy, IsNumberMade, IsRounded, alone_made, bare_number, cell_made, form_number, number_at_scale, timed_day};
+ghost use Rattle.value_forms.specs.Rounding.{is_finer};
 
 use crate::date::{DayForm, day_text};
 use crate::number::{Marks, number_text};
@@ -81,8 +82,8 @@ fn scaled_text(
     form: NumberForm<'_>,
     text: &[u8],
 ) -> Result<Option<Vec<u8>>, AllocError>
-    ensures { IfOk result (λ made. IfSome made
-        (λ made. IsScaled form.entry.scale form.entry.marks text.now made.items)) }
+    ensures { IfOk result (λ made. option_map (λ made. made.items) made
+        ≡ number_at_scale form.entry.scale form.entry.marks text.now) }
 {
     match form.scale {
         Scale::Plain => number_text(alloc, form.marks, text),
@@ -94,56 +95,70 @@ fn scaled_text(
     }
 }
 
-/// Returns the number of a text.
-fn number_made(alloc: Global, form: NumberForm<'_>, text: &[u8]) -> Result<Option<Made>, AllocError>
-    ensures { IfOk result (λ made. IfSome made
-        (λ made. IsNumberMade form.entry text.now (cell_made made))) }
+/// Returns a text without the currency of its form; `None` if it has another one.
+fn bare_text<'a>(unit: Option<Unit<'_>>, text: &'a [u8]) -> Option<&'a [u8]>
+    ensures { option_map (λ bare. bare.now) result ≡ bare_number unit.entry text.now }
 {
-    let number = match form.unit {
+    match unit {
         Some(unit) => without_unit(unit, text),
         None => Some(text),
-    };
-    let Some(number) = number else {
-        return Ok(None);
-    };
-    let Some(text) = scaled_text(alloc, form, number)? else {
-        return Ok(None);
-    };
-    if form.rounds
-        && let Some(rounded) = rounded_text(alloc, text.as_slice())?
-    {
-        return Ok(Some(Made {
-            text: rounded.text,
-            time: None,
-            difference: rounded.difference,
-        }));
     }
-    Ok(plain(Some(text)))
 }
 
-/// Returns a number in six decimal places, if it has more.
-fn round_made(alloc: Global, text: &[u8]) -> Result<Option<Made>, AllocError>
-    ensures { IfOk result (λ made. IfSome made (λ made. (cell_made made).time ≡ None)) }
+/// Returns the number that a text is in a form.
+fn form_number(
+    alloc: Global,
+    form: NumberForm<'_>,
+    text: &[u8],
+) -> Result<Option<Vec<u8>>, AllocError>
+    ensures { IfOk result (λ made. option_map (λ made. made.items) made
+        ≡ form_number form.entry text.now) }
 {
-    match rounded_text(alloc, text)? {
+    match bare_text(form.unit, text) {
+        Some(bare) => scaled_text(alloc, form, bare),
+        None => Ok(None),
+    }
+}
+
+/// Returns a number in six decimal places if it has more, and else `kept`.
+fn round_made(alloc: Global, number: &[u8], kept: Option<Made>) -> Result<Option<Made>, AllocError>
+    ensures { IfOk result (λ made. IsRounded (is_finer number.now) (option_map cell_made kept)
+        (option_map cell_made made)) }
+{
+    match rounded_text(alloc, number)? {
         Some(rounded) => Ok(Some(Made {
             text: rounded.text,
             time: None,
             difference: rounded.difference,
         })),
-        None => Ok(None),
+        None => Ok(kept),
     }
 }
 
+/// Returns the number of a text, rounded if the form asks for that.
+fn number_made(alloc: Global, form: NumberForm<'_>, text: &[u8]) -> Result<Option<Made>, AllocError>
+    ensures { IfOk result (λ made. IsNumberMade form.entry.rounds (form_number form.entry text.now)
+        (option_map cell_made made)) }
+{
+    let Some(number) = form_number(alloc, form, text)? else {
+        return Ok(None);
+    };
+    if !form.rounds {
+        return Ok(plain(Some(number)));
+    }
+    let kept = Vec::from_slice(alloc, number.as_slice())?;
+    round_made(alloc, number.as_slice(), plain(Some(kept)))
+}
+
 /// Returns the day of a text, and its time of day, if `keeps` says so.
+#[tactic(auto, unfolding(crate::specs::Forms::timed_day))]
 fn day_made(
     alloc: Global,
     form: DayForm,
     text: &[u8],
     keeps: bool,
 ) -> Result<Option<Made>, AllocError>
-    ensures { IfOk result (λ made. IfSome made
-        (λ made. IsDayWithTime form text.now (cell_made made))) }
+    ensures { IfOk result (λ made. option_map cell_made made ≡ timed_day keeps form text.now) }
 {
     let Some((day, time)) = split_time(text) else {
         return Ok(None);
@@ -151,7 +166,7 @@ fn day_made(
     if !keeps && !is_midnight(time) {
         return Ok(None);
     }
-    let Some(day) = day_text(alloc, form, day)? else {
+    let Some(text) = day_text(alloc, form, day)? else {
         return Ok(None);
     };
     let time = if keeps {
@@ -160,7 +175,7 @@ fn day_made(
         None
     };
     Ok(Some(Made {
-        text: day,
+        text,
         time,
         difference: 0,
     }))
@@ -168,8 +183,8 @@ fn day_made(
 
 /// Returns the word of a boolean.
 fn truth_made(alloc: Global, words: TruthWords<'_>, text: &[u8]) -> Result<Option<Made>, AllocError>
-    ensures { IfOk result (λ made. IfSome made
-        (λ made. IsMadeBy (Form.Truth words.entry) text.now (cell_made made))) }
+    ensures { IfOk result (λ made. IsMadeBy (Form.Truth words.entry) text.now
+        (option_map cell_made made)) }
 {
     match truth_text(words, text) {
         Some(true) => Ok(plain(Some(Vec::from_slice(alloc, b"true")?))),
@@ -180,13 +195,12 @@ fn truth_made(alloc: Global, words: TruthWords<'_>, text: &[u8]) -> Result<Optio
 
 /// Returns the value of a text in a form; `None` if it is not of the form, or is left as it is.
 pub fn made_by(alloc: Global, form: Form<'_>, text: &[u8]) -> Result<Option<Made>, AllocError>
-    ensures { IfOk result (λ made. IfSome made
-        (λ made. IsMadeBy form.entry text.now (cell_made made))) }
+    ensures { IfOk result (λ made. IsMadeBy form.entry text.now (option_map cell_made made)) }
 {
     match form {
         Form::Same => Ok(None),
         Form::Number(form) => number_made(alloc, form, text),
-        Form::Round => round_made(alloc, text),
+        Form::Round => round_made(alloc, text, None),
         Form::Day(form) => Ok(plain(day_text(alloc, form, text)?)),
         Form::DayAndTime(form) => day_made(alloc, form, text, true),
         Form::Midnight(form) => day_made(alloc, form, text, false),

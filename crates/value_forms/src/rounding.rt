@@ -1,4 +1,7 @@
 //! Decimals in six places, rounded half to even.
+ghost use Rattle.std.specs.Prelude.{◌≡◌, IfOk, is_some};
+ghost use Rattle.value_forms.specs.Rounding.{are_zeros, is_fine, is_finer};
+
 use crate::decimal::{are_digits, parts, without_sign};
 use reply_values::push_decimal;
 use std::alloc::{AllocError, Global};
@@ -6,8 +9,8 @@ use std::alloc::{AllocError, Global};
 /// The decimal places of a column of CSVW that is served.
 const PLACES: usize = 6;
 
-/// The most digits of a number that is rounded.
-const MOST_DIGITS: usize = 18;
+/// The most digits before the point of a number that is rounded.
+const MOST_WHOLE: usize = 12;
 
 /// A number in six decimal places.
 #[derive(Drop)]
@@ -29,7 +32,9 @@ fn number_after(start: u64, digits: &[u8]) -> u64 {
 }
 
 /// Returns true if each digit is 0.
-fn are_zeros(digits: &[u8]) -> bool {
+fn are_zeros(digits: &[u8]) -> bool
+    ensures { result ≡ are_zeros digits.now }
+{
     digits.iter().all(|digit| *digit == b'0')
 }
 
@@ -50,16 +55,29 @@ fn billionths(tail: &[u8]) -> u64 {
     number.saturating_add(u64::from(!are_zeros(rest)))
 }
 
-/// Returns a decimal in six places; `None` if it has none more, or too many digits before the point.
-pub fn rounded_text(alloc: Global, number: &[u8]) -> Result<Option<Rounded>, AllocError> {
+/// Returns true if there are more than six places that are not all zeros, and not too many digits before the point.
+fn is_fine(whole: &[u8], places: &[u8]) -> bool
+    ensures { result ≡ is_fine whole.now places.now }
+{
+    places.len() > PLACES
+        && are_digits(places)
+        && are_digits(whole)
+        && whole.len() <= MOST_WHOLE
+        && !are_zeros(&places[PLACES..])
+}
+
+/// Returns true if a number has more than six places that are not all zeros.
+fn is_finer(number: &[u8]) -> bool
+    ensures { result ≡ is_finer number.now }
+{
+    let (whole, places) = parts(b'.', without_sign(number));
+    is_fine(whole, places)
+}
+
+/// Returns a decimal that has more than six places in six.
+fn in_six_places(alloc: Global, number: &[u8]) -> Result<Rounded, AllocError> {
     let (whole, fraction) = parts(b'.', without_sign(number));
-    if fraction.len() <= PLACES || !are_digits(fraction) || !are_digits(whole) {
-        return Ok(None);
-    }
-    let (places, tail) = fraction.split_at(PLACES);
-    if whole.len() > MOST_DIGITS - PLACES || are_zeros(tail) {
-        return Ok(None);
-    }
+    let (places, tail) = fraction.split_at(fraction.len().min(PLACES));
     let cut = number_after(number_after(0, whole), places);
     let up = goes_up(cut, tail);
     let millionths = i128::from(cut.saturating_add(u64::from(up)));
@@ -75,5 +93,15 @@ pub fn rounded_text(alloc: Global, number: &[u8]) -> Result<Option<Rounded>, All
     } else {
         below
     };
-    Ok(Some(Rounded { text, difference }))
+    Ok(Rounded { text, difference })
+}
+
+/// Returns a decimal in six places; `None` if it has none more, or too many digits before the point.
+pub fn rounded_text(alloc: Global, number: &[u8]) -> Result<Option<Rounded>, AllocError>
+    ensures { IfOk result (λ made. is_some made ≡ is_finer number.now) }
+{
+    if !is_finer(number) {
+        return Ok(None);
+    }
+    Ok(Some(in_six_places(alloc, number)?))
 }

@@ -1,11 +1,10 @@
 //! Numbers whose point is to be moved: those with a percent sign, and those with an exponent of ten.
-ghost use Rattle.std.specs.Prelude.{◌≡◌, ◌++◌, IfOk, IfSome, OnOk, codes};
-ghost use Rattle.value_forms.specs.Dates.{IsDayNumber};
-ghost use Rattle.value_forms.specs.Forms.{HasExponent, HasLetter, IsExponent, IsPercent};
-ghost use Rattle.value_forms.specs.Scale.{moved, spread, whole_digits, zeros};
+ghost use Rattle.std.specs.Prelude.{◌≡◌, ◌++◌, ◌≤◌, IfOk, IfSome, OnOk, is_some, length, nat_lt, option_map};
+ghost use Rattle.std.specs.List.{after_first, before_first};
+ghost use Rattle.value_forms.specs.Scale.{exponent_moves, exponent_number, few, is_letter, letter_place, moved, percent_number, spread, trimmed_end, whole_digits, zeros};
 
 use crate::date::short_number;
-use crate::decimal::{parts, push_fraction, sign_of, without_sign};
+use crate::decimal::{before_end, parts, push_fraction, sign_of, without_sign};
 use crate::number::{Marks, number_text};
 use std::alloc::{AllocError, Global};
 
@@ -73,24 +72,23 @@ fn moved_text(
     Ok(made)
 }
 
-/// Returns what is before a percent sign at the end of a text.
-fn before_sign(text: &[u8]) -> Option<&[u8]>
-    ensures { IfSome result (λ front. text.now ≡ front.now ++ codes "%") }
+/// Returns a text without the white space at its end.
+pub(crate) fn trimmed_end(text: &[u8]) -> &[u8]
+    ensures { result.now ≡ trimmed_end text.now }
 {
-    match text {
-        [front @ .., b'%'] => Some(front),
-        _ => None,
-    }
+    text.trim_ascii_end()
 }
 
 /// Returns the hundredth part of the number before a percent sign; `None` if the text is no such number.
+#[tactic(auto, unfolding(crate::specs::Scale::percent_number))]
 pub fn percent_text(alloc: Global, marks: Marks, text: &[u8]) -> Result<Option<Vec<u8>>, AllocError>
-    ensures { IfOk result (λ made. IfSome made (λ made. IsPercent marks text.now made.items)) }
+    ensures { IfOk result (λ made. option_map (λ made. made.items) made
+        ≡ percent_number marks text.now) }
 {
-    let Some(number) = before_sign(text) else {
+    let Some(front) = before_end(b'%', text) else {
         return Ok(None);
     };
-    match number_text(alloc, marks, number.trim_ascii_end())? {
+    match number_text(alloc, marks, trimmed_end(front))? {
         Some(number) => Ok(Some(moved_text(alloc, number.as_slice(), 2, 0)?)),
         None => Ok(None),
     }
@@ -98,70 +96,88 @@ pub fn percent_text(alloc: Global, marks: Marks, text: &[u8]) -> Result<Option<V
 
 /// Returns the number of an exponent's digits, if it is not too great.
 fn few(digits: &[u8]) -> Option<u8>
-    ensures { IfSome result (IsDayNumber digits.now) }
+    ensures { result ≡ few digits.now }
 {
-    let number = short_number(digits)?;
-    if number > MOST_MOVED {
-        return None;
-    }
-    Some(number)
-}
-
-/// Returns how often an exponent divides by ten, and how often it multiplies. One without a sign is none unless `is_plain` says so.
-fn exponent_of(text: &[u8], is_plain: bool) -> Option<(u8, u8)>
-    ensures { IfSome result (λ moves. IsExponent text.now moves.0 moves.1) }
-{
-    match text {
-        [b'-', digits @ ..] => Some((few(digits)?, 0)),
-        [b'+', digits @ ..] => Some((0, few(digits)?)),
-        _ => {
-            if is_plain {
-                Some((0, few(text)?))
-            } else {
-                None
-            }
-        }
-    }
-}
-
-/// Returns the number before an `e`, and the exponent after it.
-fn cut_at_exponent(text: &[u8]) -> Option<(&[u8], &[u8])>
-    ensures { IfSome result (λ parts. HasLetter text.now parts.0.now parts.1.now) }
-{
-    let place = text.iter().position(|byte| matches!(*byte, b'e' | b'E'))?;
-    let (number, rest) = text.split_at(place);
-    match rest {
-        [b'e', exponent @ ..] => Some((number, exponent)),
-        [b'E', exponent @ ..] => Some((number, exponent)),
+    match short_number(digits) {
+        Some(number) if number <= MOST_MOVED => Some(number),
         _ => None,
     }
 }
 
+/// Returns by how many digits an exponent moves the point to the left, and to the right. One without a sign moves it only if `has_point` says that its number has a point.
+fn exponent_moves(has_point: bool, exponent: &[u8]) -> Option<(u8, u8)>
+    ensures { result ≡ exponent_moves has_point exponent.now }
+{
+    match exponent {
+        [b'-', digits @ ..] => Some((few(digits)?, 0)),
+        [b'+', digits @ ..] => Some((0, few(digits)?)),
+        [_, ..] if has_point => Some((0, few(exponent)?)),
+        _ => None,
+    }
+}
+
+/// Returns the number of bytes before the first `e`.
+fn letter_place(text: &[u8]) -> usize
+    ensures within { result ≤ length text.now }
+    ensures place { result ≡ letter_place text.now }
+{
+    text.iter()
+        .take_while(|byte| !(**byte == b'e' || **byte == b'E'))
+        .count()
+}
+
+/// Returns the number before an `e`, and the exponent after it.
+fn cut_at_letter(text: &[u8]) -> Option<(&[u8], &[u8])>
+    ensures found { is_some result ≡ nat_lt (letter_place text.now) (length text.now) }
+    ensures parts { IfSome result (λ cut. (cut.0.now ≡ before_first is_letter text.now)
+        × (cut.1.now ≡ after_first is_letter text.now)) }
+{
+    let place = letter_place(text);
+    if place < text.len() {
+        Some((&text[..place], &text[place + 1..]))
+    } else {
+        None
+    }
+}
+
+/// Returns a number whose point is moved.
+fn moved_number(
+    alloc: Global,
+    moves: (u8, u8),
+    number: Option<Vec<u8>>,
+) -> Result<Option<Vec<u8>>, AllocError>
+    ensures { IfOk result (λ made. option_map (λ made. made.items) made
+        ≡ option_map (moved moves.0 moves.1) (option_map (λ number. number.items) number)) }
+{
+    let Some(number) = number else {
+        return Ok(None);
+    };
+    let (front, back) = moves;
+    let made = moved_text(
+        alloc,
+        number.as_slice(),
+        usize::from(front),
+        usize::from(back),
+    )?;
+    Ok(Some(made))
+}
+
 /// Returns the value of a number with an exponent of ten after `e`; `None` if the text is no such number. An exponent without a sign needs a mark of the point before it, so
 /// that a code such as `0E8` is none.
+#[tactic(auto, unfolding(crate::specs::Scale::exponent_number))]
 pub fn exponent_text(
     alloc: Global,
     marks: Marks,
     text: &[u8],
 ) -> Result<Option<Vec<u8>>, AllocError>
-    ensures { IfOk result (λ made. IfSome made (λ made. HasExponent marks text.now made.items)) }
+    ensures { IfOk result (λ made. option_map (λ made. made.items) made
+        ≡ exponent_number marks text.now) }
 {
-    let Some((number, exponent)) = cut_at_exponent(text) else {
+    let Some((number, exponent)) = cut_at_letter(text) else {
         return Ok(None);
     };
-    let Some((front, back)) = exponent_of(exponent, number.contains(&marks.point)) else {
+    let Some(moves) = exponent_moves(number.contains(&marks.point), exponent) else {
         return Ok(None);
     };
-    match number_text(alloc, marks, number)? {
-        Some(number) => {
-            let made = moved_text(
-                alloc,
-                number.as_slice(),
-                usize::from(front),
-                usize::from(back),
-            )?;
-            Ok(Some(made))
-        }
-        None => Ok(None),
-    }
+    moved_number(alloc, moves, number_text(alloc, marks, number)?)
 }

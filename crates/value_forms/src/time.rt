@@ -1,30 +1,41 @@
 //! Days with a time of day after them.
-ghost use Rattle.std.specs.Prelude.{◌≡◌, ◌⊎◌, ◌++◌, ◌∷◌, IfSome};
+ghost use Rattle.std.specs.Prelude.{◌≡◌, ◌≤◌, IfSome, is_some, length};
+ghost use Rattle.std.specs.List.{after_last, before_last};
+ghost use Rattle.value_forms.specs.Times.{are_seconds, are_two_digits, ends_in_time, is_between, is_clock, is_midnight, is_minute, is_time, last_part_len};
 
-/// Returns true if a text is two digits.
-fn are_two_digits(text: &[u8]) -> bool {
-    text.len() == 2 && text.iter().all(|byte| byte.is_ascii_digit())
+use crate::decimal::{are_digits, before_end};
+
+/// Returns true if two bytes are digits.
+fn are_two_digits(tens: u8, ones: u8) -> bool
+    ensures { result ≡ are_two_digits tens ones }
+{
+    tens.is_ascii_digit() && ones.is_ascii_digit()
 }
 
 /// Returns true if a text is a number of seconds, or with a fraction.
-fn are_seconds(text: &[u8]) -> bool {
+fn are_seconds(text: &[u8]) -> bool
+    ensures { result ≡ are_seconds text.now }
+{
     match text {
-        [tens, ones] => are_two_digits(&[*tens, *ones]),
+        [tens, ones] => are_two_digits(*tens, *ones),
         [tens, ones, b'.', rest @ ..] => {
-            are_two_digits(&[*tens, *ones])
-                && !rest.is_empty()
-                && rest.iter().all(|byte| byte.is_ascii_digit())
+            !rest.is_empty() && are_two_digits(*tens, *ones) && are_digits(rest)
         }
         _ => false,
     }
 }
 
-/// Returns true if a text is a time of day: `HH:mm`, `HH:mm:ss` or with a fraction of seconds, and perhaps a `Z`.
-pub fn is_time(text: &[u8]) -> bool {
-    let text = match text {
-        [time @ .., b'Z'] => time,
-        _ => text,
-    };
+/// Returns true if digits are an hour below 24 and a minute below 60.
+fn is_minute(h: u8, i: u8, m: u8, n: u8) -> bool
+    ensures { result ≡ is_minute h i m n }
+{
+    are_two_digits(h, i) && are_two_digits(m, n) && m < b'6' && (h < b'2' || h == b'2' && i < b'4')
+}
+
+/// Returns true if a text is a time of day without a zone: `HH:mm`, `HH:mm:ss` or with a fraction of seconds.
+fn is_clock(text: &[u8]) -> bool
+    ensures { result ≡ is_clock text.now }
+{
     match text {
         [h, i, b':', m, n] => is_minute(*h, *i, *m, *n),
         [h, i, b':', m, n, b':', rest @ ..] => is_minute(*h, *i, *m, *n) && are_seconds(rest),
@@ -32,30 +43,46 @@ pub fn is_time(text: &[u8]) -> bool {
     }
 }
 
-/// Returns true if digits are an hour below 24 and a minute below 60.
-fn is_minute(h: u8, i: u8, m: u8, n: u8) -> bool {
-    are_two_digits(&[h, i])
-        && are_two_digits(&[m, n])
-        && m < b'6'
-        && (h < b'2' || h == b'2' && i < b'4')
+/// Returns true if a text is a time of day: `HH:mm`, `HH:mm:ss` or with a fraction of seconds, and perhaps a `Z`.
+#[tactic(auto, unfolding(crate::specs::Times::is_time))]
+pub fn is_time(text: &[u8]) -> bool
+    ensures { result ≡ is_time text.now }
+{
+    is_clock(before_end(b'Z', text).unwrap_or(text))
 }
 
 /// Returns true if a time of day is that at which the day begins.
-pub fn is_midnight(text: &[u8]) -> bool {
+pub fn is_midnight(text: &[u8]) -> bool
+    ensures { result ≡ is_midnight text.now }
+{
+    text.iter().all(|byte| *byte == b'0' || *byte == b':' || *byte == b'.' || *byte == b'Z')
+}
+
+/// Returns the number of bytes after the last space or `T`.
+fn last_part_len(text: &[u8]) -> usize
+    ensures within { result ≤ length text.now }
+    ensures len { result ≡ last_part_len text.now }
+{
     text.iter()
-        .all(|byte| matches!(*byte, b'0' | b':' | b'.' | b'Z'))
+        .rev()
+        .take_while(|byte| !(**byte == b' ' || **byte == b'T'))
+        .count()
 }
 
 /// Returns the day and the time of day of a text with both, and a space or a `T` between them; `None` if it has no time.
 pub fn split_time(text: &[u8]) -> Option<(&[u8], &[u8])>
-    ensures { IfSome result (λ parts. (text.now ≡ parts.0.now ++ 32 ∷ parts.1.now)
-        ⊎ (text.now ≡ parts.0.now ++ 84 ∷ parts.1.now)) }
+    ensures found { is_some result ≡ ends_in_time text.now }
+    ensures parts { IfSome result (λ parts. (parts.0.now ≡ before_last is_between text.now)
+        × (parts.1.now ≡ after_last is_between text.now)) }
 {
-    let place = text.iter().rposition(|byte| matches!(*byte, b' ' | b'T'))?;
-    let (day, rest) = text.split_at(place);
-    match rest {
-        [b' ', time @ ..] if is_time(time) => Some((day, time)),
-        [b'T', time @ ..] if is_time(time) => Some((day, time)),
-        _ => None,
+    let place = text.len() - last_part_len(text);
+    if place == 0 {
+        return None;
+    }
+    let time = &text[place..];
+    if is_time(time) {
+        Some((&text[..place - 1], time))
+    } else {
+        None
     }
 }

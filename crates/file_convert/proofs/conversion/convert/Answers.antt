@@ -26,5 +26,5 @@ returns c =
       text = text;
       decoded = subst D c.as_slice.ensures.value c.in_ok-decoded.ensures;
       table = subst T (sym plans)
-          (c.in_ok-out.ensures.table kept (c.as_slice-text.ensures.value ∙ c.in_ok-source.ensures) c.no_output-none.ensures);
+          (c.in_ok-out.ensures.table kept (c.as_slice-text.ensures.value ∙ c.in_ok-source.ensures) c.in_ok-none.ensures);
     }

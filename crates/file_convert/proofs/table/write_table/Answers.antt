@@ -1,5 +1,6 @@
-use Rattle.std.proofs.Common.{◌≡◌, ◌∙◌, ℕ, ◌<◌, ◌≤◌, List, length, map, subst, sym, ap, arith}
+use Rattle.std.proofs.Common.{◌≡◌, ◌∙◌, ℕ, ◌<◌, ◌≤◌, ◌++◌, List, Vec, Global, length, map, subst, sym, ap, arith}
 use Rattle.std.proofs.lemmas.List.{length-map}
+use Rattle.csv_records.specs.Written.{row_bytes}
 use Rattle.file_convert.specs.Rows.{AreTitled, plan_of}
 use Rattle.file_convert.proofs.RowLemmas.{said_cells, some_items}
 use Rattle.file_convert.proofs.TableLemmas.{table_written}
@@ -26,6 +27,7 @@ returns-clause-table c =
     let N : ℕ → Type 0 = λ n. AreTitled plans (said_cells header) n (said_cells titles) in
     let titled : AreTitled plans (said_cells header) (length plans) (said_cells titles) =
     subst N (sym (length-map reports plan_of)) (subst T (ap said_cells c.as_slice-cells.ensures.value) c.in_ok-titles.ensures) in
+    let W : List (Vec ℕ Global) → Type 0 = λ l. c.put.new.self.bytes.items ≡ c.args.out.bytes.items ++ row_bytes (said_cells l) in
     table_written plans c.args.how (length c.as_slice-cells.result.now) c.args.text.now c.in_ok-header.header.rest.now (said_cells header) (said_cells titles) c.args.out.bytes.items
-    c.put.new.self.bytes.items c.put_rows.new.out.bytes.items c.rows_read_back.ensures c.in_ok-header.ensures long wide named titled some c.in_ok-put.ensures
+    c.put.new.self.bytes.items c.put_rows.new.out.bytes.items c.rows_read_back.ensures c.in_ok-header.ensures long wide named titled some (subst W c.as_slice-2.ensures.value c.in_ok-put.ensures)
     c.in_ok-put_rows.ensures.rows

@@ -1,76 +1,25 @@
-use Rattle.std.proofs.Common.{inl, inr, lit<, refl}
-use Rattle.std.specs.Prelude.{codes}
+use Rattle.std.proofs.Common.{refl}
 use Rattle.cell_types.specs.Date.{date_of}
+use Rattle.value_forms.specs.Dates.{form_day, named_month}
+use Rattle.value_forms.specs.Forms.{timed_day}
+use Rattle.value_forms.specs.Times.{is_time}
 use Rattle.value_forms.proofs.laws.worked_dates.Goals as goal
 
 pub returns : goal.returns
-unfolding date_of
+unfolding date_of form_day is_time named_month timed_day
 returns c = record {
-  day_first = record {
-    first = codes "01";
-    second = codes "02";
-    third = codes "2024";
-    parts = refl;
-    year = 2024;
-    month = 2;
-    day = 1;
-    year_is = (lit< tt, refl);
-    month_is = inr (lit< tt, refl);
-    day_is = inl (inr (lit< tt, refl));
-    made_is = refl;
-  };
+  day_first = refl;
   day_value = refl;
-  month_first = record {
-    first = codes "01";
-    second = codes "02";
-    third = codes "2024";
-    parts = refl;
-    year = 2024;
-    month = 1;
-    day = 2;
-    year_is = (lit< tt, refl);
-    month_is = inr (lit< tt, refl);
-    day_is = inl (inr (lit< tt, refl));
-    made_is = refl;
-  };
+  month_first = refl;
   month_value = refl;
-  dotted = record {
-    first = codes "1";
-    second = codes "2";
-    third = codes "2024";
-    parts = refl;
-    year = 2024;
-    month = 2;
-    day = 1;
-    year_is = (lit< tt, refl);
-    month_is = inl (lit< tt, refl);
-    day_is = inl (inl (lit< tt, refl));
-    made_is = refl;
-  };
-  year_first = record {
-    first = codes "2012";
-    second = codes "01";
-    third = codes "31";
-    parts = refl;
-    year = 2012;
-    month = 1;
-    day = 31;
-    year_is = (lit< tt, refl);
-    month_is = inr (lit< tt, refl);
-    day_is = inl (inr (lit< tt, refl));
-    made_is = refl;
-  };
-  named = record {
-    first = codes "Jan";
-    second = codes "1,";
-    third = codes "2000";
-    parts = refl;
-    year = 2000;
-    month = 1;
-    day = 1;
-    year_is = (lit< tt, refl);
-    month_is = inr refl;
-    day_is = inr (refl, (codes "1", refl, inl (lit< tt, refl)));
-    made_is = refl;
-  };
+  dotted = refl;
+  year_first = refl;
+  named = refl;
+  no_day = refl;
+  short_year = refl;
+  two_parts = refl;
+  time = refl;
+  midnight = refl;
+  no_midnight = refl;
+  no_hour = refl;
 }

@@ -1,10 +1,11 @@
 use Rattle.std.proofs.Common.{refl}
 use Rattle.cell_types.specs.Decimal.{decimal_of}
-use Rattle.value_forms.specs.Scale.{moved}
+use Rattle.value_forms.specs.Rounding.{is_finer}
+use Rattle.value_forms.specs.Scale.{exponent_number, moved, percent_number}
 use Rattle.value_forms.proofs.laws.worked_numbers.Goals as goal
 
 pub returns : goal.returns
-unfolding decimal_of moved
+unfolding decimal_of exponent_number is_finer moved percent_number
 returns c = record {
   comma = refl;
   comma_value = refl;
@@ -17,9 +18,19 @@ returns c = record {
   late_group = refl;
   no_digit = refl;
   version = refl;
+  percent_sign = refl;
+  no_percent_sign = refl;
   percent = refl;
   fine_percent = refl;
   whole_percent = refl;
+  exponent_sign = refl;
+  small = refl;
+  code = refl;
   exponent = refl;
   negative_exponent = refl;
+  before = refl;
+  after = refl;
+  no_unit = refl;
+  fine = refl;
+  six = refl;
 }

@@ -1,0 +1,261 @@
+//! What the publisher of files should look at, and what helps.
+use crate::cells::{push_cell, push_count};
+use csvw_guess::{Guess, Warning};
+use csvw_meta::Schema;
+use folder_report::Line;
+use table_store::NamedFile;
+
+/// Returns what reads fields that a byte separates.
+fn separator_warning(byte: u8) -> &'static str {
+    match byte {
+        b';' => ": one column, and `;` is in each line: csvformat -d ';' ",
+        b'\t' => ": one column, and a tab is in each line: csvformat -t ",
+        _ => ": one column, and `|` is in each line: csvformat -d '|' ",
+    }
+}
+
+/// Returns the file of a warning, and what is said after its name.
+fn parts_of(warning: &Warning) -> (usize, &'static str) {
+    match warning {
+        Warning::OtherSeparator { file, byte } => (*file, separator_warning(*byte)),
+        Warning::HeaderIsData { file } => (
+            *file,
+            ": the first line looks like data: mlr --csv --implicit-csv-header label A,B ",
+        ),
+        Warning::TwoDates { file, .. } => (
+            *file,
+            ": a string, since dd/MM/yyyy and MM/dd/yyyy both read each date: write the format that is meant",
+        ),
+        Warning::TooFine { file, .. } => (*file, ": "),
+        Warning::Alike { file, .. } => (*file, ": string; "),
+        Warning::Days { file, .. } => (*file, ": integer; all "),
+        Warning::Version { file, .. } => (
+            *file,
+            ": a string, since version 4.10 is not version 4.1: write decimal if these are numbers",
+        ),
+        Warning::NullElsewhere { file, .. } => (*file, ": "),
+        Warning::EmptyHeader { file, .. } => (*file, ": "),
+        Warning::EmptyRows { file, .. } => (*file, ": rows of empty cells at the end: "),
+    }
+}
+
+/// Returns the column of a warning that is said after the name of the file.
+fn column_of(warning: &Warning) -> Option<usize> {
+    match warning {
+        Warning::TwoDates { col, .. }
+        | Warning::Alike { col, .. }
+        | Warning::Days { col, .. }
+        | Warning::Version { col, .. }
+        | Warning::NullElsewhere { col, .. } => Some(*col),
+        _ => None,
+    }
+}
+
+/// Returns true if two warnings are said together, in one line of their file.
+fn is_together(one: &Warning, other: &Warning) -> bool {
+    match (one, other) {
+        (Warning::TooFine { file, .. }, Warning::TooFine { file: same, .. })
+        | (Warning::EmptyHeader { file, .. }, Warning::EmptyHeader { file: same, .. }) => {
+            *file == *same
+        }
+        _ => false,
+    }
+}
+
+/// Returns the schema of a file, if it has one.
+fn schema_of<'g>(guess: &'g Guess, url: &str) -> Option<&'g Schema> {
+    guess
+        .schemas
+        .iter()
+        .find(|schema| schema.url.as_str() == url)
+}
+
+/// Appends a column of a file, by its number from 1 on and its name.
+fn push_column(lines: &mut Line, schema: Option<&Schema>, col: usize) {
+    lines.push("column ");
+    lines.push_number(col.saturating_add(1));
+    if let Some(schema) = schema
+        && let Some(column) = schema.columns.get(col)
+    {
+        lines.push(" ");
+        lines.push(column.name.as_str());
+    }
+}
+
+/// Appends the numbers of columns from one to another, both counted from 0.
+fn push_range(lines: &mut Line, before: &str, first: usize, last: usize) {
+    lines.push(before);
+    lines.push_number(first.saturating_add(1));
+    if last > first {
+        lines.push(" to ");
+        lines.push_number(last.saturating_add(1));
+    }
+}
+
+/// Returns the column of a warning that is said with others in one line.
+fn column_together(warning: &Warning) -> usize {
+    match warning {
+        Warning::TooFine { col, .. } | Warning::EmptyHeader { col, .. } => *col,
+        _ => 0,
+    }
+}
+
+/// Appends the columns of the warnings that are said together with one.
+fn push_columns(lines: &mut Line, warning: &Warning, all: &[Warning]) {
+    let mut before = match all
+        .iter()
+        .filter(|other| is_together(warning, other))
+        .count()
+    {
+        1 => "column ",
+        _ => "columns ",
+    };
+    let mut range: Option<(usize, usize)> = None;
+    for other in all {
+        if !is_together(warning, other) {
+            continue;
+        }
+        let col = column_together(other);
+        range = match range {
+            Some((first, last)) if col == last.saturating_add(1) => Some((first, col)),
+            Some((first, last)) => {
+                push_range(lines, before, first, last);
+                before = ", ";
+                Some((col, col))
+            }
+            None => Some((col, col)),
+        };
+    }
+    if let Some((first, last)) = range {
+        push_range(lines, before, first, last);
+    }
+}
+
+/// Appends the command that rounds the columns of the warnings that are said together with one.
+fn push_rounding(lines: &mut Line, warning: &Warning, all: &[Warning], schema: &Schema) {
+    lines.push(": strings, since numbers are finer than six places: mlr --csv put '");
+    let mut before = "";
+    for other in all {
+        if is_together(warning, other)
+            && let Some(column) = schema.columns.get(column_together(other))
+        {
+            let name = match column.titles.first() {
+                Some(title) => title.as_str(),
+                None => column.name.as_str(),
+            };
+            lines.push(before);
+            lines.push("${");
+            lines.push(name);
+            lines.push("} = fmtifnum(${");
+            lines.push(name);
+            lines.push("}, \"%.6lf\")");
+            before = "; ";
+        }
+    }
+    lines.push("' ");
+    lines.push(schema.url.as_str());
+    lines.push(" rounds them");
+}
+
+/// Appends what most cells of a column look like, and the first that looks different.
+fn push_alike(lines: &mut Line, warning: &Warning, file: &NamedFile) {
+    let Warning::Alike {
+        col,
+        form,
+        cells,
+        alike,
+        other,
+        ..
+    } = warning
+    else {
+        return;
+    };
+    if other.is_none() {
+        lines.push("all ");
+    } else {
+        push_count(lines, *alike);
+        lines.push(" of ");
+    }
+    push_count(lines, *cells);
+    lines.push(" cells look like ");
+    lines.push(form);
+    if let Some(row) = other {
+        lines.push("; ");
+        push_cell(lines, file.bytes.as_slice(), *row, *col);
+    }
+}
+
+/// Appends the name of a file, and what a command makes of it.
+fn push_made_of(lines: &mut Line, file: &NamedFile, made: &str) {
+    lines.push(file.name.as_str());
+    lines.push(made);
+}
+
+/// Appends what a warning of a column says further.
+fn push_of_column(lines: &mut Line, warning: &Warning, guess: &Guess, file: &NamedFile) {
+    let schema = schema_of(guess, file.name.as_str());
+    let all = guess.warnings.as_slice();
+    match warning {
+        Warning::TooFine { .. } => {
+            push_columns(lines, warning, all);
+            if let Some(schema) = schema {
+                push_rounding(lines, warning, all, schema);
+            }
+        }
+        Warning::NullElsewhere {
+            other,
+            word,
+            cells,
+            ..
+        } => {
+            push_count(lines, *cells);
+            lines.push(" of its cells are ");
+            lines.push_quoted(word);
+            lines.push(", a text here, and null in ");
+            push_column(lines, schema, *other);
+        }
+        Warning::EmptyHeader { .. } => {
+            lines.push("the header cells of ");
+            push_columns(lines, warning, all);
+            lines.push(" are empty: the first line should have a name for each column");
+        }
+        _ => push_alike(lines, warning, file),
+    }
+}
+
+/// Appends what a warning says further.
+fn push_details(lines: &mut Line, warning: &Warning, guess: &Guess, file: &NamedFile) {
+    match warning {
+        Warning::EmptyRows { rows, .. } => push_count(lines, *rows),
+        Warning::Days { cells, .. } => {
+            push_count(lines, *cells);
+            lines.push(
+                " cells are days as yyyyMMdd: write {\"base\": \"date\", \"format\": \"yyyyMMdd\"} for the datatype if they are meant so",
+            );
+        }
+        Warning::OtherSeparator { .. } => push_made_of(lines, file, " makes it a CSV file"),
+        Warning::HeaderIsData { .. } => push_made_of(lines, file, " gives the file a header"),
+        _ => push_of_column(lines, warning, guess, file),
+    }
+}
+
+/// Returns the number of the file of a warning.
+pub fn file_of(warning: &Warning) -> usize {
+    parts_of(warning).0
+}
+
+/// Appends what a warning says after the name of its file: the column, if it is of one, and what helps.
+pub fn push_warning(lines: &mut Line, warning: &Warning, guess: &Guess, file: &NamedFile) {
+    if let Some(col) = column_of(warning) {
+        lines.push(": ");
+        push_column(lines, schema_of(guess, file.name.as_str()), col);
+    }
+    lines.push(parts_of(warning).1);
+    push_details(lines, warning, guess, file);
+}
+
+/// Returns true if a warning, by its place among all, is said together with an earlier one.
+pub fn is_said(all: &[Warning], place: usize, warning: &Warning) -> bool {
+    let mut earlier = all.iter().take(place);
+    earlier.any(|other| is_together(other, warning))
+}

@@ -1,0 +1,41 @@
+//! What a draft guesses the datatypes of a table from.
+use crate::cells::record_at;
+use crate::fault::ConvertFault;
+use crate::report::ColumnReport;
+use column_forms::null_place;
+use csv_records::push_row;
+use std::alloc::Global;
+
+/// Returns true if a text that a draft does not know stands for null in a column.
+fn has_guess(column: &ColumnReport) -> bool {
+    let nulls = column.nulls.as_slice();
+    [2, 7].iter().any(|place: &usize| nulls.get(*place).is_some_and(|count| *count > 0))
+}
+
+/// Returns a table with empty cells in the place of texts that stand for null and that a draft does not know; `None` if there are none.
+pub(crate) fn guess_text(
+    alloc: Global,
+    columns: &[ColumnReport],
+    bytes: &[u8],
+) -> Result<Option<Vec<u8>>, ConvertFault> {
+    if !columns.iter().any(has_guess) {
+        return Ok(None);
+    }
+    let mut guess = Vec::with_capacity(alloc, bytes.len())?;
+    let mut left = bytes;
+    for _row in 0..bytes.len() {
+        if left.is_empty() {
+            break;
+        }
+        let read = record_at(alloc, b',', left, 1)?;
+        let mut cells = read.cells;
+        for cell in &mut cells {
+            if matches!(null_place(cell.as_slice()), Some(2 | 7)) {
+                cell.clear();
+            }
+        }
+        push_row(&mut guess, cells.as_slice())?;
+        left = read.rest;
+    }
+    Ok(Some(guess))
+}
