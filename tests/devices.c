@@ -1,5 +1,6 @@
 /* Makes the devices of a program fail. The reads of the file INPUT and the writes of standard output are counted, each
-   from 1; number READ or WRITE fails with the error ERRNO, as does opening the file OPEN, and write number NOTHING takes no byte. With ONE_BYTE each of
+   from 1; number READ or WRITE fails with the error ERRNO, as does opening the file OPEN, write number NOTHING takes no byte, and read number SHORT moves at most
+   half of what it is asked for. With ONE_BYTE each of
    them moves one byte. Each is noted in the file LOG, one line each: `r` or `w`, and how many bytes it moved or -1. */
 #define _GNU_SOURCE
 #include <dlfcn.h>
@@ -67,6 +68,7 @@ int open(const char *path, int how, ...) {
 ssize_t read(int file, void *bytes, size_t size) {
     if (!is_input(file)) return syscall(SYS_read, file, bytes, size);
     if (fails("READ", ++reads)) return note('r', -1);
+    if (is_number("SHORT", reads) && size > 1) size /= 2;
     return note('r', syscall(SYS_read, file, bytes, getenv("ONE_BYTE") && size > 1 ? 1 : size));
 }
 

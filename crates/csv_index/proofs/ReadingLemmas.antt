@@ -1,11 +1,12 @@
 -- A reading in blocks: what is known behind a front of the text, and with one block more.
-use Rattle.std.proofs.Common.{◌≡◌, ℕ, zero, suc, ◌+◌, ◌-◌, ◌*◌, ◌%◌, ◌^◌, ◌<◌, ◌≤◌, ◌==◌, List, [], ◌∷◌, ◌++◌, length, length-append, length-drop, append-nil, take, drop, Bool, true, false, cond, Some, refl, sym, ap, ◌∙◌, subst, arith, bit_or, ltb}
-use Rattle.std.specs.Prelude.{slice_get}
+use Rattle.std.proofs.Common.{◌≡◌, ℕ, zero, suc, ◌+◌, ◌-◌, ◌*◌, ◌%◌, ◌^◌, ◌<◌, ◌≤◌, ◌==◌, List, [], ◌∷◌, ◌++◌, length, length-append, length-drop, append-nil, take, drop, Bool, true, false, cond, Some, refl, sym, ap, inl, inr, ◌∙◌, subst, arith, bit_or, ltb}
+use Rattle.std.specs.Prelude.{◌⊎◌, slice_get, min}
+use Rattle.std.specs.Vec.{vec_len, vec_capacity}
 use Rattle.std.specs.Int.{bit_at}
 use Rattle.std.specs.Int.RustNames.{count_ones}
 use Rattle.std.proofs.Math.Nat.{mod-eq_of_lt}
-use Rattle.std.proofs.lemmas.List.{take_all, take-append-le, length-take, drop-drop, nil_from_length}
-use Rattle.std.proofs.lemmas.Bool.{ltb-true, ltb-false}
+use Rattle.std.proofs.lemmas.List.{drop_all, take_all, take-append-le, length-take, drop-drop, nil_from_length}
+use Rattle.std.proofs.lemmas.Bool.{cases_lt, ltb-true, ltb-false}
 use Rattle.std.proofs.lemmas.Nat.Bits.{bit_at-lt, bit_at_above}
 use Rattle.std.proofs.lemmas.Nat.{or_lt}
 use Rattle.csv_grammar.specs.Faults.{IsViable}
@@ -17,7 +18,8 @@ use Rattle.csv_index.specs.Blocks.{set_places, block_places, rank, AreRanked}
 use Rattle.csv_index.specs.Widths.{uncounted, roles_counted, mask_role, mask_roles}
 use Rattle.csv_index.specs.declared.blocks.Block.{Block}
 use Rattle.csv_index.specs.declared.widths.Widths.{Widths}
-use Rattle.csv_index.specs.Reading.{role_places, role_open, open_after, HasReadText, IsReadingToTheEnd}
+use Rattle.csv_index.specs.Reading.{role_places, role_open, open_after, bytes_left, HasReadBlocks, HasReadText, IsBlockReading}
+use Rattle.csv_index.specs.declared.reading.Reading.{Reading}
 use Rattle.csv_index.proofs.Bits.{role_places-append, role_places-length, places_from_roles, places_split, places_none, roles_by_ends, roles_split, roles_one, ones_whole}
 use Rattle.csv_index.proofs.BlockLemmas.{block_places-push}
 use Rattle.csv_index.proofs.CellLemmas.{slice_get-front, slice_get-behind}
@@ -178,41 +180,46 @@ has_read_more laws text n len last masks carry behind blocks widths counted was 
 
 -- ---- block after block
 
--- so many whole blocks are read, there is room for the others, and this is left
-pub record IsUnderWay (text rest : List ℕ) (n capacity : ℕ) (carry : TextCarry) (blocks : List Block) (widths : Widths) (was : Bool) : Type 0 where
-  pub read : HasReadText text n carry blocks widths was
-  pub rest_is : rest ≡ drop (64 * n) text
-  pub within : 64 * n ≤ length text
-  pub room : length text ≤ 64 * capacity
+-- this is left
+pub record IsUnderWay (text rest : List ℕ) (r : Reading) : Type 0 where
+  pub reads : IsBlockReading text r
+  pub rest_is : rest ≡ drop (64 * vec_len r.blocks) text
 
-pub under_way_none : OneStructure → WhatFollows → (text : List ℕ) (capacity : ℕ) → length text ≤ 64 * capacity → IsUnderWay text text 0 capacity (carry_of []) [] uncounted false
-under_way_none laws follows text capacity room = record { read = has_read_none laws follows text; rest_is = refl; within = omega arith; room = room }
+pub left_is : (text rest : List ℕ) (r : Reading) → IsUnderWay text rest r → length rest ≡ bytes_left text r
+left_is text rest r going = ap length going.rest_is ∙ length-drop (64 * vec_len r.blocks) text
 
-pub left_is : (text rest : List ℕ) (n capacity : ℕ) (carry : TextCarry) (blocks : List Block) (widths : Widths) (was : Bool) → IsUnderWay text rest n capacity carry blocks widths was
-    → length rest ≡ length text - 64 * n
-left_is text rest n capacity carry blocks widths was going = ap length going.rest_is ∙ length-drop (64 * n) text
+-- all that is behind the blocks, of which the last may be short
+pub under_way : (text : List ℕ) (r : Reading) (at : ℕ) → at ≡ min (vec_len r.blocks * 64) (length text) → IsBlockReading text r
+    → IsUnderWay text (take (length text - at) (drop at text)) r
+under_way text r at is reads = record {
+  reads = reads;
+  rest_is = take_all (length text - at) (drop at text) (omega (arith, length-drop at text)) ∙ on (cases_lt (64 * vec_len r.blocks) (length text));
+}
+  where
+    on : (64 * vec_len r.blocks < length text) ⊎ (length text ≤ 64 * vec_len r.blocks) → drop at text ≡ drop (64 * vec_len r.blocks) text
+    on (inl less) = let same : at ≡ 64 * vec_len r.blocks = omega (arith, is, less) in ap (λ k. drop k text) same
+    on (inr past) = drop_all at text (omega (arith, is, past)) ∙ sym (drop_all (64 * vec_len r.blocks) text past)
 
--- with one more, of 64 bytes
-pub under_way_more : (text rest : List ℕ) (n capacity : ℕ) (carry behind : TextCarry) (blocks more : List Block) (widths counted : Widths) (was unended : Bool)
-    → IsUnderWay text rest n capacity carry blocks widths was → 64 ≤ length rest → HasReadText text (n + 1) behind more counted unended
-    → IsUnderWay text (take (length rest - 64) (drop 64 rest)) (n + 1) capacity behind more counted unended
-under_way_more text rest n capacity carry behind blocks more widths counted was unended going some next =
-    let size = left_is text rest n capacity carry blocks widths was going in
-    let sum : 64 * n + 64 ≡ 64 * (n + 1) = omega arith in record {
-      read = next;
-      rest_is = take_all (length rest - 64) (drop 64 rest) (omega (arith, length-drop 64 rest)) ∙ ap (drop 64) going.rest_is ∙ drop-drop 64 (64 * n) text ∙ ap (λ k. drop k text) sum;
-      within = omega (arith, size, going.within);
-      room = going.room;
+-- nothing is read
+pub none_read : OneStructure → WhatFollows → (text : List ℕ) (r : Reading) → vec_len r.blocks ≡ 0 → r.blocks.items ≡ [] → r.carry ≡ carry_of [] → r.widths ≡ uncounted → r.unended ≡ false
+    → length text ≤ 64 * vec_capacity r.blocks → IsBlockReading text r
+none_read laws follows text r n b c w u room = record { read = rw (n, b, c, w, u) (has_read_none laws follows text); within = omega (arith, n); room = room }
+
+-- one block more is read, of 64 bytes or of all that are left
+pub one_more : (text rest : List ℕ) (r more : Reading) → IsUnderWay text rest r → 0 < length rest → HasReadBlocks text (vec_len r.blocks + 1) more
+    → vec_len more.blocks ≡ vec_len r.blocks + 1 → vec_capacity more.blocks ≡ vec_capacity r.blocks → IsBlockReading text more
+one_more text rest r more going some read count room =
+    let size = left_is text rest r going in record {
+      read = subst (λ n. HasReadBlocks text n more) (sym count) read;
+      within = omega (arith, size, some, count);
+      room = omega (arith, room, going.reads.room);
     }
 
--- and at the end with those that are left, where there are some
-pub whole_read : (text rest : List ℕ) (n capacity : ℕ) (carry : TextCarry) (blocks : List Block) (widths : Widths) (was : Bool) → IsUnderWay text rest n capacity carry blocks widths was
-    → length rest ≡ 0 → IsReadingToTheEnd text carry blocks widths was
-whole_read text rest n capacity carry blocks widths was going none =
-    let size = left_is text rest n capacity carry blocks widths was going in (n, omega (arith, size), omega (arith, going.within), going.read)
-
-pub rest_read : (text rest : List ℕ) (n capacity : ℕ) (carry behind : TextCarry) (blocks more : List Block) (widths counted : Widths) (was unended : Bool)
-    → IsUnderWay text rest n capacity carry blocks widths was → 0 < length rest → length rest < 64 → HasReadText text (n + 1) behind more counted unended
-    → IsReadingToTheEnd text behind more counted unended
-rest_read text rest n capacity carry behind blocks more widths counted was unended going some short next =
-    let size = left_is text rest n capacity carry blocks widths was going in (n + 1, omega (arith, size), omega (arith, size, going.within), next)
+pub under_way_more : (text rest : List ℕ) (r more : Reading) → IsUnderWay text rest r → 64 ≤ length rest → HasReadBlocks text (vec_len r.blocks + 1) more
+    → vec_len more.blocks ≡ vec_len r.blocks + 1 → vec_capacity more.blocks ≡ vec_capacity r.blocks → IsUnderWay text (take (length rest - 64) (drop 64 rest)) more
+under_way_more text rest r more going some read count room =
+    let sum : 64 * vec_len r.blocks + 64 ≡ 64 * vec_len more.blocks = omega (arith, count) in record {
+      reads = one_more text rest r more going (omega (arith, some)) read count room;
+      rest_is = take_all (length rest - 64) (drop 64 rest) (omega (arith, length-drop 64 rest)) ∙ ap (drop 64) going.rest_is ∙ drop-drop 64 (64 * vec_len r.blocks) text
+          ∙ ap (λ k. drop k text) sum;
+    }

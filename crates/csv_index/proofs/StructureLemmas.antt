@@ -1,8 +1,8 @@
 -- What is known of a text that is read whole.
-use Rattle.std.proofs.Common.{◌≡◌, ℕ, ◌+◌, ◌-◌, ◌*◌, ◌^◌, ◌<◌, ◌≤◌, List, ◌++◌, length, length-drop, take, drop, Bool, false, cond, Option, Some, None, refl, sym, ap, ◌∙◌, subst, arith, inr}
+use Rattle.std.proofs.Common.{◌≡◌, ℕ, ◌+◌, ◌*◌, ◌^◌, ◌<◌, ◌≤◌, List, ◌++◌, length, length-drop, take, drop, Bool, false, cond, Option, Some, None, refl, sym, ap, ◌∙◌, subst, arith, inr}
 use Rattle.std.specs.Prelude.{IsUtf8, option_to_list, is_some}
 use Rattle.std.specs.Str.{IsCharBoundary}
-use Rattle.std.proofs.lemmas.List.{take_all, take_rest}
+use Rattle.std.proofs.lemmas.List.{take_all}
 use Rattle.std.proofs.lemmas.Str.{IsUtf8-drop}
 use Rattle.csv_grammar.specs.Records.{Field, CsvText, records_of, AreRecords}
 use Rattle.csv_grammar.specs.Faults.{unfinished, cause_at, HasFault}
@@ -17,7 +17,7 @@ use Rattle.csv_index.specs.declared.fault.TextFault.{TextFault}
 use Rattle.csv_index.specs.declared.fault.TextFault.TheVariants.{Unfinished}
 use Rattle.csv_index.specs.declared.blocks.Block.{Block}
 use Rattle.csv_index.specs.declared.widths.Widths.{Widths}
-use Rattle.csv_index.specs.Reading.{role_places, open_after, HasReadText, IsReadingToTheEnd}
+use Rattle.csv_index.specs.Reading.{role_places, open_after, HasReadText}
 use Rattle.csv_index.proofs.Trees.{last_end, tree_pieces, tree_texts}
 use Rattle.csv_index.proofs.TreeCounts.{tree_open, counted_if, tree_counted}
 
@@ -63,10 +63,6 @@ reads_as laws file mark n carry blocks widths was utf8 within boundary read all 
         room = omega (arith, read.count, room);
       },
     )
-
-pub reading_is : (file : List ℕ) (mark : ℕ) (carry : TextCarry) (blocks : List Block) (widths : Widths) (was : Bool)
-    → IsReadingToTheEnd (take (length file - mark) (drop mark file)) carry blocks widths was → IsReadingToTheEnd (drop mark file) carry blocks widths was
-reading_is file mark carry blocks widths was is = subst (λ t. IsReadingToTheEnd t carry blocks widths was) (take_rest file mark) is
 
 pub tells : (file t : List ℕ) (mark place : ℕ) (e : TextFault) → t ≡ drop mark file → HasFault (drop mark file) place (cause_at (drop mark file) place)
     → text_cause e ≡ Some (malformed (cause_at t place) (mark + place)) → HasTextFault e file mark

@@ -1,5 +1,6 @@
 -- What is known of a text behind its first blocks of 64 bytes (RFC 4180, section 2), in the words of the grammar.
 use Rattle.std.specs.Prelude.{◌≡◌, ℕ, ◌+◌, ◌-◌, ◌*◌, ◌<◌, ◌≤◌, List, [], ◌∷◌, length, take, Bool, true, false}
+use Rattle.std.specs.Vec.{vec_len, vec_capacity}
 use Rattle.csv_grammar.specs.Faults.{IsViable, cause_at, HasFault}
 use Rattle.csv_grammar.specs.Structure.{Role, separator, record_end, inner, AreRoles}
 use Rattle.csv_grammar.specs.Following.{TextCarry, carry_of}
@@ -44,10 +45,15 @@ pub record HasReadText (text : List ℕ) (n : ℕ) (carry : TextCarry) (blocks :
 abbrev pub HasReadBlocks : List ℕ → ℕ → Reading → Type 0
 HasReadBlocks text n r = HasReadText text n r.carry r.blocks.items r.widths r.unended
 
--- the whole text is read, of whose last block there is at least one byte
-abbrev pub IsReadingToTheEnd : List ℕ → TextCarry → List Block → Widths → Bool → Type 0
-IsReadingToTheEnd text carry blocks widths unended =
-    (n : ℕ) × (length text ≤ 64 * n) × (64 * n < length text + 64) × HasReadText text n carry blocks widths unended
+-- so much of the text is read, and there is room for all of its blocks
+pub record IsBlockReading (text : List ℕ) (r : Reading) : Type 0 where
+  pub read : HasReadBlocks text (vec_len r.blocks) r
+  pub within : 64 * vec_len r.blocks < length text + 64
+  pub room : length text ≤ 64 * vec_capacity r.blocks
+
+-- so many bytes are left
+abbrev pub bytes_left : List ℕ → Reading → ℕ
+bytes_left text r = length text - 64 * vec_len r.blocks
 
 -- so many bytes are left from the text's first fault on
 abbrev pub HasFaultFrom : List ℕ → ℕ → Type 0

@@ -4,14 +4,17 @@ ghost use Rattle.std.specs.Str.{IsCharBoundary};
 ghost use Rattle.raw_fields.specs.Raw.{raw_view};
 ghost use Rattle.csv_index.specs.Index.{FitsFile, IsIndexOf, first_bytes, first_places, table_in, row_fields, raws, start_at};
 ghost use Rattle.raw_fields.specs.Rows.{cell_at};
+ghost use Rattle.csv_grammar.specs.Files.{text_of};
 ghost use Rattle.csv_index.specs.Fault.{IsTextFault};
+ghost use Rattle.csv_index.specs.Reading.{bytes_left, IsBlockReading};
 
 use crate::blocks::{Block, find};
 use crate::ends::Ends;
 use crate::fault::TextFault;
 use crate::fields::Fields;
 use crate::parts::{PART_ROWS, Parts};
-use crate::structure::Structure;
+use crate::reading::Reading;
+use crate::structure::{Structure, begin, read_on};
 use crate::utf8::check_text;
 use csv_grammar::mark_len;
 use lane_class::BLOCK;
@@ -66,23 +69,28 @@ impl Index {
         Index::of_utf8(alloc, bytes)
     }
 
-    /// [`Index::build`] of a text.
-    pub fn of_text(alloc: Global, bytes: &str) -> Result<Index, TextFault>
-        ensures table { IfOk result (λ index. IsIndexOf index bytes.now) }
-        ensures fault { IfErr result (IsTextFault bytes.now) }
-    {
-        Index::of_utf8(alloc, bytes.as_bytes())
-    }
-
     /// [`Index::build`] of bytes that are known to be UTF-8.
     pub fn of_utf8(alloc: Global, bytes: &[u8]) -> Result<Index, TextFault>
         requires { IsUtf8 bytes.now }
         ensures table { IfOk result (λ index. IsIndexOf index bytes.now) }
         ensures fault { IfErr result (IsTextFault bytes.now) }
     {
+        let reading = begin(alloc, bytes)?;
+        let reading = read_on(reading, bytes, bytes.len())?;
+        Index::of_reading(reading, bytes)
+    }
+
+    /// Returns the index of a file that is read to its end.
+    pub(crate) fn of_reading(reading: Reading, bytes: &[u8]) -> Result<Index, TextFault>
+        requires utf8 { IsUtf8 bytes.now }
+        requires reads { IsBlockReading (text_of bytes.now) reading }
+        requires over { bytes_left (text_of bytes.now) reading ≡ 0 }
+        ensures table { IfOk result (λ index. IsIndexOf index bytes.now) }
+        ensures fault { IfErr result (IsTextFault bytes.now) }
+    {
         raw_fields::fields_stand_so();
         let start = mark_len(bytes);
-        let structure = Structure::of(alloc, bytes, start)?;
+        let structure = Structure::of(reading, bytes, start)?;
         let widths = structure.widths;
         if let Some(row) = widths.uneven {
             return Err(TextFault::Width { row });

@@ -1,16 +1,16 @@
 //! The text of a file with its index.
-ghost use Rattle.std.specs.Prelude.{◌≡◌, ◌≤◌, ◌<◌, [], Some, IfOk, IfErr, slice_get, length, take, drop};
+ghost use Rattle.std.specs.Prelude.{◌≡◌, ◌≤◌, ◌<◌, [], Some, IfOk, IfErr, slice_get, length, take, drop, string_bytes};
 ghost use Rattle.std.specs.List.{AllByRecursion};
 ghost use Rattle.raw_fields.specs.Raw.{raw_view};
-ghost use Rattle.csv_index.specs.Index.{IsRawTable, row_fields};
+ghost use Rattle.csv_index.specs.Index.{IsIndexOf, IsRawTable, row_fields};
 ghost use Rattle.raw_fields.specs.Rows.{cell_at};
 ghost use Rattle.csv_index.specs.Fault.{IsTextFault};
 
 use crate::fault::TextFault;
 use crate::fields::Fields;
 use crate::index::Index;
+use crate::indexing::{Indexed, Indexing};
 use crate::parts::Parts;
-use crate::utf8::text_of;
 use raw_fields::Raw;
 use std::alloc::{AllocError, Global};
 use std::marker::Model;
@@ -40,9 +40,22 @@ impl IndexedText {
         ensures table { IfOk result (IsRawTable bytes.items) }
         ensures fault { IfErr result (IsTextFault bytes.items) }
     {
-        let text = text_of(bytes)?;
-        let index = Index::of_text(alloc, text.as_str())?;
-        Ok(IndexedText { text, index })
+        let mut indexing = Indexing::start(bytes);
+        loop {
+            match indexing.step(alloc) {
+                Ok(Indexed::On(on)) => indexing = on,
+                Ok(Indexed::Over(file)) => return Ok(file),
+                Err(fault) => return Err(fault),
+            }
+        }
+    }
+
+    /// Returns the table that a text is, by its index.
+    pub(crate) fn of(text: String, index: Index) -> IndexedText
+        requires { IsIndexOf index (string_bytes text) }
+        ensures { IsRawTable (string_bytes text) result }
+    {
+        IndexedText { text, index }
     }
 
     /// Returns how many records follow the header.

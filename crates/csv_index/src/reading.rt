@@ -1,13 +1,14 @@
 //! A text, read in blocks of 64 bytes, one after another (RFC 4180, section 2).
-ghost use Rattle.std.specs.Prelude.{◌≡◌, ℕ, ◌+◌, ◌*◌, ◌^◌, ◌<◌, ◌≤◌, min, List, [], length, drop, IfOk, IfErr};
+ghost use Rattle.std.specs.Prelude.{◌≡◌, ℕ, ◌+◌, ◌-◌, ◌*◌, ◌^◌, ◌<◌, ◌≤◌, min, List, length, drop, IfOk, IfErr};
 ghost use Rattle.std.specs.Vec.{vec_len, vec_capacity};
-ghost use Rattle.csv_index.specs.Reading.{HasReadBlocks, IsReadingToTheEnd, HasFaultFrom};
+ghost use Rattle.csv_index.specs.Reading.{bytes_left, HasReadBlocks, IsBlockReading, HasFaultFrom};
 
 use crate::blocks::Block;
 use crate::widths::Widths;
 use csv_grammar::{one_structure, what_follows};
 use lane_class::{BLOCK, classify, load};
 use quote_parity::Carry;
+use std::alloc::{AllocError, Global};
 
 /// What is known after the blocks that are read.
 #[derive(Drop)]
@@ -20,28 +21,37 @@ pub struct Reading {
 }
 
 impl Reading {
-    /// Reads a whole text, for whose blocks there is room. The error is how many bytes there are from its first fault on.
-    pub fn of(blocks: Vec<Block>, text: &[u8]) -> Result<Reading, usize>
-        requires none { (blocks.items ≡ []) × (vec_len blocks ≡ 0) }
-        requires room { length text.now ≤ 64 * vec_capacity blocks }
-        ensures read { IfOk result
-            (λ r. IsReadingToTheEnd text.now r.carry r.blocks.items r.widths r.unended) }
-        ensures fault { IfErr result (λ left. HasFaultFrom text.now left) }
+    /// Begins to read a text: there is room for all of its blocks.
+    pub fn start(alloc: Global, text: &[u8]) -> Result<Reading, AllocError>
+        ensures { IfOk result (IsBlockReading text.now) }
     {
         one_structure();
         what_follows();
-        let mut reading = Reading {
-            blocks,
+        Ok(Reading {
+            blocks: Vec::with_capacity(alloc, text.len().div_ceil(BLOCK))?,
             carry: Carry::start(),
             widths: Widths::new(),
             unended: false,
-        };
-        let mut rest = text;
-        while rest.len() >= BLOCK {
+        })
+    }
+
+    /// Reads on, at most `most` blocks. The error is how many bytes there are from the first fault on.
+    pub fn go_on(self, text: &[u8], most: usize) -> Result<Reading, usize>
+        requires { IsBlockReading text.now self }
+        ensures reads { IfOk result (IsBlockReading text.now) }
+        ensures left { IfOk result
+            (λ r. bytes_left text.now r ≤ bytes_left text.now self - 64 * most) }
+        ensures fault { IfErr result (HasFaultFrom text.now) }
+    {
+        one_structure();
+        let mut reading = self;
+        let mut rest = &text[(reading.blocks.len() * BLOCK).min(text.len())..];
+        let stop = rest.len().saturating_sub(most.saturating_mul(BLOCK));
+        while rest.len() >= BLOCK && rest.len() > stop {
             reading = reading.read(rest, BLOCK)?;
             rest = &rest[BLOCK..];
         }
-        if !rest.is_empty() {
+        if rest.len() > stop {
             reading = reading.read(rest, rest.len())?;
         }
         Ok(reading)

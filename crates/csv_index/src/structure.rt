@@ -1,17 +1,18 @@
 //! The structure of a whole file (RFC 4180, section 2).
-ghost use Rattle.std.specs.Prelude.{◌≡◌, ◌≤◌, ◌<◌, ◌+◌, ◌^◌, List, length, Some, IfOk, IfErr, IsUtf8};
+ghost use Rattle.std.specs.Prelude.{◌≡◌, ◌≤◌, ◌<◌, ◌+◌, ◌-◌, ◌*◌, ◌^◌, List, length, drop, true, false, Some, IfOk, IfErr, IsUtf8};
 ghost use Rattle.std.specs.Str.{IsCharBoundary};
 ghost use Rattle.csv_grammar.specs.Records.{Field};
 ghost use Rattle.csv_grammar.specs.Faults.{cause_at};
-ghost use Rattle.csv_grammar.specs.Files.{malformed};
-ghost use Rattle.csv_index.specs.Fault.{text_cause};
+ghost use Rattle.csv_grammar.specs.Files.{malformed, text_of};
+ghost use Rattle.csv_index.specs.Fault.{text_cause, IsTextFault};
+ghost use Rattle.csv_index.specs.Reading.{bytes_left, IsBlockReading};
 ghost use Rattle.csv_index.specs.Structure.{ReadsAsRecords, HasTextFault};
 
 use crate::blocks::Block;
 use crate::fault::TextFault;
 use crate::reading::Reading;
 use crate::widths::Widths;
-use csv_grammar::one_structure;
+use csv_grammar::{mark_len, one_structure};
 use lane_class::BLOCK;
 use std::alloc::Global;
 
@@ -25,24 +26,18 @@ pub struct Structure {
 }
 
 impl Structure {
-    /// Reads a file from its mark on. The bytes are records, or the error is the first fault.
-    pub fn of(alloc: Global, file: &[u8], mark: usize) -> Result<Structure, TextFault>
+    /// Returns what the reading of a whole file from its mark on says. The bytes are records, or the error is the first fault.
+    pub fn of(reading: Reading, file: &[u8], mark: usize) -> Result<Structure, TextFault>
         requires utf8 { IsUtf8 file.now }
         requires within { mark ≤ length file.now }
         requires boundary { IsCharBoundary file.now mark }
+        requires reads { IsBlockReading (drop mark file.now) reading }
+        requires over { bytes_left (drop mark file.now) reading ≡ 0 }
         ensures records { IfOk result (λ s. (records : List (List Field))
             × ReadsAsRecords file.now mark records s.blocks.items s.last s.widths) }
         ensures fault { IfErr result (λ e. HasTextFault e file.now mark) }
     {
         one_structure();
-        let text = &file[mark..];
-        let blocks = Vec::with_capacity(alloc, text.len().div_ceil(BLOCK)).map_err(
-            |_| TextFault::NoMemory,
-        )?;
-        let reading = match Reading::of(blocks, text) {
-            Ok(reading) => reading,
-            Err(left) => return Err(fault_at(text, text.len() - left, mark)),
-        };
         let Reading {
             blocks,
             carry,
@@ -62,6 +57,42 @@ impl Structure {
             widths,
         })
     }
+}
+
+/// Begins to read a file from its mark on.
+pub fn begin(alloc: Global, file: &[u8]) -> Result<Reading, TextFault>
+    ensures reads { IfOk result (IsBlockReading (text_of file.now)) }
+    ensures fault { IfErr result (IsTextFault file.now) }
+{
+    match Reading::start(alloc, &file[mark_len(file)..]) {
+        Ok(reading) => Ok(reading),
+        Err(_) => Err(TextFault::NoMemory),
+    }
+}
+
+/// Reads on in a file from its mark on, at most `most` blocks. The error is the first fault.
+pub fn read_on(reading: Reading, file: &[u8], most: usize) -> Result<Reading, TextFault>
+    requires utf8 { IsUtf8 file.now }
+    requires reads { IsBlockReading (text_of file.now) reading }
+    ensures reads { IfOk result (IsBlockReading (text_of file.now)) }
+    ensures left { IfOk result (λ r. bytes_left (text_of file.now) r
+        ≤ bytes_left (text_of file.now) reading - 64 * most) }
+    ensures fault { IfErr result (IsTextFault file.now) }
+{
+    let mark = mark_len(file);
+    let text = &file[mark..];
+    match reading.go_on(text, most) {
+        Ok(reading) => Ok(reading),
+        Err(left) => Err(fault_at(text, text.len() - left, mark)),
+    }
+}
+
+/// Returns true if all of a file from its mark on is read.
+pub fn is_read(reading: &Reading, file: &[u8]) -> bool
+    ensures yes { result ≡ true → bytes_left (text_of file.now) reading.now ≡ 0 }
+    ensures no { result ≡ false → 0 < bytes_left (text_of file.now) reading.now }
+{
+    reading.blocks.len() >= (file.len() - mark_len(file)).div_ceil(BLOCK)
 }
 
 /// Returns why a byte of the text is refused, by that byte and the one before it.

@@ -4,7 +4,7 @@ use odata_hub::Hub;
 use served_folders::{Disk, DiskLoaded, DiskLoading, FolderFault, Folders, METADATA, look};
 use service_log::{Loaded, Log};
 use std::alloc::AllocError;
-use std::fs::Metadata;
+use std::fs::{File, Metadata};
 use std::io::ErrorKind;
 use std::os::unix::fs::MetadataExt;
 use std::rt::{Clock, Files};
@@ -18,7 +18,7 @@ const MOST_LOADS: u32 = 10;
 #[derive(Drop)]
 struct Load {
     start: Option<Instant>,
-    loading: DiskLoading,
+    loading: DiskLoading<File>,
 }
 
 /// What came of a load, and when it began.
@@ -214,20 +214,21 @@ impl<'a> Folder<'a> {
         self.load.is_some()
     }
 
-    /// Takes one step of the load that is under way, if there is one: about a millisecond for each ten columns.
+    /// Takes one step of the load that is under way, if there is one: it reads half a MiB of a file, or one block of rows.
     pub fn work(&mut self, rt: &HostRuntime, hub: &mut Hub, log: &mut Log<'_>)
         ensures { MayReload hub.old hub.new }
     {
         let Some(Load { start, loading }) = self.load.take() else {
             return;
         };
-        let catalog = match loading.step(rt.alloc()) {
+        let mut disk = Disk::new(rt).follow_links(self.follows);
+        let catalog = match disk.step(rt.alloc(), loading) {
             Ok(DiskLoaded::On(loading)) => {
                 self.load = Some(Load { start, loading });
                 return;
             }
             Ok(DiskLoaded::Over(catalog)) => Ok(catalog),
-            Err(fault) => Err(FolderFault::Load(fault)),
+            Err(fault) => Err(fault),
         };
         self.take_up(rt, hub, log, Taken { start, catalog });
     }

@@ -4,3 +4,4 @@ pub mod AreKeysLemmas
 pub mod SlotLemmas
 pub mod RowLemmas
 pub mod RisingLemmas
+pub mod ReadingLemmas

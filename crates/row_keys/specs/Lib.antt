@@ -4,3 +4,4 @@ pub mod Keys
 pub mod Laws
 pub mod Rising
 pub mod Slots
+pub mod Reading

@@ -1,5 +1,6 @@
 -- Keys of one integer each that rise from row to row.
 use Rattle.std.specs.Prelude.{◌≡◌, ◌<◌, ◌<ℤ◌, ℕ, ℤ, pos, List, [], ◌∷◌}
+use Rattle.row_keys.specs.declared.rising.Rise.{Rise}
 use Rattle.cell_types.specs.Value.{CellValue, integer}
 
 -- the number of a key that is one integer
@@ -11,3 +12,8 @@ key_number key = pos 0
 pub record AreRising (key_at : ℕ → List CellValue) (count : ℕ) : Type 0 where
   pub are : (row : ℕ) → row < count → key_at row ≡ integer (key_number (key_at row)) ∷ []
   pub rise : (a b : ℕ) → a < b → b < count → key_number (key_at a) <ℤ key_number (key_at b)
+
+-- they rise up to a row, and none is above the last
+pub record Rises (key_at : ℕ → List CellValue) (rise : Rise) : Type 0 where
+  pub rising : AreRising key_at rise.row
+  pub below : (k : ℕ) → k < rise.row → rise.last <ℤ key_number (key_at k) → ⊥

@@ -1,16 +1,14 @@
 //! The keys of a table's rows.
-ghost use Rattle.std.specs.Prelude.{◌≡◌, ◌≢◌, ◌<◌, ◌≤◌, ◌+◌, ◌^◌, ℕ, true, false, IfOk, IfErr, All, length, map};
+ghost use Rattle.std.specs.Prelude.{◌≡◌, ◌≢◌, ◌<◌, ◌+◌, ◌^◌, ℕ, true, false, All, length, map};
 ghost use Rattle.cell_types.specs.Value.{value_view};
 ghost use Rattle.row_keys.specs.Key.{row_key, row_of};
-ghost use Rattle.row_keys.specs.Keys.{typed_keys, typed_row, AreKeysOf, HasKeyFault};
+ghost use Rattle.row_keys.specs.Keys.{typed_keys, typed_row, AreKeysOf};
 ghost use Rattle.row_keys.specs.Slots.{free_slots, AreSeated};
 
-use crate::cells::{has_null, write_key};
 use crate::hashes::hash_of;
-use crate::rising::{are_rising, row_among};
-use crate::slots::{FREE, Met, raise, walk};
+use crate::rising::row_among;
+use crate::slots::{Met, raise, walk};
 use cell_types::Value;
-use std::alloc::{AllocError, Global};
 use typed_columns::TypedColumn;
 
 /// The rows of a table by their keys, of which no value is kept here.
@@ -32,7 +30,7 @@ pub enum KeyFault {
 }
 
 /// Puts a row, whose key is `key`, in a slot; returns false if an earlier row has its key.
-fn seat(
+pub(crate) fn seat(
     columns: &[TypedColumn],
     places: &[usize],
     key: &[Value<'_>],
@@ -64,63 +62,7 @@ fn seat(
     }
 }
 
-/// Returns the keys of `rows` rows in slots; or why they have none.
-fn seat_rows(
-    alloc: Global,
-    columns: &[TypedColumn],
-    places: &[usize],
-    rows: usize,
-) -> Result<Result<Keys, KeyFault>, AllocError>
-    requires places { All (λ place. place < length columns.now) places.now }
-    requires few { rows ≤ 2 ^ 31 }
-    ensures keys { IfOk result (λ found. IfOk found
-        (λ keys. AreKeysOf keys (typed_keys places.now columns.now rows))) }
-    ensures fault { IfOk result (λ found. IfErr found
-        (HasKeyFault (typed_keys places.now columns.now rows))) }
-{
-    cell_types::values_are_ordered();
-    let count = if places.is_empty() { 0 } else { rows };
-    let mut slots = Vec::from_elem(alloc, FREE, count + count / 3 + 1)?;
-    let mut key = Vec::with_capacity(alloc, places.len())?;
-    let mut repeated = None;
-    for row in 0..count {
-        write_key(columns, places, row, &mut key)?;
-        if has_null(key.as_slice()) {
-            return Ok(Err(KeyFault::Null(row)));
-        }
-        if repeated.is_none() && !seat(columns, places, key.as_slice(), slots.as_mut_slice(), row) {
-            repeated = Some(row);
-        }
-    }
-    match repeated {
-        Some(row) => Ok(Err(KeyFault::Twice(row))),
-        None => Ok(Ok(Keys::Slots(count, slots))),
-    }
-}
-
 impl Keys {
-    /// Returns the keys of `rows` rows of columns, at the places of the key's columns; or why they have none: a null in any of them comes before a
-    /// key that two rows have.
-    pub fn of_rows(
-        alloc: Global,
-        columns: &[TypedColumn],
-        places: &[usize],
-        rows: usize,
-    ) -> Result<Result<Keys, KeyFault>, AllocError>
-        requires places { All (λ place. place < length columns.now) places.now }
-        requires few { rows ≤ 2 ^ 31 }
-        ensures keys { IfOk result (λ found. IfOk found
-            (λ keys. AreKeysOf keys (typed_keys places.now columns.now rows))) }
-        ensures fault { IfOk result (λ found. IfErr found
-            (HasKeyFault (typed_keys places.now columns.now rows))) }
-    {
-        cell_types::values_are_ordered();
-        if are_rising(columns, places, rows) {
-            return Ok(Ok(Keys::Rising(rows)));
-        }
-        seat_rows(alloc, columns, places, rows)
-    }
-
     /// Returns the row that has a key, by the columns and places that the keys are of.
     pub fn find(
         &self,

@@ -1,34 +1,43 @@
 //! Keys of one integer each that rise from row to row, of which nothing is kept.
-ghost use Rattle.std.specs.Prelude.{◌≡◌, ◌<◌, true, All, length, map};
+ghost use Rattle.std.specs.Prelude.{◌≡◌, ◌<◌, ◌≤◌, IfSome, All, length, map};
 ghost use Rattle.cell_types.specs.Value.{value_view};
 ghost use Rattle.row_keys.specs.Key.{row_key};
 ghost use Rattle.row_keys.specs.Keys.{typed_row, IsRowWithKey};
-ghost use Rattle.row_keys.specs.Rising.{AreRising};
+ghost use Rattle.row_keys.specs.Rising.{AreRising, Rises};
 
 use cell_types::Value;
 use typed_columns::TypedColumn;
 
-/// Returns true if the keys of the first `rows` rows are one integer each, above the one before it.
-pub fn are_rising(columns: &[TypedColumn], places: &[usize], rows: usize) -> bool
-    requires { All (λ place. place < length columns.now) places.now }
-    ensures { result ≡ true
-        → AreRising (λ row. row_key places.now (typed_row row columns.now)) rows }
+/// Rows whose keys rise: how many they are, and the number of the last key.
+#[derive(Clone, Copy)]
+pub struct Rise {
+    pub row: usize,
+    pub last: i128,
+}
+
+/// Returns the rise up to the row `end` if the keys of the rows up to it are one integer each, above the one before it.
+pub fn rises_on(columns: &[TypedColumn], places: &[usize], rise: Rise, end: usize) -> Option<Rise>
+    requires places { All (λ place. place < length columns.now) places.now }
+    requires first { rise.row ≤ end }
+    requires rises { Rises (λ row. row_key places.now (typed_row row columns.now)) rise }
+    ensures rises { IfSome result (Rises (λ row. row_key places.now (typed_row row columns.now))) }
+    ensures row { IfSome result (λ next. next.row ≡ end) }
 {
     if places.len() != 1 {
-        return false;
+        return None;
     }
     let column = &columns[places[0]];
-    let mut last = i128::MIN;
-    for row in 0..rows {
+    let mut last = rise.last;
+    for row in rise.row..end {
         let Value::Int(number) = column.value(row) else {
-            return false;
+            return None;
         };
         if number <= last {
-            return false;
+            return None;
         }
         last = number;
     }
-    true
+    Some(Rise { row: end, last })
 }
 
 /// Returns the row below `rows` that has a key, among keys that rise.

@@ -1,28 +1,62 @@
 -- What is read of a file, and the files of schemas.
-use Rattle.std.proofs.Common.{◌≡◌, ◌<◌, ◌+◌, ℕ, List, [], ◌∷◌, ◌++◌, length, map, take, get_or, Option, Some, None, refl, sym, ap, subst, ◌∙◌, inl, inr, append-nil, arith}
-use Rattle.std.specs.Prelude.{IfSome, option_map}
-use Rattle.std.specs.Io.Take.{take_limit, take_inner, take_remaining}
-use Rattle.std.specs.declared.io.traits.Take.{Take}
-use Rattle.std.proofs.lemmas.List.{take-take, map_more}
+use Rattle.std.proofs.Common.{◌≡◌, ◌≤◌, ◌<◌, ◌+◌, ◌⊎◌, ℕ, List, [], ◌∷◌, ◌++◌, length, map, take, get_or, Option, Some, None, refl, sym, ap, subst, ◌∙◌, inl, inr, append-nil, arith}
+use Rattle.std.specs.Prelude.{IfSome}
+use Rattle.std.specs.Io.KnownBytes.{Consumes, IsAtEnd}
+use Rattle.std.proofs.Math.Nat.{eq-or-lt_of_le}
+use Rattle.std.proofs.Math.Seq.{take-append-add, take-append_seam}
+use Rattle.std.proofs.lemmas.List.{append_assoc, take-take, take-append-le, take_all, map_more}
 use Rattle.csvw_meta.specs.declared.schema.Schema.{Schema}
 use Rattle.csvw_meta.specs.Schema.{SchemaOf, schema_view}
 use Rattle.table_store.specs.File.{FileOf}
 use Rattle.served_folders.specs.Disk.{IsFileOf, AreFilesOf}
 
-front_of_known : (known : Option (List ℕ)) (most limit : ℕ) (old read cut : List ℕ) → limit ≡ most → old ≡ [] → cut ≡ take most read
-    → IfSome (option_map (take limit) known) (λ xs. read ≡ old ++ xs) → IfSome known (λ all. cut ≡ take most all)
-front_of_known None most limit old read cut e none is h = tt
-front_of_known (Some all) most limit old read cut e none is h =
-    let read_is : read ≡ take most all = h ∙ ap (λ (xs : List ℕ). xs ++ take limit all) none ∙ ap (λ (n : ℕ). take n all) e in
-    is ∙ ap (take most) read_is ∙ take-take most most all (omega arith)
+-- bytes that are read behind others are written over the room there
+pub read_over : (old now room post rest new : List ℕ) (start count long : ℕ) → start ≡ length old → take start now ≡ old → count ≤ length room
+    → start + count ≤ long → new ≡ take (start + count) (take long (take start now ++ (room ++ post) ++ rest)) → new ≡ old ++ take count room
+read_over old now room post rest new start count long e front fits within is =
+    is ∙ take-take (start + count) long (take start now ++ (room ++ post) ++ rest) within
+    ∙ ap (λ (xs : List ℕ). take (start + count) (xs ++ (room ++ post) ++ rest)) front
+    ∙ ap (λ (n : ℕ). take (n + count) (old ++ (room ++ post) ++ rest)) e
+    ∙ ap (take (length old + count)) (append_assoc old (room ++ post) rest)
+    ∙ take-append-add old (room ++ post ++ rest) count
+    ∙ ap (λ (xs : List ℕ). old ++ take count xs) (append_assoc room post rest)
+    ∙ ap (λ (xs : List ℕ). old ++ xs) (take-append-le count room (post ++ rest) fits)
 
--- all bytes that a reader gives up to a limit are a front of those that it has left
-pub front_of_file : {R : Type 0} (remaining : R → Option (List ℕ)) (file : R) (t : Take R) (most : ℕ) (old read cut : List ℕ)
-    → take_limit t ≡ most → take_inner t ≡ file → old ≡ [] → cut ≡ take most read
-    → IfSome (take_remaining remaining t) (λ xs. read ≡ old ++ xs) → IfSome (remaining file) (λ all. cut ≡ take most all)
-front_of_file {R} remaining file t most old read cut limit inner none is h =
-    subst (λ (f : R). IfSome (remaining f) (λ all. cut ≡ take most all)) inner
-    (front_of_known (remaining t.inner) most t.limit old read cut limit none is h)
+-- bytes to which room was added begin with those that they were
+pub front_of_grown : (old now fresh : List ℕ) (start long : ℕ) → start ≡ length old → start ≤ long → now ≡ take long old ++ fresh → take start now ≡ old
+front_of_grown old now fresh start long e within is =
+    let same : take long old ≡ old = take_all long old (omega arith) in
+    ap (take start) is ∙ ap (λ (xs : List ℕ). take start (xs ++ fresh)) same ∙ ap (λ (n : ℕ). take n (old ++ fresh)) e ∙ take-append_seam old fresh
+
+pub over_by : {E : Type 0} (room most long : ℕ) → (0 < room → E) → (room ≡ 0 → most ≤ long) → E ⊎ (most ≤ long)
+over_by room most long f g =
+    elim (eq-or-lt_of_le {n = 0} {m = room} (omega arith)) [
+      | inl none ↦ inr (g (sym none))
+      | inr some ↦ inl (f some)
+    ]
+
+-- a file is read on in behind what was read
+pub consumed_more : (told left more : Option (List ℕ)) (read piece : List ℕ) → Consumes told left read → Consumes left more piece
+    → Consumes told more (read ++ piece)
+consumed_more None left more read piece h k = tt
+consumed_more (Some all) None more read piece h k = absurd h
+consumed_more (Some all) (Some xs) None read piece h k = absurd k
+consumed_more (Some all) (Some xs) (Some ys) read piece h k = h ∙ ap (λ (zs : List ℕ). read ++ zs) k ∙ sym (append_assoc read piece ys)
+
+-- what is read up to the end of a file, or past the limit, is its front
+pub front_read : (told left : Option (List ℕ)) (bytes : List ℕ) (most : ℕ) → Consumes told left bytes → length bytes ≤ most
+    → IsAtEnd left ⊎ (most ≤ length bytes) → IfSome told (λ all. bytes ≡ take most all)
+front_read None left bytes most h short over = tt
+front_read (Some all) None bytes most h short over = absurd h
+front_read (Some all) (Some xs) bytes most h short over =
+    elim over [
+      | inl none ↦
+          let is : all ≡ bytes = h ∙ ap (λ (zs : List ℕ). bytes ++ zs) none ∙ append-nil bytes in
+          sym (ap (take most) is ∙ take_all most bytes short)
+      | inr full ↦
+          let long : most ≡ length bytes = omega arith in
+          sym (ap (take most) h ∙ ap (λ (n : ℕ). take n (bytes ++ xs)) long ∙ take-append_seam bytes xs)
+    ]
 
 pub joined : (xs ys : List SchemaOf) (fs gs : List FileOf) → AreFilesOf xs fs → AreFilesOf ys gs → AreFilesOf (xs ++ ys) (fs ++ gs)
 joined [] ys fs gs h k = subst (λ (files : List FileOf). AreFilesOf ys (files ++ gs)) (sym h) k

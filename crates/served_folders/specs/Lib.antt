@@ -1,4 +1,5 @@
 pub mod Folders
+pub mod Taking
 pub mod Taken
 pub mod Steps
 pub mod Loads

@@ -1,12 +1,15 @@
 //! Folders on a disk, by their paths.
-ghost use Rattle.std.specs.Prelude.{◌≡◌, None, IfErr, IfOk, map, string_bytes};
+ghost use Rattle.std.specs.Prelude.{◌≡◌, ⊤, None, Err, IfErr, IfOk, map, string_bytes};
 ghost use Rattle.served_folders.specs.Disk.{AreFileNames};
-ghost use Rattle.served_folders.specs.Folders.{CountsFolderFault, CountsUp, IsRefusalOf, unasked};
+ghost use Rattle.served_folders.specs.Folders.{folder_cause, CountsFolderFault, CountsUp, IsRefusalOf, MeansTaken, unasked};
+ghost use Rattle.served_folders.specs.Steps.{DiskGoesOn, FilesGoOn};
+ghost use Rattle.served_folders.specs.Taking.{pieces_left, IsTaking};
 
-use crate::disk_loading::DiskLoading;
+use crate::disk_loading::{DiskLoaded, DiskLoading, Stage, Tables, TablesLoaded};
 use crate::folders::{FolderFault, Folders};
 use crate::names::names_of;
-use crate::taken::{TakeFault, take_folder, take_metadata};
+use crate::taken::{TakeFault, begin_taking, take_metadata};
+use crate::taking::{Step, Taking};
 use std::alloc::Global;
 use std::rt::Files;
 use table_store::Catalog;
@@ -45,8 +48,25 @@ impl<'a, R: Files> Disk<'a, R> {
         self
     }
 
-    /// Begins to load the folder at that path: takes its files, and reads its metadata.
-    pub fn begin(&mut self, alloc: Global, name: &str) -> Result<DiskLoading, FolderFault>
+    /// Counts a device that failed. Returns the fault of the load.
+    fn counted(&mut self, fault: TakeFault) -> FolderFault
+        ensures cause { folder_cause result ≡ None }
+        ensures load { (⟦<Disk<'a, R> as Folders>⟧.folders self.new).loads
+            ≡ (⟦<Disk<'a, R> as Folders>⟧.folders self.old).loads }
+        ensures counts { CountsFolderFault {X = ⊤} (⟦<Disk<'a, R> as Folders>⟧.folders self.old)
+            (⟦<Disk<'a, R> as Folders>⟧.folders self.new) (Err result) }
+    {
+        match fault {
+            TakeFault::Device => {
+                self.device = self.device.saturating_add(1);
+                FolderFault::Device
+            }
+            TakeFault::NoMemory => FolderFault::NoMemory,
+        }
+    }
+
+    /// Begins to load the folder at that path: reads its metadata, and looks at the files of its tables.
+    pub fn begin(&mut self, alloc: Global, name: &str) -> Result<DiskLoading<R::File>, FolderFault>
         ensures fault { IfErr result (IsRefusalOf None) }
         ensures load { CountsUp (⟦<Disk<'a, R> as Folders>⟧.folders self.old).loads
             (⟦<Disk<'a, R> as Folders>⟧.folders self.new).loads }
@@ -54,20 +74,97 @@ impl<'a, R: Files> Disk<'a, R> {
             (⟦<Disk<'a, R> as Folders>⟧.folders self.new) result }
     {
         self.loads = self.loads.saturating_add(1);
-        match take_folder(alloc, self.files, self.follows, name) {
-            Ok(Some((meta, taken))) => match DiskLoading::start(alloc, meta, taken) {
-                Ok(loading) => Ok(loading),
-                Err(fault) => Err(FolderFault::Load(fault)),
-            },
+        match begin_taking(alloc, self.files, self.follows, name) {
+            Ok(Some(taking)) => Ok(DiskLoading {
+                stage: Stage::Files(taking),
+            }),
             Ok(None) => {
                 self.no_metadata = self.no_metadata.saturating_add(1);
                 Err(FolderFault::NoMetadata)
             }
-            Err(TakeFault::Device) => {
-                self.device = self.device.saturating_add(1);
-                Err(FolderFault::Device)
+            Err(fault) => Err(self.counted(fault)),
+        }
+    }
+
+    /// Opens a file, or reads a piece of one. Begins to load the tables once all files are read.
+    fn take_on(
+        &mut self,
+        alloc: Global,
+        taking: Taking<R::File>,
+    ) -> Result<Stage<R::File>, FolderFault>
+        requires { IsTaking taking }
+        ensures goes_on { IfOk result (FilesGoOn (pieces_left taking)) }
+        ensures fault { IfErr result (IsRefusalOf None) }
+        ensures load { (⟦<Disk<'a, R> as Folders>⟧.folders self.new).loads
+            ≡ (⟦<Disk<'a, R> as Folders>⟧.folders self.old).loads }
+        ensures counts { CountsFolderFault (⟦<Disk<'a, R> as Folders>⟧.folders self.old)
+            (⟦<Disk<'a, R> as Folders>⟧.folders self.new) result }
+    {
+        match taking.step(alloc, self.files, self.follows) {
+            Ok(Step::On(taking)) => Ok(Stage::Files(taking)),
+            Ok(Step::Over(taken)) => match Tables::start(alloc, taken) {
+                Ok(tables) => Ok(Stage::Tables(tables)),
+                Err(fault) => Err(FolderFault::Load(fault)),
+            },
+            Err(fault) => Err(self.counted(fault)),
+        }
+    }
+
+    /// Takes one step of a load: opens a file, reads a piece of one, or goes on with a table. Returns the catalog once all tables are read.
+    pub fn step(
+        &mut self,
+        alloc: Global,
+        loading: DiskLoading<R::File>,
+    ) -> Result<DiskLoaded<R::File>, FolderFault>
+        ensures goes_on { IfOk result (DiskGoesOn loading) }
+        ensures fault { IfErr result (IsRefusalOf None) }
+        ensures load { (⟦<Disk<'a, R> as Folders>⟧.folders self.new).loads
+            ≡ (⟦<Disk<'a, R> as Folders>⟧.folders self.old).loads }
+        ensures counts { CountsFolderFault (⟦<Disk<'a, R> as Folders>⟧.folders self.old)
+            (⟦<Disk<'a, R> as Folders>⟧.folders self.new) result }
+    {
+        match loading.stage {
+            Stage::Files(taking) => match self.take_on(alloc, taking) {
+                Ok(stage) => Ok(DiskLoaded::On(DiskLoading { stage })),
+                Err(fault) => Err(fault),
+            },
+            Stage::Tables(tables) => match tables.step(alloc) {
+                Ok(TablesLoaded::On(tables)) => Ok(DiskLoaded::On(DiskLoading {
+                    stage: Stage::Tables(tables),
+                })),
+                Ok(TablesLoaded::Over(catalog)) => Ok(DiskLoaded::Over(catalog)),
+                Err(fault) => Err(FolderFault::Load(fault)),
+            },
+        }
+    }
+
+    /// Returns the catalog, by all steps that are left.
+    fn finish(
+        &mut self,
+        alloc: Global,
+        loading: DiskLoading<R::File>,
+    ) -> Result<Catalog, FolderFault>
+        ensures tables { IfOk result (MeansTaken None) }
+        ensures fault { IfErr result (IsRefusalOf None) }
+        ensures load { (⟦<Disk<'a, R> as Folders>⟧.folders self.new).loads
+            ≡ (⟦<Disk<'a, R> as Folders>⟧.folders self.old).loads }
+        ensures counts { CountsFolderFault (⟦<Disk<'a, R> as Folders>⟧.folders self.old)
+            (⟦<Disk<'a, R> as Folders>⟧.folders self.new) result }
+    {
+        let mut stage = loading.stage;
+        loop {
+            match stage {
+                Stage::Files(taking) => match self.take_on(alloc, taking) {
+                    Ok(on) => stage = on,
+                    Err(fault) => return Err(fault),
+                },
+                Stage::Tables(tables) => {
+                    return match tables.finish(alloc) {
+                        Ok(catalog) => Ok(catalog),
+                        Err(fault) => Err(FolderFault::Load(fault)),
+                    };
+                }
             }
-            Err(TakeFault::NoMemory) => Err(FolderFault::NoMemory),
         }
     }
 
@@ -98,10 +195,7 @@ impl<'a, R: Files> Folders for Disk<'a, R> {
     /// Returns the catalog of the folder at that path.
     fn load(&mut self, alloc: Global, name: &str) -> Result<Catalog, FolderFault> {
         match self.begin(alloc, name) {
-            Ok(loading) => match loading.finish(alloc) {
-                Ok(catalog) => Ok(catalog),
-                Err(fault) => Err(FolderFault::Load(fault)),
-            },
+            Ok(loading) => self.finish(alloc, loading),
             Err(fault) => Err(fault),
         }
     }

@@ -1,84 +1,105 @@
-//! A folder of a disk that is loaded in steps: its files were taken, and its tables are read a block of rows at a time.
+//! A folder of a disk that is loaded in steps: its files are taken piece by piece, and its tables are read a block of rows at a time.
 ghost use Rattle.std.specs.Prelude.{None, IfErr, IfOk, IfSome};
 ghost use Rattle.table_store.specs.Fault.{load_cause};
+ghost use Rattle.table_store.specs.FolderSteps.{steps_left};
 ghost use Rattle.served_folders.specs.Folders.{MeansTaken, RefusesTaken};
-ghost use Rattle.served_folders.specs.Steps.{DiskGoesOn};
+ghost use Rattle.served_folders.specs.Steps.{TablesGoOn};
+ghost use Rattle.served_folders.specs.Taken.{IsLoadingTaken};
 
 use crate::sizes::sized_fault;
-use crate::taken::Taken;
+use crate::taking::{Taken, Taking};
 use csvw_meta::Limits;
 use std::alloc::Global;
 use std::marker::Model;
 use table_store::{Catalog, LoadFault, Loaded, Loading};
 
-/// A folder of a disk that is loaded. It is seen as a number that no count of the steps passes that are left.
+/// The tables of a folder of a disk that are loaded.
 #[derive(Drop)]
-pub struct DiskLoading {
-    loading: Loading,
+pub(crate) struct Tables {
+    pub loading: Loading,
     /// The url of the first table whose file is over the limit: none was read from that one on.
-    over: Option<String>,
+    pub over: Option<String>,
 }
 
-impl Model for DiskLoading {
-    ghost use Rattle.std.specs.Prelude.{ℕ};
-    ghost use Rattle.table_store.specs.FolderSteps.{steps_left};
-    ghost use Rattle.served_folders.specs.Taken.{IsLoadingTaken};
+/// How far the loading of a folder of a disk has come.
+#[derive(Drop)]
+pub(crate) enum Stage<F> {
+    /// Its files are taken.
+    Files(Taking<F>),
+    /// Its tables are read.
+    Tables(Tables),
+}
 
-    ghost Value = { ℕ };
+/// A folder of a disk that is loaded. It is seen as two numbers, since its files are taken first: no more pieces of them are left to be read, and no more steps of its tables.
+#[derive(Drop)]
+pub struct DiskLoading<F> {
+    pub(crate) stage: Stage<F>,
+}
 
-    ghost view = { λ disk. steps_left disk.loading };
+impl<F> Model for DiskLoading<F> {
+    ghost use Rattle.served_folders.specs.Taken.{left_of_disk, IsStage, StepsLeft};
 
-    ghost invariant = { λ disk. IsLoadingTaken disk.loading };
+    ghost Value = { StepsLeft };
+
+    ghost view = { λ disk. left_of_disk disk.stage };
+
+    ghost invariant = { λ disk. IsStage disk.stage };
 }
 
 /// What a step of the loading of a folder of a disk leaves.
 #[derive(Drop)]
-pub enum DiskLoaded {
+pub enum DiskLoaded<F> {
     /// There is more to read.
-    On(DiskLoading),
+    On(DiskLoading<F>),
     /// All tables are read.
     Over(Catalog),
 }
 
-impl DiskLoading {
+/// What a step of the loading of tables leaves.
+#[derive(Drop)]
+pub(crate) enum TablesLoaded {
+    On(Tables),
+    Over(Catalog),
+}
+
+impl Tables {
     /// Begins to load what was taken of a folder.
-    pub(crate) fn start(
-        alloc: Global,
-        meta: Vec<u8>,
-        taken: Taken,
-    ) -> Result<DiskLoading, LoadFault>
-        ensures { IfErr result (λ e. IfSome (load_cause e) (RefusesTaken None)) }
+    pub(crate) fn start(alloc: Global, taken: Taken) -> Result<Tables, LoadFault>
+        ensures loads { IfOk result (λ tables. IsLoadingTaken tables.loading) }
+        ensures fault { IfErr result (λ e. IfSome (load_cause e) (RefusesTaken None)) }
     {
-        let Taken { files, over } = taken;
+        let Taken { meta, files, over } = taken;
         match Loading::start(alloc, Limits::greatest(), meta, files) {
-            Ok(loading) => Ok(DiskLoading { loading, over }),
+            Ok(loading) => Ok(Tables { loading, over }),
             Err(fault) => Err(sized_fault(fault, over)),
         }
     }
 
-    /// Begins the next table, or reads one more block of rows. Returns the catalog once all tables are read.
-    pub fn step(self, alloc: Global) -> Result<DiskLoaded, LoadFault>
-        ensures goes_on { IfOk result (DiskGoesOn self) }
+    /// Begins the next table, or goes on with one. Returns the catalog once all tables are read.
+    pub(crate) fn step(self, alloc: Global) -> Result<TablesLoaded, LoadFault>
+        requires { IsLoadingTaken self.loading }
+        ensures goes_on { IfOk result (TablesGoOn (steps_left self.loading)) }
         ensures fault { IfErr result (λ e. IfSome (load_cause e) (RefusesTaken None)) }
     {
-        let DiskLoading { loading, over } = self;
+        let Tables { loading, over } = self;
         match loading.step(alloc) {
-            Ok(Loaded::On(loading)) => Ok(DiskLoaded::On(DiskLoading { loading, over })),
-            Ok(Loaded::Over(catalog)) => Ok(DiskLoaded::Over(catalog)),
+            Ok(Loaded::On(loading)) => Ok(TablesLoaded::On(Tables { loading, over })),
+            Ok(Loaded::Over(catalog)) => Ok(TablesLoaded::Over(catalog)),
             Err(fault) => Err(sized_fault(fault, over)),
         }
     }
 
     /// Returns the catalog, by all steps that are left.
-    pub fn finish(self, alloc: Global) -> Result<Catalog, LoadFault>
+    pub(crate) fn finish(self, alloc: Global) -> Result<Catalog, LoadFault>
+        requires { IsLoadingTaken self.loading }
         ensures tables { IfOk result (MeansTaken None) }
         ensures fault { IfErr result (λ e. IfSome (load_cause e) (RefusesTaken None)) }
     {
-        let mut disk = self;
+        let mut tables = self;
         loop {
-            match disk.step(alloc) {
-                Ok(DiskLoaded::On(on)) => disk = on,
-                Ok(DiskLoaded::Over(catalog)) => return Ok(catalog),
+            match tables.step(alloc) {
+                Ok(TablesLoaded::On(on)) => tables = on,
+                Ok(TablesLoaded::Over(catalog)) => return Ok(catalog),
                 Err(fault) => return Err(fault),
             }
         }

@@ -8,6 +8,7 @@ mod names;
 mod plain;
 mod sizes;
 mod taken;
+mod taking;
 
 pub use disk::Disk;
 pub use disk_loading::{DiskLoaded, DiskLoading};

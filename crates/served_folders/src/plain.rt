@@ -1,8 +1,9 @@
 //! Plain files alone are opened: the end of a FIFO, a socket or a device never comes, and a folder has no bytes.
-ghost use Rattle.std.specs.Prelude.{◌≡◌, ◌≤◌, ◌+◌, ◌↔◌, IfErr, IfOk, IsOk, vec_len};
+ghost use Rattle.std.specs.Prelude.{◌≡◌, ◌<◌, ◌≤◌, ◌+◌, ◌↔◌, [], true, length, take, IfErr, IfOk, IsOk, vec_len};
+ghost use Rattle.std.specs.Io.KnownBytes.{Consumes, IsAtEnd};
 ghost use Rattle.std.specs.Fs.{IsFile, file_type};
 ghost use Rattle.std.specs.IoError.{error_kind};
-ghost use Rattle.served_folders.specs.Disk.{IsFrontOfFile, IsFrontOfSome};
+ghost use Rattle.served_folders.specs.Disk.{HasReadOn, IsFrontOfSome};
 
 use csvw_meta::MOST_FILE_BYTES;
 use std::alloc::Global;
@@ -44,23 +45,68 @@ fn is_same(one: &Metadata, other: &Metadata) -> bool {
     one.dev() == other.dev() && one.ino() == other.ino()
 }
 
-/// Returns the bytes that a file has left, or one more than the limit. Memory is allocated once, by the length that the system reports.
-fn read_front<F: Read + Drop>(alloc: Global, file: F, length: u64) -> io::Result<Vec<u8>>
-    ensures most { IfOk result (λ bytes. vec_len bytes ≤ MOST_FILE_BYTES + 1) }
-    // If the file reports its bytes.
-    ensures bytes { IfOk result (λ bytes. IsFrontOfFile (F.remaining file) bytes.items) }
+/// The most bytes that are read of a file at once.
+const PIECE: usize = 524_288;
+
+/// Reads once from a file, anew if the call was interrupted.
+fn read_once<F: Read>(file: &mut F, room: &mut [u8]) -> io::Result<usize>
+    ensures most { IfOk result (λ count. count ≤ length room.new) }
+    ensures bytes { IfOk result (λ count.
+        Consumes (F.remaining file.old) (F.remaining file.new) (take count room.new)) }
+    ensures end { IfOk result (λ count.
+        count ≡ 0 → 0 < length room.old → IsAtEnd (F.remaining file.new)) }
 {
-    let most = u64::from(MOST_FILE_BYTES) + 1;
-    let room = length.saturating_add(1).min(most);
-    let mut bytes = Vec::with_capacity(alloc, room as usize)?;
-    file.take(most).read_to_end(&mut bytes)?;
-    // of bytes that a reader does not report, std does not say that `take` keeps the limit
-    bytes.truncate(most as usize);
-    Ok(bytes)
+    for _try in 0..u64::MAX {
+        match file.read(room) {
+            Err(error) if error.kind() == ErrorKind::Interrupted => {}
+            other => return other,
+        }
+    }
+    Err(io::Error::from(ErrorKind::Interrupted))
 }
 
-/// Returns the bytes of the plain file at a path, or one more than the limit. A link there is followed, or is no plain file. What is none is an invalid input: it is looked at
-/// before it is opened, since opening a FIFO waits for who writes into it; and what was opened is looked at too, since another file may stand there by then.
+/// Reads on in a file of which `bytes` are read: at most [`PIECE`] more, and at most one more than the limit of a file in all. Returns whether there may be more.
+pub(crate) fn read_piece<F: Read>(file: &mut F, bytes: &mut Vec<u8>) -> io::Result<bool>
+    requires { vec_len bytes.old ≤ MOST_FILE_BYTES + 1 }
+    ensures most { vec_len bytes.new ≤ MOST_FILE_BYTES + 1 }
+    ensures on { IfOk result (λ more. more ≡ true → vec_len bytes.old < vec_len bytes.new) }
+    // If the file reports its bytes.
+    ensures bytes { IfOk result (HasReadOn (F.remaining file.old) (F.remaining file.new)
+        bytes.old.items bytes.new.items) }
+{
+    let start = bytes.len();
+    let left = MOST_FILE_BYTES as usize + 1 - start;
+    let spare = bytes.capacity() - start;
+    let room = if spare == 0 { PIECE } else { spare.min(PIECE) };
+    bytes.resize(start + room.min(left), 0)?;
+    let count = read_once(file, &mut bytes[start..])?;
+    bytes.truncate(start + count);
+    Ok(count > 0)
+}
+
+/// Opens the plain file at a path. Returns it, and room for its bytes: memory is allocated once, by the length that the system reports. A link there is followed, or is no plain
+/// file. What is none is an invalid input: it is looked at before it is opened, since opening a FIFO waits for who writes into it; and what was opened is looked at too,
+/// since another file may be there by then.
+pub(crate) fn open_plain<R: Files>(
+    alloc: Global,
+    files: &R,
+    path: &str,
+    follows: bool,
+) -> io::Result<(R::File, Vec<u8>)>
+    ensures { IfOk result (λ opened. opened.1.items ≡ []) }
+{
+    let found = plain(look(files, path, follows)?)?;
+    let file = fs::open(files, path)?;
+    let opened = plain(file.metadata()?)?;
+    if !follows && !is_same(&found, &opened) {
+        return Err(io::Error::from(ErrorKind::InvalidInput));
+    }
+    let most = u64::from(MOST_FILE_BYTES) + 1;
+    let room = opened.len().saturating_add(1).min(most);
+    Ok((file, Vec::with_capacity(alloc, room as usize)?))
+}
+
+/// Returns the bytes of the plain file at a path, or one more than the limit, as it is opened by [`open_plain`].
 pub fn read_plain<R: Files>(
     alloc: Global,
     files: &R,
@@ -71,12 +117,7 @@ pub fn read_plain<R: Files>(
     // If files report their bytes.
     ensures bytes { IfOk result (λ bytes. IsFrontOfSome R.File.remaining bytes.items) }
 {
-    let found = plain(look(files, path, follows)?)?;
-    let file = fs::open(files, path)?;
-    let opened = plain(file.metadata()?)?;
-    if follows || is_same(&found, &opened) {
-        read_front(alloc, file, opened.len())
-    } else {
-        Err(io::Error::from(ErrorKind::InvalidInput))
-    }
+    let (mut file, mut bytes) = open_plain(alloc, files, path, follows)?;
+    while read_piece(&mut file, &mut bytes)? {}
+    Ok(bytes)
 }

@@ -1,22 +1,23 @@
 //! What is taken of a folder on a disk. Of `csv-metadata.json`, then of each file that it names, once, and of no other, at most one byte more than the limit of a file is
 //! read. Before any file of a table is read, all are looked at: what is no plain file is a device that fails, and from the first on that is over the limit none is read.
-ghost use Rattle.std.specs.Prelude.{◌≡◌, ◌≢◌, ◌≤◌, ◌+◌, IfOk, IfSome, length, map, vec_len};
+ghost use Rattle.std.specs.Prelude.{◌≡◌, ◌≢◌, ◌≤◌, ◌+◌, ℕ, List, IfOk, IfSome, OnOk, length, map, take, vec_len};
 ghost use Rattle.std.specs.IoError.{error_kind};
 ghost use Rattle.csvw_meta.specs.declared.limits.TheConstants.{MOST_FILE_BYTES};
 ghost use Rattle.csvw_meta.specs.Document.{schemas_of};
 ghost use Rattle.csvw_meta.specs.Schema.{schema_view};
-ghost use Rattle.table_store.specs.File.{file_view};
-ghost use Rattle.served_folders.specs.Disk.{AreFilesIn, AreFilesOf, AreTaken};
+ghost use Rattle.table_store.specs.File.{FileOf};
+ghost use Rattle.served_folders.specs.Disk.{AreFilesIn, AreFilesOf};
 ghost use Rattle.served_folders.specs.Folders.{greatest_limits};
+ghost use Rattle.served_folders.specs.Taking.{IsTaking};
 
 use crate::names::{METADATA, is_memory};
 use crate::plain::{plain_len, read_plain};
 use crate::sizes::{files_before, is_too_large};
+use crate::taking::Taking;
 use csvw_meta::{Limits, Schema, Schemas};
 use std::alloc::{AllocError, Global};
 use std::io::{self, ErrorKind};
 use std::rt::Files;
-use table_store::NamedFile;
 
 /// Why the files of a folder were not taken: one could not be read, or memory ran out.
 #[derive(Clone, Copy, Drop)]
@@ -36,7 +37,7 @@ impl From<AllocError> for TakeFault {
 }
 
 /// Returns the fault that an error of a file is.
-fn device_fault(error: &io::Error) -> TakeFault
+pub(crate) fn device_fault(error: &io::Error) -> TakeFault
     ensures memory { error_kind error.now ≡ ErrorKind.OutOfMemory → result ≡ TakeFault.NoMemory }
     ensures device { error_kind error.now ≢ ErrorKind.OutOfMemory → result ≡ TakeFault.Device }
 {
@@ -62,15 +63,6 @@ fn take_file<R: Files>(
         Err(error) if error.kind() == ErrorKind::NotFound => Ok(None),
         Err(error) => Err(device_fault(&error)),
     }
-}
-
-/// Returns the file of a table, with its name.
-fn named_file(alloc: Global, url: &str, bytes: Vec<u8>) -> Result<NamedFile, AllocError>
-    ensures { IfOk result (λ file.
-        file_view file ≡ record { name = url.now; bytes = bytes.items }) }
-{
-    let name = String::from_str(alloc, url)?;
-    Ok(NamedFile { name, bytes })
 }
 
 /// Returns how many bytes the plain file of a folder has: none if there is nothing of that name.
@@ -109,82 +101,6 @@ fn look_at_tables<R: Files>(
     Ok(lengths)
 }
 
-/// Returns the files of the tables, but those that are missing.
-fn take_tables<R: Files>(
-    alloc: Global,
-    files: &R,
-    follows: bool,
-    folder: &str,
-    tables: &[Schema],
-) -> Result<Vec<NamedFile>, TakeFault>
-    ensures { IfOk result (λ files.
-        AreFilesOf (map schema_view tables.now) (map file_view files.items)) }
-{
-    let mut taken = Vec::new(alloc);
-    for table in tables {
-        if let Some(bytes) = take_file(alloc, files, follows, folder, table.url.as_str())? {
-            let file = named_file(alloc, table.url.as_str(), bytes)?;
-            if taken.push(file).is_err() {
-                return Err(TakeFault::NoMemory);
-            }
-        }
-    }
-    Ok(taken)
-}
-
-/// Files of a folder: those before the first that is over the limit, and the url of the table of that one.
-#[derive(Drop)]
-pub(crate) struct Taken {
-    pub files: Vec<NamedFile>,
-    pub over: Option<String>,
-}
-
-/// Returns the files of the tables before the first that is over the limit, but those that are missing.
-fn take_sized<R: Files>(
-    alloc: Global,
-    files: &R,
-    follows: bool,
-    folder: &str,
-    tables: &[Schema],
-) -> Result<Taken, TakeFault>
-    ensures { IfOk result (λ taken.
-        AreFilesOf (map schema_view tables.now) (map file_view taken.files.items)) }
-{
-    let lengths = look_at_tables(alloc, files, follows, folder, tables)?;
-    let before = files_before(lengths.as_slice());
-    let over = match tables.get(before) {
-        Some(table) => Some(table.url.clone()?),
-        None => None,
-    };
-    let files = take_tables(alloc, files, follows, folder, &tables[..before])?;
-    Ok(Taken { files, over })
-}
-
-/// Returns the files that the metadata names; none if it is refused.
-fn take_named<R: Files>(
-    alloc: Global,
-    files: &R,
-    follows: bool,
-    folder: &str,
-    meta: &[u8],
-) -> Result<Taken, TakeFault>
-    ensures { IfOk result (λ taken.
-        AreFilesIn (schemas_of greatest_limits meta.now) (map file_view taken.files.items)) }
-{
-    match Schemas::read(alloc, meta, &Limits::greatest()) {
-        Ok(schemas) => take_sized(alloc, files, follows, folder, schemas.tables.as_slice()),
-        Err(fault) => {
-            if is_memory(&fault) {
-                return Err(TakeFault::NoMemory);
-            }
-            Ok(Taken {
-                files: Vec::new(alloc),
-                over: None,
-            })
-        }
-    }
-}
-
 /// Returns the metadata of a folder, if it has some. Of metadata over the limit no byte is taken: it is refused as a text of none is, since neither is JSON.
 pub(crate) fn take_metadata<R: Files>(
     alloc: Global,
@@ -200,15 +116,51 @@ pub(crate) fn take_metadata<R: Files>(
     take_file(alloc, files, follows, folder, METADATA)
 }
 
-/// Returns the metadata of a folder, if it has some, and the files that the metadata names.
-pub(crate) fn take_folder<R: Files>(
+/// Returns the tables that metadata names; none if it is refused.
+fn tables_of(alloc: Global, meta: &[u8]) -> Result<Vec<Schema>, TakeFault>
+    ensures { IfOk result (λ tables. (files : List FileOf)
+        → AreFilesOf (map schema_view tables.items) files
+        → AreFilesIn (schemas_of greatest_limits meta.now) files) }
+{
+    match Schemas::read(alloc, meta, &Limits::greatest()) {
+        Ok(schemas) => Ok(schemas.tables),
+        Err(fault) => {
+            if is_memory(&fault) {
+                return Err(TakeFault::NoMemory);
+            }
+            Ok(Vec::new(alloc))
+        }
+    }
+}
+
+/// Returns the url of the first table whose file is over the limit, and removes it and all after it.
+fn cut_at_large<R: Files>(
     alloc: Global,
     files: &R,
     follows: bool,
     folder: &str,
-) -> Result<Option<(Vec<u8>, Taken)>, TakeFault>
-    ensures { IfOk result (λ taken. IfSome taken (λ folder.
-        AreTaken folder.0.items (map file_view folder.1.files.items))) }
+    tables: &mut Vec<Schema>,
+) -> Result<Option<String>, TakeFault>
+    ensures { OnOk result ((before : ℕ) × (tables.new.items ≡ take before tables.old.items)) }
+{
+    let lengths = look_at_tables(alloc, files, follows, folder, tables.as_slice())?;
+    let before = files_before(lengths.as_slice());
+    let over = match tables.get(before) {
+        Some(table) => Some(table.url.clone()?),
+        None => None,
+    };
+    tables.truncate(before);
+    Ok(over)
+}
+
+/// Begins to take the files that the metadata of a folder names: reads the metadata, if there is some.
+pub(crate) fn begin_taking<R: Files>(
+    alloc: Global,
+    files: &R,
+    follows: bool,
+    folder: &str,
+) -> Result<Option<Taking<R::File>>, TakeFault>
+    ensures { IfOk result (λ begun. IfSome begun IsTaking) }
 {
     // the empty name is that of no folder, and not of the root of all
     if folder.is_empty() {
@@ -217,6 +169,14 @@ pub(crate) fn take_folder<R: Files>(
     let Some(meta) = take_metadata(alloc, files, follows, folder)? else {
         return Ok(None);
     };
-    let taken = take_named(alloc, files, follows, folder, meta.as_slice())?;
-    Ok(Some((meta, taken)))
+    let mut tables = tables_of(alloc, meta.as_slice())?;
+    let over = cut_at_large(alloc, files, follows, folder, &mut tables)?;
+    Ok(Some(Taking {
+        folder: String::from_str(alloc, folder)?,
+        meta,
+        files: Vec::new(alloc),
+        current: None,
+        tables: tables.into_iter(),
+        over,
+    }))
 }

@@ -15,6 +15,7 @@ use Rattle.cell_types.specs.Column.{ColumnOf}
 use Rattle.cell_types.specs.Datatype as datatype
 use Rattle.cell_types.specs.Datatype.{DatatypeOf}
 use Rattle.cell_types.specs.Laws.{IsOfColumn, IsOfDatatype, ValuesFitColumns}
+use Rattle.cell_types.proofs.CaseLaws.{length-cond}
 use Rattle.cell_types.specs.Value.{CellValue, boolean, date, decimal, integer, null, text}
 use Rattle.csvw_meta.specs.Laws.{HasShortDefaults}
 use Rattle.csvw_meta.specs.Schema.{SchemaOf}
@@ -132,17 +133,13 @@ picked true true bytes t h = cc
 picked true false bytes t h = cc
 picked false required bytes t h = cc
 
-chosen : (is_empty : Bool) (default bytes : List ℕ) (n : ℕ) → length default ≤ n → length bytes ≤ n → length (cond is_empty default bytes) ≤ n
-chosen true default bytes n h k = h
-chosen false default bytes n h k = k
-
 text-short : (column : ColumnOf) (bytes t : List ℕ) (n : ℕ) → column.datatype ≡ datatype.text → length column.default ≤ n → length bytes ≤ n
     → value_of column bytes ≡ Ok (text t) → length t ≤ n
 text-short column bytes t n is default size e =
     let content = text_or_default column bytes in
     let read : cond (is_null_text column content) (null_reading column) (typed_value datatype.text content) ≡ Ok (text t) = rw is at e in
     let same : content ≡ t = picked (is_null_text column content) column.required content t read in
-    omega (arith, ap length same, chosen (length bytes == 0) column.default bytes n default size)
+    omega (arith, ap length same, length-cond n (length bytes == 0) column.default bytes default size)
 
 value-short : (column : ColumnOf) (bytes : List ℕ) (v : CellValue) → IsOfColumn column v → length column.default ≤ 2 ^ 30 → length bytes ≤ 2 ^ 30
     → value_of column bytes ≡ Ok v → IsShortValue v

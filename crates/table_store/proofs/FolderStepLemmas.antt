@@ -1,5 +1,5 @@
 -- One step more of the loading of a folder.
-use Rattle.std.proofs.Common.{◌≡◌, ℕ, ◌+◌, ◌^◌, ◌<◌, ◌≤◌, false, List, [], ◌∷◌, ◌++◌, length, map, Option, Some, None, Ok, IfSome, refl, ap, subst, ◌∙◌, append_assoc, arith, string_bytes}
+use Rattle.std.proofs.Common.{◌≡◌, ℕ, ◌+◌, ◌*◌, ◌^◌, ◌<◌, ◌≤◌, false, List, [], ◌∷◌, ◌++◌, length, map, Option, Some, None, Ok, IfSome, refl, ap, subst, ◌∙◌, append_assoc, arith, string_bytes}
 use Rattle.std.specs.List.{AllByRecursion, IsDistinct}
 use Rattle.std.specs.Str.{bytes_eq}
 use Rattle.std.specs.Vec.Iter.{into_iter_items, into_iter_len}
@@ -8,16 +8,21 @@ use Rattle.std.proofs.lemmas.Option.{IfSome_then}
 use Rattle.csvw_meta.specs.Laws.{HasShortDefaults}
 use Rattle.csvw_meta.specs.Schema.{SchemaOf, schema_view}
 use Rattle.csvw_meta.specs.declared.schema.Schema.{Schema}
+use Rattle.row_keys.specs.declared.reading.Held.{Held}
+use Rattle.row_keys.specs.declared.reading.Held.TheVariants as held_by
+use Rattle.row_keys.specs.Reading.{held_left}
 use Rattle.table_store.specs.declared.folder_loading.Loading.{Loading}
+use Rattle.table_store.specs.declared.reading.Stage.{Stage}
+use Rattle.table_store.specs.declared.reading.Stage.TheVariants as stages
 use Rattle.table_store.specs.declared.table_loading.TableLoading.{TableLoading}
 use Rattle.table_store.specs.Catalog.{schemas_in, FolderOf, HasTable, HaveTables, IsRefused}
 use Rattle.table_store.specs.Fault.{LoadCause, no_metadata, bad_meta, bad_table}
 use Rattle.table_store.specs.File.{files_view, file_named, FileOf}
 use Rattle.table_store.specs.FolderSteps.{coming_schemas, steps_left, HaveFiles, Loads}
 use Rattle.table_store.specs.Loading.{HasKeyColumns, IsFirstRefused, IsRefusedTable}
-use Rattle.table_store.specs.Steps.{LoadsTable}
+use Rattle.table_store.specs.Steps.{stage_left, IsAtStage, LoadsTable, ReadsRows}
 use Rattle.table_store.specs.Table.{TableOf}
-use Rattle.table_store.proofs.FitLemmas.{rows-within}
+use Rattle.table_store.proofs.StageLemmas.{few_keys, few_rows}
 use Rattle.table_store.proofs.CatalogLemmas.{first_refused, HaveFiles-past, HaveTables-more}
 
 -- the first table that is refused is the cause of the folder
@@ -41,7 +46,7 @@ same_files files (schema ∷ schemas) = (refl, same_files files schemas)
 
 -- ---- a table is under way
 pub more_rows : (folder : FolderOf) (l : Loading) (table new : TableLoading)
-    → ((limit : ℕ) (file : Option (List ℕ)) (schema : SchemaOf) → LoadsTable limit file schema table → LoadsTable limit file schema new × (new.reading.first < table.reading.first))
+    → ((limit : ℕ) (file : Option (List ℕ)) (schema : SchemaOf) → LoadsTable limit file schema table → LoadsTable limit file schema new × (stage_left new.stage < stage_left table.stage))
     → Loads folder (record l { table = Some table })
     → Loads folder (record l { table = Some new }) × (steps_left (record l { table = Some new }) < steps_left (record l { table = Some table }))
 more_rows folder l table new on loads =
@@ -100,10 +105,18 @@ under_way_refused folder l table cause refused loads =
     (refused folder.limits.file (file_named order.0.url folder.files) order.0 order.2)
 
 -- ---- a table is begun
-few_left : (limit : ℕ) (file : Option (List ℕ)) (schema : SchemaOf) (table : TableLoading) → LoadsTable limit file schema table → table.reading.first ≤ 2 ^ 30
-few_left limit file schema table loads =
-    let read = loads.reads.2 in
-    omega (arith, rows-within loads.reads.0 read.raw read.is, read.short, read.reads.within)
+few_steps : (rows : ℕ) (held : Held) → held_left rows held ≤ 2 * rows + 2
+few_steps rows (held_by.Rising rise) = omega arith
+few_steps rows (held_by.Slots seats) = omega arith
+
+few_at : (limit : ℕ) (file : Option (List ℕ)) (schema : SchemaOf) (stage : Stage) → IsAtStage limit file schema stage → stage_left stage ≤ 2 ^ 34
+few_at limit file schema (stages.File indexing) at = omega (arith, at.2)
+few_at limit file schema (stages.Rows reading) at =
+    omega (arith, few_rows limit file schema (λ rows. ReadsRows schema.columns rows reading) at, at.2.reads.within)
+few_at limit file schema (stages.Keys keys) at = omega (arith, few_keys limit file schema keys at, few_steps keys.rows keys.held)
+
+few_left : (limit : ℕ) (file : Option (List ℕ)) (schema : SchemaOf) (table : TableLoading) → LoadsTable limit file schema table → stage_left table.stage ≤ 2 ^ 34
+few_left limit file schema table loads = few_at limit file schema table.stage loads.reads
 
 -- the file of the next schema is the folder's
 pub next_file : (folder : FolderOf) (l : Loading) (schema : Schema) (rest : List Schema) → into_iter_items l.schemas ≡ schema ∷ rest → Loads folder l

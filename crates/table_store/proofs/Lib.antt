@@ -18,4 +18,5 @@ pub mod FirstBadCell
 pub mod SummaryLemmas
 pub mod StretchLemmas
 pub mod StepLemmas
+pub mod StageLemmas
 pub mod FolderStepLemmas

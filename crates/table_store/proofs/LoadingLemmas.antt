@@ -18,7 +18,7 @@ use Rattle.table_store.specs.Fault.{TableCause, file_missing, file_too_large, ba
 use Rattle.raw_fields.specs.Values.{rows_in, FitsColumns}
 use Rattle.row_keys.specs.Keys.{HasKeyFault}
 use Rattle.table_store.specs.Loading.{mismatch_of, key_cause, keys_at, bad_cell_of, table_at, ArePartsOf, IsTableAt, IsTableOf, HasRowsCause, HasFileCause}
-use Rattle.table_store.specs.declared.loading.TableParts.{TableParts}
+use Rattle.row_keys.specs.declared.reading.KeyedRows.{KeyedRows}
 use Rattle.table_store.specs.Catalog.{HasTable}
 use Rattle.table_store.specs.Inside.{table_of}
 use Rattle.table_store.proofs.ColumnLemmas.{typed-rows}
@@ -121,14 +121,14 @@ rows_cause schema bytes file (key_twice row) is e has = record {
 }
 
 -- ---- the parts that were read, and their table
-pub parts_table : (schema : SchemaOf) (bytes : List ℕ) (file : RawTable) (parts : TableParts) → IsTableAt schema.columns bytes file → ArePartsOf schema file.rows parts
+pub parts_table : (schema : SchemaOf) (bytes : List ℕ) (file : RawTable) (parts : KeyedRows) → IsTableAt schema.columns bytes file → ArePartsOf schema file.rows parts
     → table_of schema parts.rows parts.columns.items ≡ table_at schema file
 parts_table schema bytes file parts at of =
     let rows = rows_in schema.columns file.rows in
     ap (λ rs. record { schema = schema; rows = rs })
     (typed-rows schema.columns rows parts.columns.items parts.rows (of.count ∙ sym (length-rows_in schema.columns file.rows)) (rows-wide schema.columns file.rows at.fits.rows) of.columns)
 
-pub has_table : (limit : ℕ) (bytes : Option (List ℕ)) (schema : SchemaOf) (file : RawTable) (parts : TableParts) → IsTableOf limit bytes schema file → ArePartsOf schema file.rows parts
+pub has_table : (limit : ℕ) (bytes : Option (List ℕ)) (schema : SchemaOf) (file : RawTable) (parts : KeyedRows) → IsTableOf limit bytes schema file → ArePartsOf schema file.rows parts
     → HasTable limit bytes schema (table_of schema parts.rows parts.columns.items)
 has_table limit bytes schema file parts at of =
     subst (HasTable limit bytes schema) (sym (parts_table schema at.0 file parts at.2 of)) (record {

@@ -12,7 +12,7 @@ use Rattle.table_store.specs.declared.table_loading.TableLoading.{TableLoading}
 use Rattle.table_store.specs.Catalog.{schemas_in, FolderOf, HaveTables, Means}
 use Rattle.table_store.specs.File.{files_view, file_named, FileOf}
 use Rattle.table_store.specs.Loading.{DifferInUrl, HasKeyColumns}
-use Rattle.table_store.specs.Steps.{LoadsTable}
+use Rattle.table_store.specs.Steps.{stage_left, LoadsTable}
 
 -- each of these schemas has the file that it had
 abbrev pub HaveFiles : List FileOf → List FileOf → List SchemaOf → Type 0
@@ -46,13 +46,13 @@ pub record Loads (folder : FolderOf) (loading : Loading) : Type 0 where
 abbrev pub IsLoading : Loading → Type 0
 IsLoading loading = (folder : FolderOf) × Loads folder loading
 
--- no more steps than these are left: of a table one for each row that is left, of which a file has at most 2 to the 30, one that ends it and one that begins it
+-- no more steps than these are left: of a table those of its stage, which are fewer than 2 to the 34, one that ends it and one that begins it
 abbrev pub table_steps_left : Option TableLoading → ℕ
 table_steps_left None = 0
-table_steps_left (Some table) = table.reading.first + 1
+table_steps_left (Some table) = stage_left table.stage + 1
 
 abbrev pub steps_left : Loading → ℕ
-steps_left loading = length (into_iter_items loading.schemas) * (2 ^ 30 + 2) + table_steps_left loading.table
+steps_left loading = length (into_iter_items loading.schemas) * (2 ^ 34 + 2) + table_steps_left loading.table
 
 -- fewer steps are left, or the tables are those that the folder means
 abbrev pub LoadsOn : FolderOf → ℕ → Loaded → Type 0

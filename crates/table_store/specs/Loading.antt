@@ -14,7 +14,6 @@ use Rattle.cell_types.specs.Column.{ColumnOf}
 use Rattle.csvw_meta.specs.declared.schema.Schema.{Schema}
 use Rattle.csvw_meta.specs.Schema.{SchemaOf, schema_view}
 use Rattle.table_store.specs.declared.loading.TableFault.{TableFault}
-use Rattle.table_store.specs.declared.loading.TableParts.{TableParts}
 use Rattle.table_store.specs.declared.loading.TableFault.TheVariants.{FileMissing, FileTooLarge, Text, Header, Cell, Key, NoMemory}
 use Rattle.table_store.specs.Table.{TableOf, mismatch_from, rows_from, HasOtherHeader, HasBadCell, HasNullKey, HasKeyTwice}
 use Rattle.table_store.specs.Fault.{TableCause, file_missing, file_too_large, bad_text, bad_header, bad_cell, key_null, key_twice, cell_cause, LoadCause, no_metadata, bad_meta, bad_table}
@@ -22,6 +21,7 @@ use Rattle.table_store.specs.File.{FileOf}
 use Rattle.row_keys.specs.Key.{row_keys, null_row, repeated_row}
 use Rattle.row_keys.specs.Keys.{AreColumns, AreKeysOf}
 use Rattle.row_keys.specs.declared.keys.KeyFault.{KeyFault}
+use Rattle.row_keys.specs.declared.reading.KeyedRows.{KeyedRows}
 use Rattle.row_keys.specs.declared.keys.KeyFault.TheVariants.{Null, Twice}
 use Rattle.typed_columns.specs.TypedColumn.{AreTyped}
 use Rattle.table_store.specs.Catalog.{HasFile, HasTableCause, IsFirstBadTable}
@@ -67,7 +67,7 @@ abbrev pub keys_at : SchemaOf → List (List RawField) → List (List CellValue)
 keys_at schema rows = row_keys schema.key (rows_in schema.columns rows)
 
 -- so many rows of fields were read, with these columns and keys
-pub record ArePartsOf (schema : SchemaOf) (rows : List (List RawField)) (parts : TableParts) : Type 0 where
+pub record ArePartsOf (schema : SchemaOf) (rows : List (List RawField)) (parts : KeyedRows) : Type 0 where
   pub count : parts.rows ≡ length rows
   pub columns : AreTyped schema.columns (rows_in schema.columns rows) parts.columns.items
   pub keys : AreKeysOf parts.keys (keys_at schema rows)

@@ -1,20 +1,30 @@
 -- How far the loading of a folder has come.
-use Rattle.std.specs.Prelude.{◌≡◌, ℕ, ◌^◌, ◌<◌, ◌≤◌, List, length, drop, take, Option, None}
+use Rattle.std.specs.Prelude.{◌≡◌, ℕ, ◌+◌, ◌*◌, ◌^◌, ◌<◌, ◌≤◌, List, length, drop, take, Option, None, IfSome}
 use Rattle.std.specs.List.{AllByRecursion}
 use Rattle.cell_types.specs.Column.{ColumnOf}
 use Rattle.csv_grammar.specs.Raw.{RawField, RawTable}
 use Rattle.csv_index.specs.Index.{IsRawTable}
+use Rattle.csv_index.specs.Indexing.{IndexingOf}
 use Rattle.csvw_meta.specs.Laws.{HasShortDefaults}
 use Rattle.csvw_meta.specs.Schema.{SchemaOf, schema_view}
 use Rattle.raw_fields.specs.Values.{FitsColumns}
+use Rattle.row_keys.specs.declared.reading.KeysReading.{KeysReading}
+use Rattle.row_keys.specs.declared.reading.KeyedRows.{KeyedRows}
+use Rattle.row_keys.specs.Reading.{keys_left, AreHeld}
 use Rattle.typed_columns.specs.TypedColumn.{AreWholeBlocks, ColumnCells}
+use Rattle.table_store.specs.declared.reading.Stage.{Stage}
+use Rattle.table_store.specs.declared.reading.Stage.TheVariants as stages
+use Rattle.table_store.specs.declared.reading.StageStep.{StageStep}
+use Rattle.table_store.specs.declared.reading.StageStep.TheVariants as stage_steps
 use Rattle.table_store.specs.declared.stretches.RowsReading.{RowsReading}
 use Rattle.table_store.specs.declared.table_loading.TableLoading.{TableLoading}
 use Rattle.table_store.specs.declared.table_loading.TableStep.{TableStep}
 use Rattle.table_store.specs.declared.table_loading.TableStep.TheVariants as table_steps
-use Rattle.table_store.specs.Catalog.{HasFile, HasTable}
-use Rattle.table_store.specs.Loading.{mismatch_of, HasKeyColumns}
+use Rattle.table_store.specs.Catalog.{HasFile, HasTable, HasTableCause}
+use Rattle.table_store.specs.Fault.{TableCause}
+use Rattle.table_store.specs.Loading.{bad_cell_of, mismatch_of, ArePartsOf, HasKeyColumns}
 use Rattle.table_store.specs.Parts.{IsFirstBadIn}
+use Rattle.table_store.specs.Table.{TableOf}
 use Rattle.table_store.specs.Stretches.{HasColumns, IsReadFrom}
 use Rattle.table_store.specs.declared.loading.BadCell.{BadCell}
 
@@ -39,38 +49,96 @@ GivesColumns reading read = (columns : List ColumnOf) (rows : List (List RawFiel
 abbrev pub GivesBadCell : RowsReading → BadCell → Type 0
 GivesBadCell reading bad = (columns : List ColumnOf) (rows : List (List RawField)) → ReadsRows columns rows reading → IsFirstBadIn 0 columns rows bad
 
--- the rows of a file whose header matches the columns are read
-pub record ReadsFile (schema : SchemaOf) (bytes : List ℕ) (reading : RowsReading) : Type 0 where
+-- the columns of those rows are read, and the keys of the first ones are read
+pub record ReadsKeys (schema : SchemaOf) (rows : List (List RawField)) (keys : KeysReading) : Type 0 where
+  pub count : keys.rows ≡ length rows
+  pub wide : AllByRecursion (λ fields. length fields ≡ length schema.columns) rows
+  pub columns : HasColumns 0 schema.columns rows keys.columns.items
+  pub held : AreHeld schema.key keys
+
+-- all is read of those rows, in which nothing is wrong
+abbrev pub HasAllOfRows : SchemaOf → List (List RawField) → KeyedRows → Type 0
+HasAllOfRows schema rows parts = (bad_cell_of schema rows ≡ None) × ArePartsOf schema rows parts
+
+-- the keys of more rows are read, or all is read
+abbrev pub KeysReadOn : SchemaOf → List (List RawField) → ℕ → StageStep → Type 0
+KeysReadOn schema rows left (stage_steps.On (stages.File new)) = ⊥
+KeysReadOn schema rows left (stage_steps.On (stages.Rows new)) = ⊥
+KeysReadOn schema rows left (stage_steps.On (stages.Keys new)) = ReadsKeys schema rows new × (keys_left new < left)
+KeysReadOn schema rows left (stage_steps.Over parts) = HasAllOfRows schema rows parts
+
+-- so much is read of the rows of a file whose header matches the columns
+pub record ReadsFile (schema : SchemaOf) (bytes : List ℕ) (Read : List (List RawField) → Type 0) : Type 0 where
   pub short : length bytes ≤ 2 ^ 30
   pub raw : RawTable
   pub is : IsRawTable bytes raw
   pub header_matches : mismatch_of schema.columns raw.header ≡ None
-  pub reads : ReadsRows schema.columns raw.rows reading
+  pub reads : Read raw.rows
 
--- there is a file, not above the limit, whose rows are read
-abbrev pub ReadsTable : ℕ → Option (List ℕ) → SchemaOf → RowsReading → Type 0
-ReadsTable limit file schema reading = (bytes : List ℕ) × HasFile limit file bytes × ReadsFile schema bytes reading
+-- there is a file, not above the limit, of whose rows so much is read
+abbrev pub ReadsTable : ℕ → Option (List ℕ) → SchemaOf → (List (List RawField) → Type 0) → Type 0
+ReadsTable limit file schema Read = (bytes : List ℕ) × HasFile limit file bytes × ReadsFile schema bytes Read
 
--- some file is read so
-abbrev pub IsReadingTable : SchemaOf → RowsReading → Type 0
-IsReadingTable schema reading = (limit : ℕ) × (file : Option (List ℕ)) × ReadsTable limit file schema reading
+-- all is read of some file
+abbrev pub IsReadWhole : SchemaOf → KeyedRows → Type 0
+IsReadWhole schema parts = (limit : ℕ) × (file : Option (List ℕ)) × ReadsTable limit file schema (λ rows. HasAllOfRows schema rows parts)
+
+-- there is a file, not above the limit, that is indexed, or whose rows are read, or the keys of whose rows are read
+abbrev pub IsAtStage : ℕ → Option (List ℕ) → SchemaOf → Stage → Type 0
+IsAtStage limit file schema (stages.File indexing) = HasFile limit file indexing.bytes × (length indexing.bytes ≤ 2 ^ 30) × (indexing.left ≤ 2 ^ 32)
+IsAtStage limit file schema (stages.Rows reading) = ReadsTable limit file schema (λ rows. ReadsRows schema.columns rows reading)
+IsAtStage limit file schema (stages.Keys keys) = ReadsTable limit file schema (λ rows. ReadsKeys schema rows keys)
+
+-- less of a file is left to be indexed, or its rows are read
+abbrev pub ReachesStage : SchemaOf → IndexingOf → Stage → Type 0
+ReachesStage schema old (stages.File new) = (new.bytes ≡ old.bytes) × (new.left < old.left)
+ReachesStage schema old (stages.Rows reading) = ReadsFile schema old.bytes (λ rows. ReadsRows schema.columns rows reading)
+ReachesStage schema old (stages.Keys keys) = ⊥
+
+-- fewer of those rows are left to be read, or their keys are read
+abbrev pub RowsReadOn : SchemaOf → List (List RawField) → RowsReading → Stage → Type 0
+RowsReadOn schema rows old (stages.File new) = ⊥
+RowsReadOn schema rows old (stages.Rows new) = ReadsRows schema.columns rows new × (new.first < old.first)
+RowsReadOn schema rows old (stages.Keys keys) = ReadsKeys schema rows keys × (keys_left keys ≡ 2 * old.rows + 2)
+
+-- no more steps than these are left at a stage: of a file one for each row, of which it has at most 2 to the 30, and those in which their keys are read
+abbrev pub stage_left : Stage → ℕ
+stage_left (stages.File indexing) = indexing.left + (2 ^ 32 + 2 ^ 30 + 1)
+stage_left (stages.Rows reading) = reading.first + 2 ^ 32
+stage_left (stages.Keys keys) = keys_left keys
+
+-- less is left at a stage, or all is read
+abbrev pub StageGoesOn : ℕ → Option (List ℕ) → SchemaOf → ℕ → StageStep → Type 0
+StageGoesOn limit file schema left (stage_steps.On stage) = IsAtStage limit file schema stage × (stage_left stage < left)
+StageGoesOn limit file schema left (stage_steps.Over parts) = ReadsTable limit file schema (λ rows. HasAllOfRows schema rows parts)
+
+-- what a step makes of each file of which so much is read, and of which it refuses the table under this cause, where there is one
+abbrev pub StageStepsOn : SchemaOf → Stage → StageStep → Type 0
+StageStepsOn schema stage step = (limit : ℕ) (file : Option (List ℕ)) → IsAtStage limit file schema stage → StageGoesOn limit file schema (stage_left stage) step
+
+abbrev pub RefusesStage : SchemaOf → Stage → Option TableCause → Type 0
+RefusesStage schema stage cause = (limit : ℕ) (file : Option (List ℕ)) → IsAtStage limit file schema stage → IfSome cause (HasTableCause limit file schema)
+
+-- that is the table of each file of which all is read so
+abbrev pub IsTableOfRows : SchemaOf → KeyedRows → TableOf → Type 0
+IsTableOfRows schema parts table = (limit : ℕ) (file : Option (List ℕ)) → ReadsTable limit file schema (λ rows. HasAllOfRows schema rows parts) → HasTable limit file schema table
 
 -- the table of a schema is read
 pub record LoadsTable (limit : ℕ) (file : Option (List ℕ)) (schema : SchemaOf) (loading : TableLoading) : Type 0 where
   pub of_schema : schema_view loading.schema ≡ schema
   pub keys : HasKeyColumns schema
   pub defaults : HasShortDefaults schema
-  pub reads : ReadsTable limit file schema loading.reading
+  pub reads : IsAtStage limit file schema loading.stage
 
 -- some table is read so
 abbrev pub IsLoadingTable : TableLoading → Type 0
 IsLoadingTable loading = (limit : ℕ) × (file : Option (List ℕ)) × (schema : SchemaOf) × LoadsTable limit file schema loading
 
--- what a step makes of each table that is read so: fewer rows of it are left, or it is read
+-- what a step makes of each table that is read so: less of it is left, or it is read
 abbrev pub TableGoesOn : ℕ → Option (List ℕ) → SchemaOf → ℕ → TableStep → Type 0
-TableGoesOn limit file schema left (table_steps.On loading) = LoadsTable limit file schema loading × (loading.reading.first < left)
+TableGoesOn limit file schema left (table_steps.On loading) = LoadsTable limit file schema loading × (stage_left loading.stage < left)
 TableGoesOn limit file schema left (table_steps.Over table) = HasTable limit file schema table
 
 abbrev pub TableStepsOn : TableLoading → TableStep → Type 0
 TableStepsOn loading step = (limit : ℕ) (file : Option (List ℕ)) (schema : SchemaOf) → LoadsTable limit file schema loading
-    → TableGoesOn limit file schema loading.reading.first step
+    → TableGoesOn limit file schema (stage_left loading.stage) step

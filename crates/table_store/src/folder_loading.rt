@@ -1,4 +1,4 @@
-//! The loading of a folder in steps: each begins a table, or reads a block of its rows.
+//! The loading of a folder in steps: each begins a table, or reads a piece of its file or a block of its rows.
 ghost use Rattle.std.specs.Prelude.{◌≡◌, None, Some, IfOk, IfErr, IfSome};
 ghost use Rattle.table_store.specs.Catalog.{folder_view, FolderOf, IsRefused};
 ghost use Rattle.table_store.specs.Fault.{load_cause};
@@ -62,7 +62,7 @@ impl Loading {
         })
     }
 
-    /// Reads one more block of rows of `table`, or ends it.
+    /// Reads on in `table`, or ends it.
     fn go_on(mut self, alloc: Global, table: TableLoading) -> Result<Loaded, LoadFault>
         requires none { self.table ≡ None }
         requires loads { IsLoading (record self { table = Some table }) }
@@ -102,7 +102,7 @@ impl Loading {
             return Ok(Loaded::Over(Catalog { limits, tables }));
         };
         let file = take_bytes(alloc, &mut self.files, schema.url.as_str());
-        match TableLoading::start(alloc, self.limits.file, schema, file) {
+        match TableLoading::start(self.limits.file, schema, file) {
             Ok(table) => {
                 self.table = Some(table);
                 Ok(Loaded::On(self))
@@ -111,7 +111,7 @@ impl Loading {
         }
     }
 
-    /// Begins the next table, reads one more block of rows, or ends a table. Returns the tables once all are read, or the cause of the first that is refused.
+    /// Begins the next table, reads one more piece or block of rows, or ends a table. Returns the tables once all are read, or the cause of the first that is refused.
     pub fn step(mut self, alloc: Global) -> Result<Loaded, LoadFault>
         requires { IsLoading self }
         ensures goes_on { IfOk result (λ loaded. (folder : FolderOf) → Loads folder self

@@ -1,49 +1,139 @@
-//! A table is read from its file: first the header against the columns, and then the rows, from the last ones on.
-ghost use Rattle.std.specs.Prelude.{◌≡◌, ◌≤◌, ◌^◌, None, IfOk, IfErr, IfSome, length};
-ghost use Rattle.csvw_meta.specs.Schema.{schema_view};
-ghost use Rattle.table_store.specs.Catalog.{HasTableCause};
+//! A table is read from its file: its index is made, then its header is read against the columns, then its rows, from the last ones on, and then their keys
+//! are read.
+ghost use Rattle.std.specs.Prelude.{◌≡◌, ◌≤◌, ◌^◌, ◌+◌, ◌*◌, ℕ, List, Option, None, IfOk, IfErr, IfSome, length};
+ghost use Rattle.csv_grammar.specs.Raw.{RawField};
+ghost use Rattle.csvw_meta.specs.Schema.{schema_view, SchemaOf};
+ghost use Rattle.row_keys.specs.Reading.{keys_left};
+ghost use Rattle.table_store.specs.Catalog.{HasFile, HasTableCause};
 ghost use Rattle.table_store.specs.File.{file_bytes};
-ghost use Rattle.table_store.specs.Loading.{table_cause, HasFileCause};
-ghost use Rattle.table_store.specs.Steps.{ReadsFile, ReadsTable};
+ghost use Rattle.table_store.specs.Loading.{table_cause, HasFileCause, HasKeyColumns, HasRowsCause};
+ghost use Rattle.table_store.specs.Steps.{IsAtStage, IsReadingRows, KeysReadOn, ReachesStage, ReadsKeys, ReadsRows, RefusesStage, RowsReadOn, StageStepsOn};
 
 use crate::header::first_mismatch;
-use crate::loading::TableFault;
+use crate::loading::{TableFault, fault_of};
 use crate::stretches::RowsReading;
-use csv_index::{IndexedText, TextFault};
+use csv_index::{Indexed, Indexing, TextFault};
 use csvw_meta::Schema;
+use row_keys::{KeyStep, KeyedRows, KeysReading};
 use std::alloc::Global;
 
-/// Begins to read the rows of a file whose header matches the columns of a schema. Returns the first thing that is wrong with it before its rows.
-fn start_file(alloc: Global, schema: &Schema, bytes: Vec<u8>) -> Result<RowsReading, TableFault>
-    requires short { length bytes.items ≤ 2 ^ 30 }
-    ensures reads { IfOk result (ReadsFile (schema_view schema.now) bytes.items) }
+/// How far the file of a table is read.
+#[derive(Drop)]
+pub enum Stage {
+    /// It is checked and indexed.
+    File(Indexing),
+    /// Its header matches, and its rows are read.
+    Rows(RowsReading),
+    /// The keys of its rows are read.
+    Keys(KeysReading),
+}
+
+/// What a step leaves.
+#[derive(Drop)]
+pub enum StageStep {
+    /// There is more to read.
+    On(Stage),
+    /// All is read.
+    Over(KeyedRows),
+}
+
+/// Reads one more piece of a file; once it is indexed, begins to read its rows if its header matches the columns of a schema. Returns the first thing that
+/// is wrong with it before its rows.
+fn index_step(alloc: Global, schema: &Schema, indexing: Indexing) -> Result<Stage, TableFault>
+    requires short { length indexing.bytes ≤ 2 ^ 30 }
+    ensures goes_on { IfOk result (ReachesStage (schema_view schema.now) indexing) }
     ensures fault { IfErr result (λ e.
-        IfSome (table_cause e) (HasFileCause (schema_view schema.now) bytes.items)) }
+        IfSome (table_cause e) (HasFileCause (schema_view schema.now) indexing.bytes)) }
     ensures memory { IfErr result (λ e. table_cause e ≡ None → e ≡ TableFault.NoMemory) }
 {
-    let file = match IndexedText::build(alloc, bytes) {
-        Ok(file) => file,
+    let file = match indexing.step(alloc) {
+        Ok(Indexed::On(indexing)) => return Ok(Stage::File(indexing)),
+        Ok(Indexed::Over(file)) => file,
         Err(TextFault::NoMemory) => return Err(TableFault::NoMemory),
         Err(fault) => return Err(TableFault::Text(fault)),
     };
     match first_mismatch(alloc, schema.columns.as_slice(), &file) {
-        Ok(None) => Ok(RowsReading::start(alloc, schema.columns.as_slice(), file)),
+        Ok(None) => Ok(Stage::Rows(RowsReading::start(alloc, schema.columns.as_slice(), file))),
         Ok(Some(col)) => Err(TableFault::Header(col)),
         Err(_) => Err(TableFault::NoMemory),
     }
 }
 
-/// Begins to read the rows of the file, at most as long as the limit, that is the table of a schema. Returns why it is refused before its rows.
-pub fn start_table(
-    alloc: Global,
-    limit: u32,
-    schema: &Schema,
-    file: Option<Vec<u8>>,
-) -> Result<RowsReading, TableFault>
-    requires limit { limit ≤ 2 ^ 30 }
-    ensures reads { IfOk result (ReadsTable limit (file_bytes file) (schema_view schema.now)) }
-    ensures fault { IfErr result (λ e.
-        IfSome (table_cause e) (HasTableCause limit (file_bytes file) (schema_view schema.now))) }
+/// Reads one more block of rows; once all are read, begins to read their keys, or returns the first cell, row by row, that has no value.
+fn rows_step(alloc: Global, schema: &Schema, reading: RowsReading) -> Result<Stage, TableFault>
+    requires { IsReadingRows (schema_view schema.now).columns reading }
+    ensures goes_on { IfOk result (λ stage. (raws : List (List RawField))
+        → ReadsRows (schema_view schema.now).columns raws reading
+        → RowsReadOn (schema_view schema.now) raws reading stage) }
+    ensures fault { IfErr result (λ e. (raws : List (List RawField))
+        → ReadsRows (schema_view schema.now).columns raws reading
+        → IfSome (table_cause e) (HasRowsCause (schema_view schema.now) raws)) }
+    ensures memory { IfErr result (λ e. table_cause e ≡ None → e ≡ TableFault.NoMemory) }
+{
+    if reading.first > 0 {
+        let reading = reading.step(alloc, schema.columns.as_slice());
+        return Ok(Stage::Rows(reading));
+    }
+    let rows = reading.rows;
+    match reading.finish() {
+        Ok(columns) => Ok(Stage::Keys(KeysReading::start(columns, rows))),
+        Err(bad) => Err(fault_of(bad)),
+    }
+}
+
+/// Reads the keys of more rows. Returns the rows with their keys once those of all are, or why they have none.
+fn keys_step(alloc: Global, schema: &Schema, keys: KeysReading) -> Result<StageStep, TableFault>
+    requires key { HasKeyColumns (schema_view schema.now) }
+    requires few { keys.rows ≤ 2 ^ 30 }
+    requires reads { (raws : List (List RawField)) × ReadsKeys (schema_view schema.now) raws keys }
+    ensures goes_on { IfOk result (λ step. (raws : List (List RawField))
+        → ReadsKeys (schema_view schema.now) raws keys
+        → KeysReadOn (schema_view schema.now) raws (keys_left keys) step) }
+    ensures fault { IfErr result (λ e. (raws : List (List RawField))
+        → ReadsKeys (schema_view schema.now) raws keys
+        → IfSome (table_cause e) (HasRowsCause (schema_view schema.now) raws)) }
+    ensures memory { IfErr result (λ e. table_cause e ≡ None → e ≡ TableFault.NoMemory) }
+{
+    match keys.step(alloc, schema.key.as_slice()) {
+        Ok(KeyStep::On(keys)) => Ok(StageStep::On(Stage::Keys(keys))),
+        Ok(KeyStep::Over(rows)) => Ok(StageStep::Over(rows)),
+        Ok(KeyStep::Refused(fault)) => Err(TableFault::Key(fault)),
+        Err(_) => Err(TableFault::NoMemory),
+    }
+}
+
+impl Stage {
+    /// Reads one more piece of the file of a schema's table, or one more block of its rows, or reads the keys of one more. Returns the rows with their
+    /// keys once all is read, or why the table is refused.
+    pub fn step(self, alloc: Global, schema: &Schema) -> Result<StageStep, TableFault>
+        requires key { HasKeyColumns (schema_view schema.now) }
+        requires at { (limit : ℕ) × (file : Option (List ℕ))
+            × IsAtStage limit file (schema_view schema.now) self }
+        ensures goes_on { IfOk result (StageStepsOn (schema_view schema.now) self) }
+        ensures fault { IfErr result (λ e.
+            RefusesStage (schema_view schema.now) self (table_cause e)) }
+        ensures memory { IfErr result (λ e. table_cause e ≡ None → e ≡ TableFault.NoMemory) }
+    {
+        match self {
+            Stage::File(indexing) => match index_step(alloc, schema, indexing) {
+                Ok(stage) => Ok(StageStep::On(stage)),
+                Err(fault) => Err(fault),
+            },
+            Stage::Rows(reading) => match rows_step(alloc, schema, reading) {
+                Ok(stage) => Ok(StageStep::On(stage)),
+                Err(fault) => Err(fault),
+            },
+            Stage::Keys(keys) => keys_step(alloc, schema, keys),
+        }
+    }
+}
+
+/// Begins to read the file, at most as long as the limit, that is the table of a schema. Returns why it is refused before it is read.
+pub fn start_table(limit: u32, file: Option<Vec<u8>>) -> Result<Indexing, TableFault>
+    ensures has { IfOk result (λ indexing. HasFile limit (file_bytes file) indexing.bytes) }
+    ensures left { IfOk result (λ indexing. indexing.left ≡ 2 * length indexing.bytes + 1) }
+    ensures fault { IfErr result (λ e. (schema : SchemaOf)
+        → IfSome (table_cause e) (HasTableCause limit (file_bytes file) schema)) }
     ensures memory { IfErr result (λ e. table_cause e ≡ None → e ≡ TableFault.NoMemory) }
 {
     let Some(bytes) = file else {
@@ -52,5 +142,5 @@ pub fn start_table(
     if bytes.len() > limit as usize {
         return Err(TableFault::FileTooLarge);
     }
-    start_file(alloc, schema, bytes)
+    Ok(Indexing::start(bytes))
 }

@@ -1,5 +1,5 @@
 //! A table of a folder: its schema, the values of its cells, and its rows by their keys.
-ghost use Rattle.std.specs.Prelude.{◌≡◌, ◌+◌, ◌^◌, ◌<◌, ◌≤◌, ℕ, List, Option, [], Some, None, IfOk, IsOk, IfErr, IfSome, length, map, slice_get, slice_index_or, option_and_then, option_map, take, drop, string_bytes};
+ghost use Rattle.std.specs.Prelude.{◌≡◌, ◌+◌, ◌^◌, ◌<◌, ◌≤◌, ℕ, List, Option, [], Some, None, IfOk, IsOk, IfErr, length, map, slice_get, slice_index_or, option_and_then, option_map, take, drop, string_bytes};
 ghost use Rattle.std.specs.List.{AllByRecursion};
 ghost use Rattle.std.specs.Option.{option_copied};
 ghost use Rattle.cell_types.specs.Value.{value_view};
@@ -7,21 +7,19 @@ ghost use Rattle.csvw_meta.specs.Schema.{schema_view};
 ghost use Rattle.csvw_meta.specs.Laws.{HasShortDefaults};
 ghost use Rattle.table_store.specs.Fits.{HasTableRows};
 ghost use Rattle.table_store.specs.Fault.{bad_table, load_cause};
-ghost use Rattle.table_store.specs.Catalog.{HasTable};
 ghost use Rattle.row_keys.specs.Key.{row_of};
-ghost use Rattle.table_store.specs.Loading.{table_cause, HasKeyColumns, IsRefusedTable};
-ghost use Rattle.table_store.specs.Steps.{IsReadingTable, ReadsTable};
+ghost use Rattle.table_store.specs.Loading.{table_cause, HasKeyColumns};
+ghost use Rattle.table_store.specs.Steps.{IsReadWhole, IsTableOfRows};
 ghost use Rattle.table_store.specs.Summaries.{AreSummariesOf};
 ghost use Rattle.table_store.specs.Table.{keys_of};
 
 use crate::fault::LoadFault;
-use crate::loading::{BadCell, TableFault, parts_of};
-use crate::stretches::RowsReading;
+use crate::loading::{BadCell, TableFault};
 use crate::summaries::summaries_of;
 use block_summary::{BLOCK_ROWS, PackedColumn, Summary};
 use cell_types::Value;
 use csvw_meta::Schema;
-use row_keys::{KeyFault, Keys};
+use row_keys::{KeyFault, KeyedRows, Keys};
 use std::alloc::{AllocError, Global};
 use std::marker::Model;
 use text_columns::TextColumn;
@@ -152,35 +150,25 @@ impl Table {
             .find(self.columns.as_slice(), self.schema.key.as_slice(), key)
     }
 
-    /// Returns the table of a schema whose rows were read; or why it is refused.
-    pub(crate) fn finish(
+    /// Returns the table of a schema whose rows were read, with their keys.
+    pub(crate) fn of_rows(
         alloc: Global,
         schema: Schema,
-        reading: RowsReading,
+        rows: KeyedRows,
     ) -> Result<Table, LoadFault>
-        requires over { reading.first ≡ 0 }
-        requires reads { IsReadingTable (schema_view schema) reading }
+        requires read { IsReadWhole (schema_view schema) rows }
         requires key { HasKeyColumns (schema_view schema) }
         requires defaults { HasShortDefaults (schema_view schema) }
-        ensures table { IfOk result (λ table. (limit : ℕ) (file : Option (List ℕ))
-            → ReadsTable limit file (schema_view schema) reading
-            → HasTable limit file (schema_view schema) table) }
-        ensures fault { IfErr result (λ e. (limit : ℕ) (file : Option (List ℕ))
-            → ReadsTable limit file (schema_view schema) reading
-            → IfSome (load_cause e) (IsRefusedTable limit file (schema_view schema))) }
-        ensures memory { IfErr result (λ e. load_cause e ≡ None → e ≡ LoadFault.NoMemory) }
+        ensures table { IfOk result (IsTableOfRows (schema_view schema) rows) }
+        ensures memory { IfErr result (λ e. e ≡ LoadFault.NoMemory) }
     {
         cell_types::values_fit_columns();
-        let parts = match parts_of(alloc, &schema, reading) {
-            Ok(parts) => parts,
-            Err(fault) => return Err(fault_of(schema.url, fault)),
-        };
-        match summaries_of(alloc, parts.columns.as_slice(), parts.rows) {
+        match summaries_of(alloc, rows.columns.as_slice(), rows.rows) {
             Ok(summaries) => Ok(Table {
                 schema,
-                count: parts.rows,
-                columns: parts.columns,
-                keys: parts.keys,
+                count: rows.rows,
+                columns: rows.columns,
+                keys: rows.keys,
                 summaries,
             }),
             Err(_) => Err(LoadFault::NoMemory),

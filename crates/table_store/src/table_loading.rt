@@ -1,4 +1,4 @@
-//! The loading of one table in steps, each of which reads a block of rows.
+//! The loading of one table in steps, each of which reads a piece of its file or a block of its rows, or reads their keys.
 ghost use Rattle.std.specs.Prelude.{◌≡◌, ◌^◌, ◌≤◌, ℕ, List, Option, None, IfOk, IfErr, IfSome};
 ghost use Rattle.csvw_meta.specs.Laws.{HasShortDefaults};
 ghost use Rattle.csvw_meta.specs.Schema.{schema_view, SchemaOf};
@@ -8,17 +8,16 @@ ghost use Rattle.table_store.specs.Loading.{HasKeyColumns, IsRefusedTable};
 ghost use Rattle.table_store.specs.Steps.{IsLoadingTable, LoadsTable, TableStepsOn};
 
 use crate::fault::LoadFault;
-use crate::reading::start_table;
-use crate::stretches::RowsReading;
+use crate::reading::{Stage, StageStep, start_table};
 use crate::table::{Table, fault_of};
 use csvw_meta::Schema;
 use std::alloc::Global;
 
-/// A table that is loaded: its schema, and the rows of its file.
+/// A table that is loaded: its schema, and how far its file is read.
 #[derive(Drop)]
 pub struct TableLoading {
     pub schema: Schema,
-    pub reading: RowsReading,
+    pub stage: Stage,
 }
 
 /// What a step of the loading of a table leaves.
@@ -31,9 +30,8 @@ pub enum TableStep {
 }
 
 impl TableLoading {
-    /// Begins to load the table of a schema whose file has these bytes, at most as many as the limit. Returns why it is refused before its rows.
+    /// Begins to load the table of a schema whose file has these bytes, at most as many as the limit. Returns why it is refused before it is read.
     pub fn start(
-        alloc: Global,
         limit: u32,
         schema: Schema,
         file: Option<Vec<u8>>,
@@ -46,13 +44,17 @@ impl TableLoading {
             IfSome (load_cause e) (IsRefusedTable limit (file_bytes file) (schema_view schema))) }
         ensures memory { IfErr result (λ e. load_cause e ≡ None → e ≡ LoadFault.NoMemory) }
     {
-        match start_table(alloc, limit, &schema, file) {
-            Ok(reading) => Ok(TableLoading { schema, reading }),
-            Err(fault) => Err(fault_of(schema.url, fault)),
-        }
+        let indexing = match start_table(limit, file) {
+            Ok(indexing) => indexing,
+            Err(fault) => return Err(fault_of(schema.url, fault)),
+        };
+        Ok(TableLoading {
+            schema,
+            stage: Stage::File(indexing),
+        })
     }
 
-    /// Reads one more block of rows; once all are read, returns the table, or why it is refused.
+    /// Reads on; once all is read, returns the table, or why it is refused.
     pub fn step(self, alloc: Global) -> Result<TableStep, LoadFault>
         requires { IsLoadingTable self }
         ensures goes_on { IfOk result (TableStepsOn self) }
@@ -61,14 +63,14 @@ impl TableLoading {
             → IfSome (load_cause e) (IsRefusedTable limit file schema)) }
         ensures memory { IfErr result (λ e. load_cause e ≡ None → e ≡ LoadFault.NoMemory) }
     {
-        let TableLoading { schema, reading } = self;
-        if reading.first == 0 {
-            return match Table::finish(alloc, schema, reading) {
+        let TableLoading { schema, stage } = self;
+        match stage.step(alloc, &schema) {
+            Ok(StageStep::On(stage)) => Ok(TableStep::On(TableLoading { schema, stage })),
+            Ok(StageStep::Over(rows)) => match Table::of_rows(alloc, schema, rows) {
                 Ok(table) => Ok(TableStep::Over(table)),
                 Err(fault) => Err(fault),
-            };
+            },
+            Err(fault) => Err(fault_of(schema.url, fault)),
         }
-        let reading = reading.step(alloc, schema.columns.as_slice());
-        Ok(TableStep::On(TableLoading { schema, reading }))
     }
 }

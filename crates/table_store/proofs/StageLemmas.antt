@@ -1,0 +1,125 @@
+-- One step more of the loading of a table.
+use Rattle.std.proofs.Common.{◌≡◌, ℕ, ◌<◌, ◌≤◌, ◌^◌, List, length, IfSome, Option, ap, sym, subst, ◌∙◌, arith}
+use Rattle.std.specs.List.{AllByRecursion}
+use Rattle.std.proofs.lemmas.Option.{IfSome_then}
+use Rattle.csv_grammar.specs.Raw.{RawField}
+use Rattle.csv_index.specs.Indexing.{IndexingOf}
+use Rattle.csvw_meta.specs.Schema.{schema_view, SchemaOf}
+use Rattle.raw_fields.specs.Values.{rows_in}
+use Rattle.row_keys.specs.Key.{row_keys}
+use Rattle.row_keys.specs.Keys.{typed_keys}
+use Rattle.row_keys.specs.Reading.{keys_left}
+use Rattle.row_keys.specs.declared.reading.KeysReading.{KeysReading}
+use Rattle.typed_columns.specs.TypedColumn.{AreTyped, ColumnCells}
+use Rattle.table_store.specs.declared.reading.Stage.{Stage}
+use Rattle.table_store.specs.declared.reading.Stage.TheVariants as stages
+use Rattle.table_store.specs.declared.reading.StageStep.{StageStep}
+use Rattle.table_store.specs.declared.reading.StageStep.TheVariants as stage_steps
+use Rattle.table_store.specs.declared.stretches.RowsReading.{RowsReading}
+use Rattle.table_store.specs.declared.table_loading.TableLoading.{TableLoading}
+use Rattle.table_store.specs.Catalog.{HasFile, HasTableCause}
+use Rattle.table_store.specs.Fault.{TableCause, file_missing, file_too_large, bad_text, bad_header, bad_cell, key_null, key_twice}
+use Rattle.table_store.specs.Loading.{keys_at, HasFileCause, HasRowsCause}
+use Rattle.table_store.specs.Steps.{stage_left, HasAllOfRows, IsAtStage, KeysReadOn, LoadsTable, ReachesStage, ReadsKeys, ReadsRows, ReadsTable, RowsReadOn, StageGoesOn}
+use Rattle.table_store.proofs.ColumnLemmas.{typed-keys, typed-rows}
+use Rattle.table_store.proofs.FitLemmas.{rows-within}
+use Rattle.table_store.proofs.InsideLemmas.{length-rows_in, rows-wide}
+use Rattle.table_store.proofs.LoadingLemmas.{rows_cause}
+
+-- the keys of the columns of rows are those of the rows
+pub keys_read : (schema : SchemaOf) (raws : List (List RawField)) (n : ℕ) (typed : List ColumnCells) → n ≡ length raws
+    → AllByRecursion (λ fields. length fields ≡ length schema.columns) raws → AreTyped schema.columns (rows_in schema.columns raws) typed
+    → typed_keys schema.key typed n ≡ keys_at schema raws
+keys_read schema raws n typed count wide are =
+    typed-keys schema.key typed n
+    ∙ ap (row_keys schema.key)
+    (typed-rows schema.columns (rows_in schema.columns raws) typed n (count ∙ sym (length-rows_in schema.columns raws)) (rows-wide schema.columns raws wide) are)
+
+-- what is wrong with a file is what is wrong with its table
+file_refused : (limit : ℕ) (file : Option (List ℕ)) (schema : SchemaOf) (bytes : List ℕ) (cause : TableCause) → HasFile limit file bytes → HasFileCause schema bytes cause
+    → HasTableCause limit file schema cause
+file_refused limit file schema bytes file_missing has wrong = absurd wrong
+file_refused limit file schema bytes file_too_large has wrong = absurd wrong
+file_refused limit file schema bytes (bad_text fault) has wrong = (bytes, has, wrong)
+file_refused limit file schema bytes (bad_header place) has wrong = (bytes, has, wrong)
+file_refused limit file schema bytes (bad_cell row col fault) has wrong = (bytes, has, wrong)
+file_refused limit file schema bytes (key_null row) has wrong = (bytes, has, wrong)
+file_refused limit file schema bytes (key_twice row) has wrong = (bytes, has, wrong)
+
+pub rows_refused : (limit : ℕ) (file : Option (List ℕ)) (schema : SchemaOf) (Read : List (List RawField) → Type 0) (cause : Option TableCause) → (reads : ReadsTable limit file schema Read)
+    → IfSome cause (HasRowsCause schema reads.2.raw.rows) → IfSome cause (HasTableCause limit file schema)
+rows_refused limit file schema Read cause reads wrong =
+    IfSome_then cause wrong (λ cause wrong. file_refused limit file schema reads.0 cause reads.1
+    (rows_cause schema reads.0 reads.2.raw cause reads.2.is reads.2.header_matches wrong))
+
+pub text_refused : (limit : ℕ) (file : Option (List ℕ)) (schema : SchemaOf) (indexing : IndexingOf) (cause : Option TableCause) → IsAtStage limit file schema (stages.File indexing)
+    → IfSome cause (HasFileCause schema indexing.bytes) → IfSome cause (HasTableCause limit file schema)
+text_refused limit file schema indexing cause at wrong = IfSome_then cause wrong (λ cause wrong. file_refused limit file schema indexing.bytes cause at.0 wrong)
+
+-- the rows of the file are few
+pub few_rows : (limit : ℕ) (file : Option (List ℕ)) (schema : SchemaOf) (Read : List (List RawField) → Type 0) → (reads : ReadsTable limit file schema Read) → length reads.2.raw.rows ≤ 2 ^ 30
+few_rows limit file schema Read reads = omega (arith, rows-within reads.0 reads.2.raw reads.2.is, reads.2.short)
+
+-- of the same file something else is read
+read_as : (limit : ℕ) (file : Option (List ℕ)) (schema : SchemaOf) (Read More : List (List RawField) → Type 0) → (reads : ReadsTable limit file schema Read) → More reads.2.raw.rows
+    → ReadsTable limit file schema More
+read_as limit file schema Read More reads more = (
+  reads.0,
+  reads.1,
+  record { short = reads.2.short; raw = reads.2.raw; is = reads.2.is; header_matches = reads.2.header_matches; reads = more },
+)
+
+-- ---- the next stage
+pub stage_of_file : (limit : ℕ) (file : Option (List ℕ)) (schema : SchemaOf) (old : IndexingOf) (stage : Stage) → IsAtStage limit file schema (stages.File old) → ReachesStage schema old stage
+    → IsAtStage limit file schema stage × (stage_left stage < stage_left (stages.File old))
+stage_of_file limit file schema old (stages.File new) at (same, less) = (
+  (subst (HasFile limit file) (sym same) at.0, omega (arith, at.1, ap length same), omega (arith, at.2, less)),
+  omega (arith, less),
+)
+stage_of_file limit file schema old (stages.Rows reading) at reads = (
+  (old.bytes, at.0, reads),
+  omega (arith, rows-within old.bytes reads.raw reads.is, reads.short, reads.reads.within),
+)
+stage_of_file limit file schema old (stages.Keys keys) at reads = absurd reads
+
+pub stage_of_rows : (limit : ℕ) (file : Option (List ℕ)) (schema : SchemaOf) (old : RowsReading) (stage : Stage) → (at : IsAtStage limit file schema (stages.Rows old))
+    → ((rows : List (List RawField)) → ReadsRows schema.columns rows old → RowsReadOn schema rows old stage)
+    → IsAtStage limit file schema stage × (stage_left stage < stage_left (stages.Rows old))
+stage_of_rows limit file schema old (stages.File indexing) at on = absurd (on at.2.raw.rows at.2.reads)
+stage_of_rows limit file schema old (stages.Rows new) at on =
+    let next = on at.2.raw.rows at.2.reads in
+    (read_as limit file schema (λ rows. ReadsRows schema.columns rows old) (λ rows. ReadsRows schema.columns rows new) at next.0, omega (arith, next.1))
+stage_of_rows limit file schema old (stages.Keys keys) at on =
+    let next = on at.2.raw.rows at.2.reads in
+    let few = few_rows limit file schema (λ rows. ReadsRows schema.columns rows old) at in (
+      read_as limit file schema (λ rows. ReadsRows schema.columns rows old) (λ rows. ReadsKeys schema rows keys) at next.0,
+      omega (arith, next.1, few, at.2.reads.count),
+    )
+
+pub stage_of_keys : (limit : ℕ) (file : Option (List ℕ)) (schema : SchemaOf) (old : KeysReading) (step : StageStep) → (at : IsAtStage limit file schema (stages.Keys old))
+    → ((rows : List (List RawField)) → ReadsKeys schema rows old → KeysReadOn schema rows (keys_left old) step)
+    → StageGoesOn limit file schema (stage_left (stages.Keys old)) step
+stage_of_keys limit file schema old (stage_steps.On (stages.File indexing)) at on = absurd (on at.2.raw.rows at.2.reads)
+stage_of_keys limit file schema old (stage_steps.On (stages.Rows reading)) at on = absurd (on at.2.raw.rows at.2.reads)
+stage_of_keys limit file schema old (stage_steps.On (stages.Keys new)) at on =
+    let next = on at.2.raw.rows at.2.reads in
+    (read_as limit file schema (λ rows. ReadsKeys schema rows old) (λ rows. ReadsKeys schema rows new) at next.0, next.1)
+stage_of_keys limit file schema old (stage_steps.Over parts) at on =
+    read_as limit file schema (λ rows. ReadsKeys schema rows old) (λ rows. HasAllOfRows schema rows parts) at (on at.2.raw.rows at.2.reads)
+
+pub few_keys : (limit : ℕ) (file : Option (List ℕ)) (schema : SchemaOf) (keys : KeysReading) → IsAtStage limit file schema (stages.Keys keys) → keys.rows ≤ 2 ^ 30
+few_keys limit file schema keys at = omega (arith, few_rows limit file schema (λ rows. ReadsKeys schema rows keys) at, at.2.reads.count)
+
+-- ---- the table
+pub at_stage : (limit : ℕ) (file : Option (List ℕ)) (schema : SchemaOf) (loading : TableLoading) → LoadsTable limit file schema loading
+    → IsAtStage limit file (schema_view loading.schema) loading.stage
+at_stage limit file schema loading loads = subst (λ s. IsAtStage limit file s loading.stage) (sym loads.of_schema) loads.reads
+
+pub loads_on : (limit : ℕ) (file : Option (List ℕ)) (schema : SchemaOf) (loading : TableLoading) (stage : Stage) → IsAtStage limit file (schema_view loading.schema) stage
+    → LoadsTable limit file schema loading → LoadsTable limit file schema (record { schema = loading.schema; stage = stage })
+loads_on limit file schema loading stage at loads = record {
+  of_schema = loads.of_schema;
+  keys = loads.keys;
+  defaults = loads.defaults;
+  reads = subst (λ s. IsAtStage limit file s stage) loads.of_schema at;
+}
