@@ -17,7 +17,8 @@ use Rattle.cell_types.specs.declared.fault.CellFault.TheVariants.{NotDecimal, Ou
 use Rattle.cell_types.specs.Decimal.{are_digits, decimal_of, fraction_part, is_decimal, is_in_millionths, is_zero, millionths, signed, six_places, value_of_millionths, whole_part}
 use Rattle.cell_types.specs.Integer.{fits_64_bits}
 use Rattle.cell_types.specs.Value.{CellValue, decimal}
-use Rattle.cell_types.proofs.IntegerLemmas.{digits_model, list_all-digits, true-fits}
+use Rattle.cell_types.proofs.DigitLaws.{after-append, digits_model, list_all-digits}
+use Rattle.cell_types.proofs.IntegerLemmas.{true-fits}
 
 pub decimal_of-only : (bytes : List ℕ) (v : CellValue) → decimal_of bytes ≡ Ok v → (z : ℤ) × FitsSigned w64 z × (v ≡ decimal z)
 unfolding decimal_of
@@ -32,10 +33,6 @@ decimal_of-only bytes v =
     (λ _ e. cc)
 
 -- ---- digits behind others
-
-pub after-append : (n : ℕ) (xs ys : List ℕ) → digits_value_after 10 n (xs ++ ys) ≡ digits_value_after 10 (digits_value_after 10 n xs) ys
-after-append n [] ys = refl
-after-append n (x ∷ xs) ys = after-append (n * 10 + digit_value x) xs ys
 
 after-le : (n : ℕ) (ds : List ℕ) → n ≤ digits_value_after 10 n ds
 after-le n [] = omega arith
@@ -63,11 +60,6 @@ no_room start ds i n m lt h le out fits =
     out (omega (arith, after-le (n * 10 + (get_or ds i 0 - 48)) (drop (i + 1) ds), next.1.1))
 
 -- ---- six decimal places
-
-pub AllDigits-take : (n : ℕ) (ds : List ℕ) → AllDigits 10 ds → AllDigits 10 (take n ds)
-AllDigits-take zero ds h = tt
-AllDigits-take (suc n) [] h = tt
-AllDigits-take (suc n) (d ∷ ds) h = (h.0, AllDigits-take n ds h.1)
 
 -- at most six places are filled with zeros
 pub six_places-few : (places : List ℕ) → length places ≤ 6 → six_places places ≡ places ++ take (6 - length places) (codes "000000")

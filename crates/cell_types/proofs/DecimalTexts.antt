@@ -16,8 +16,9 @@ use Rattle.cell_types.specs.declared.fault.CellFault.TheVariants.{OutOfRange}
 use Rattle.cell_types.specs.Date.{four_digits, two_digits}
 use Rattle.cell_types.specs.Decimal.{are_digits, decimal_of, decimal_text, fraction_part, fraction_text, is_decimal, is_in_millionths, is_point, is_zero, millionths, millionths_text, signed, six_digits, six_places, value_of_millionths, whole_part, without_last_zeros}
 use Rattle.cell_types.specs.Value.{decimal}
-use Rattle.cell_types.proofs.DecimalLemmas.{after-append, decimal-written, digits-append}
-use Rattle.cell_types.proofs.IntegerLemmas.{digits_model, fits-true}
+use Rattle.cell_types.proofs.DecimalLemmas.{decimal-written, digits-append}
+use Rattle.cell_types.proofs.DigitLaws.{after-append, digits_model}
+use Rattle.cell_types.proofs.IntegerLemmas.{fits-true}
 
 -- ---- zeros at the end
 

@@ -1,13 +1,13 @@
 -- Integers of 64 bits, and what std's `parse` reads.
-use Rattle.std.proofs.Common.{◌≡◌, ℕ, ℤ, pos, negsuc, ◌==◌, ◌^◌, ◌&&◌, Bool, true, false, cond, List, [], ◌∷◌, Ok, Err, Result, FitsSigned, w64, arith, length, nat_lt, refl, sym, ap, ◌∙◌}
+use Rattle.std.proofs.Common.{◌≡◌, ℕ, ℤ, pos, negsuc, ◌==◌, ◌^◌, ◌&&◌, Bool, true, false, cond, List, Ok, Err, Result, FitsSigned, w64, arith, length, nat_lt, refl, sym, ap, ◌∙◌}
 use Rattle.std.specs.Char.{is_ascii_digit}
 use Rattle.std.specs.List.{list_all}
 use Rattle.std.specs.Str.{all_ascii_digits}
-use Rattle.std.specs.Str.Parse.{IsNumeral, ParsesSigned, digits_value, signed_digits_value, without_leading_sign}
+use Rattle.std.specs.Str.Parse.{IsNumeral, ParsesSigned, signed_digits_value, without_leading_sign}
 use Rattle.std.proofs.lemmas.Bool.{lt-ltb, ltb-true, and_parts, and_from, eqb-false, cond_both, false_from_ne_true, true≢false}
 use Rattle.std.specs.Fmt.{signed_decimal}
 use Rattle.std.proofs.lemmas.Fmt.{parse-signed_decimal}
-use Rattle.std.proofs.lemmas.Str.Parse.{IsNumeralModel, numerals_by_value, tells_all_ascii_digits}
+use Rattle.cell_types.proofs.DigitLaws.{digits_model, list_all-digits}
 use Rattle.cell_types.specs.declared.fault.CellFault.TheVariants.{NotInteger, OutOfRange}
 use Rattle.cell_types.specs.Integer.{fits_64_bits, is_integer, integer_of}
 use Rattle.cell_types.specs.Value.{CellValue, integer}
@@ -20,13 +20,6 @@ fits-true (negsuc n) h = lt-ltb n (2 ^ 63) h.sfits
 pub true-fits : (z : ℤ) → fits_64_bits z ≡ true → FitsSigned w64 z
 true-fits (pos n) h = record { sfits = ltb-true n (2 ^ 63) h }
 true-fits (negsuc n) h = record { sfits = ltb-true n (2 ^ 63) h }
-
-pub list_all-digits : (ds : List ℕ) → list_all is_ascii_digit ds ≡ all_ascii_digits ds
-list_all-digits [] = refl
-list_all-digits (d ∷ ds) = ap (λ rest. is_ascii_digit d && rest) (list_all-digits ds)
-
-abbrev pub digits_model : IsNumeralModel (λ ds. all_ascii_digits ds ≡ true) (digits_value 10)
-digits_model = numerals_by_value (λ ds. all_ascii_digits ds ≡ true) tells_all_ascii_digits
 
 -- the form, in std's words
 pub numeral-is_integer : (bytes : List ℕ) → is_integer bytes ≡ true → IsNumeral 10 (without_leading_sign bytes)

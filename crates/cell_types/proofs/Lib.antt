@@ -1,5 +1,6 @@
 pub mod ListLaws
 pub mod CaseLaws
+pub mod DigitLaws
 pub mod WordLemmas
 pub mod WhiteSpaceLemmas
 pub mod IntegerLemmas

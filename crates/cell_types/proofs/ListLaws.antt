@@ -1,5 +1,5 @@
 -- Crates above may cite this file: laws of lists alone.
-use Rattle.std.proofs.Common.{◌≡◌, ℕ, ◌≤◌, zero, suc, List, [], ◌∷◌, ◌++◌, length, map, filter, filter_map, Bool, true, ◌||◌, Option, None, Some, nat_eq, refl, ap, arith}
+use Rattle.std.proofs.Common.{◌≡◌, ℕ, ◌≤◌, suc, List, [], ◌∷◌, ◌++◌, length, map, filter, filter_map, Bool, true, ◌||◌, Option, None, Some, nat_eq, refl, ap, arith}
 use Rattle.std.specs.List.{AllByRecursion, cons_option, list_any, starts_with}
 use Rattle.std.proofs.lemmas.Bool.Decides.{Decides-eqb}
 use Rattle.std.proofs.lemmas.List.Elements.{All-filter, All-from_recursion, All-weaker, recursion_from_All}

@@ -21,7 +21,7 @@ use Rattle.cell_types.specs.Value.{CellValue, date, decimal}
 use Rattle.cell_types.specs.WhiteSpace.{normal_text}
 use Rattle.cell_types.proofs.DateLemmas.{date_of-none, date_of-text}
 use Rattle.cell_types.proofs.DecimalLemmas.{both_parts, decimal-not, decimal_of-only}
-use Rattle.cell_types.proofs.IntegerLemmas.{digits_model}
+use Rattle.cell_types.proofs.DigitLaws.{digits_model}
 use Rattle.cell_types.proofs.ShortIntegers.{AreSolid, solid-normal}
 
 -- ---- bytes that are no white space

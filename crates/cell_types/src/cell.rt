@@ -73,10 +73,8 @@ fn read_string<'a>(alloc: Global, column: &Column, text: CowStr<'a>) -> Result<V
         return null_value(column);
     }
     if text.as_str().is_empty() && !column.default.is_empty() {
-        return match String::from_str(alloc, column.default.as_str()) {
-            Ok(copy) => Ok(Value::Text(CowStr::Owned(copy))),
-            Err(_) => Err(CellFault::NoMemory),
-        };
+        let copy = String::from_str(alloc, column.default.as_str())?;
+        return Ok(Value::Text(CowStr::Owned(copy)));
     }
     Ok(Value::Text(text))
 }
@@ -161,10 +159,8 @@ pub fn read_text<'a>(
     if is_normal(text.as_str()) {
         return read_content(column, text.as_str());
     }
-    match normal_copy(alloc, text.as_str()) {
-        Ok(copy) => read_content(column, copy.as_str()),
-        Err(_) => Err(CellFault::NoMemory),
-    }
+    let copy = normal_copy(alloc, text.as_str())?;
+    read_content(column, copy.as_str())
 }
 
 /// [`read_text`] of a borrowed text.

@@ -2,6 +2,8 @@
 ghost use Rattle.std.specs.Prelude.{◌≡◌};
 ghost use Rattle.cell_types.specs.Fault.{cell_fault_name};
 
+use std::alloc::AllocError;
+
 /// Why a text has no value in a column.
 #[derive(Clone, Copy, PartialEq, Eq)]
 pub enum CellFault {
@@ -21,6 +23,16 @@ pub enum CellFault {
     TooFine,
     /// Memory ran out.
     NoMemory,
+}
+
+impl From<AllocError> for CellFault {
+    ghost use Rattle.cell_types.specs.declared.fault.CellFault.TheVariants.{NoMemory};
+
+    ghost from_gives = { λ _ fault. fault ≡ NoMemory };
+
+    fn from(_: AllocError) -> CellFault {
+        CellFault::NoMemory
+    }
 }
 
 impl CellFault {

@@ -8,5 +8,6 @@ pub mod FirstSeen
 pub mod Aggregate
 pub mod Apply
 pub mod Query
+pub mod Plain
 pub mod Laws
 pub mod Worked

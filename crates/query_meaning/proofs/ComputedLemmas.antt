@@ -12,7 +12,7 @@ use Rattle.std.proofs.lemmas.List.Elements.{filter_map-append, recursion_from_Al
 use Rattle.std.proofs.lemmas.List.Folds.{Any-from_list_any, list_any-from_Any}
 use Rattle.std.proofs.lemmas.List.Sorted.{ranks_by}
 use Rattle.std.proofs.lemmas.Map.Made.{length-from_keys}
-use Rattle.cell_types.specs.Value.{CellValue, null, integer, text, boolean, date, decimal, value_cmp, value_eq}
+use Rattle.cell_types.specs.Value.{CellValue, null, integer, decimal, value_cmp, value_eq}
 use Rattle.row_eval.specs.Row.{cell, decimal_in, integer_in}
 use Rattle.query_meaning.specs.Apply.{greatest_value, integer_sum, is_value, least_value, sum_value, value_at, present_values}
 use Rattle.query_meaning.specs.Laws.{DistinctValuesAreCounted, ExtremesAreValues, StandsInColumn, SumsAddUp, added}
@@ -55,19 +55,11 @@ plain_sum n = omega (arith, ints)
 
 no_integer : (v : CellValue) → ((n : ℤ) → v ≢ integer n) → integer_in v ≡ None
 no_integer (integer n) h = absurd (h n refl)
-no_integer null h = refl
-no_integer (text t) h = refl
-no_integer (boolean b) h = refl
-no_integer (date y m d) h = refl
-no_integer (decimal n) h = refl
+no_integer v h = refl
 
 no_decimal : (v : CellValue) → ((n : ℤ) → v ≢ decimal n) → decimal_in v ≡ None
 no_decimal (decimal n) h = absurd (h n refl)
-no_decimal null h = refl
-no_decimal (text t) h = refl
-no_decimal (boolean b) h = refl
-no_decimal (date y m d) h = refl
-no_decimal (integer n) h = refl
+no_decimal v h = refl
 
 pub sums_add_up : SumsAddUp
 sums_add_up = (
@@ -89,11 +81,7 @@ sums_add_up = (
 
 value_is : (v : CellValue) → v ≢ null → is_value v ≡ true
 value_is null h = absurd (h refl)
-value_is (integer n) h = refl
-value_is (text t) h = refl
-value_is (boolean b) h = refl
-value_is (date y m d) h = refl
-value_is (decimal n) h = refl
+value_is v h = refl
 
 module _ (place : ℕ) (rows : List (List CellValue)) where
   among : (v : CellValue) → StandsInColumn place rows v → Contains (present_values place rows) v

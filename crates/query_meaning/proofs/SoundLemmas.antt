@@ -63,35 +63,22 @@ always (Err e) = tt
 pub as_integer_sound : (row : List CellValue) (k : ℕ) (t : TypedExprOf) → Sound row k t → IfOk (as_integer t) (NumberSound row)
 as_integer_sound row k typed.nothing h = (omega arith, tt, tt)
 as_integer_sound row k (typed.integer e b) h = h
-as_integer_sound row k (typed.text e) h = tt
-as_integer_sound row k (typed.truth e) h = tt
-as_integer_sound row k (typed.date e) h = tt
-as_integer_sound row k (typed.decimal e b) h = tt
+as_integer_sound row k t h = tt
 
 pub as_decimal_sound : (row : List CellValue) (k : ℕ) (t : TypedExprOf) → Sound row k t → IfOk (as_decimal t) (NumberSound row)
 as_decimal_sound row k typed.nothing h = (omega arith, tt, tt)
 as_decimal_sound row k (typed.integer e b) h = if_within (b * MILLIONTHS) (typed.scaled e, b * MILLIONTHS) (NumberSound row) (λ limit.
     let s = scaled_sized (number_outcome e row) b h.2 in (limit, (h.1, fits_of (number_outcome (typed.scaled e) row) (b * MILLIONTHS) limit s), s))
-as_decimal_sound row k (typed.text e) h = tt
-as_decimal_sound row k (typed.truth e) h = tt
-as_decimal_sound row k (typed.date e) h = tt
 as_decimal_sound row k (typed.decimal e b) h = h
+as_decimal_sound row k t h = tt
 
 pub as_text_sound : (row : List CellValue) (k : ℕ) (t : TypedExprOf) → Sound row k t → IfOk (as_text t) (TextSound row k)
-as_text_sound row k typed.nothing h = tt
-as_text_sound row k (typed.integer e b) h = tt
 as_text_sound row k (typed.text e) h = h
-as_text_sound row k (typed.truth e) h = tt
-as_text_sound row k (typed.date e) h = tt
-as_text_sound row k (typed.decimal e b) h = tt
+as_text_sound row k t h = tt
 
 pub as_date_sound : (row : List CellValue) (k : ℕ) (t : TypedExprOf) → Sound row k t → IfOk (as_date t) (DateSound row)
-as_date_sound row k typed.nothing h = tt
-as_date_sound row k (typed.integer e b) h = tt
-as_date_sound row k (typed.text e) h = tt
-as_date_sound row k (typed.truth e) h = tt
 as_date_sound row k (typed.date e) h = h
-as_date_sound row k (typed.decimal e b) h = tt
+as_date_sound row k t h = tt
 
 date_fits : (row : List CellValue) (d : DateExprOf) → NumberFits (number_of_date d) row
 date_fits row typed.null_date = tt
@@ -104,10 +91,7 @@ integer_fits row k t h = bind (as_integer t) _ (NumberSound row) (λ e. NumberFi
 pub as_number_sound : (row : List CellValue) (k : ℕ) (type : ExprType) (t : TypedExprOf) → Sound row k t → IfOk (as_number type t) (λ e. NumberFits e row)
 as_number_sound row k kind.Decimal t h = bind (as_decimal t) _ (NumberSound row) (λ e. NumberFits e row) (as_decimal_sound row k t h) (λ x px. px.1)
 as_number_sound row k kind.Date t h = bind (as_date t) _ (λ _. Unit {0}) (λ e. NumberFits e row) (always (as_date t)) (λ d _. date_fits row d)
-as_number_sound row k kind.Null t h = integer_fits row k t h
-as_number_sound row k kind.Integer t h = integer_fits row k t h
-as_number_sound row k kind.Text t h = integer_fits row k t h
-as_number_sound row k kind.Boolean t h = integer_fits row k t h
+as_number_sound row k type t h = integer_fits row k t h
 
 pub as_truth_sound : (row : List CellValue) (k : ℕ) (t : TypedExprOf) → Sound row k t → IfOk (as_truth t) (λ e. TruthFits e row)
 as_truth_sound row k typed.nothing h = tt
@@ -128,40 +112,20 @@ literal_sound row (tree.date y m d) h = h
 literal_sound row (tree.decimal n) h = if_within (unsigned_abs n) (typed.decimal (typed.number_literal n) (unsigned_abs n)) (Sound row 1) (λ limit. (limit, tt, omega arith))
 
 integer_cell : (o : Option CellValue) (b : ℕ) → IfSome o (IsOfType (column.Integer b)) → AtMost b (option_and_then (number_in numbers.Integer) o)
-integer_cell None b h = tt
-integer_cell (Some cells.null) b h = tt
 integer_cell (Some (cells.integer n)) b h = h
-integer_cell (Some (cells.text t)) b h = tt
-integer_cell (Some (cells.boolean c)) b h = tt
-integer_cell (Some (cells.date y m d)) b h = tt
-integer_cell (Some (cells.decimal n)) b h = tt
+integer_cell o b h = tt
 
 decimal_cell : (o : Option CellValue) (b : ℕ) → IfSome o (IsOfType (column.Decimal b)) → AtMost b (option_and_then (number_in numbers.Decimal) o)
-decimal_cell None b h = tt
-decimal_cell (Some cells.null) b h = tt
-decimal_cell (Some (cells.integer n)) b h = tt
-decimal_cell (Some (cells.text t)) b h = tt
-decimal_cell (Some (cells.boolean c)) b h = tt
-decimal_cell (Some (cells.date y m d)) b h = tt
 decimal_cell (Some (cells.decimal n)) b h = h
+decimal_cell o b h = tt
 
 text_cell : (o : Option CellValue) → IfSome o (IsOfType column.Text) → IfSome (option_and_then text_in o) (λ t. length t ≤ 1 * 2 ^ 30)
-text_cell None h = tt
-text_cell (Some cells.null) h = tt
-text_cell (Some (cells.integer n)) h = tt
 text_cell (Some (cells.text t)) h = omega (arith, h)
-text_cell (Some (cells.boolean c)) h = tt
-text_cell (Some (cells.date y m d)) h = tt
-text_cell (Some (cells.decimal n)) h = tt
+text_cell o h = tt
 
 date_cell : (o : Option CellValue) → IfSome o (IsOfType column.Date) → IfSome (option_and_then day_in o) (λ d. IsDay (unsigned_abs d.year) d.month d.day)
-date_cell None h = tt
-date_cell (Some cells.null) h = tt
-date_cell (Some (cells.integer n)) h = tt
-date_cell (Some (cells.text t)) h = tt
-date_cell (Some (cells.boolean c)) h = tt
 date_cell (Some (cells.date y m d)) h = h
-date_cell (Some (cells.decimal n)) h = tt
+date_cell o h = tt
 
 column_sound : (row : List CellValue) (place : ℕ) (type : ColumnType) → IsBounded type → IfSome (slice_get row place) (IsOfType type) → Sound row 1 (column_expr place type)
 column_sound row place (column.Integer b) limit h = (limit, tt, integer_cell (slice_get row place) b h)

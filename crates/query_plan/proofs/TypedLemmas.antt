@@ -82,10 +82,7 @@ module _ (inputs : List InputOf) where
   number_over : (type : ExprType) (x : TypedExprOf) → IsOver inputs x → Told (IsNumberOver inputs) (as_number type x)
   number_over kind.Decimal x h = told_then (λ n. IsNumberOver inputs n.0) (IsNumberOver inputs) (as_decimal x) (λ n. Ok n.0) (decimal_over x h) (λ n over. over)
   number_over kind.Date x h = told_then (IsDateOver inputs) (IsNumberOver inputs) (as_date x) (λ d. Ok (number_of_date d)) (date_over x h) date_number
-  number_over kind.Integer x h = integer_number x h
-  number_over kind.Text x h = integer_number x h
-  number_over kind.Boolean x h = integer_number x h
-  number_over kind.Null x h = integer_number x h
+  number_over type x h = integer_number x h
 
   -- ---- columns and literals
 

@@ -9,7 +9,7 @@ use Rattle.std.proofs.lemmas.Int.{ints}
 use Rattle.std.proofs.lemmas.List.{length-map}
 use Rattle.std.proofs.lemmas.Map.Made.{distinct_count-le}
 use Rattle.std.proofs.lemmas.Nat.{mul-le}
-use Rattle.cell_types.specs.Value.{CellValue, null, integer, text, boolean, date, decimal, value_cmp, value_eq}
+use Rattle.cell_types.specs.Value.{CellValue, null, integer, decimal, value_cmp, value_eq}
 use Rattle.odata_types.specs.declared.types.ColumnType.{ColumnType}
 use Rattle.odata_types.specs.declared.types.ColumnType.TheVariants as column
 use Rattle.odata_types.specs.Columns.{InputOf}
@@ -48,20 +48,12 @@ abbrev pub AtMost : ℕ → ℤ → Type 0
 AtMost bound n = unsigned_abs n ≤ bound
 
 pub integers_within : (bound : ℕ) (v : CellValue) → IsOfType (column.Integer bound) v → IfSome (integer_in v) (AtMost bound)
-integers_within bound null h = tt
 integers_within bound (integer n) h = h
-integers_within bound (text t) h = tt
-integers_within bound (boolean b) h = tt
-integers_within bound (date y m d) h = tt
-integers_within bound (decimal n) h = tt
+integers_within bound v h = tt
 
 pub decimals_within : (bound : ℕ) (v : CellValue) → IsOfType (column.Decimal bound) v → IfSome (decimal_in v) (AtMost bound)
-decimals_within bound null h = tt
-decimals_within bound (integer n) h = tt
-decimals_within bound (text t) h = tt
-decimals_within bound (boolean b) h = tt
-decimals_within bound (date y m d) h = tt
 decimals_within bound (decimal n) h = h
+decimals_within bound v h = tt
 
 cons_within : (bound : ℕ) (o : Option ℤ) (ns : List ℤ) → IfSome o (AtMost bound) → AllByRecursion (AtMost bound) ns → AllByRecursion (AtMost bound) (cons_option o ns)
 cons_within bound None ns h all = all

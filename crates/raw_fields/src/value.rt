@@ -23,8 +23,6 @@ pub fn cell_value<'a>(alloc: Global, column: &Column, raw: Raw<'a>) -> Result<Va
         → (raw_content (raw_view raw.entry) ≡ raw.entry.bytes.now → ⊥)
         ⊎ NeedsMemory (column_view column.now) (raw_content (raw_view raw.entry)) }
 {
-    match raw.text(alloc) {
-        Ok(text) => read_text(alloc, column, text),
-        Err(_) => Err(CellFault::NoMemory),
-    }
+    let text = raw.text(alloc)?;
+    read_text(alloc, column, text)
 }

@@ -4,13 +4,14 @@ use Rattle.std.specs.Prelude.{Err, IfOk, IfSome, Ok, Result, option_map, slice_g
 use Rattle.std.specs.declared.alloc.AllocError.{AllocError}
 use Rattle.std.specs.Cmp.{IsTotalOrder}
 use Rattle.std.specs.Cmp.Lexicographic.{slice_cmp}
-use Rattle.std.specs.Option.{unwrap_or}
 use Rattle.std.specs.Ordering.{bool_cmp, int_cmp, nat_cmp, is_lt, ordering_reverse}
 use Rattle.std.specs.declared.cmp.Ordering.{Ordering}
 use Rattle.std.specs.declared.cmp.Ordering.TheVariants.{Less, Equal, Greater}
 use Rattle.std.proofs.lemmas.Bool.{cases_Bool, false≢true, ltb-false}
 use Rattle.block_summary.specs.Ranges.{is_null}
-use Rattle.cell_types.specs.Value.{CellValue, boolean, date, decimal, integer, null, text, value_cmp}
+use Rattle.odata_query.specs.declared.plain.ColumnKind.{ColumnKind}
+use Rattle.odata_query.specs.declared.plain.ColumnKind.TheVariants as kinds
+use Rattle.cell_types.specs.Value.{CellValue, boolean, decimal, integer, null, text, value_cmp}
 use Rattle.typed_trees.specs.declared.operator.ComparisonOperator.{ComparisonOperator}
 use Rattle.typed_trees.specs.declared.operator.ComparisonOperator.TheVariants.{GreaterOrEqual, GreaterThan, NotEqual}
 use Rattle.typed_trees.specs.declared.tree.NumberKind.TheVariants as numbers
@@ -22,72 +23,68 @@ use Rattle.row_eval.specs.Bounds.{NumberFits, TruthFits}
 use Rattle.row_eval.specs.Comparison.{compared, holds}
 use Rattle.row_eval.specs.Logic.{opposite, option_of_truth, truth_of, truth_of_option}
 use Rattle.row_eval.specs.declared.truth.Truth.{Truth}
-use Rattle.row_eval.specs.Outcome.{both, day_value, number_outcome, or_null, text_outcome, truth_outcome}
-use Rattle.row_eval.specs.Row.{boolean_in, cell, day_in, decimal_in, integer_in, text_in}
+use Rattle.row_eval.specs.Outcome.{both, number_outcome, or_null, text_outcome, truth_outcome}
+use Rattle.row_eval.specs.Row.{boolean_in, cell, decimal_in, integer_in, text_in}
 use Rattle.query_meaning.specs.Order.{Item, item_value}
+use Rattle.odata_query.specs.Plain.{plain_at}
 use Rattle.row_order.specs.Cutoffs.{first_value, is_before, is_near, may_precede, moved_to, order_between, IsComparison, IsTest, IsTestOfColumn}
-use Rattle.row_order.specs.Plain.{column_value, place_in, IsPlainColumn}
-use Rattle.row_order.specs.declared.plain.PlainColumn.{PlainColumn}
-use Rattle.row_order.specs.declared.plain.PlainColumn.TheVariants as plain
-use Rattle.row_order.proofs.PlainLemmas.{read_there, truth_again}
+use Rattle.row_order.specs.Plain.{column_value, of_kind, IsPlainColumn}
+use Rattle.odata_query.specs.declared.plain.PlainColumn.{PlainColumn}
+use Rattle.row_order.proofs.PlainLemmas.{read_there, truth_again, value_is}
 
 -- ---- a column, compared with a value
 
-integers_between : (x y : Option ℤ) → compared int_cmp x y ≡ order_between (or_null integer x) (or_null integer y)
-unfolding value_cmp
-integers_between None None = refl
-integers_between None (Some y) = refl
-integers_between (Some x) None = refl
-integers_between (Some x) (Some y) = refl
+order_null : (b : CellValue) → is_null b ≡ false → order_between null b ≡ None
+order_null b some = ap (λ c. cond c (Some Equal) None) some
 
-decimals_between : (x y : Option ℤ) → compared int_cmp x y ≡ order_between (or_null decimal x) (or_null decimal y)
-unfolding value_cmp
-decimals_between None None = refl
-decimals_between None (Some y) = refl
-decimals_between (Some x) None = refl
-decimals_between (Some x) (Some y) = refl
+order_some : (v b : CellValue) → is_null v ≡ false → is_null b ≡ false → order_between v b ≡ Some (value_cmp v b)
+order_some v b n some =
+    ap (λ c. cond c (cond (is_null b) (Some Equal) None) (cond (is_null b) None (Some (value_cmp v b)))) n
+    ∙ ap (λ c. cond c None (Some (value_cmp v b))) some
 
-texts_between : (x y : Option (List ℕ)) → compared (slice_cmp nat_cmp) x y ≡ order_between (or_null text x) (or_null text y)
-unfolding value_cmp
-texts_between None None = refl
-texts_between None (Some y) = refl
-texts_between (Some x) None = refl
-texts_between (Some x) (Some y) = refl
+order_of_null : (v : CellValue) → is_null v ≡ false → order_between v null ≡ None
+order_of_null v n = ap (λ c. cond c (Some Equal) None) n
 
-truths_between : (x y : Option Bool) → compared bool_cmp x y ≡ order_between (or_null boolean x) (or_null boolean y)
-unfolding value_cmp
-truths_between None None = refl
-truths_between None (Some y) = refl
-truths_between (Some x) None = refl
-truths_between (Some x) (Some y) = refl
+module _ {X : Type 0} (make : X → CellValue) (cmp : X → X → Ordering) (some : (x : X) → is_null (make x) ≡ false) (same : (x y : X) → value_cmp (make x) (make y) ≡ cmp x y) where
+  between : (x y : Option X) → compared cmp x y ≡ order_between (or_null make x) (or_null make y)
+  between None None = refl
+  between None (Some y) = sym (order_null (make y) (some y))
+  between (Some x) None = sym (order_of_null (make x) (some x))
+  between (Some x) (Some y) = ap (λ o. Some o) (sym (same x y)) ∙ sym (order_some (make x) (make y) (some x) (some y))
+
+  -- what a reader finds in a column is compared as the cell there
+  there_compared : (read : CellValue → Option X) → read null ≡ None → (o : ComparisonOperator) (row : List CellValue) (col : ℕ) (x : Option X)
+      → truth_of (holds o (compared cmp (cell read row col) x)) ≡ truth_of (holds o (order_between (or_null make (read (get_or row col null))) (or_null make x)))
+  there_compared read none o row col x =
+      ap (λ y. truth_of (holds o (compared cmp y x))) (read_there read none row col) ∙ ap (λ order. truth_of (holds o order)) (between (read (get_or row col null)) x)
 
 pub integers_compared : (o : ComparisonOperator) (col : ℕ) (operand : NumberExprOf) (n : Option ℤ) → ((row : List CellValue) → number_outcome operand row ≡ Some n)
-    → ((row : List CellValue) → NumberFits operand row) → IsComparison o (plain.Integer col) (or_null integer n) (compare_numbers o (number_column numbers.Integer col) operand)
+    → ((row : List CellValue) → NumberFits operand row) → IsComparison o (plain_at kinds.Integer col) (or_null integer n) (compare_numbers o (number_column numbers.Integer col) operand)
+unfolding value_cmp
 integers_compared o col operand n is fits = record {
   outcome = λ row.
       ap (both (λ x y. truth_of (holds o (compared int_cmp x y))) (Some (cell integer_in row col))) (is row)
-      ∙ ap (λ x. Some (truth_of (holds o (compared int_cmp x n)))) (read_there integer_in refl row col)
-      ∙ ap (λ order. Some (truth_of (holds o order))) (integers_between (integer_in (get_or row col null)) n);
+      ∙ ap (λ t. Some t) (there_compared integer int_cmp (λ z. refl) (λ x y. refl) integer_in refl o row col n);
   fits = λ row. (tt, fits row);
 }
 
 pub decimals_compared : (o : ComparisonOperator) (col : ℕ) (operand : NumberExprOf) (n : Option ℤ) → ((row : List CellValue) → number_outcome operand row ≡ Some n)
-    → ((row : List CellValue) → NumberFits operand row) → IsComparison o (plain.Decimal col) (or_null decimal n) (compare_numbers o (number_column numbers.Decimal col) operand)
+    → ((row : List CellValue) → NumberFits operand row) → IsComparison o (plain_at kinds.Decimal col) (or_null decimal n) (compare_numbers o (number_column numbers.Decimal col) operand)
+unfolding value_cmp
 decimals_compared o col operand n is fits = record {
   outcome = λ row.
       ap (both (λ x y. truth_of (holds o (compared int_cmp x y))) (Some (cell decimal_in row col))) (is row)
-      ∙ ap (λ x. Some (truth_of (holds o (compared int_cmp x n)))) (read_there decimal_in refl row col)
-      ∙ ap (λ order. Some (truth_of (holds o order))) (decimals_between (decimal_in (get_or row col null)) n);
+      ∙ ap (λ t. Some t) (there_compared decimal int_cmp (λ z. refl) (λ x y. refl) decimal_in refl o row col n);
   fits = λ row. (tt, fits row);
 }
 
 pub texts_compared : (o : ComparisonOperator) (col : ℕ) (operand : TextExprOf) (t : Option (List ℕ)) → ((row : List CellValue) → text_outcome operand row ≡ t)
-    → IsComparison o (plain.Text col) (or_null text t) (compare_texts o (text_column col) operand)
+    → IsComparison o (plain_at kinds.Text col) (or_null text t) (compare_texts o (text_column col) operand)
+unfolding value_cmp
 texts_compared o col operand t is = record {
   outcome = λ row.
       ap (λ y. Some (truth_of (holds o (compared (slice_cmp nat_cmp) (cell text_in row col) y)))) (is row)
-      ∙ ap (λ x. Some (truth_of (holds o (compared (slice_cmp nat_cmp) x t)))) (read_there text_in refl row col)
-      ∙ ap (λ order. Some (truth_of (holds o order))) (texts_between (text_in (get_or row col null)) t);
+      ∙ ap (λ t. Some t) (there_compared text (slice_cmp nat_cmp) (λ x. refl) (λ x y. refl) text_in refl o row col t);
   fits = λ row. tt;
 }
 
@@ -96,14 +93,15 @@ truth_operand true = refl
 truth_operand false = refl
 
 pub truths_compared : (o : ComparisonOperator) (col : ℕ) (operand : TruthExprOf) (t : Truth) (b : Option Bool) → ((row : List CellValue) → truth_outcome operand row ≡ Some t)
-    → option_of_truth t ≡ b → ((row : List CellValue) → TruthFits operand row) → IsComparison o (plain.Boolean col) (or_null boolean b) (compare_truths o (truth_column col) operand)
+    → option_of_truth t ≡ b → ((row : List CellValue) → TruthFits operand row) → IsComparison o (plain_at kinds.Boolean col) (or_null boolean b) (compare_truths o (truth_column col) operand)
+unfolding value_cmp
 truths_compared o col operand t b is same fits = record {
   outcome = λ row.
       let x = cell boolean_in row col in
       ap (both (λ x y. truth_of (holds o (compared bool_cmp (option_of_truth x) (option_of_truth y)))) (Some (truth_of_option x))) (is row)
       ∙ ap (λ y. Some (truth_of (holds o (compared bool_cmp (option_of_truth (truth_of_option x)) y)))) same
-      ∙ ap (λ x. Some (truth_of (holds o (compared bool_cmp x b)))) (truth_again x ∙ read_there boolean_in refl row col)
-      ∙ ap (λ order. Some (truth_of (holds o order))) (truths_between (boolean_in (get_or row col null)) b);
+      ∙ ap (λ x. Some (truth_of (holds o (compared bool_cmp x b)))) (truth_again x)
+      ∙ ap (λ t. Some t) (there_compared boolean bool_cmp (λ x. refl) (λ x y. refl) boolean_in refl o row col b);
   fits = λ row. (tt, fits row);
 }
 
@@ -129,28 +127,16 @@ test_as column test other e same is = record {
 null_before : (v : CellValue) → is_null v ≡ false → value_cmp null v ≡ Less
 unfolding value_cmp
 null_before null e = absurd (cc)
-null_before (integer n) e = refl
-null_before (text t) e = refl
-null_before (boolean b) e = refl
-null_before (date y m d) e = refl
-null_before (decimal n) e = refl
+null_before v e = refl
 
 null_after : (v : CellValue) → is_lt (value_cmp v null) ≡ false
 unfolding value_cmp
 null_after null = refl
-null_after (integer n) = refl
-null_after (text t) = refl
-null_after (boolean b) = refl
-null_after (date y m d) = refl
-null_after (decimal n) = refl
+null_after v = refl
 
 null_is : (v : CellValue) → is_null v ≡ true → v ≡ null
 null_is null e = refl
-null_is (integer n) e = absurd (cc)
-null_is (text t) e = absurd (cc)
-null_is (boolean b) e = absurd (cc)
-null_is (date y m d) e = absurd (cc)
-null_is (decimal n) e = absurd (cc)
+null_is v e = absurd (cc)
 
 pub none_before_null : (column : PlainColumn) (e : TruthExprOf) → ((row : List CellValue) → truth_outcome e row ≡ Some (truth_of false)) → ((row : List CellValue) → TruthFits e row)
     → IsTestOfColumn column (λ v. is_before false v null) e
@@ -158,17 +144,6 @@ none_before_null column e is fits = record {
   outcome = λ row. is row ∙ ap (λ b. Some (truth_of b)) (sym (null_after (column_value column row)));
   fits = fits;
 }
-
-order_null : (b : CellValue) → is_null b ≡ false → order_between null b ≡ None
-order_null b some = ap (λ c. cond c (Some Equal) None) some
-
-order_some : (v b : CellValue) → is_null v ≡ false → is_null b ≡ false → order_between v b ≡ Some (value_cmp v b)
-order_some v b n some =
-    ap (λ c. cond c (cond (is_null b) (Some Equal) None) (cond (is_null b) None (Some (value_cmp v b)))) n
-    ∙ ap (λ c. cond c None (Some (value_cmp v b))) some
-
-order_of_null : (v : CellValue) → is_null v ≡ false → order_between v null ≡ None
-order_of_null v n = ap (λ c. cond c (Some Equal) None) n
 
 before_turned : (o : Ordering) → not (holds GreaterOrEqual (Some o)) ≡ is_lt o
 before_turned Less = refl
@@ -210,24 +185,13 @@ turned false bound v = refl
 
 -- ---- an item that is a column
 
-moved_value : (column : PlainColumn) (col : ℕ) (row picked : List CellValue) → get_or row col null ≡ get_or picked (place_in column) null
-    → column_value (moved_to col column) row ≡ column_value column picked
-moved_value (plain.Integer place) col row picked e = ap (λ v. or_null integer (integer_in v)) e
-moved_value (plain.Text place) col row picked e = ap (λ v. or_null text (text_in v)) e
-moved_value (plain.Boolean place) col row picked e = ap (λ v. or_null boolean (boolean_in v)) e
-moved_value (plain.Date place) col row picked e = ap (λ v. or_null day_value (day_in v)) e
-moved_value (plain.Decimal place) col row picked e = ap (λ v. or_null decimal (decimal_in v)) e
-
-value_is : (item : Item) (column : PlainColumn) (row : List CellValue) → IsPlainColumn item.0 column → item_value item row ≡ column_value column row
-value_is item column row is = ap (λ o. unwrap_or o null) (is.value row)
-
 item_test : (item : Item) (others : List Item) (column : PlainColumn) (col : ℕ) (test : CellValue → Bool) (e : TruthExprOf) → IsPlainColumn item.0 column
     → IsTestOfColumn (moved_to col column) test e → IsTest (item ∷ others) col (λ row. test (item_value item row)) e
 item_test item others column col test e is tests = record {
   outcome = λ place row picked at same.
-      let here : place ≡ place_in column = (let both = sym at ∙ is.place in cc) in
+      let here : place ≡ column.place = (let both = sym at ∙ is.place in cc) in
       tests.outcome row
-      ∙ ap (λ v. Some (truth_of (test v))) (moved_value column col row picked (same ∙ ap (λ p. get_or picked p null) here) ∙ sym (value_is item column picked is));
+      ∙ ap (λ v. Some (truth_of (test v))) (ap (of_kind column.kind) (same ∙ ap (λ p. get_or picked p null) here) ∙ sym (value_is item column is picked));
   fits = tests.fits;
 }
 
@@ -245,7 +209,7 @@ module _ (o : OrderBy) (column : PlainColumn) (col : ℕ) (bound : CellValue) (e
     Cuts os = IsTest (map order_view os) col (may_precede (map order_view os) (first_value (map order_view os) last)) e
 
     last_is : bound ≡ item_value (order_view o) last
-    last_is = bound_is ∙ sym (value_is (order_view o) column last is)
+    last_is = bound_is ∙ sym (value_is (order_view o) column is last)
 
     pub cutoff_alone : (os : List OrderBy) → slice_get os 0 ≡ Some o → ltb 1 (length os) ≡ false → IsTestOfColumn (moved_to col column) (λ v. is_before o.descending v bound) e → Cuts os
     cutoff_alone [] at alone tests = absurd (cc)
@@ -267,11 +231,14 @@ module _ (o : OrderBy) (column : PlainColumn) (col : ℕ) (bound : CellValue) (e
 
 -- ---- what a step made
 
-pub compared_as : (r : Result (Option TruthExpr) AllocError) (o : ComparisonOperator) (column : PlainColumn) (value : CellValue) (tree : TruthExprOf) → IsComparison o column value tree
-    → IfOk r (λ made. IfSome made (λ e. truth_view e ≡ tree)) → IfOk r (λ made. IfSome made (λ e. IsComparison o column value (truth_view e)))
-compared_as (Ok None) o column value tree is h = tt
-compared_as (Ok (Some e)) o column value tree is h = subst (IsComparison o column value) (sym h) is
-compared_as (Err fault) o column value tree is h = h
+pub compared_as : (r : Result (Option TruthExpr) AllocError) (o : ComparisonOperator) (column : PlainColumn) (kind : ColumnKind) (given value : CellValue) (tree : TruthExprOf)
+    → column.kind ≡ kind → given ≡ value → IsComparison o (plain_at kind column.place) value tree
+    → IfOk r (λ made. IfSome made (λ e. truth_view e ≡ tree)) → IfOk r (λ made. IfSome made (λ e. IsComparison o column given (truth_view e)))
+compared_as (Ok None) o column kind given value tree k v is h = tt
+compared_as (Ok (Some e)) o column kind given value tree k v is h =
+    subst (λ k. IsComparison o (plain_at k column.place) given (truth_view e)) (sym k)
+    (subst (λ v. IsComparison o (plain_at kind column.place) v (truth_view e)) (sym v) (subst (IsComparison o (plain_at kind column.place) value) (sym h) is))
+compared_as (Err fault) o column kind given value tree k v is h = h
 
 pub made_as : (r : Result (Option TruthExpr) AllocError) (P Q : TruthExprOf → Type 0) → ((e : TruthExprOf) → P e → Q e)
     → IfOk r (λ made. IfSome made (λ e. P (truth_view e))) → IfOk r (λ made. IfSome made (λ e. Q (truth_view e)))

@@ -12,8 +12,7 @@ use Rattle.row_eval.specs.Comparison.{holds}
 use Rattle.row_eval.specs.Logic.{truth_of}
 use Rattle.row_eval.specs.Outcome.{truth_outcome}
 use Rattle.query_meaning.specs.Order.{Item, directed, item_value, ordered, plain_column, rows_cmp, sorted}
-use Rattle.row_order.specs.declared.plain.PlainColumn.{PlainColumn}
-use Rattle.row_order.specs.declared.plain.PlainColumn.TheVariants as plain
+use Rattle.odata_query.specs.declared.plain.PlainColumn.{PlainColumn}
 use Rattle.row_order.specs.Best.{best_rows}
 use Rattle.row_order.specs.Plain.{column_value}
 
@@ -70,13 +69,9 @@ pub record RowsAreCutOff : Type 0 where
 abbrev pub order_between : CellValue → CellValue → Option Ordering
 order_between a b = if is_null a then (if is_null b then Some Equal else None) else (if is_null b then None else Some (value_cmp a b))
 
--- a column of the same type at another place
+-- a column of the same kind at another place
 abbrev pub moved_to : ℕ → PlainColumn → PlainColumn
-moved_to col (plain.Integer place) = plain.Integer col
-moved_to col (plain.Text place) = plain.Text col
-moved_to col (plain.Boolean place) = plain.Boolean col
-moved_to col (plain.Date place) = plain.Date col
-moved_to col (plain.Decimal place) = plain.Decimal col
+moved_to col column = record column { place = col }
 
 -- a condition is a test of the value of a column, and computes no number
 pub record IsTestOfColumn (column : PlainColumn) (test : CellValue → Bool) (e : TruthExprOf) : Type 0 where

@@ -5,11 +5,11 @@ ghost use Rattle.cell_types.specs.Value.{CellValue, value_view};
 ghost use Rattle.typed_trees.specs.TypedTree.{compare_numbers, compare_texts, compare_truths, number_column, number_view, text_view, truth_view};
 ghost use Rattle.odata_query.specs.Query.{order_view};
 ghost use Rattle.row_order.specs.Cutoffs.{first_place as first_place_of, first_value, is_before, is_near, may_precede, moved_to, IsComparison, IsTest, IsTestOfColumn};
-ghost use Rattle.row_order.specs.declared.plain.PlainColumn.{PlainColumn as ColumnOf};
+ghost use Rattle.odata_query.specs.declared.plain.PlainColumn.{PlainColumn as ColumnOf};
 
-use crate::plain::{PlainColumn, column_value, plain_column};
+use crate::plain::{column_value, item_column};
 use cell_types::Value;
-use odata_query::OrderBy;
+use odata_query::{ColumnKind, OrderBy, PlainColumn};
 use row_columns::Columns;
 use std::alloc::{AllocError, Global};
 use typed_trees::{ComparisonOperator, NumberExpr, NumberKind, TextExpr, TruthExpr};
@@ -69,31 +69,32 @@ fn comparison(
         (λ e. IsComparison operator column (value_view value.now) (truth_view e))) }
 {
     use NumberKind::{Decimal, Integer};
-    match (column, value) {
-        (PlainColumn::Integer(col), Value::Int(number)) => {
+    let col = column.place;
+    match (column.kind, value) {
+        (ColumnKind::Integer, Value::Int(number)) => {
             compare_numbers(alloc, operator, Integer, col, NumberExpr::Literal(*number))
         }
-        (PlainColumn::Integer(col), Value::Null) => {
+        (ColumnKind::Integer, Value::Null) => {
             compare_numbers(alloc, operator, Integer, col, NumberExpr::Null)
         }
-        (PlainColumn::Decimal(col), Value::Decimal(number)) => {
+        (ColumnKind::Decimal, Value::Decimal(number)) => {
             compare_numbers(alloc, operator, Decimal, col, NumberExpr::Literal(*number))
         }
-        (PlainColumn::Decimal(col), Value::Null) => {
+        (ColumnKind::Decimal, Value::Null) => {
             compare_numbers(alloc, operator, Decimal, col, NumberExpr::Null)
         }
-        (PlainColumn::Text(col), Value::Text(text)) => {
+        (ColumnKind::Text, Value::Text(text)) => {
             let text = TextExpr::Literal(String::from_str(alloc, text.as_str())?);
             compare_texts(alloc, operator, TextExpr::Column(col), text)
         }
-        (PlainColumn::Text(col), Value::Null) => {
+        (ColumnKind::Text, Value::Null) => {
             compare_texts(alloc, operator, TextExpr::Column(col), TextExpr::Null)
         }
-        (PlainColumn::Boolean(col), Value::Bool(truth)) => {
+        (ColumnKind::Boolean, Value::Bool(truth)) => {
             let truth = TruthExpr::Literal(*truth);
             compare_truths(alloc, operator, TruthExpr::Column(col), truth)
         }
-        (PlainColumn::Boolean(col), Value::Null) => {
+        (ColumnKind::Boolean, Value::Null) => {
             compare_truths(alloc, operator, TruthExpr::Column(col), TruthExpr::Null)
         }
         _ => Ok(None),
@@ -153,12 +154,9 @@ fn is_not_after(
 fn moved(column: PlainColumn, col: usize) -> PlainColumn
     ensures { result ≡ moved_to col column }
 {
-    match column {
-        PlainColumn::Integer(_) => PlainColumn::Integer(col),
-        PlainColumn::Text(_) => PlainColumn::Text(col),
-        PlainColumn::Boolean(_) => PlainColumn::Boolean(col),
-        PlainColumn::Date(_) => PlainColumn::Date(col),
-        PlainColumn::Decimal(_) => PlainColumn::Decimal(col),
+    PlainColumn {
+        place: col,
+        ..column
     }
 }
 
@@ -166,13 +164,7 @@ fn moved(column: PlainColumn, col: usize) -> PlainColumn
 pub fn first_place(items: &[OrderBy]) -> Option<usize>
     ensures { IfSome result (λ place. first_place_of (map order_view items.now) ≡ Some place) }
 {
-    match plain_column(&items.first()?.expression)? {
-        PlainColumn::Integer(place)
-        | PlainColumn::Text(place)
-        | PlainColumn::Boolean(place)
-        | PlainColumn::Date(place)
-        | PlainColumn::Decimal(place) => Some(place),
-    }
+    Some(item_column(&items.first()?.expression)?.place)
 }
 
 /// Returns a condition on the rows of a table whose column `col` the first item is: whether a row may come before the row `last` of `columns` in the order
@@ -192,7 +184,7 @@ pub fn cutoff(
     let Some(first) = items.first() else {
         return Ok(None);
     };
-    let Some(column) = plain_column(&first.expression) else {
+    let Some(column) = item_column(&first.expression) else {
         return Ok(None);
     };
     let bound = column_value(columns, last, column);
@@ -218,7 +210,7 @@ pub fn nearness(
     let Some(first) = items.first() else {
         return Ok(None);
     };
-    let Some(column) = plain_column(&first.expression) else {
+    let Some(column) = item_column(&first.expression) else {
         return Ok(None);
     };
     is_not_after(alloc, moved(column, col), first.descending, bound)

@@ -12,7 +12,7 @@ use Rattle.cell_types.specs.Datatype.{DatatypeOf}
 use Rattle.cell_types.specs.Date.{is_date}
 use Rattle.cell_types.specs.Laws.{DatesReadBack, IsOfColumn, IsOfDatatype}
 use Rattle.cell_types.specs.Rows.{IsTableRow}
-use Rattle.cell_types.specs.Value.{CellValue, boolean, date, decimal, integer, null, text}
+use Rattle.cell_types.specs.Value.{CellValue, date, decimal, integer, null}
 use Rattle.block_summary.specs.Ranges.{RangeOf}
 use Rattle.typed_trees.specs.declared.operator.ComparisonOperator.{ComparisonOperator}
 use Rattle.typed_trees.specs.declared.tree.NumberKind.{NumberKind}
@@ -113,12 +113,8 @@ datatype-day dates (datatype.date form) year month day h =
 datatype-day dates type year month day h = absurd h
 
 value-day : DatesReadBack → (c : ColumnOf) (v : CellValue) → IsOfColumn c v → IfSome (day_in v) IsCalendarDay
-value-day dates c null h = tt
-value-day dates c (integer z) h = tt
-value-day dates c (text t) h = tt
-value-day dates c (boolean b) h = tt
 value-day dates c (date year month day) h = datatype-day dates c.datatype year month day h
-value-day dates c (decimal z) h = tt
+value-day dates c v h = tt
 
 row-day : DatesReadBack → (columns : List ColumnOf) (row : List CellValue) (place : ℕ) → IsTableRow columns row → IfSome (cell day_in row place) IsCalendarDay
 row-day dates [] [] place h = tt

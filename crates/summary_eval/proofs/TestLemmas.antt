@@ -1,5 +1,5 @@
 -- Tests of a column against a literal, and what the range of the column tells of them.
-use Rattle.std.proofs.Common.{◌≡◌, ◌<◌, ℕ, Bool, true, false, Some, None, List, [], ◌∷◌, length, refl, sym, ap, ◌∙◌, subst}
+use Rattle.std.proofs.Common.{◌≡◌, ◌<◌, ℕ, Bool, true, false, Some, None, List, [], length, refl, sym, ap, ◌∙◌, subst}
 use Rattle.std.specs.Prelude.{ℤ, not, slice_index_or}
 use Rattle.std.specs.Cmp.Lexicographic.{slice_cmp}
 use Rattle.std.specs.Ordering.{int_cmp, nat_cmp, ordering_then}
@@ -34,11 +34,7 @@ fails-each law ranges place test inside none cells is =
 pub no-null : (cell : CellValue) → test_passes tests.Equal cell null ≡ false → is_null cell ≡ false
 unfolding value_cmp
 no-null null h = absurd (true≢false h)
-no-null (integer z) h = refl
-no-null (text t) h = refl
-no-null (boolean b) h = refl
-no-null (date year month day) h = refl
-no-null (decimal z) h = refl
+no-null cell h = refl
 
 same_of : (a b : CellValue) (r : Ordering) → value_cmp a b ≡ r → test_passes tests.NotEqual a b ≡ false → value_cmp a b ≡ order.Equal
 same_of a b order.Less e h = absurd (cc)
@@ -89,40 +85,30 @@ unfolding value_cmp
 integers-around null h = refl
 integers-around (integer z) h = refl
 integers-around (text []) h = absurd (true≢false h)
-integers-around (text (x ∷ xs)) h = absurd (true≢false h)
-integers-around (boolean b) h = absurd (true≢false h)
-integers-around (date year month day) h = absurd (true≢false h)
-integers-around (decimal z) h = absurd (true≢false h)
+integers-around cell h = absurd (true≢false h)
 
 pub texts-around : (cell : CellValue) → test_passes tests.LessThan cell (text []) ≡ false → test_passes tests.GreaterOrEqual cell (boolean false) ≡ false → is_of_kind Text cell ≡ true
 unfolding value_cmp
 texts-around null h g = refl
-texts-around (integer z) h g = absurd (true≢false h)
 texts-around (text t) h g = refl
+texts-around (integer z) h g = absurd (true≢false h)
 texts-around (boolean true) h g = absurd (true≢false g)
-texts-around (boolean false) h g = absurd (true≢false g)
-texts-around (date year month day) h g = absurd (true≢false g)
-texts-around (decimal z) h g = absurd (true≢false g)
+texts-around cell h g = absurd (true≢false g)
 
 pub dates-around : (year : ℤ) (month day : ℕ) (cell : CellValue) → test_passes tests.LessOrEqual cell (boolean true) ≡ false → test_passes tests.GreaterThan cell (date year month day) ≡ false
     → is_of_kind Date cell ≡ true
 unfolding value_cmp
 dates-around year month day null h g = refl
-dates-around year month day (integer z) h g = absurd (true≢false h)
-dates-around year month day (text t) h g = absurd (true≢false h)
-dates-around year month day (boolean true) h g = absurd (true≢false h)
-dates-around year month day (boolean false) h g = absurd (true≢false h)
 dates-around year month day (date y m d) h g = refl
 dates-around year month day (decimal z) h g = absurd (true≢false g)
+dates-around year month day (boolean true) h g = absurd (true≢false h)
+dates-around year month day cell h g = absurd (true≢false h)
 
 pub decimals-around : (least : ℤ) (cell : CellValue) → test_passes tests.LessThan cell (decimal least) ≡ false → is_of_kind Decimal cell ≡ true
 unfolding value_cmp
 decimals-around least null h = refl
-decimals-around least (integer z) h = absurd (true≢false h)
-decimals-around least (text t) h = absurd (true≢false h)
-decimals-around least (boolean b) h = absurd (true≢false h)
-decimals-around least (date year month day) h = absurd (true≢false h)
 decimals-around least (decimal z) h = refl
+decimals-around least cell h = absurd (true≢false h)
 
 -- ---- comparisons of cells of a kind are tests
 

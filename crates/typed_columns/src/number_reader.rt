@@ -105,10 +105,8 @@ impl NumberReader {
             ⊎ (value_in (column_view column.now, raw_view raw.entry) ≡ Err e)) }
     {
         let number = field_number(alloc, column, self.packed_type, raw)?;
-        match self.push(alloc, number) {
-            Ok(()) => Ok(()),
-            Err(_) => Err(CellFault::NoMemory),
-        }
+        self.push(alloc, number)?;
+        Ok(())
     }
 
     /// Reads the fields of a column in the rows of a part.
@@ -166,8 +164,6 @@ fn field_number(
     ensures fault { IfErr result (λ e. (e ≡ CellFault.NoMemory)
         ⊎ (value_in (column_view column.now, raw_view raw.entry) ≡ Err e)) }
 {
-    match raw.text(alloc) {
-        Ok(text) => read_number(alloc, column, packed_type, text.as_str()),
-        Err(_) => Err(CellFault::NoMemory),
-    }
+    let text = raw.text(alloc)?;
+    read_number(alloc, column, packed_type, text.as_str())
 }

@@ -95,10 +95,8 @@ impl TextReader {
             ⊎ (value_in (column_view column.now, raw_view raw.entry) ≡ Err e)) }
     {
         let text = field_text(alloc, column, raw)?;
-        match self.push(alloc, &text) {
-            Ok(()) => Ok(()),
-            Err(_) => Err(CellFault::NoMemory),
-        }
+        self.push(alloc, &text)?;
+        Ok(())
     }
 
     /// Adds what a field says, or a null if that is empty. `rest` is the file from the field's bytes on.
@@ -141,10 +139,8 @@ impl TextReader {
             (value_or_null (value_in (column_view column.now, raw_view raw.entry)))) }
         ensures fault { IfErr result (λ e. e ≡ CellFault.NoMemory) }
     {
-        match self.push_field(alloc, raw.bytes, raw.quoted, rest) {
-            Ok(()) => Ok(()),
-            Err(_) => Err(CellFault::NoMemory),
-        }
+        self.push_field(alloc, raw.bytes, raw.quoted, rest)?;
+        Ok(())
     }
 
     /// Reads the fields of a column in the rows of a part, where the empty text alone is null.
@@ -236,9 +232,7 @@ fn field_text<'a>(
     ensures fault { IfErr result (λ e. (e ≡ CellFault.NoMemory)
         ⊎ (value_in (column_view column.now, raw_view raw.entry) ≡ Err e)) }
 {
-    let Ok(content) = raw.text(alloc) else {
-        return Err(CellFault::NoMemory);
-    };
+    let content = raw.text(alloc)?;
     match string_of(column, content) {
         Some(text) => Ok(Some(text)),
         None if column.required => Err(CellFault::Missing),

@@ -3,7 +3,8 @@ use Rattle.std.proofs.Common.{◌≡◌, ◌∙◌, length, arith, sym, ap, ap�
 use Rattle.std.specs.List.{after_first, before_first}
 use Rattle.std.specs.Str.Parse.{starts_with_minus, without_leading_sign}
 use Rattle.cell_types.specs.Decimal.{is_point, signed, value_of_millionths}
-use Rattle.cell_types.proofs.DecimalLemmas.{AllDigits-take, both_parts, out_of_range, read-not, read-too_fine, read-written}
+use Rattle.cell_types.proofs.DigitLaws.{AllDigits-take}
+use Rattle.cell_types.proofs.DecimalLemmas.{both_parts, out_of_range, read-not, read-too_fine, read-written}
 use Rattle.cell_types.proofs.decimal.millionths_of.Goals as goal
 
 pub returns-then-not-are_parts : goal.returns-then-not-are_parts

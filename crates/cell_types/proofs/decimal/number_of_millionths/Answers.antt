@@ -3,7 +3,8 @@ use Rattle.std.proofs.Common.{ℕ, ◌-◌, ◌<◌, ◌^◌, take, length, rule
 use Rattle.std.specs.Prelude.{codes}
 use Rattle.std.specs.Option.{SomeIff}
 use Rattle.std.specs.Str.Parse.{digits_value_after}
-use Rattle.cell_types.proofs.DecimalLemmas.{AllDigits-take, grows, millionths-parts}
+use Rattle.cell_types.proofs.DigitLaws.{AllDigits-take}
+use Rattle.cell_types.proofs.DecimalLemmas.{grows, millionths-parts}
 use Rattle.cell_types.proofs.decimal.number_of_millionths.Goals as goal
 
 pub returns-in_err-number : goal.returns-in_err-number

@@ -7,15 +7,15 @@ use Rattle.typed_columns.specs.Readers.{texts_with}
 use Rattle.typed_columns.proofs.PartLemmas.{has_value, plain_value}
 use Rattle.typed_columns.proofs.text_reader.TextReader.read_plain.Goals as goal
 
-pub returns-in-Ok-clause-value : goal.returns-in-Ok-clause-value
-returns-in-Ok-clause-value c =
+pub returns-clause-value : goal.returns-clause-value
+returns-clause-value c =
     let column = column_view c.args.column.now in
     let raw = raw_view c.args.raw in
     (has_value column raw (content_cell true (raw_content raw)) (plain_value column raw c.requires.column c.requires.plain)).0
 
-pub returns-in-Ok-clause-cells : goal.returns-in-Ok-clause-cells
-returns-in-Ok-clause-cells c =
+pub returns-clause-cells : goal.returns-clause-cells
+returns-clause-cells c =
     let column = column_view c.args.column.now in
     let raw = raw_view c.args.raw in
     let says = has_value column raw (content_cell true (raw_content raw)) (plain_value column raw c.requires.column c.requires.plain) in
-    c.in-Ok.ensures ∙ ap (texts_with c.args.self.now) (sym says.1)
+    c.in_ok-push_field.ensures ∙ ap (texts_with c.args.self.now) (sym says.1)
