@@ -3,6 +3,7 @@ ghost use Rattle.std.specs.Prelude.{◌<◌, length};
 ghost use Rattle.std.specs.List.{All};
 
 use cell_types::Value;
+use row_selection::Selection;
 use std::alloc::{AllocError, Global};
 use table_store::Block;
 
@@ -39,7 +40,7 @@ impl Rank {
 fn firsts_of<'t>(
     alloc: Global,
     block: &Block<'t>,
-    numbers: &[usize],
+    numbers: &Selection,
     col: usize,
     rank: Rank,
 ) -> Result<Vec<Value<'t>>, AllocError>
@@ -50,13 +51,13 @@ fn firsts_of<'t>(
     let mut firsts: Vec<Value<'t>> = Vec::new(alloc);
     let mut part = 0;
     let mut left = 0;
-    for number in numbers {
+    for place in 0..numbers.len() {
         if left > 0 {
             left -= 1;
             continue;
         }
         left = step.saturating_sub(1);
-        let value = block.value(alloc, *number, col)?;
+        let value = block.value(alloc, numbers.at(place), col)?;
         match firsts.get_mut(part) {
             None => firsts.push(value)?,
             Some(first) => {
@@ -77,7 +78,7 @@ fn firsts_of<'t>(
 pub fn guessed_value<'t>(
     alloc: Global,
     block: &Block<'t>,
-    numbers: &[usize],
+    numbers: &Selection,
     col: usize,
     rank: Rank,
 ) -> Result<Option<Value<'t>>, AllocError>

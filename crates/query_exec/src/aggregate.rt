@@ -62,11 +62,8 @@ impl AggregateSink {
         if found.rows.len() == 0 {
             return Ok(());
         }
-        self.kept
-            .take_rows(alloc, block, Selection::all(block.rows()))?;
-        let numbers = found.rows.to_vec(alloc)?;
-        self.gathering
-            .join(alloc, &self.kept.columns, numbers.as_slice())?;
+        self.kept.take(alloc, block, Selection::all(block.rows()))?;
+        self.gathering.join(alloc, &self.kept.columns, &found.rows)?;
         self.kept.columns.clear();
         Ok(())
     }

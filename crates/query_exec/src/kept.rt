@@ -68,7 +68,7 @@ impl Kept {
     }
 
     /// Keeps the selected rows of a block, after the others.
-    pub(crate) fn take_rows(
+    pub(crate) fn take(
         &mut self,
         alloc: Global,
         block: &Block<'_>,
@@ -83,23 +83,6 @@ impl Kept {
             Some(places) => self.columns.take_places(alloc, block, places, rows),
             None => self.columns.take(alloc, block, rows),
         }
-    }
-
-    /// Keeps the rows of a block with these numbers, after the others.
-    pub(crate) fn take(
-        &mut self,
-        alloc: Global,
-        block: &Block<'_>,
-        numbers: &[usize],
-    ) -> Result<(), AllocError>
-        requires columns { AreKeptOf self.old block.now.schema }
-        requires within { All (λ n. n < length block.now.rows) numbers.now }
-        ensures { OnOk result (HasKept self.old self.new
-            (selected_rows (kept_places self.old) (numbered numbers.now block.now.rows))) }
-    {
-        block.rows_are_few();
-        let rows = Selection::of_numbers(alloc, numbers)?;
-        self.take_rows(alloc, block, rows)
     }
 
     /// Keeps of the rows those with these numbers, in their order.

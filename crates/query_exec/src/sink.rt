@@ -90,7 +90,7 @@ impl Sink {
         ensures { OnOk result (PushesOn self.old self.new block.now.rows found) }
     {
         match self {
-            Sink::Collect(kept) => kept.take_rows(alloc, block, found.rows),
+            Sink::Collect(kept) => kept.take(alloc, block, found.rows),
             Sink::Slice(sink) => sink.push(alloc, block, found),
             Sink::TopN(sink) => sink.push(alloc, block, found),
             Sink::Aggregate(sink) => sink.push(alloc, block, found),

@@ -57,7 +57,7 @@ impl SliceSink {
         self.count += found.count as u64;
         block.rows_are_few();
         let rows = found.rows.after(alloc, skip)?;
-        self.kept.take_rows(alloc, block, rows)?;
+        self.kept.take(alloc, block, rows)?;
         Ok(())
     }
 

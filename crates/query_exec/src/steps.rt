@@ -41,20 +41,21 @@ fn project(
 /// Returns one row of aggregates, or a row for each group.
 fn aggregate(
     alloc: Global,
-    input: &Intermediate,
+    input: Intermediate,
     places: Option<&[usize]>,
     aggregates: &[NamedAggregate],
 ) -> Result<Intermediate, AllocError>
-    requires input { IsIntermediate input.now }
+    requires input { IsIntermediate input }
     requires fits { IsFitNode (aggregate_node (lent_places places)
-        (map named_view aggregates.now)) (intermediate_view input.now) }
+        (map named_view aggregates.now)) (intermediate_view input) }
     ensures { IfOk result (Makes (node_result (aggregate_node (lent_places places.entry)
-        (map named_view aggregates.now)) (intermediate_view input.now))) }
+        (map named_view aggregates.now)) (intermediate_view input))) }
 {
-    let (columns, numbers) = (&input.columns, input.numbers.as_slice());
-    let columns = gathered(alloc, columns, numbers, places, aggregates)?;
-    let names = aggregate_names(alloc, input.names.as_slice(), places, aggregates)?;
-    Intermediate::whole(alloc, names, columns, input.count)
+    let rows = input.into_rows(alloc)?;
+    let _few = rows.len(); // 64 bits tell how many there are
+    let columns = gathered(alloc, rows.columns(), places, aggregates)?;
+    let names = aggregate_names(alloc, rows.names(), places, aggregates)?;
+    Intermediate::whole(alloc, names, columns, rows.count())
 }
 
 /// Returns the rows in the order of items, or the first ones that are asked for.
@@ -96,9 +97,9 @@ fn apply(alloc: Global, node: &Node, input: Intermediate) -> Result<Intermediate
             let numbers = passing_numbers(alloc, &input.columns, &input.numbers, condition)?;
             Ok(Intermediate { numbers, ..input })
         }
-        Node::Aggregate(aggregates) => Ok(aggregate(alloc, &input, None, aggregates)?),
+        Node::Aggregate(aggregates) => Ok(aggregate(alloc, input, None, aggregates)?),
         Node::Group(places, aggregates) => {
-            Ok(aggregate(alloc, &input, Some(places.as_slice()), aggregates)?)
+            Ok(aggregate(alloc, input, Some(places.as_slice()), aggregates)?)
         }
         Node::Sort(items) => sort(alloc, input, items, None),
         Node::Best(items, most) => sort(alloc, input, items, Some(*most)),

@@ -15,6 +15,7 @@ use block_filter::{Passed, Rank, guessed_value, passing_numbers};
 use odata_query::OrderBy;
 use row_eval::{EvalFault, faults_are_foreseen};
 use row_order::{best_in_pieces, best_numbers, cutoff, first_place, nearness, rows_are_cut_off};
+use row_selection::Selection;
 use std::alloc::{AllocError, Global};
 use table_store::Block;
 use typed_trees::{TruthExpr, can_fault};
@@ -78,17 +79,17 @@ impl TopNSink {
         &self,
         alloc: Global,
         block: &Block<'_>,
-        numbers: Vec<usize>,
-    ) -> Result<Vec<usize>, AllocError>
+        numbers: Selection,
+    ) -> Result<Selection, AllocError>
         requires cutoff { HasCutoff self.now }
-        requires within { All (λ n. n < length block.now.rows) numbers.items }
-        ensures { IfOk result (λ made. AreTimely self.now block.now.rows numbers.items made.items) }
+        requires within { All (λ n. n < length block.now.rows) numbers }
+        ensures { IfOk result (AreTimely self.now block.now.rows numbers) }
     {
         if numbers.len() <= FEW {
             return Ok(numbers);
         }
         match &self.cutoff {
-            Some(cutoff) => passing_numbers(alloc, cutoff, block, numbers.as_slice()),
+            Some(cutoff) => passing_numbers(alloc, cutoff, block, &numbers),
             None => Ok(numbers),
         }
     }
@@ -98,11 +99,11 @@ impl TopNSink {
         &self,
         alloc: Global,
         block: &Block<'_>,
-        numbers: Vec<usize>,
-    ) -> Result<Vec<usize>, AllocError>
+        numbers: Selection,
+    ) -> Result<Selection, AllocError>
         requires safe { none_can_fault (sink_items self.now) ≡ true }
-        requires within { All (λ n. n < length block.now.rows) numbers.items }
-        ensures { IfOk result (λ made. AreTimely self.now block.now.rows numbers.items made.items) }
+        requires within { All (λ n. n < length block.now.rows) numbers }
+        ensures { IfOk result (AreTimely self.now block.now.rows numbers) }
     {
         rows_are_cut_off();
         faults_are_foreseen();
@@ -116,13 +117,13 @@ impl TopNSink {
             most: self.most,
             descending: matches!(self.items.first(), Some(item) if item.descending),
         };
-        let Some(bound) = guessed_value(alloc, block, numbers.as_slice(), col, rank)? else {
+        let Some(bound) = guessed_value(alloc, block, &numbers, col, rank)? else {
             return Ok(numbers);
         };
         let Some(condition) = nearness(alloc, &self.items, col, &bound)? else {
             return Ok(numbers);
         };
-        let near = passing_numbers(alloc, &condition, block, numbers.as_slice())?;
+        let near = passing_numbers(alloc, &condition, block, &numbers)?;
         if (near.len() as u64) < self.most {
             return Ok(numbers);
         }
@@ -199,10 +200,9 @@ impl TopNSink {
     {
         best_in_pieces();
         faults_are_foreseen();
-        let all = found.rows.to_vec(alloc)?;
-        let before = self.timely(alloc, block, all)?;
-        let numbers = self.nearest(alloc, block, before)?;
-        self.kept.take(alloc, block, numbers.as_slice())?;
+        let before = self.timely(alloc, block, found.rows)?;
+        let rows = self.nearest(alloc, block, before)?;
+        self.kept.take(alloc, block, rows)?;
         self.cut(alloc)?;
         Ok(())
     }

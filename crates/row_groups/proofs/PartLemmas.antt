@@ -14,7 +14,10 @@ use Rattle.row_groups.specs.Gathered.{keys_held}
 use Rattle.row_groups.specs.Parts.{numbers_of_group, AreGroupsOf, ArePartsFrom, ArePartRows}
 use Rattle.row_groups.proofs.GatheredLemmas.{AreOneType}
 use Rattle.row_groups.proofs.GroupLemmas.{same_is, same_self}
-use Rattle.row_groups.proofs.ListLemmas.{all_at}
+use Rattle.row_groups.specs.declared.tally.Tally.{Tally}
+use Rattle.row_groups.specs.Tallies.{AreTallies, FitsAll, MayTallyEach, TalliesEach}
+use Rattle.odata_query.specs.declared.aggregate.Aggregate.{Aggregate}
+use Rattle.row_groups.proofs.ListLemmas.{all_at, from_long, next_by, one_more_by, zip_at, zip_long, ZipFrom}
 
 -- ---- numbers by their groups
 
@@ -142,3 +145,38 @@ module _ (equal : AreOneType) (places : List ℕ) (groups : Groups) (distinct : 
             ∙ ap (λ rs. rows_of_group places rs (get_or (keys_held groups) start [])) is ∙ ap (rows_of_group places more) here.1,
         part_rows (start + 1) ns gs more keys parts is found (omega arith) (λ j g e less. at (suc j) g (omega (arith, e)) (omega arith)) are.1,
       )
+
+-- ---- the part of the next group joins its tallies
+
+module _ (aggregates : List Aggregate) (rows : List (List CellValue)) (parts : List (Vec ℕ Global)) (keys : List (List CellValue)) (before more : List CellValue → List (List CellValue))
+    (tallies : List (Vec Tally Global)) (i : ℕ) (part : Vec ℕ Global) (inside : i < length parts) (at : part ≡ get_or parts i part) (parts_are : ArePartRows rows more keys parts)
+    (zip : ZipFrom (λ key (ts : Vec Tally Global). AreTallies aggregates (before key ++ more key) ts.items) (λ key ts. AreTallies aggregates (before key) ts.items) i keys tallies) where
+  there : i < length keys
+  there = omega (arith, inside, zip_long (λ key (p : Vec ℕ Global). numbered p.items rows ≡ more key) keys parts parts_are)
+
+  pub group_there : i < length tallies
+  group_there =
+      omega (arith, there, from_long (λ key (ts : Vec Tally Global). AreTallies aggregates (before key ++ more key) ts.items) (λ key ts. AreTallies aggregates (before key) ts.items) keys tallies i zip)
+
+  come : numbered part.items rows ≡ more (get_or keys i [])
+  come = ap (λ (p : Vec ℕ Global). numbered p.items rows) at ∙ zip_at (λ key (p : Vec ℕ Global). numbered p.items rows ≡ more key) keys parts i [] part parts_are inside
+
+  its : (old : Vec Tally Global) → old ≡ get_or tallies i old → AreTallies aggregates (before (get_or keys i [])) old.items
+  its old is =
+      subst (λ (ts : Vec Tally Global). AreTallies aggregates (before (get_or keys i [])) ts.items) (sym is)
+      (next_by (λ key (ts : Vec Tally Global). AreTallies aggregates (before key ++ more key) ts.items) (λ key ts. AreTallies aggregates (before key) ts.items) keys tallies i [] old zip there)
+
+  pub part_may_join : (old : Vec Tally Global) (width : ℕ) → old ≡ get_or tallies i old
+      → AllByRecursion (λ key. AllByRecursion (FitsAll width (before key ++ more key)) aggregates) keys → MayTallyEach aggregates width old.items (numbered part.items rows)
+  part_may_join old width is fits = record {
+    rows = before (get_or keys i []);
+    tallies = its old is;
+    fits = subst (λ rs. AllByRecursion (FitsAll width (before (get_or keys i []) ++ rs)) aggregates) (sym come)
+        (all_at (λ key. AllByRecursion (FitsAll width (before key ++ more key)) aggregates) keys i [] fits there);
+  }
+
+  pub part_joined : (old made : Vec Tally Global) → old ≡ get_or tallies i old → TalliesEach aggregates old.items made.items (numbered part.items rows)
+      → ZipFrom (λ key (ts : Vec Tally Global). AreTallies aggregates (before key ++ more key) ts.items) (λ key ts. AreTallies aggregates (before key) ts.items) (i + 1) keys (slice_set tallies i made)
+  part_joined old made is joins =
+      one_more_by (λ key (ts : Vec Tally Global). AreTallies aggregates (before key ++ more key) ts.items) (λ key ts. AreTallies aggregates (before key) ts.items) keys tallies i [] made zip there
+      (subst (λ rs. AreTallies aggregates (before (get_or keys i []) ++ rs) made.items) come (joins (before (get_or keys i [])) (its old is)))

@@ -8,10 +8,11 @@ ghost use Rattle.row_groups.specs.Codes.{joined_values, number_of_code, value_al
 
 use block_summary::PackedColumn;
 use row_columns::Columns;
+use row_selection::Selection;
 use std::alloc::{AllocError, Global};
 
 /// Codes are no more.
-const MOST_CODES: usize = 256;
+const MOST_CODES: usize = 4096;
 
 /// A code for each of some rows, less than a count. Rows with the same code have the same values.
 #[derive(Drop)]
@@ -64,7 +65,7 @@ fn code_of(number: Option<i64>, span: Span) -> u16
 fn number_codes(
     alloc: Global,
     column: &PackedColumn,
-    numbers: &[usize],
+    numbers: &Selection,
 ) -> Result<Option<Codes>, AllocError>
     ensures { IfOk result (λ made. IfSome made
         (HaveNumberCodes (numbers_of column.now) numbers.now)) }
@@ -73,22 +74,22 @@ fn number_codes(
         return Ok(None);
     };
     let mut codes = Vec::with_capacity(alloc, numbers.len())?;
-    for number in numbers {
-        codes.push(code_of(column.number(*number), span))?;
+    for i in 0..numbers.len() {
+        codes.push(code_of(column.number(numbers.at(i)), span))?;
     }
     let count = usize::from(span.last) + 2;
     Ok(Some(Codes { codes, count }))
 }
 
 /// Returns the codes of the rows with these numbers, by the codes of all rows.
-fn text_codes(alloc: Global, texts: &[u8], numbers: &[usize]) -> Result<Codes, AllocError>
+fn text_codes(alloc: Global, texts: &[u8], numbers: &Selection) -> Result<Codes, AllocError>
     requires { All (λ number. number < length texts.now) numbers.now }
     ensures { IfOk result (HaveTextCodes texts.now numbers.now) }
 {
     let mut codes = Vec::with_capacity(alloc, numbers.len())?;
     let mut count = 1;
-    for number in numbers {
-        let code = texts[*number];
+    for i in 0..numbers.len() {
+        let code = texts[numbers.at(i)];
         codes.push(u16::from(code))?;
         count = count.max(usize::from(code) + 1);
     }
@@ -99,7 +100,7 @@ fn text_codes(alloc: Global, texts: &[u8], numbers: &[usize]) -> Result<Codes, A
 fn column_codes(
     alloc: Global,
     columns: &Columns,
-    numbers: &[usize],
+    numbers: &Selection,
     place: usize,
 ) -> Result<Option<Codes>, AllocError>
     requires within { All (λ number. number < length columns.now.rows) numbers.now }
@@ -158,7 +159,7 @@ fn joined(alloc: Global, left: &Codes, right: &Codes) -> Result<Option<Codes>, A
 pub(crate) fn key_codes(
     alloc: Global,
     columns: &Columns,
-    numbers: &[usize],
+    numbers: &Selection,
     places: &[usize],
 ) -> Result<Option<Codes>, AllocError>
     requires within { All (λ number. number < length columns.now.rows) numbers.now }

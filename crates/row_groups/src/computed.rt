@@ -10,9 +10,10 @@ ghost use Rattle.row_groups.specs.Computed.{greater_value, lesser_value};
 use crate::kept::{kept_greatest, kept_least};
 use cell_types::Value;
 use row_columns::Columns;
+use row_selection::Selection;
 
 /// Returns the least value that rows have in a column; null if they have none.
-pub(crate) fn least<'a>(columns: &'a Columns, numbers: &[usize], place: usize) -> Value<'a>
+pub(crate) fn least<'a>(columns: &'a Columns, numbers: &Selection, place: usize) -> Value<'a>
     requires within { All (λ number. number < length columns.now.rows) numbers.now }
     requires place { place < length columns.now.kinds }
     ensures { value_view result
@@ -25,13 +26,13 @@ pub(crate) fn least<'a>(columns: &'a Columns, numbers: &[usize], place: usize) -
     let mut i = numbers.len();
     while i > 0 {
         i -= 1;
-        least = lesser(columns.value(numbers[i], place), least);
+        least = lesser(columns.value(numbers.at(i), place), least);
     }
     least
 }
 
 /// Returns the greatest value that rows have in a column; null if they have none.
-pub(crate) fn greatest<'a>(columns: &'a Columns, numbers: &[usize], place: usize) -> Value<'a>
+pub(crate) fn greatest<'a>(columns: &'a Columns, numbers: &Selection, place: usize) -> Value<'a>
     requires within { All (λ number. number < length columns.now.rows) numbers.now }
     requires place { place < length columns.now.kinds }
     ensures { value_view result
@@ -44,7 +45,7 @@ pub(crate) fn greatest<'a>(columns: &'a Columns, numbers: &[usize], place: usize
     let mut i = numbers.len();
     while i > 0 {
         i -= 1;
-        greatest = greater(columns.value(numbers[i], place), greatest);
+        greatest = greater(columns.value(numbers.at(i), place), greatest);
     }
     greatest
 }

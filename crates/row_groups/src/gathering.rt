@@ -11,6 +11,7 @@ ghost use Rattle.row_groups.specs.Tallies.{FitsAll};
 use crate::groups::{Grouping, Groups};
 use odata_query::{Aggregate, NamedAggregate};
 use row_columns::Columns;
+use row_selection::Selection;
 use std::alloc::{AllocError, Global};
 
 /// What rows come to, of which more may come: it keeps no row.
@@ -55,7 +56,7 @@ impl Gathering {
         &mut self,
         alloc: Global,
         columns: &Columns,
-        numbers: &[usize],
+        numbers: &Selection,
     ) -> Result<(), AllocError>
         requires within { All (λ number. number < length columns.now.rows) numbers.now }
         requires joins { MayJoin self.old (length columns.now.kinds)
@@ -91,27 +92,25 @@ impl Gathering {
     }
 }
 
-/// Returns what the aggregates compute of the rows with these numbers, or of their groups by their values in columns.
+/// Returns what the aggregates compute of all rows, or of their groups by their values in columns.
 pub fn gathered(
     alloc: Global,
     columns: &Columns,
-    numbers: &[usize],
     places: Option<&[usize]>,
     aggregates: &[NamedAggregate],
 ) -> Result<Columns, AllocError>
-    requires within { All (λ number. number < length columns.now.rows) numbers.now }
     requires places { IfSome places
         (λ places. All (λ place. place < length columns.now.kinds) places.now) }
-    requires fits { All (λ a. FitsAll (length columns.now.kinds)
-        (numbered numbers.now columns.now.rows) a.aggregate) (map named_view aggregates.now) }
+    requires fits { All (λ a. FitsAll (length columns.now.kinds) columns.now.rows a.aggregate)
+        (map named_view aggregates.now) }
     ensures width { IfOk result (λ made. length made.kinds
         ≡ gathered_width (lent_places places.entry) (map named_view aggregates.now)) }
-    ensures rows { IfOk result (λ made. made.rows
-        ≡ gathered_rows (lent_places places.entry) (map named_view aggregates.now)
-        (numbered numbers.now columns.now.rows)) }
+    ensures rows { IfOk result (λ made. made.rows ≡ gathered_rows (lent_places places.entry)
+        (map named_view aggregates.now) columns.now.rows) }
 {
     let mut gathering = Gathering::new(alloc, places, aggregates)?;
-    gathering.join(alloc, columns, numbers)?;
+    let all = Selection::all(columns.len());
+    gathering.join(alloc, columns, &all)?;
     gathering.finish(alloc)
 }
 

@@ -15,6 +15,7 @@ use cell_types::Value;
 use key_places::KeyPlaces;
 use odata_query::Aggregate;
 use row_columns::{Columns, owned};
+use row_selection::Selection;
 use std::alloc::{AllocError, Global};
 
 /// By what rows are grouped, and what is computed of each group.
@@ -63,7 +64,7 @@ impl Groups {
         &mut self,
         alloc: Global,
         columns: &Columns,
-        numbers: &[usize],
+        numbers: &Selection,
         aggregates: &[Aggregate],
     ) -> Result<(), AllocError>
         requires within { All (λ number. number < length columns.now.rows) numbers.now }
@@ -80,7 +81,7 @@ impl Groups {
         &mut self,
         alloc: Global,
         columns: &Columns,
-        numbers: &[usize],
+        numbers: &Selection,
         grouping: Grouping<'_>,
     ) -> Result<(), AllocError>
         requires within { All (λ number. number < length columns.now.rows) numbers.now }
@@ -95,7 +96,7 @@ impl Groups {
         query_meaning::rows_are_in_groups();
         if let Some(groups) = self.groups_of(alloc, columns, numbers, grouping)? {
             let parts = parts_of(alloc, self.keys.len(), numbers, &groups)?;
-            return self.join_parts(alloc, columns, &parts, grouping.aggregates);
+            return self.join_parts(alloc, columns, parts, grouping.aggregates);
         }
         self.join_each_row(alloc, columns, numbers, grouping)
     }
@@ -105,7 +106,7 @@ impl Groups {
         &mut self,
         alloc: Global,
         columns: &Columns,
-        numbers: &[usize],
+        numbers: &Selection,
         grouping: Grouping<'_>,
     ) -> Result<(), AllocError>
         requires within { All (λ number. number < length columns.now.rows) numbers.now }
@@ -120,10 +121,11 @@ impl Groups {
         query_meaning::rows_are_in_groups();
         let Grouping { places, aggregates } = grouping;
         let mut key = Vec::with_capacity(alloc, places.len())?;
-        for number in numbers {
-            read_key(&mut key, columns, *number, places)?;
+        for i in 0..numbers.len() {
+            let number = numbers.at(i);
+            read_key(&mut key, columns, number, places)?;
+            let row = Selection::one(number);
             let group = self.group_of(alloc, key.as_slice(), aggregates)?;
-            let row = [*number];
             join_each(alloc, &mut self.tallies[group], columns, &row, aggregates)?;
         }
         Ok(())

@@ -16,29 +16,20 @@ use block_summary::{PackedColumn, PackedType};
 use cell_types::Value;
 use query_meaning::extremes_are_values;
 use row_columns::Columns;
+use row_selection::Selection;
 
-/// Of fewer rows than this part of all, it is not worth while to ask how their column is kept.
-const SMALL_PART: usize = 16;
-
-/// True if these are the numbers of the first `rows` rows, all of them and in order. Looks at all, so that it runs in lanes.
-fn are_all(numbers: &[usize], len: usize) -> bool
+/// Returns true if rows are selected as the first `len` rows.
+fn are_all(numbers: &Selection, len: usize) -> bool
     ensures { IsTrue result → (rows : List (List CellValue)) → length rows ≡ len
         → numbered numbers.now rows ≡ rows }
 {
-    if numbers.len() != len {
-        return false;
-    }
-    let mut same = true;
-    for i in 0..numbers.len() {
-        same = same & (numbers[i] == i);
-    }
-    same
+    numbers.is_all() && numbers.len() == len
 }
 
 /// Returns the column of these rows as it is kept, if they are all that there are.
 fn whole_column<'a>(
     columns: &'a Columns,
-    numbers: &[usize],
+    numbers: &Selection,
     place: usize,
 ) -> Option<&'a PackedColumn>
     requires { place < length columns.now.kinds }
@@ -55,7 +46,7 @@ fn whole_column<'a>(
 /// Returns the least value that these rows have in a column, null if they have none, or `None` if it is not told by how the column is kept. No number is looked at.
 pub(crate) fn kept_least(
     columns: &Columns,
-    numbers: &[usize],
+    numbers: &Selection,
     place: usize,
 ) -> Option<Value<'static>>
     requires { place < length columns.now.kinds }
@@ -75,7 +66,7 @@ pub(crate) fn kept_least(
 /// Returns the greatest of them.
 pub(crate) fn kept_greatest(
     columns: &Columns,
-    numbers: &[usize],
+    numbers: &Selection,
     place: usize,
 ) -> Option<Value<'static>>
     requires { place < length columns.now.kinds }
@@ -129,7 +120,7 @@ fn whole_sum(column: &PackedColumn) -> Option<i128>
 }
 
 /// Returns the sum of the numbers that a column has in some rows; None if it has none there. It goes from the last row to the first.
-fn part_sum(column: &PackedColumn, numbers: &[usize]) -> Option<i128>
+fn part_sum(column: &PackedColumn, numbers: &Selection) -> Option<i128>
     requires { AreSummable (numbers_at column.now numbers.now) (length numbers.now) }
     ensures { result ≡ sum_of (numbers_at column.now numbers.now) }
 {
@@ -137,7 +128,7 @@ fn part_sum(column: &PackedColumn, numbers: &[usize]) -> Option<i128>
     let mut i = numbers.len();
     while i > 0 {
         i -= 1;
-        if let Some(number) = column.number(numbers[i]) {
+        if let Some(number) = column.number(numbers.at(i)) {
             sum = Some(number as i128 + sum.unwrap_or(0));
         }
     }
@@ -147,7 +138,7 @@ fn part_sum(column: &PackedColumn, numbers: &[usize]) -> Option<i128>
 /// Returns the sum of the numbers of that kind that rows have in a column; None if they have none.
 pub(crate) fn sum_of_rows(
     columns: &Columns,
-    numbers: &[usize],
+    numbers: &Selection,
     place: usize,
     summed: Summed,
 ) -> Option<i128>
@@ -157,9 +148,6 @@ pub(crate) fn sum_of_rows(
         (length numbers.now) }
     ensures { result ≡ sum_of (numbers_in summed place (numbered numbers.now columns.now.rows)) }
 {
-    if numbers.len() < columns.len() / SMALL_PART {
-        return sum_of(columns, numbers, place, summed);
-    }
     let Some(column) = kept_column(columns, place, summed) else {
         return sum_of(columns, numbers, place, summed);
     };

@@ -1,5 +1,5 @@
 //! Rows by their groups, before they join.
-ghost use Rattle.std.specs.Prelude.{◌≡◌, ◌<◌, ℕ, [], IfOk, IfSome, None, OnOk, Some, length, map, slice_index_or};
+ghost use Rattle.std.specs.Prelude.{◌≡◌, ◌<◌, ◌≤◌, ◌^◌, ℕ, [], IfOk, IfSome, None, OnOk, Some, length, map, slice_index_or};
 ghost use Rattle.std.specs.List.{All, AllByRecursion};
 ghost use Rattle.cell_types.specs.Value.{value_view};
 ghost use Rattle.query_meaning.specs.Apply.{values_at};
@@ -13,10 +13,14 @@ use crate::tallies::join_each;
 use cell_types::Value;
 use odata_query::Aggregate;
 use row_columns::Columns;
+use row_selection::Selection;
 use std::alloc::{AllocError, Global};
 
 /// Up to this many groups, rows are separated by them before they join.
 const MOST_PARTS: usize = 1024;
+
+/// Rows of at most this many are separated.
+const PART_ROWS: usize = 1 << 16;
 
 /// A row of columns.
 #[derive(Clone, Copy)]
@@ -31,12 +35,14 @@ impl Groups {
         &mut self,
         alloc: Global,
         columns: &Columns,
-        numbers: &[usize],
+        numbers: &Selection,
         grouping: Grouping<'_>,
     ) -> Result<Option<Vec<usize>>, AllocError>
         requires within { All (λ number. number < length columns.now.rows) numbers.now }
         requires places { All (λ place. place < length columns.now.kinds) grouping.places.now }
         ensures none { IfOk result (λ groups. groups ≡ None → self.new ≡ self.old) }
+        ensures few { IfOk result (λ groups. IfSome groups
+            (λ _. length columns.now.rows ≤ 2 ^ 16)) }
         ensures groups { IfOk result (λ groups. IfSome groups (λ groups. AreGroupsOf self.new
             grouping.entry.places.now (numbered numbers.now columns.now.rows) groups.items)) }
         ensures begun { IfOk result (λ groups. IfSome groups (λ groups. BeginsGroups
@@ -44,7 +50,7 @@ impl Groups {
             (numbered numbers.now columns.now.rows))) }
     {
         cell_types::values_are_ordered();
-        if self.keys.len() > MOST_PARTS {
+        if self.keys.len() > MOST_PARTS || columns.len() > PART_ROWS {
             return Ok(None);
         }
         let Some(codes) = key_codes(alloc, columns, numbers, grouping.places)? else {
@@ -56,7 +62,7 @@ impl Groups {
             let code = usize::from(codes.codes[i]);
             let row = RowAt {
                 columns,
-                number: numbers[i],
+                number: numbers.at(i),
             };
             let group = self.group_of_row(alloc, row, grouping, &mut known[code])?;
             groups.push(group)?;
@@ -119,26 +125,28 @@ impl Groups {
         &mut self,
         alloc: Global,
         columns: &Columns,
-        parts: &[Vec<usize>],
+        parts: Vec<Vec<u16>>,
         aggregates: &[Aggregate],
     ) -> Result<(), AllocError>
         requires within { AllByRecursion (λ part.
-            All (λ number. number < length columns.now.rows) part.items) parts.now }
+            All (λ number. number < length columns.now.rows) part.items) parts.items }
         requires joins { MayJoinParts aggregates.now (length columns.now.kinds) self.old
-            columns.now.rows parts.now }
+            columns.now.rows parts.items }
         ensures keys { OnOk result (self.new.keys ≡ self.old.keys) }
         ensures joins { OnOk result (JoinsParts aggregates.now self.old self.new columns.now.rows
-            parts.now) }
+            parts.items) }
     {
-        for group in 0..parts.len() {
-            let numbers = parts[group].as_slice();
+        let mut group = 0;
+        for part in parts {
+            let numbers = Selection::few(part);
             join_each(
                 alloc,
                 &mut self.tallies[group],
                 columns,
-                numbers,
+                &numbers,
                 aggregates,
             )?;
+            group += 1;
         }
         Ok(())
     }
@@ -167,10 +175,11 @@ fn key_of<'a>(
 pub(crate) fn parts_of(
     alloc: Global,
     len: usize,
-    numbers: &[usize],
+    numbers: &Selection,
     groups: &[usize],
-) -> Result<Vec<Vec<usize>>, AllocError>
+) -> Result<Vec<Vec<u16>>, AllocError>
     requires long { length numbers.now ≡ length groups.now }
+    requires few { All (λ number. number < 2 ^ 16) numbers.now }
     requires within { All (λ group. group < len) groups.now }
     ensures long { IfOk result (λ parts. length parts.items ≡ len) }
     ensures parts { IfOk result (λ parts.
@@ -178,7 +187,7 @@ pub(crate) fn parts_of(
 {
     let mut parts = no_parts(alloc, len, numbers.len() / (len / 2 + 1))?;
     for i in 0..numbers.len() {
-        parts[groups[i]].push(numbers[i])?;
+        parts[groups[i]].push(numbers.at(i) as u16)?;
     }
     Ok(parts)
 }
@@ -197,7 +206,7 @@ fn none_known(alloc: Global, count: usize) -> Result<Vec<Option<usize>>, AllocEr
 }
 
 /// Returns parts without rows, each with room.
-fn no_parts(alloc: Global, len: usize, room: usize) -> Result<Vec<Vec<usize>>, AllocError>
+fn no_parts(alloc: Global, len: usize, room: usize) -> Result<Vec<Vec<u16>>, AllocError>
     ensures long { IfOk result (λ parts. length parts.items ≡ len) }
     ensures none { IfOk result (λ parts.
         AllByRecursion (λ part. part.items ≡ []) parts.items) }

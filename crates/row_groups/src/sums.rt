@@ -8,6 +8,7 @@ ghost use Rattle.row_groups.specs.Sums.{numbers_in, read_of, sum_of};
 
 use cell_types::Value;
 use row_columns::Columns;
+use row_selection::Selection;
 
 /// What is summed.
 #[derive(Clone, Copy)]
@@ -20,7 +21,7 @@ pub(crate) enum Summed {
 /// Returns the sum of the numbers of that kind that rows have in a column; None if they have none.
 pub(crate) fn sum_of(
     columns: &Columns,
-    numbers: &[usize],
+    numbers: &Selection,
     place: usize,
     summed: Summed,
 ) -> Option<i128>
@@ -34,7 +35,7 @@ pub(crate) fn sum_of(
     let mut i = numbers.len();
     while i > 0 {
         i -= 1;
-        if let Some(number) = number_at(columns, numbers[i], place, summed) {
+        if let Some(number) = number_at(columns, numbers.at(i), place, summed) {
             sum = Some(number + sum.unwrap_or(0));
         }
     }

@@ -9,6 +9,7 @@ use crate::tally::Tally;
 use cell_types::Value;
 use odata_query::Aggregate;
 use row_columns::{Columns, owned};
+use row_selection::Selection;
 use std::alloc::{AllocError, Global};
 
 /// Of no rows.
@@ -30,7 +31,7 @@ pub(crate) fn join_each(
     alloc: Global,
     tallies: &mut Vec<Tally>,
     columns: &Columns,
-    numbers: &[usize],
+    numbers: &Selection,
     aggregates: &[Aggregate],
 ) -> Result<(), AllocError>
     requires within { All (λ number. number < length columns.now.rows) numbers.now }

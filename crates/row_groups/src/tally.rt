@@ -16,6 +16,7 @@ use cell_types::Value;
 use key_places::KeyPlaces;
 use odata_query::Aggregate;
 use row_columns::{Columns, lent, owned};
+use row_selection::Selection;
 use std::alloc::{AllocError, Global};
 
 /// What is computed of some rows, as far as more rows need it.
@@ -49,7 +50,7 @@ impl Tally {
         &mut self,
         alloc: Global,
         columns: &Columns,
-        numbers: &[usize],
+        numbers: &Selection,
         aggregate: Aggregate,
     ) -> Result<(), AllocError>
         requires within { All (λ number. number < length columns.now.rows) numbers.now }
@@ -120,7 +121,7 @@ fn joined_sum(sum: Option<i128>, more: Option<i128>) -> Option<i128>
 fn sum_behind(
     sum: Option<i128>,
     columns: &Columns,
-    numbers: &[usize],
+    numbers: &Selection,
     place: usize,
     summed: Summed,
 ) -> Option<i128>
@@ -138,7 +139,7 @@ fn join_least(
     value: &mut Value<'static>,
     alloc: Global,
     columns: &Columns,
-    numbers: &[usize],
+    numbers: &Selection,
     place: usize,
 ) -> Result<(), AllocError>
     requires within { All (λ number. number < length columns.now.rows) numbers.now }
@@ -159,7 +160,7 @@ fn join_greatest(
     value: &mut Value<'static>,
     alloc: Global,
     columns: &Columns,
-    numbers: &[usize],
+    numbers: &Selection,
     place: usize,
 ) -> Result<(), AllocError>
     requires within { All (λ number. number < length columns.now.rows) numbers.now }
@@ -204,7 +205,7 @@ fn join_values(
     values: &mut KeyPlaces<Value<'static>>,
     alloc: Global,
     columns: &Columns,
-    numbers: &[usize],
+    numbers: &Selection,
     place: usize,
 ) -> Result<(), AllocError>
     requires within { All (λ number. number < length columns.now.rows) numbers.now }
@@ -212,8 +213,8 @@ fn join_values(
     ensures { OnOk result (JoinsValues place (map value_view values.old.keys)
         (map value_view values.new.keys) (numbered numbers.now columns.now.rows)) }
 {
-    for number in numbers {
-        join_value(values, alloc, columns.value(*number, place))?;
+    for i in 0..numbers.len() {
+        join_value(values, alloc, columns.value(numbers.at(i), place))?;
     }
     Ok(())
 }

@@ -1,12 +1,11 @@
--- Crates above may cite this file: laws of the set bits of words.
-use Rattle.std.proofs.Common.{◌≡◌, ℕ, zero, suc, ◌+◌, ◌-◌, ◌*◌, ◌%◌, ◌^◌, ◌<◌, ◌≤◌, List, [], ◌∷◌, ◌++◌, Bool, true, false, cond, ◌==◌, get_or, length, length-take-le, take, append_assoc, append-nil, refl, sym, ap, ◌∙◌, arith, bit_and, bit_or, w64, ◌≢◌}
+-- Laws of the set bits of words.
+use Rattle.std.proofs.Common.{◌≡◌, ℕ, zero, suc, ◌+◌, ◌-◌, ◌*◌, ◌%◌, ◌^◌, ◌<◌, ◌≤◌, [], ◌∷◌, ◌++◌, Bool, true, false, cond, ◌==◌, append-nil, refl, sym, ap, ◌∙◌, arith, bit_and, bit_or, w64, ◌≢◌}
 use Rattle.std.proofs.lemmas.Bool.{eqb-true, eqb-false}
-use Rattle.std.proofs.lemmas.List.{take_more}
 use Rattle.std.proofs.lemmas.Nat.{and_le_r, one_shl, or_disjoint, or_lt, pow_below}
 use Rattle.std.proofs.lemmas.Nat.Bits.{bit_at_above, bit_at_set_same, bit_at_set_other}
 use Rattle.std.specs.Int.{bit_at}
 use mir.Val.{bool_byte}
-use Rattle.row_selection.specs.Marks.{word_numbers, bit_numbers}
+use Rattle.row_selection.specs.Marks.{bit_numbers}
 
 -- one that is set, and one that is not
 pub marked-set : (start w n : ℕ) → bit_at w n ≡ 1 → bit_numbers start w (suc n) ≡ bit_numbers start w n ++ (start + n) ∷ []
@@ -73,20 +72,6 @@ marked-first start w v k (suc n) set clear none same less within = on (k == n) r
         let below : k < n = omega (arith, less) in
         ap (λ ns. ns ++ cond (bit_at w n == 1) ((start + n) ∷ []) []) (before below)
         ∙ ap (λ b. (start + k) ∷ bit_numbers start v n ++ cond (b == 1) ((start + n) ∷ []) []) (sym (same n (omega (arith, within)) (λ is. apart (sym is))))
-
--- words, and one more
-pub word_numbers-push : (start : ℕ) (words : List ℕ) (w : ℕ) → word_numbers start (words ++ w ∷ []) ≡ word_numbers start words ++ bit_numbers (start + length words * 64) w 64
-word_numbers-push start [] w = append-nil (bit_numbers start w 64) ∙ ap (λ k. bit_numbers k w 64) (omega arith)
-word_numbers-push start (v ∷ words) w =
-    let same : start + 64 + length words * 64 ≡ start + suc (length words) * 64 = omega arith in
-    ap (λ ns. bit_numbers start v 64 ++ ns) (word_numbers-push (start + 64) words w ∙ ap (λ k. word_numbers (start + 64) words ++ bit_numbers k w 64) same)
-    ∙ sym (append_assoc (bit_numbers start v 64) (word_numbers (start + 64) words) (bit_numbers (start + suc (length words) * 64) w 64))
-
-pub word_numbers_more : (words : List ℕ) (w x : ℕ) → w < length words → x ≡ get_or words w x → word_numbers 0 (take w words) ++ bit_numbers (w * 64) x 64 ≡ word_numbers 0 (take (w + 1) words)
-word_numbers_more words w x less is =
-    let at : 0 + length (take w words) * 64 ≡ w * 64 = omega (arith, length-take-le w words (omega (arith, less))) in
-    ap (λ k. word_numbers 0 (take w words) ++ bit_numbers k x 64) (sym at) ∙ sym (word_numbers-push 0 (take w words) x)
-    ∙ ap (λ y. word_numbers 0 (take w words ++ y ∷ [])) is ∙ ap (word_numbers 0) (sym (take_more words w x less))
 
 -- the bit of another mark, which is 0 or 1
 pub mark_more : (w k : ℕ) (b : Bool) (n : ℕ) → n ≡ bool_byte b → k < 64 → w < 2 ^ k

@@ -1,4 +1,3 @@
 pub mod NumberLemmas
 pub mod BitLemmas
 pub mod MarkLemmas
-pub mod CountLemmas

@@ -1,5 +1,5 @@
 -- The numbers whose marks are true.
-use Rattle.std.proofs.Common.{◌≡◌, ℕ, zero, suc, ◌+◌, ◌<◌, ◌≤◌, Bool, true, false, cond, List, [], ◌∷◌, ◌++◌, ◌*◌, ◌-◌, ◌^◌, min, inl, inr, drop, length, length-drop, take, get_or, refl, sym, ap, ◌∙◌, subst, arith}
+use Rattle.std.proofs.Common.{◌≡◌, ℕ, zero, suc, ◌+◌, ◌<◌, ◌≤◌, Bool, true, false, cond, List, [], ◌∷◌, ◌++◌, ◌*◌, ◌-◌, min, inl, inr, drop, length, length-drop, take, get_or, refl, sym, ap, ◌∙◌, subst, arith}
 use Rattle.std.specs.List.{All}
 use Rattle.std.proofs.lemmas.Bool.{cases_lt, true≢false}
 use Rattle.std.proofs.lemmas.List.{drop-take, length-take-le, take_all, take-append-drop, take-take}
@@ -106,7 +106,3 @@ none_selected marks count most len is least none =
 
 pub selected_within : (marks : List Bool) (most : ℕ) (rows : List ℕ) → rows ≡ take most (marked_numbers 0 marks) → All (λ n. n < length marks) rows
 selected_within marks most rows is = subst (All (λ n. n < length marks)) (sym is) (All-take (λ n. n < length marks) most (marked_numbers 0 marks) (marked_within marks))
-
-pub few_within : (marks : List Bool) (ns : List ℕ) (len : ℕ) → ns ≡ marked_numbers 0 marks → length marks ≤ 2 ^ 16 → All (λ n. n < 2 ^ 16) (take len ns)
-few_within marks ns len is few =
-    All-take (λ n. n < 2 ^ 16) len ns (λ k d less. (let low = subst (All (λ n. n < length marks)) (sym is) (marked_within marks) k d less in omega (arith, low, few)))

@@ -1,5 +1,5 @@
--- Numbers that are marked: by a boolean each, or by the bits of words of 64.
-use Rattle.std.specs.Prelude.{◌+◌, ◌==◌, ℕ, zero, suc, Bool, true, false, List, [], ◌∷◌, ◌++◌, if◌then◌else◌, length, take}
+-- Numbers that are marked: by a boolean each, or by the bits of a word.
+use Rattle.std.specs.Prelude.{◌+◌, ◌==◌, ℕ, zero, suc, Bool, true, false, List, [], ◌∷◌, ◌++◌, if◌then◌else◌}
 use Rattle.std.specs.Int.{bit_at}
 
 -- the numbers whose marks are true, of which the first mark is that of a number
@@ -12,12 +12,3 @@ marked_numbers start (false ∷ marks) = marked_numbers (suc start) marks
 unfoldable pub bit_numbers : ℕ → ℕ → ℕ → List ℕ
 bit_numbers start word zero = []
 bit_numbers start word (suc count) = bit_numbers start word count ++ (if bit_at word count == 1 then (start + count) ∷ [] else [])
-
--- those of words, one after another
-abbrev pub word_numbers : ℕ → List ℕ → List ℕ
-word_numbers start [] = []
-word_numbers start (word ∷ words) = bit_numbers start word 64 ++ word_numbers (start + 64) words
-
--- how many are set in the words before one
-abbrev pub marked_before : List ℕ → ℕ → ℕ
-marked_before words number = length (word_numbers 0 (take number words))

@@ -1,10 +1,9 @@
--- Marks and words with the numbers that they stand for, written by hand.
+-- Marks with the numbers that they stand for, written by hand.
 use Rattle.std.specs.Prelude.{◌≡◌, true, false, [], ◌∷◌}
-use Rattle.row_selection.specs.Marks.{marked_numbers, word_numbers}
+use Rattle.row_selection.specs.Marks.{marked_numbers}
 use Rattle.row_selection.specs.Numbers.{numbers_from}
 
 pub record WorkedSelections : Type 0 where
   pub none : marked_numbers 0 (false ∷ false ∷ []) ≡ []
   pub marks : marked_numbers 0 (false ∷ true ∷ true ∷ false ∷ true ∷ []) ≡ 1 ∷ 2 ∷ 4 ∷ []
-  pub words : word_numbers 0 (5 ∷ 0 ∷ 2 ∷ []) ≡ 0 ∷ 2 ∷ 129 ∷ []
   pub first : numbers_from 0 3 ≡ 0 ∷ 1 ∷ 2 ∷ []

@@ -1,7 +1,7 @@
 //! The laws of selections: a theorem that does nothing.
 ghost use Rattle.row_selection.specs.Worked.{WorkedSelections};
 
-/// Marks and words with the numbers that they stand for, written by hand.
+/// Gives marks with the numbers that they stand for, written by hand.
 pub fn worked_selections()
     ensures { WorkedSelections }
 {}

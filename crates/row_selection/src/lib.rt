@@ -1,9 +1,8 @@
-//! Some rows of a block, by their numbers: the first ones, a bit for each row of the block, or a list of a few. A caller sees a [`Selection`] as the list of
-//! their numbers.
+//! Some rows of a block, by their numbers: the first ones, or a list of two bytes each. A caller sees a [`Selection`] as the list of their numbers.
 #![tactic(auto)]
 
-mod bits;
 mod law;
+mod marks;
 mod selection;
 
 pub use law::worked_selections;

@@ -1,22 +1,19 @@
 //! Rows of a block that are selected.
-ghost use Rattle.std.specs.Prelude.{◌≡◌, ◌<◌, ◌≤◌, ◌^◌, IfOk, IsTrue, drop, length, slice_index_or, take};
+ghost use Rattle.std.specs.Prelude.{◌≡◌, ◌∷◌, ◌<◌, ◌≤◌, ◌^◌, [], IfOk, IsTrue, drop, length, slice_index_or, take};
 ghost use Rattle.std.specs.List.{All};
 ghost use Rattle.row_selection.specs.Marks.{marked_numbers};
 ghost use Rattle.row_selection.specs.Numbers.{numbers_from};
 
-use crate::bits::Bits;
+use crate::marks::numbers_of;
 use std::alloc::{AllocError, Global};
 use std::marker::Model;
-
-/// Up to this many rows are listed. Of more a bit for each row of the block is kept.
-const FEW: usize = 256;
 
 /// The forms in which rows are selected.
 #[derive(Drop)]
 enum Rows {
     /// The first ones.
     All(usize),
-    Bits(Bits),
+    One(usize),
     Few(Vec<u16>),
 }
 
@@ -67,8 +64,26 @@ impl Selection {
         }
     }
 
+    /// Selects one row. It takes no memory.
+    pub fn one(row: usize) -> Selection
+        ensures { result ≡ row ∷ [] }
+    {
+        Selection {
+            rows: Rows::One(row),
+        }
+    }
+
+    /// Selects the rows with these numbers. It takes no memory.
+    pub fn few(rows: Vec<u16>) -> Selection
+        ensures { result ≡ rows.items }
+    {
+        Selection {
+            rows: Rows::Few(rows),
+        }
+    }
+
     /// Selects the rows with these numbers, one by one.
-    pub fn of_numbers(alloc: Global, numbers: &[usize]) -> Result<Selection, AllocError>
+    fn of_numbers(alloc: Global, numbers: &[usize]) -> Result<Selection, AllocError>
         requires { All (λ number. number < 2 ^ 16) numbers.now }
         ensures { IfOk result (λ made. made ≡ numbers.now) }
     {
@@ -76,9 +91,7 @@ impl Selection {
         for number in numbers {
             rows.push(*number as u16)?;
         }
-        Ok(Selection {
-            rows: Rows::Few(rows),
-        })
+        Ok(Selection::few(rows))
     }
 
     /// Selects the first `most` of the rows whose marks are true, of which there are `count`.
@@ -100,15 +113,9 @@ impl Selection {
         if len == 0 {
             return Ok(Selection::all(0));
         }
-        let bits = Bits::of_marks(alloc, marks, count)?;
-        if len == count && len > FEW {
-            return Ok(Selection {
-                rows: Rows::Bits(bits),
-            });
-        }
-        let numbers = bits.to_vec(alloc)?;
-        let rows = Selection::of_numbers(alloc, &numbers[..len])?;
-        Ok(rows)
+        let mut rows = numbers_of(alloc, marks, count)?;
+        rows.truncate(len);
+        Ok(Selection::few(rows))
     }
 
     /// Returns how many rows are selected.
@@ -118,7 +125,7 @@ impl Selection {
     {
         match &self.rows {
             Rows::All(count) => *count,
-            Rows::Bits(bits) => bits.len(),
+            Rows::One(_) => 1,
             Rows::Few(rows) => rows.len(),
         }
     }
@@ -138,7 +145,7 @@ impl Selection {
     {
         match &self.rows {
             Rows::All(_) => place,
-            Rows::Bits(bits) => bits.at(place),
+            Rows::One(row) => *row,
             Rows::Few(rows) => usize::from(rows[place]),
         }
     }
@@ -164,7 +171,7 @@ impl Selection {
     {
         match &self.rows {
             Rows::All(count) => first_numbers(alloc, *count),
-            Rows::Bits(bits) => bits.to_vec(alloc),
+            Rows::One(row) => Vec::from_elem(alloc, *row, 1),
             Rows::Few(rows) => wide(alloc, rows.as_slice()),
         }
     }

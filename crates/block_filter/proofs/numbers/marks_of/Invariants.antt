@@ -3,6 +3,6 @@ use Rattle.std.specs.List.{All}
 use Rattle.block_filter.proofs.numbers.marks_of.Given as goal
 
 -- the numbers so far have their marks
-abbrev pub invariant-loop-number : goal.invariant-loop-number
-invariant-loop-number l =
-    (length l.marks.items ≡ l.rows) × All (λ number. get_or l.marks.items number false ≡ true) (take l.number-index l.numbers)
+abbrev pub invariant-loop-place : goal.invariant-loop-place
+invariant-loop-place l =
+    (length l.marks.items ≡ l.rows) × All (λ number. get_or l.marks.items number false ≡ true) (take l.place l.numbers)

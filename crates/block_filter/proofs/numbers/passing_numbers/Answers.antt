@@ -1,4 +1,4 @@
-use Rattle.std.proofs.Common.{◌≡◌, ◌∙◌, [], ap, arith, false, filter, get_or, subst}
+use Rattle.std.proofs.Common.{◌≡◌, ◌∙◌, ℕ, List, [], ap, arith, false, filter, get_or, subst}
 use Rattle.std.proofs.lemmas.List.{with_items_is}
 use Rattle.std.proofs.lemmas.Result.{IfOk-weaker}
 use Rattle.typed_trees.specs.TypedTree.{truth_view}
@@ -18,5 +18,5 @@ returns c =
     let seen : c.as_slice-2.result.now ≡ now = c.as_slice-2.ensures.value ∙ whole in
     let narrows : Narrows e rows was.items now c.in_ok-_faults._faults = subst (λ ms. Narrows e rows ms now c.in_ok-_faults._faults) c.as_mut_slice.ensures.value c.in_ok-_faults.ensures in
     let same = ap (λ ms. filter (λ n. get_or ms n false) numbers) seen ∙ listed_pass e rows was.items now c.in_ok-_faults._faults numbers c.requires.within c.in_ok-wanted.ensures.marked narrows in
-    IfOk-weaker c.marked_numbers.result (λ made. made.items ≡ filter (λ n. get_or c.as_slice-2.result.now n false) numbers)
-    (λ made. made.items ≡ filter (λ n. passes e (get_or rows n [])) numbers) (λ made is. is ∙ same) c.marked_numbers.ensures
+    IfOk-weaker c.marked_numbers.result (λ made. made ≡ filter (λ n. get_or c.as_slice-2.result.now n false) numbers)
+    (λ made. made ≡ filter (λ n. passes e (get_or rows n [])) numbers) (λ (made : List ℕ) is. is ∙ same) c.marked_numbers.ensures

@@ -8,7 +8,7 @@ use Rattle.row_groups.proofs.codes.key_codes.Goals as goal
 pub loop-place-init : goal.loop-place-init
 loop-place-init c =
     let zeros = c.in_ok-from_elem.ensures.items_if_clones_equal (λ y e. e) in
-    zero-codes c.args.numbers.now c.args.columns.now.rows _ refl zeros
+    zero-codes c.args.numbers.now c.args.columns.now.rows _ refl (rw c.len.ensures at zeros)
 
 pub loop-place-preserved : goal.loop-place-preserved
 loop-place-preserved c =

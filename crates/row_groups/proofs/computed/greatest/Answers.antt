@@ -15,7 +15,7 @@ loop-i-preserved c =
     let value = value_view c.value.result in
     let place = c.args.place in
     let behind = map (λ row. value_at row place) (numbered (drop i numbers) rows) in
-    let front = values_before rows numbers i place value c.loop-i-test.true c.loop-i.invariant.within c.value.ensures in
+    let front = values_before rows numbers i place value c.loop-i-test.true c.loop-i.invariant.within (rw c.at.ensures at c.value.ensures) in
     record {
       within = omega arith;
       greatest = c.greater-greatest.ensures ∙ ap (greater_value value) c.loop-i.invariant.greatest ∙ sym (greatest_before value behind) ∙ ap (λ vs. greatest_value (filter is_value vs)) (sym front);

@@ -17,7 +17,7 @@ overflow_add-sum c =
     let wide : to_z w64 (of_z w64 number) ≡ number = to_z-of_z w64 number short in
     let other : FitsSigned w128 c.unwrap_or.result = search rules in
     let same_other : to_z w128 (of_z w128 c.unwrap_or.result) ≡ c.unwrap_or.result = to_z-of_z w128 c.unwrap_or.result other in
-    let sum = one_fits read numbers c.loop-i.i 0 c.loop-i-test.true c.loop-i.invariant.within c.loop-i.sum number (sym c.number.ensures ∙ c.in-Some.is) c.loop-i.invariant.sum c.requires in
+    let sum = one_fits read numbers c.loop-i.i 0 c.loop-i-test.true c.loop-i.invariant.within c.loop-i.sum number (rw c.at.ensures at (sym c.number.ensures ∙ c.in-Some.is)) c.loop-i.invariant.sum c.requires in
     rw (wide, same, same_other, c.unwrap_or.ensures) sum
 
 pub loop-i-preserved-in-Some : goal.loop-i-preserved-in-Some
@@ -31,7 +31,7 @@ loop-i-preserved-in-Some c =
     let wide : to_z w64 (of_z w64 number) ≡ number = to_z-of_z w64 number short in
     let other : FitsSigned w128 c.unwrap_or.result = search rules in
     let same_other : to_z w128 (of_z w128 c.unwrap_or.result) ≡ c.unwrap_or.result = to_z-of_z w128 c.unwrap_or.result other in
-    let is = sym c.number.ensures ∙ c.in-Some.is in
+    let is = rw c.at.ensures at (sym c.number.ensures ∙ c.in-Some.is) in
     let fit = one_fits read numbers c.loop-i.i 0 c.loop-i-test.true c.loop-i.invariant.within c.loop-i.sum number is c.loop-i.invariant.sum c.requires in
     let more = one_added read numbers c.loop-i.i 0 c.loop-i-test.true c.loop-i.invariant.within c.loop-i.sum number is c.loop-i.invariant.sum in
     let summed = to_z-of_z w128 (number +ℤ unwrap_or c.loop-i.sum (pos 0)) fit in

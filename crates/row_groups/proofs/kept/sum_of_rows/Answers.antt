@@ -17,7 +17,7 @@ returns-then-are_all c =
     let column = c.in-Some.column.now in
     let kept : IsKeptAs c.args.summed c.args.place rows column = rw c.in-Some.is at c.kept_column.ensures in
     c.whole_sum.ensures c.args.summed kept.typed ∙ ap sum_of (whole_numbers c.args.summed c.args.place rows column kept)
-    ∙ ap (λ rs. sum_of (numbers_in c.args.summed c.args.place rs)) (sym (c.are_all.ensures c.if-are_all.true rows (sym c.len-2.ensures)))
+    ∙ ap (λ rs. sum_of (numbers_in c.args.summed c.args.place rs)) (sym (c.are_all.ensures c.if-are_all.true rows (sym c.len.ensures)))
 
 pub returns : goal.returns
 returns c =

@@ -15,7 +15,8 @@ overflow_add-sum c =
     let read : to_z w128 (of_z w128 number) ≡ number = to_z-of_z w128 number small in
     let other : FitsSigned w128 c.unwrap_or.result = search rules in
     let read_other : to_z w128 (of_z w128 c.unwrap_or.result) ≡ c.unwrap_or.result = to_z-of_z w128 c.unwrap_or.result other in
-    let sum = fits (read_of c.args.summed) rows numbers c.args.place c.loop-i.i c.loop-i-test.true c.loop-i.invariant.within c.loop-i.sum number (sym c.number_at.ensures ∙ c.in-Some.is) c.loop-i.invariant.sum c.requires.fits in
+    let is = rw c.at.ensures at (sym c.number_at.ensures ∙ c.in-Some.is) in
+    let sum = fits (read_of c.args.summed) rows numbers c.args.place c.loop-i.i c.loop-i-test.true c.loop-i.invariant.within c.loop-i.sum number is c.loop-i.invariant.sum c.requires.fits in
     rw (read, read_other, c.unwrap_or.ensures) sum
 
 pub loop-i-preserved-in-Some : goal.loop-i-preserved-in-Some
@@ -27,7 +28,7 @@ loop-i-preserved-in-Some c =
     let read : to_z w128 (of_z w128 number) ≡ number = to_z-of_z w128 number small in
     let other : FitsSigned w128 c.unwrap_or.result = search rules in
     let read_other : to_z w128 (of_z w128 c.unwrap_or.result) ≡ c.unwrap_or.result = to_z-of_z w128 c.unwrap_or.result other in
-    let is = sym c.number_at.ensures ∙ c.in-Some.is in
+    let is = rw c.at.ensures at (sym c.number_at.ensures ∙ c.in-Some.is) in
     let fit = fits (read_of c.args.summed) rows numbers c.args.place c.loop-i.i c.loop-i-test.true c.loop-i.invariant.within c.loop-i.sum number is c.loop-i.invariant.sum c.requires.fits in
     let more = added (read_of c.args.summed) rows numbers c.args.place c.loop-i.i c.loop-i-test.true c.loop-i.invariant.within c.loop-i.sum number is c.loop-i.invariant.sum in
     let summed = to_z-of_z w128 (number +ℤ unwrap_or c.loop-i.sum (pos 0)) fit in

@@ -6,6 +6,6 @@ use Rattle.row_groups.specs.Tallies.{HasDistinct}
 use Rattle.row_groups.proofs.tally.join_values.Given as goal
 
 -- the values of the rows so far
-abbrev pub invariant-loop-number : goal.invariant-loop-number
-invariant-loop-number l = (rows : List (List CellValue)) → HasDistinct (map value_view l.initial.values.keys) (present_values l.place rows)
-    → HasDistinct (map value_view l.values.keys) (present_values l.place (rows ++ numbered (take l.number-index l.numbers) l.columns.rows))
+abbrev pub invariant-loop-i : goal.invariant-loop-i
+invariant-loop-i l = (rows : List (List CellValue)) → HasDistinct (map value_view l.initial.values.keys) (present_values l.place rows)
+    → HasDistinct (map value_view l.values.keys) (present_values l.place (rows ++ numbered (take l.i l.numbers) l.columns.rows))

@@ -14,4 +14,4 @@ returns c =
     (slice_count old rows c.requires.before c.requires.passing found c.requires.are_found c.requires.pushed c.requires.few)
     (ap (λ ns. numbered ns rows) c.in_ok-rows.ensures ∙ sym (drop-map (λ n. get_or rows n []) c.saturating_sub-skip.result found.rows)
     ∙ ap (λ k. drop k (numbered found.rows rows)) skip_is)
-    c.in_ok-take_rows.ensures
+    c.in_ok-take.ensures

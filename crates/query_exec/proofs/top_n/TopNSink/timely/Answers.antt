@@ -1,4 +1,4 @@
-use Rattle.std.proofs.Common.{◌≡◌, [], filter, get_or}
+use Rattle.std.proofs.Common.{◌≡◌, ℕ, List, [], filter, get_or}
 use Rattle.std.proofs.lemmas.Result.{IfOk-weaker}
 use Rattle.typed_trees.specs.TypedTree.{truth_view}
 use Rattle.query_meaning.specs.Filter.{passes}
@@ -18,8 +18,8 @@ pub returns-in-Some : goal.returns-in-Some
 returns-in-Some c =
     let s = c.args.self.now in
     let rows = c.args.block.now.rows in
-    let numbers = c.args.numbers.items in
+    let numbers = c.args.numbers in
     let e = truth_view c.in-Some.cutoff in
     let cuts : CutsOff (sink_items s) s.most s.kept e = rw c.in-Some.is at c.requires.cutoff in
-    IfOk-weaker c.passing_numbers.result (λ made. made.items ≡ filter (λ n. passes e (get_or rows n [])) numbers) (λ made. AreTimely s rows numbers made.items)
-    (λ made is. passing_are_timely s e rows numbers made.items cuts c.requires.within is) (rw c.as_slice.ensures.value at c.passing_numbers.ensures)
+    IfOk-weaker c.passing_numbers.result (λ made. made ≡ filter (λ n. passes e (get_or rows n [])) numbers) (AreTimely s rows numbers)
+    (λ (made : List ℕ) is. passing_are_timely s e rows numbers made cuts c.requires.within is) c.passing_numbers.ensures

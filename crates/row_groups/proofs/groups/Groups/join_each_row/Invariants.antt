@@ -5,6 +5,6 @@ use Rattle.row_groups.specs.Gathered.{HasGroups}
 use Rattle.row_groups.proofs.groups.Groups.join_each_row.Given as goal
 
 -- the rows that joined so far
-abbrev pub invariant-loop-number : goal.invariant-loop-number
-invariant-loop-number l = (rows : List (List CellValue)) → HasGroups (Some l.places) l.aggregates l.initial.self rows
-    → HasGroups (Some l.places) l.aggregates l.self (rows ++ numbered (take l.number-index l.numbers) l.columns.rows)
+abbrev pub invariant-loop-i : goal.invariant-loop-i
+invariant-loop-i l = (rows : List (List CellValue)) → HasGroups (Some l.places) l.aggregates l.initial.self rows
+    → HasGroups (Some l.places) l.aggregates l.self (rows ++ numbered (take l.i l.numbers) l.columns.rows)

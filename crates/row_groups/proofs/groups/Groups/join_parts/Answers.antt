@@ -1,80 +1,78 @@
-use Rattle.std.proofs.Common.{◌≡◌, ◌<◌, ◌++◌, ℕ, [], Vec, Global, get_or, length, sym, ap, subst, ◌∙◌, arith}
-use Rattle.std.specs.List.{All, AllByRecursion}
+use Rattle.std.proofs.Common.{◌≡◌, ◌<◌, ◌++◌, ◌∷◌, ℕ, List, [], Vec, Global, get_or, length, sym, rules, subst, arith}
+use Rattle.std.specs.List.{All}
+use Rattle.std.proofs.lemmas.Iterator.Adapters.{YieldsList-from_vec}
+use Rattle.std.proofs.lemmas.Iterator.Consumers.{YieldsList-end, YieldsList-turn}
+use Rattle.std.proofs.lemmas.List.{length-append}
 use Rattle.row_columns.specs.Picked.{numbered}
-use Rattle.row_groups.specs.declared.tally.Tally.{Tally}
-use Rattle.row_groups.specs.Tallies.{AreTallies, FitsAll}
-use Rattle.row_groups.proofs.ListLemmas.{all_at, all_by, from_long, next_by, one_more_by, zip_at, zip_long}
+use Rattle.row_groups.specs.Tallies.{AreTallies, TalliesEach}
+use Rattle.row_groups.proofs.ListLemmas.{all_at, all_by, zip_long}
+use Rattle.row_groups.proofs.PartLemmas.{group_there, part_joined, part_may_join}
 use Rattle.row_groups.proofs.groups.Groups.join_parts.Goals as goal
 
 pub index_mut-requires : goal.index_mut-requires
 index_mut-requires c =
     let may = c.requires.joins in
-    let aggregates = c.args.aggregates.now in
-    let tallies = c.loop-group.self.tallies in
-    let zip = c.loop-group.invariant.joined may.keys may.before may.more may.have may.parts_are in
-    let long : length may.keys ≡ length tallies.items =
-    from_long (λ key ts. AreTallies aggregates (may.before key ++ may.more key) ts.items) (λ key ts. AreTallies aggregates (may.before key) ts.items) may.keys tallies.items c.loop-group.group zip in
-    let parts = zip_long (λ key part. numbered part.items c.args.columns.now.rows ≡ may.more key) may.keys c.args.parts.now may.parts_are in
-    omega (arith, c.loop-group-test.true, long, parts, tallies.ok.0)
+    let at : (c.loop-part.group < length c.args.parts.items) × (c.in-Some.part ≡ get_or c.args.parts.items c.loop-part.group c.in-Some.part) =
+    rw (← c.loop-part.invariant.turn) at (YieldsList-turn (YieldsList-from_vec {s = c.into_iter-part-iterator.result} c.args.parts.items (search rules) (search rules)) c.loop-part.yielded
+    c.loop-part.part-iterator c.loop-part.yielded_by c.next.result c.next.new.self c.in-Some.part c.in-Some.is c.next.ensures.steps) in
+    omega (
+      arith,
+      c.loop-part.self.tallies.ok.0,
+      group_there c.args.aggregates.now c.args.columns.now.rows c.args.parts.items may.keys may.before may.more c.loop-part.self.tallies.items c.loop-part.group c.in-Some.part at.0 at.1 may.parts_are
+          (c.loop-part.invariant.joined may.keys may.before may.more may.have may.parts_are),
+    )
 
 pub join_each-requires-clause-within : goal.join_each-requires-clause-within
 join_each-requires-clause-within c =
     let rows = c.args.columns.now.rows in
-    let g = c.loop-group.group in
-    let part = c.index-parts-group.result in
-    subst (All (λ number. number < length rows)) (sym (c.as_slice-numbers.ensures.value ∙ ap (λ (p : Vec ℕ Global). p.items) c.index-parts-group.is))
-    (all_at (λ (p : Vec ℕ Global). All (λ number. number < length rows) p.items) c.args.parts.now g part c.requires.within c.loop-group-test.true)
+    let at : (c.loop-part.group < length c.args.parts.items) × (c.in-Some.part ≡ get_or c.args.parts.items c.loop-part.group c.in-Some.part) =
+    rw (← c.loop-part.invariant.turn) at (YieldsList-turn (YieldsList-from_vec {s = c.into_iter-part-iterator.result} c.args.parts.items (search rules) (search rules)) c.loop-part.yielded
+    c.loop-part.part-iterator c.loop-part.yielded_by c.next.result c.next.new.self c.in-Some.part c.in-Some.is c.next.ensures.steps) in
+    rw c.few-numbers.ensures (subst (λ (p : Vec ℕ Global). All (λ number. number < length rows) p.items) (sym at.1)
+    (all_at (λ (p : Vec ℕ Global). All (λ number. number < length rows) p.items) c.args.parts.items c.loop-part.group c.in-Some.part c.requires.within at.0))
 
 pub join_each-requires-clause-joins : goal.join_each-requires-clause-joins
 join_each-requires-clause-joins c =
     let may = c.requires.joins in
-    let rows = c.args.columns.now.rows in
-    let aggregates = c.args.aggregates.now in
-    let g = c.loop-group.group in
-    let part = c.index-parts-group.result in
-    let key = get_or may.keys g [] in
-    let tallies = c.loop-group.self.tallies in
-    let zip = c.loop-group.invariant.joined may.keys may.before may.more may.have may.parts_are in
-    let parts = zip_long (λ key part. numbered part.items rows ≡ may.more key) may.keys c.args.parts.now may.parts_are in
-    let inside : g < length may.keys = omega (arith, c.loop-group-test.true, parts) in
-    let come : numbered c.as_slice-numbers.result.now rows ≡ may.more key =
-    ap (λ ns. numbered ns rows) (c.as_slice-numbers.ensures.value ∙ ap (λ (p : Vec ℕ Global). p.items) c.index-parts-group.is)
-    ∙ zip_at (λ key part. numbered part.items rows ≡ may.more key) may.keys c.args.parts.now g [] part may.parts_are c.loop-group-test.true in
-    let its = next_by (λ key ts. AreTallies aggregates (may.before key ++ may.more key) ts.items) (λ key ts. AreTallies aggregates (may.before key) ts.items) may.keys tallies.items g []
-    c.index_mut.result.now zip inside in
+    let at : (c.loop-part.group < length c.args.parts.items) × (c.in-Some.part ≡ get_or c.args.parts.items c.loop-part.group c.in-Some.part) =
+    rw (← c.loop-part.invariant.turn) at (YieldsList-turn (YieldsList-from_vec {s = c.into_iter-part-iterator.result} c.args.parts.items (search rules) (search rules)) c.loop-part.yielded
+    c.loop-part.part-iterator c.loop-part.yielded_by c.next.result c.next.new.self c.in-Some.part c.in-Some.is c.next.ensures.steps) in
+    rw c.few-numbers.ensures (part_may_join c.args.aggregates.now c.args.columns.now.rows c.args.parts.items may.keys may.before may.more c.loop-part.self.tallies.items c.loop-part.group c.in-Some.part at.0 at.1 may.parts_are
+    (c.loop-part.invariant.joined may.keys may.before may.more may.have may.parts_are) c.index_mut.result.now (length c.args.columns.now.kinds) c.index_mut.ensures.value may.fits)
+
+pub loop-part-preserved : goal.loop-part-preserved
+loop-part-preserved c =
+    let at : (c.loop-part.group < length c.args.parts.items) × (c.in-Some.part ≡ get_or c.args.parts.items c.loop-part.group c.in-Some.part) =
+    rw (← c.loop-part.invariant.turn) at (YieldsList-turn (YieldsList-from_vec {s = c.into_iter-part-iterator.result} c.args.parts.items (search rules) (search rules)) c.loop-part.yielded
+    c.loop-part.part-iterator c.loop-part.yielded_by c.next.result c.next.new.self c.in-Some.part c.in-Some.is c.next.ensures.steps) in
     record {
-      rows = may.before key;
-      tallies = subst (λ (ts : Vec Tally Global). AreTallies aggregates (may.before key) ts.items) (sym c.index_mut.ensures.value) its;
-      fits = subst (λ more. AllByRecursion (FitsAll (length c.args.columns.now.kinds) (may.before key ++ more)) aggregates) (sym come)
-          (all_at (λ key. AllByRecursion (FitsAll (length c.args.columns.now.kinds) (may.before key ++ may.more key)) aggregates) may.keys g [] may.fits inside);
+      turn = omega (arith, c.loop-part.invariant.turn, length-append c.loop-part.yielded (c.in-Some.part ∷ []));
+      keys = c.loop-part.invariant.keys;
+      joined = λ keys before more have parts_are.
+          part_joined c.args.aggregates.now c.args.columns.now.rows c.args.parts.items keys before more c.loop-part.self.tallies.items c.loop-part.group c.in-Some.part at.0 at.1 parts_are
+          (c.loop-part.invariant.joined keys before more have parts_are) c.index_mut.result.now c.join_each.new.tallies c.index_mut.ensures.value
+          (subst (λ (ns : List ℕ). TalliesEach c.args.aggregates.now c.index_mut.result.now.items c.join_each.new.tallies.items (numbered ns c.args.columns.now.rows)) c.few-numbers.ensures
+          c.in_ok-join_each.ensures);
     }
 
-pub loop-group-preserved : goal.loop-group-preserved
-loop-group-preserved c = record {
-  keys = c.loop-group.invariant.keys;
-  joined = λ keys before more have parts_are.
-      let rows = c.args.columns.now.rows in
-      let aggregates = c.args.aggregates.now in
-      let g = c.loop-group.group in
-      let part = c.index-parts-group.result in
-      let key = get_or keys g [] in
-      let tallies = c.loop-group.self.tallies in
-      let zip = c.loop-group.invariant.joined keys before more have parts_are in
-      let parts = zip_long (λ key part. numbered part.items rows ≡ more key) keys c.args.parts.now parts_are in
-      let inside : g < length keys = omega (arith, c.loop-group-test.true, parts) in
-      let come : numbered c.as_slice-numbers.result.now rows ≡ more key =
-      ap (λ ns. numbered ns rows) (c.as_slice-numbers.ensures.value ∙ ap (λ (p : Vec ℕ Global). p.items) c.index-parts-group.is)
-      ∙ zip_at (λ key part. numbered part.items rows ≡ more key) keys c.args.parts.now g [] part parts_are c.loop-group-test.true in
-      let its = next_by (λ key ts. AreTallies aggregates (before key ++ more key) ts.items) (λ key ts. AreTallies aggregates (before key) ts.items) keys tallies.items g []
-      c.index_mut.result.now zip inside in
-      one_more_by (λ key ts. AreTallies aggregates (before key ++ more key) ts.items) (λ key ts. AreTallies aggregates (before key) ts.items) keys tallies.items g [] c.join_each.new.tallies zip inside
-      (subst (λ rs. AreTallies aggregates (before key ++ rs) c.join_each.new.tallies.items) come
-      (c.in_ok-join_each.ensures (before key) (subst (λ (ts : Vec Tally Global). AreTallies aggregates (before key) ts.items) (sym c.index_mut.ensures.value) its)));
-}
+pub loop-part-preserved-in_ok-join_each : goal.loop-part-preserved-in_ok-join_each
+loop-part-preserved-in_ok-join_each c =
+    let at : (c.loop-part.group < length c.args.parts.items) × (c.in-Some.part ≡ get_or c.args.parts.items c.loop-part.group c.in-Some.part) =
+    rw (← c.loop-part.invariant.turn) at (YieldsList-turn (YieldsList-from_vec {s = c.into_iter-part-iterator.result} c.args.parts.items (search rules) (search rules)) c.loop-part.yielded
+    c.loop-part.part-iterator c.loop-part.yielded_by c.next.result c.next.new.self c.in-Some.part c.in-Some.is c.next.ensures.steps) in
+    record {
+      turn = omega (arith, c.loop-part.invariant.turn, length-append c.loop-part.yielded (c.in-Some.part ∷ []));
+      keys = c.loop-part.invariant.keys;
+      joined = λ keys before more have parts_are.
+          part_joined c.args.aggregates.now c.args.columns.now.rows c.args.parts.items keys before more c.loop-part.self.tallies.items c.loop-part.group c.in-Some.part at.0 at.1 parts_are
+          (c.loop-part.invariant.joined keys before more have parts_are) c.index_mut.result.now c.join_each.new.tallies c.index_mut.ensures.value
+          (subst (λ (ns : List ℕ). TalliesEach c.args.aggregates.now c.index_mut.result.now.items c.join_each.new.tallies.items (numbered ns c.args.columns.now.rows)) c.few-numbers.ensures
+          c.in_ok-join_each.ensures);
+    }
 
 pub returns-clause-joins : goal.returns-clause-joins
 returns-clause-joins c = λ keys before more have parts_are.
     let aggregates = c.args.aggregates.now in
-    let parts = zip_long (λ key part. numbered part.items c.args.columns.now.rows ≡ more key) keys c.args.parts.now parts_are in
-    all_by (λ key ts. AreTallies aggregates (before key ++ more key) ts.items) (λ key ts. AreTallies aggregates (before key) ts.items) keys c.loop-group.self.tallies.items c.loop-group.group
-    (c.loop-group.invariant.joined keys before more have parts_are) (omega (arith, c.loop-group-test.false, parts))
+    let parts = zip_long (λ key part. numbered part.items c.args.columns.now.rows ≡ more key) keys c.args.parts.items parts_are in
+    all_by (λ key ts. AreTallies aggregates (before key ++ more key) ts.items) (λ key ts. AreTallies aggregates (before key) ts.items) keys c.loop-part.self.tallies.items c.loop-part.group
+    (c.loop-part.invariant.joined keys before more have parts_are) (omega (arith, c.loop-part.invariant.turn, (YieldsList-end (YieldsList-from_vec {s = c.into_iter-part-iterator.result} c.args.parts.items (search rules) (search rules)) c.loop-part.yielded c.loop-part.part-iterator c.loop-part.yielded_by c.next.result c.next.new.self c.in-None.is c.next.ensures.steps).1, parts))

@@ -1,4 +1,4 @@
-use Rattle.std.proofs.Common.{◌≡◌, ◌<◌, ◌++◌, Some, Result, Ok, Err, length, sym, ap, subst, ◌∙◌}
+use Rattle.std.proofs.Common.{◌≡◌, ◌<◌, ◌≤◌, ◌^◌, ◌++◌, Some, Result, Ok, Err, arith, length, sym, ap, subst, ◌∙◌}
 use Rattle.std.specs.Prelude.{OnOk}
 use Rattle.std.proofs.lemmas.List.Elements.{recursion_from_All}
 use Rattle.row_columns.specs.Picked.{numbered}
@@ -21,6 +21,11 @@ parts_of-requires-clause-long c =
     let are : AreGroupsOf c.groups_of.new.self c.args.grouping.places.now (numbered numbers rows) found = rw c.in-Some.is at c.in_ok-groups.ensures.groups in
     rw c.deref.ensures.value (as_many_found c.groups_of.new.self c.args.grouping.places.now rows numbers found are)
 
+pub parts_of-requires-clause-few : goal.parts_of-requires-clause-few
+parts_of-requires-clause-few c = λ k d h.
+    let few : length c.args.columns.now.rows ≤ 2 ^ 16 = rw c.in-Some.is at c.in_ok-groups.ensures.few in
+    omega (arith, c.requires.within k d h, few)
+
 pub parts_of-requires-clause-within : goal.parts_of-requires-clause-within
 parts_of-requires-clause-within c =
     let rows = c.args.columns.now.rows in
@@ -36,7 +41,7 @@ join_parts-requires-clause-within c =
     let found = c.in-Some.groups.items in
     let parts = c.in_ok-parts.parts.items in
     let from : ArePartsFrom 0 numbers found parts = rw c.deref.ensures.value at c.in_ok-parts.ensures.parts in
-    rw c.deref-in-Some.ensures.value (within_parts (λ n. n < length rows) 0 numbers found parts from (recursion_from_All (λ n. n < length rows) numbers c.requires.within))
+    within_parts (λ n. n < length rows) 0 numbers found parts from (recursion_from_All (λ n. n < length rows) numbers c.requires.within)
 
 pub join_parts-requires-clause-joins : goal.join_parts-requires-clause-joins
 join_parts-requires-clause-joins c =
@@ -52,8 +57,8 @@ join_parts-requires-clause-joins c =
     let begun : AreBegun places aggregates mid may.rows (numbered numbers rows) = (rw c.in-Some.is at c.in_ok-groups.ensures.begun) may.rows may.has in
     let from : ArePartsFrom 0 numbers found parts = rw c.deref.ensures.value at c.in_ok-parts.ensures.parts in
     let long : length parts ≡ length mid.keys.keys = c.in_ok-parts.ensures.long ∙ c.len.ensures in
-    rw c.deref-in-Some.ensures.value (may_join_parts c.values_are_ordered.ensures.equal places aggregates may.rows rows numbers mid begun
-    (c.rows_are_in_groups.ensures.distinct places (may.rows ++ numbered numbers rows)) found are parts long from (length c.args.columns.now.kinds) may.fits)
+    may_join_parts c.values_are_ordered.ensures.equal places aggregates may.rows rows numbers mid begun
+    (c.rows_are_in_groups.ensures.distinct places (may.rows ++ numbered numbers rows)) found are parts long from (length c.args.columns.now.kinds) may.fits
 
 pub returns-in-Some : goal.returns-in-Some
 returns-in-Some c =
@@ -71,7 +76,7 @@ returns-in-Some c =
     both_ok c.join_parts.result (new.keys ≡ mid.keys) _ (JoinsGroups (Some places) aggregates c.args.self.now new (numbered numbers rows))
     (λ same joins before has. parts_joined c.values_are_ordered.ensures.equal places aggregates before rows numbers mid ((rw c.in-Some.is at c.in_ok-groups.ensures.begun) before has)
     (c.rows_are_in_groups.ensures.distinct places (before ++ numbered numbers rows)) found are parts long from new (ap (λ keys. keys.keys) same) joins)
-    c.join_parts.ensures.keys (rw c.deref-in-Some.ensures.value at c.join_parts.ensures.joins)
+    c.join_parts.ensures.keys c.join_parts.ensures.joins
 
 pub join_each_row-requires-clause-joins : goal.join_each_row-requires-clause-joins
 join_each_row-requires-clause-joins c =

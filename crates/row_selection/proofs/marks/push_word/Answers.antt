@@ -1,7 +1,7 @@
 use Rattle.std.proofs.Common.{◌++◌, ap, append-nil, sym, ◌∙◌}
 use Rattle.row_selection.specs.Marks.{bit_numbers}
 use Rattle.row_selection.proofs.BitLemmas.{marked-none}
-use Rattle.row_selection.proofs.bits.push_word.Goals as goal
+use Rattle.row_selection.proofs.marks.push_word.Goals as goal
 
 pub returns : goal.returns
 returns c =

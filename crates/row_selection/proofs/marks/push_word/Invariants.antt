@@ -1,6 +1,6 @@
 use Rattle.std.proofs.Common.{◌≡◌, ◌++◌, length}
 use Rattle.row_selection.specs.Marks.{bit_numbers}
-use Rattle.row_selection.proofs.bits.push_word.Given as goal
+use Rattle.row_selection.proofs.marks.push_word.Given as goal
 
 -- what came, and the bits that are left, are what was there and all bits
 abbrev pub invariant-loop-left : goal.invariant-loop-left

@@ -3,7 +3,7 @@ use Rattle.std.proofs.lemmas.Nat.Bits.{bit_at-trailing_zeros, bit_at_clear_same,
 use Rattle.std.specs.Int.{bit_not, trailing_zeros}
 use Rattle.std.proofs.Common.{bit_and, ◌*◌, ◌^◌, ◌%◌, ℕ}
 use Rattle.row_selection.proofs.BitLemmas.{marked-first}
-use Rattle.row_selection.proofs.bits.lowest.Goals as goal
+use Rattle.row_selection.proofs.marks.lowest.Goals as goal
 
 pub returns-clause-bits : goal.returns-clause-bits
 returns-clause-bits c = λ start.

@@ -1,7 +1,7 @@
 use Rattle.std.proofs.Common.{◌+◌, ◌++◌, ◌∷◌, [], ap, arith, cond, false, get_or, sym, ◌∙◌}
 use Rattle.row_selection.proofs.BitLemmas.{mark_more, marked-none}
 use Rattle.row_selection.proofs.MarkLemmas.{marked_next, marked_none}
-use Rattle.row_selection.proofs.bits.word_of.Goals as goal
+use Rattle.row_selection.proofs.marks.word_of.Goals as goal
 
 pub returns-then-not-any_of : goal.returns-then-not-any_of
 returns-then-not-any_of c = λ start. marked-none start ∙ sym (marked_none start c.args.marks.now (c.any_of.ensures c.if-not-any_of.true))

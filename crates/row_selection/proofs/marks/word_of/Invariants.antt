@@ -1,6 +1,6 @@
 use Rattle.std.proofs.Common.{◌≡◌, ℕ, ◌<◌, ◌^◌, take}
 use Rattle.row_selection.specs.Marks.{marked_numbers, bit_numbers}
-use Rattle.row_selection.proofs.bits.word_of.Given as goal
+use Rattle.row_selection.proofs.marks.word_of.Given as goal
 
 -- the bits are those of the marks so far
 abbrev pub invariant-loop-place : goal.invariant-loop-place
