@@ -1,12 +1,10 @@
 -- The next piece of a body.
-use Rattle.std.proofs.Common.{◌≡◌, ℕ, zero, suc, ◌+◌, ◌<◌, ◌≤◌, ◌^◌, List, [], ◌∷◌, ◌++◌, drop, get_or, length, refl, sym, ap, arith}
+use Rattle.std.proofs.Common.{◌≡◌, ℕ, zero, suc, ◌<◌, ◌≤◌, ◌^◌, List, [], ◌∷◌, get_or, length, refl, arith}
 use Rattle.std.specs.List.{AllByRecursion, concat}
-use Rattle.std.proofs.lemmas.List.{append-nil, nil_from_length}
+use Rattle.std.proofs.lemmas.List.{append-nil}
 use Rattle.reply_text.specs.declared.pieces.Pieces.{Pieces}
 use Rattle.reply_text.specs.declared.pieces.Pieces.TheVariants.{Json, Csv, Bytes}
-use Rattle.reply_text.specs.Cursor.{BodyRest, LaysNext}
 use Rattle.reply_text.specs.Inside.{byte_pieces, body_pieces}
-use Rattle.reply_text.proofs.BoundLemmas.{next_left, next_some, next_within}
 use Rattle.reply_text.proofs.PieceLemmas.{some_csv, some_json}
 
 -- ---- bytes as one piece
@@ -35,28 +33,6 @@ bytes_few (b ∷ bytes) = omega arith
 -- ---- pieces
 
 pub some_pieces : (pieces : Pieces) → AllByRecursion (λ piece. 0 < length piece) (body_pieces pieces)
-some_pieces (Json rows heads) = some_json rows
+some_pieces (Json rows heads opening) = some_json rows
 some_pieces (Csv rows) = some_csv rows
 some_pieces (Bytes bytes) = some_bytes bytes.items
-
-pub lays_none : (rest : BodyRest) (out : List ℕ) → length rest.bytes ≡ 0 → LaysNext rest rest out out
-lays_none rest out none = record {
-  piece = [];
-  laid = sym (append-nil out);
-  left = refl;
-  some = λ any. absurd (any (nil_from_length rest.bytes none));
-  fits = omega arith;
-  longest = refl;
-}
-
-pub lays_next : (pieces : List (List ℕ)) (next most : ℕ) (before after : List ℕ) → AllByRecursion (λ piece. 0 < length piece) pieces → AllByRecursion (λ piece. length piece ≤ most) pieces
-    → next < length pieces → after ≡ before ++ get_or pieces next []
-    → LaysNext (record { bytes = concat (drop next pieces); longest = most }) (record { bytes = concat (drop (next + 1) pieces); longest = most }) before after
-lays_next pieces next most before after some fit inside laid = record {
-  piece = get_or pieces next [];
-  laid = laid;
-  left = next_left pieces next inside;
-  some = λ any empty. omega (arith, ap length empty, next_some pieces next some inside);
-  fits = next_within most pieces next fit inside;
-  longest = refl;
-}

@@ -1,11 +1,11 @@
 -- Lengths as 64 bits tell them, and lengths of texts that are laid down piece by piece.
-use Rattle.std.proofs.Common.{◌≡◌, ◌<◌, ℕ, suc, ◌+◌, ◌-◌, List, [], ◌∷◌, ◌++◌, length, map, take, get_or, codes, refl, ap, ◌∙◌, arith, length-append}
+use Rattle.std.proofs.Common.{◌≡◌, ◌<◌, ◌≤◌, ◌==◌, ℕ, suc, ◌+◌, ◌-◌, Bool, true, false, cond, List, [], ◌∷◌, ◌++◌, length, map, take, get_or, codes, refl, ap, ◌∙◌, arith, length-append}
 use Rattle.std.specs.List.{concat, flat_map, join_with_byte, zip}
 use Rattle.std.proofs.lemmas.List.{take_more}
 use Rattle.reply_text.specs.Csv.{csv_line, row_line}
 use Rattle.reply_values.specs.Csv.{csv_value}
 use Rattle.cell_types.specs.Value.{CellValue}
-use Rattle.reply_text.specs.Json.{json_member, json_row}
+use Rattle.reply_text.specs.Json.{comma_before, json_member, json_row}
 use Rattle.reply_values.specs.Json.{json_text, json_value}
 use Rattle.reply_text.specs.Size.{member_name, row_frame}
 use Rattle.reply_values.specs.Size.{told}
@@ -41,7 +41,19 @@ pub item_after : {X : Type 0} (f : X → List ℕ) (xs : List X) (d : X) (start 
     → after ≡ told (size + n) → after ≡ told (start + length (flat_map f (take (place + 1) xs)))
 item_after f xs d start place size after n within so_far is after_is = omega (arith, one_longer f xs d place n within is, so_far, after_is)
 
+-- the same of numbers of bytes that items do not pass
+pub item_fits : {X : Type 0} (f : X → List ℕ) (xs : List X) (d : X) (start place size room after n : ℕ) → place < length xs → told (start + length (flat_map f (take place xs))) ≤ size → length (f (get_or xs place d)) ≡ n
+    → told n ≤ room → after ≡ told (size + room) → told (start + length (flat_map f (take (place + 1) xs))) ≤ after
+item_fits f xs d start place size room after n within so_far is fits after_is = omega (arith, one_longer f xs d place n within is, so_far, fits, after_is)
+
 -- ---- commas
+
+comma_few : (place : ℕ) → length (comma_before place) ≤ 1
+comma_few place = by (place == 0)
+  where
+    by : (t : Bool) → length {A = ℕ} (cond t [] (44 ∷ [])) ≤ 1
+    by true = omega arith
+    by false = omega arith
 
 pub length-join : (c : ℕ) (pieces : List (List ℕ)) → length (join_with_byte c pieces) ≡ length (concat pieces) + (length pieces - 1)
 length-join c [] = refl
@@ -99,11 +111,20 @@ pub object_told : (names : List (List ℕ)) (values : List CellValue) (before : 
 object_told names values before frame size wide frame_is is =
     omega (arith, length-append before (json_row names values), length-row names values wide, frame_is, is)
 
+pub object_fits : (names : List (List ℕ)) (values : List CellValue) (place frame room : ℕ) → length values ≡ length names → frame ≡ told (length (row_frame names))
+    → told (frame + 1 + length (flat_map json_value values)) ≤ room → told (length (comma_before place ++ json_row names values)) ≤ room
+object_fits names values place frame room wide frame_is fits =
+    let told_is = object_told names values (comma_before place) frame (told (frame + length (flat_map json_value values) + length (comma_before place))) wide frame_is refl in
+    omega (arith, told_is, comma_few place, fits)
+
 -- ---- lines
 
 pub length-line : (values : List CellValue) (width : ℕ) → length values ≡ width → length (row_line values) ≡ length (flat_map csv_value values) + (width - 1) + 2
 length-line values width e =
     omega (arith, length-append (join_with_byte 44 (map csv_value values)) (13 ∷ 10 ∷ []), length-joined csv_value values, e)
+
+pub line_fits : (values : List CellValue) (width room : ℕ) → length values ≡ width → told (width + 2 + length (flat_map csv_value values)) ≤ room → told (length (row_line values)) ≤ room
+line_fits values width room e fits = omega (arith, length-line values width e, fits)
 
 pub length-name_line : (names : List (List ℕ)) → length (csv_line names) ≡ length (concat names) + (length names - 1) + 2
 length-name_line names = omega (arith, length-append (join_with_byte 44 names) (13 ∷ 10 ∷ []), length-join 44 names)

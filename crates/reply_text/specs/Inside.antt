@@ -6,7 +6,7 @@ use Rattle.reply_text.specs.declared.pieces.Pieces.{Pieces}
 use Rattle.reply_text.specs.declared.pieces.Pieces.TheVariants.{Json, Csv, Bytes}
 use Rattle.reply_text.specs.Cursor.{BodyRest}
 use Rattle.reply_text.specs.Json.{AreHeads}
-use Rattle.reply_text.specs.Pieces.{csv_pieces, json_pieces}
+use Rattle.reply_text.specs.Pieces.{csv_pieces, json_opening, json_pieces}
 
 -- bytes are one piece, where there are any
 abbrev pub byte_pieces : List ℕ → List (List ℕ)
@@ -14,13 +14,13 @@ byte_pieces [] = []
 byte_pieces (b ∷ bytes) = (b ∷ bytes) ∷ []
 
 abbrev pub body_pieces : Pieces → List (List ℕ)
-body_pieces (Json rows heads) = json_pieces rows
+body_pieces (Json rows heads opening) = json_pieces rows
 body_pieces (Csv rows) = csv_pieces rows
 body_pieces (Bytes bytes) = byte_pieces bytes.items
 
--- the members of rows have their heads
+-- the members of rows have their heads, and what stands before the rows is there
 abbrev pub MayLay : Pieces → Type 0
-MayLay (Json rows heads) = AreHeads rows.names heads.items
+MayLay (Json rows heads opening) = AreHeads rows.names heads.items × (opening.items ≡ json_opening rows.count)
 MayLay (Csv rows) = Unit {0}
 MayLay (Bytes bytes) = Unit {0}
 

@@ -5,28 +5,21 @@ ghost use Rattle.std.specs.List.{join_with_byte};
 ghost use Rattle.reply_text.specs.Body.{entry_text, error_text, named_text, row_text, rows_text, service_text};
 ghost use Rattle.reply_values.specs.Size.{told};
 
-use crate::json_rows::{push_comma, push_opening, push_row as push_row_at, push_rows};
+use crate::json_rows::{push_comma, push_opening, push_row, push_rows};
 use query_rows::Rows;
 use reply_codes::Code;
 use reply_values::{push_number, push_text, push_text_member, text_member_size};
 use std::alloc::{AllocError, Global};
 use table_store::{Catalog, Table};
 
-/// Appends rows as a JSON object whose member `value` has an object for each row (OData 4.01 JSON Format, section 13).
-pub fn push_json(out: &mut Vec<u8>, rows: &Rows) -> Result<(), AllocError>
-    ensures { OnOk result (out.new.items ≡ out.old.items ++ rows_text rows.now) }
-{
-    push_opening(out, rows.count())?;
-    push_rows(out, rows, usize::MAX)?;
-    out.extend_from_slice(b"]}")
-}
-
 /// Rows as a JSON object whose member `value` has an object for each row (OData 4.01 JSON Format, section 13).
 pub fn json_body(alloc: Global, rows: &Rows) -> Result<Vec<u8>, AllocError>
     ensures { IfOk result (λ body. body.items ≡ rows_text rows.now) }
 {
     let mut body = Vec::new(alloc);
-    push_json(&mut body, rows)?;
+    push_opening(&mut body, rows.count())?;
+    push_rows(&mut body, rows, usize::MAX)?;
+    body.extend_from_slice(b"]}")?;
     Ok(body)
 }
 
@@ -47,14 +40,6 @@ pub fn short_json_body(
     }
     body.extend_from_slice(b"]}")?;
     Ok(Some(body))
-}
-
-/// Appends the one row as a JSON object (OData 4.01 JSON Format, section 6).
-pub fn push_row(out: &mut Vec<u8>, rows: &Rows) -> Result<(), AllocError>
-    requires { length rows.now.rows ≡ 1 }
-    ensures { OnOk result (out.new.items ≡ out.old.items ++ row_text rows.now) }
-{
-    push_row_at(out, rows, 0)
 }
 
 /// Returns the one row as a JSON object (OData 4.01 JSON Format, section 6).
@@ -122,24 +107,17 @@ pub fn service_body(alloc: Global, catalog: &Catalog) -> Result<Vec<u8>, AllocEr
     Ok(body)
 }
 
-/// Appends an error as a JSON object with its code and message (OData 4.01 JSON Format, section 21.1).
-pub fn push_error(out: &mut Vec<u8>, code: Code) -> Result<(), AllocError>
-    ensures { OnOk result (out.new.items ≡ out.old.items ++ error_text code) }
-{
-    out.extend_from_slice(b"{")?;
-    push_text(out, b"error")?;
-    out.extend_from_slice(b":{")?;
-    push_text_member(out, b"code", code.name().as_bytes())?;
-    out.extend_from_slice(b",")?;
-    push_text_member(out, b"message", code.message().as_bytes())?;
-    out.extend_from_slice(b"}}")
-}
-
 /// Returns an error as a JSON object with its code and message (OData 4.01 JSON Format, section 21.1).
 pub fn error_body(alloc: Global, code: Code) -> Result<Vec<u8>, AllocError>
     ensures { IfOk result (λ body. body.items ≡ error_text code) }
 {
     let mut body = Vec::new(alloc);
-    push_error(&mut body, code)?;
+    body.extend_from_slice(b"{")?;
+    push_text(&mut body, b"error")?;
+    body.extend_from_slice(b":{")?;
+    push_text_member(&mut body, b"code", code.name().as_bytes())?;
+    body.extend_from_slice(b",")?;
+    push_text_member(&mut body, b"message", code.message().as_bytes())?;
+    body.extend_from_slice(b"}}")?;
     Ok(body)
 }

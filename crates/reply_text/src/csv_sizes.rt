@@ -7,11 +7,10 @@ ghost use Rattle.reply_text.specs.RowSizes.{CountFirst, HaveCsvSizes};
 ghost use Rattle.reply_values.specs.Csv.{csv_value};
 ghost use Rattle.reply_values.specs.Size.{told};
 
-use crate::ahead::{none_seen, read_ahead};
 use crate::row_sizes::RowSizes;
 use crate::sizes::Sizes;
+use cell_texts::{csv_cell_size, none_seen, read_ahead};
 use query_rows::Rows;
-use reply_values::csv_value_size;
 use row_columns::Columns;
 
 /// Returns how many bytes names take.
@@ -26,7 +25,7 @@ fn names_size(names: &[String]) -> usize
 }
 
 /// Returns how many bytes the line of the names takes.
-fn name_line_size(names: &[String]) -> usize
+pub(crate) fn name_line_size(names: &[String]) -> usize
     ensures { result ≡ told (length (csv_line (map string_bytes names.now))) }
 {
     names_size(names)
@@ -43,13 +42,13 @@ fn values_size(columns: &Columns, row: usize) -> usize
     let values = columns.lent_row(row);
     let mut size = 0usize;
     for col in 0..columns.width() {
-        size = size.saturating_add(csv_value_size(&values.value(col)));
+        size = size.saturating_add(csv_cell_size(values.cell(col)));
     }
     size
 }
 
 /// Returns how many bytes the row with a number takes, with its commas and its line break.
-fn line_size(columns: &Columns, row: usize) -> usize
+pub(crate) fn line_size(columns: &Columns, row: usize) -> usize
     requires { row < length columns.now.rows }
     ensures { result ≡ told (length (row_line (get_or columns.now.rows row []))) }
 {

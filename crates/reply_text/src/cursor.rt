@@ -1,16 +1,15 @@
 //! Bodies that are written piece by piece, within room that was reserved.
-ghost use Rattle.std.specs.Prelude.{◌≡◌, ◌+◌, ◌==◌, ◌≤◌, IfOk, length, vec_capacity, vec_len};
+ghost use Rattle.std.specs.Prelude.{◌≡◌, ◌+◌, ◌++◌, ◌==◌, ◌<◌, ◌≤◌, IfOk, length, take};
 ghost use Rattle.std.specs.List.{concat};
 ghost use Rattle.reply_text.specs.Body.{row_text, rows_text};
 ghost use Rattle.reply_text.specs.Csv.{csv_text};
-ghost use Rattle.reply_text.specs.Cursor.{LaysNext};
 ghost use Rattle.reply_text.specs.Inside.{body_pieces, MayLay};
 ghost use Rattle.reply_text.specs.Pieces.{csv_pieces, json_pieces, longest_of, AreSizesOf};
 ghost use Rattle.reply_text.specs.RowSizes.{HaveCsvSizes, HaveJsonSizes};
 
 use crate::body::row_body;
 use crate::csv_sizes::csv_sizes;
-use crate::json_rows::heads_of;
+use crate::json_rows::{heads_of, push_opening};
 use crate::json_sizes::json_sizes;
 use crate::json_turns::counted_in_turns;
 use crate::pieces::Pieces;
@@ -85,9 +84,11 @@ impl BodyCursor {
         ensures longest { IfOk result (λ body. body.longest ≡ longest_of (json_pieces rows)) }
     {
         let heads = heads_of(alloc, rows.names())?;
+        let mut opening = Vec::new(alloc);
+        push_opening(&mut opening, rows.count())?;
         let counted = counted_in_turns(alloc, &rows, counted)?;
         let sizes = json_sizes(&rows, counted);
-        let body = of_pieces(Pieces::Json(rows, heads), sizes)?;
+        let body = of_pieces(Pieces::Json(rows, heads, opening), sizes)?;
         Ok(body)
     }
 
@@ -156,21 +157,23 @@ impl BodyCursor {
         self.longest
     }
 
-    /// Writes one more piece, within room that is there. It takes no memory.
-    pub fn push_next(&mut self, out: &mut Vec<u8>)
-        requires { vec_len out.old + self.old.longest ≤ vec_capacity out.old }
-        ensures next { LaysNext self.old self.new out.old.items out.new.items }
-        ensures room { vec_capacity out.old ≤ vec_capacity out.new }
+    /// Writes the next piece, within room that is there, and returns where it ends. It takes no memory.
+    pub fn put_next(&mut self, out: &mut [u8], at: usize) -> usize
+        requires { at + self.old.longest ≤ length out.old }
+        ensures long { length out.new ≡ length out.old }
+        ensures longest { self.new.longest ≡ self.old.longest }
+        ensures bytes { take result out.new ++ self.new.bytes ≡ take at out.old ++ self.old.bytes }
+        ensures end { result + length self.new.bytes ≡ at + length self.old.bytes }
+        ensures within { result ≤ at + self.old.longest }
+        ensures some { 0 < length self.old.bytes → at < result }
     {
         if self.size == 0 {
-            return;
+            return at;
         }
         self.seen = self.pieces.read_ahead(self.next, self.seen);
-        let before = out.len();
-        let Ok(()) = self.pieces.push(out, self.next) else {
-            return;
-        };
-        self.size -= out.len() - before;
+        let end = self.pieces.put(out, at, self.next);
+        self.size -= end - at;
         self.next += 1;
+        end
     }
 }

@@ -1,22 +1,21 @@
 //! Rows as JSON (RFC 8259), appended to one buffer.
-ghost use Rattle.std.specs.Prelude.{◌≡◌, ◌+◌, ◌++◌, [], ◌<◌, ◌≤◌, IfOk, OnErr, OnOk, get_or, length, map, string_bytes, take, vec_capacity, vec_len};
+ghost use Rattle.std.specs.Prelude.{◌≡◌, ◌+◌, ◌++◌, [], ◌<◌, ◌≤◌, IfOk, OnOk, get_or, length, map, string_bytes, take, vec_len};
 ghost use Rattle.std.specs.List.{join_with_byte};
-ghost use Rattle.cell_types.specs.Value.{value_view};
-ghost use Rattle.reply_text.specs.Json.{comma_before, json_count, json_members, json_row, member_head, AreHeads};
+ghost use Rattle.reply_text.specs.Json.{comma_before, json_count, json_row, member_head, AreHeads};
 ghost use Rattle.reply_text.specs.Pieces.{json_opening};
-ghost use Rattle.reply_values.specs.Json.{json_value};
+ghost use Rattle.reply_text.specs.Size.{row_frame};
+ghost use Rattle.reply_values.specs.Size.{told};
 
-use cell_types::Value;
+use crate::json_sizes::frame_size;
+use crate::put_rows::put_item;
+use cell_texts::json_cell_room;
 use query_rows::Rows;
-use reply_values::{push_json_value, push_number, push_text};
+use reply_values::{push_number, push_text};
 use std::alloc::{AllocError, Global};
 
 /// Appends a comma before every item but the first.
 pub fn push_comma(out: &mut Vec<u8>, place: usize) -> Result<(), AllocError>
-    ensures bytes { OnOk result (out.new.items ≡ out.old.items ++ comma_before place) }
-    ensures room { vec_capacity out.old ≤ vec_capacity out.new }
-    ensures full { OnErr result
-        (vec_capacity out.old < vec_len out.old + length (comma_before place)) }
+    ensures { OnOk result (out.new.items ≡ out.old.items ++ comma_before place) }
 {
     if place == 0 {
         Ok(())
@@ -47,87 +46,50 @@ pub fn heads_of(alloc: Global, names: &[String]) -> Result<Vec<Vec<u8>>, AllocEr
     Ok(heads)
 }
 
-/// Appends a member, by what stands before its value.
-fn push_member(out: &mut Vec<u8>, head: &[u8], value: &Value<'_>) -> Result<(), AllocError>
-    ensures bytes { OnOk result
-        (out.new.items ≡ out.old.items ++ (head.now ++ json_value (value_view value.now))) }
-    ensures room { vec_capacity out.old ≤ vec_capacity out.new }
-    ensures full { OnErr result (vec_capacity out.old
-        < vec_len out.old + length (head.now ++ json_value (value_view value.now))) }
-{
-    out.extend_from_slice(head)?;
-    push_json_value(out, value)
-}
-
-/// Appends the members of the row with a number, with a comma between each two.
-fn push_members(
-    out: &mut Vec<u8>,
-    rows: &Rows,
-    row: usize,
-    heads: &[Vec<u8>],
-) -> Result<(), AllocError>
+/// Returns a number of bytes that the row with a number does not pass, with the comma before it. No text is looked at.
+fn item_room(rows: &Rows, row: usize, frame: usize) -> usize
     requires row { row < length rows.now.rows }
-    requires heads { AreHeads rows.now.names heads.now }
-    ensures bytes { OnOk result (out.new.items ≡ out.old.items
-        ++ json_members rows.now.names (get_or rows.now.rows row [])) }
-    ensures room { vec_capacity out.old ≤ vec_capacity out.new }
-    ensures full { OnErr result (vec_capacity out.old
-        < vec_len out.old + length (json_members rows.now.names (get_or rows.now.rows row []))) }
+    requires frame { frame ≡ told (length (row_frame rows.now.names)) }
+    ensures { told (length
+        (comma_before row ++ json_row rows.now.names (get_or rows.now.rows row []))) ≤ result }
 {
     let values = rows.lent_row(row);
+    let mut room = frame.saturating_add(1);
     for col in 0..rows.width() {
-        push_member(out, heads[col].as_slice(), &values.value(col))?;
+        room = room.saturating_add(json_cell_room(values.cell(col)));
     }
-    Ok(())
+    room
 }
 
-/// Appends the row with a number.
-fn push_object(
-    out: &mut Vec<u8>,
-    rows: &Rows,
-    row: usize,
-    heads: &[Vec<u8>],
-) -> Result<(), AllocError>
-    requires row { row < length rows.now.rows }
-    requires heads { AreHeads rows.now.names heads.now }
-    ensures bytes { OnOk result (out.new.items ≡ out.old.items
-        ++ json_row rows.now.names (get_or rows.now.rows row [])) }
-    ensures room { vec_capacity out.old ≤ vec_capacity out.new }
-    ensures full { OnErr result (vec_capacity out.old
-        < vec_len out.old + length (json_row rows.now.names (get_or rows.now.rows row []))) }
-{
-    out.extend_from_slice(b"{")?;
-    push_members(out, rows, row, heads)?;
-    out.extend_from_slice(b"}")
-}
-
-/// Appends the row with a number, after its comma.
+/// Appends the row with a number, after its comma. A row has `frame` bytes other than its values.
 pub fn push_item(
     out: &mut Vec<u8>,
     rows: &Rows,
     row: usize,
     heads: &[Vec<u8>],
+    frame: usize,
 ) -> Result<(), AllocError>
     requires row { row < length rows.now.rows }
     requires heads { AreHeads rows.now.names heads.now }
-    ensures bytes { OnOk result (out.new.items ≡ out.old.items
+    requires frame { frame ≡ told (length (row_frame rows.now.names)) }
+    ensures { OnOk result (out.new.items ≡ out.old.items
         ++ (comma_before row ++ json_row rows.now.names (get_or rows.now.rows row []))) }
-    ensures room { vec_capacity out.old ≤ vec_capacity out.new }
-    ensures full { OnErr result (vec_capacity out.old < vec_len out.old
-        + length (comma_before row ++ json_row rows.now.names (get_or rows.now.rows row []))) }
 {
-    push_comma(out, row)?;
-    push_object(out, rows, row, heads)
+    let at = out.len();
+    out.resize(at.saturating_add(item_room(rows, row, frame)), 0)?;
+    let end = put_item(out.as_mut_slice(), at, rows, row, heads);
+    out.truncate(end);
+    Ok(())
 }
 
-/// Appends the row with a number.
-pub fn push_row(out: &mut Vec<u8>, rows: &Rows, row: usize) -> Result<(), AllocError>
-    requires { row < length rows.now.rows }
+/// Appends the first row.
+pub fn push_row(out: &mut Vec<u8>, rows: &Rows) -> Result<(), AllocError>
+    requires { 0 < length rows.now.rows }
     ensures { OnOk result (out.new.items ≡ out.old.items
-        ++ json_row rows.now.names (get_or rows.now.rows row [])) }
+        ++ json_row rows.now.names (get_or rows.now.rows 0 [])) }
 {
     let heads = heads_of(*out.allocator(), rows.names())?;
-    push_object(out, rows, row, heads.as_slice())
+    push_item(out, rows, 0, heads.as_slice(), frame_size(rows.names()))
 }
 
 /// Appends rows, with a comma between each two, until there are more than `most` bytes. Returns how many rows it appended.
@@ -138,21 +100,19 @@ pub fn push_rows(out: &mut Vec<u8>, rows: &Rows, most: usize) -> Result<usize, A
         → length rows.now.rows ≤ count) }
 {
     let heads = heads_of(*out.allocator(), rows.names())?;
+    let frame = frame_size(rows.names());
     for row in 0..rows.len() {
         if out.len() > most {
             return Ok(row);
         }
-        push_item(out, rows, row, heads.as_slice())?;
+        push_item(out, rows, row, heads.as_slice(), frame)?;
     }
     Ok(rows.len())
 }
 
 /// Appends the number of rows, if it was asked for.
 fn push_count(out: &mut Vec<u8>, count: Option<u64>) -> Result<(), AllocError>
-    ensures bytes { OnOk result (out.new.items ≡ out.old.items ++ json_count count) }
-    ensures room { vec_capacity out.old ≤ vec_capacity out.new }
-    ensures full { OnErr result
-        (vec_capacity out.old < vec_len out.old + length (json_count count)) }
+    ensures { OnOk result (out.new.items ≡ out.old.items ++ json_count count) }
 {
     if let Some(count) = count {
         push_text(out, b"@odata.count")?;
@@ -165,10 +125,7 @@ fn push_count(out: &mut Vec<u8>, count: Option<u64>) -> Result<(), AllocError>
 
 /// Appends what stands before the rows of an object whose member `value` has them.
 pub fn push_opening(out: &mut Vec<u8>, count: Option<u64>) -> Result<(), AllocError>
-    ensures bytes { OnOk result (out.new.items ≡ out.old.items ++ json_opening count) }
-    ensures room { vec_capacity out.old ≤ vec_capacity out.new }
-    ensures full { OnErr result
-        (vec_capacity out.old < vec_len out.old + length (json_opening count)) }
+    ensures { OnOk result (out.new.items ≡ out.old.items ++ json_opening count) }
 {
     out.extend_from_slice(b"{")?;
     push_count(out, count)?;

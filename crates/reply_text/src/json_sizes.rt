@@ -9,11 +9,11 @@ ghost use Rattle.reply_text.specs.Size.{member_name, row_frame};
 ghost use Rattle.reply_values.specs.Json.{json_value};
 ghost use Rattle.reply_values.specs.Size.{told};
 
-use crate::ahead::{none_seen, read_ahead};
 use crate::row_sizes::RowSizes;
 use crate::sizes::Sizes;
+use cell_texts::{json_cell_size, none_seen, read_ahead};
 use query_rows::Rows;
-use reply_values::{json_value_size, number_size, text_size};
+use reply_values::{number_size, text_size};
 use row_columns::Columns;
 
 /// Returns how many bytes names take, each with its colon.
@@ -48,7 +48,7 @@ fn object_size(columns: &Columns, row: usize, frame: usize) -> usize
     let values = columns.lent_row(row);
     let mut size = frame;
     for col in 0..columns.width() {
-        size = size.saturating_add(json_value_size(&values.value(col)));
+        size = size.saturating_add(json_cell_size(values.cell(col)));
     }
     size
 }

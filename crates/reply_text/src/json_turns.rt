@@ -5,10 +5,10 @@ ghost use Rattle.reply_text.specs.Pieces.{json_items};
 ghost use Rattle.reply_text.specs.RowSizes.{CountFirst, HaveJsonSizes};
 ghost use Rattle.row_columns.specs.Numbers.{numbers_from};
 
-use crate::ahead::none_seen;
 use crate::json_sizes::{frame_size, item_size};
 use crate::row_sizes::RowSizes;
 use crate::sizes::Sizes;
+use cell_texts::none_seen;
 use query_rows::Rows;
 use row_columns::Columns;
 use std::alloc::{AllocError, Global};

@@ -3,7 +3,6 @@
 //! What a connection is given are replies that wait to be taken, one after another, each written as it is taken.
 #![tactic(auto)]
 
-mod ahead;
 mod body;
 mod csv_rows;
 mod csv_sizes;
@@ -14,15 +13,13 @@ mod json_turns;
 mod laws;
 mod output;
 mod pieces;
+mod put_rows;
 mod reply;
 mod row_sizes;
 mod sizes;
 
-pub use body::{
-    error_body, json_body, number_body, push_error, push_json, push_row, row_body, service_body,
-    short_json_body,
-};
-pub use csv_rows::{csv_body, push_csv, short_csv_body};
+pub use body::{error_body, json_body, number_body, row_body, service_body, short_json_body};
+pub use csv_rows::{csv_body, short_csv_body};
 pub use cursor::BodyCursor;
 pub use laws::{
     counts_are_lengths, csv_reads_back, json_reads_back, pieces_are_bodies, tables_fit_csv,

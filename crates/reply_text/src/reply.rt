@@ -1,13 +1,12 @@
 //! A reply that waits to be taken.
-ghost use Rattle.std.specs.Prelude.{◌≡◌, ◌≢◌, ◌++◌, ◌==◌, ◌<◌, ◌≤◌, [], IfOk, drop, length, min, vec_capacity};
+ghost use Rattle.std.specs.Prelude.{◌≡◌, ◌≢◌, ◌+◌, ◌++◌, ◌==◌, ◌<◌, ◌≤◌, [], IfOk, drop, length, min, vec_capacity, vec_len};
 ghost use Rattle.reply_text.specs.Waiting.{IsFront};
 
 use crate::cursor::BodyCursor;
 use std::alloc::{AllocError, Global};
 use std::marker::Model;
 
-/// How many bytes of a body are written at once before they are taken, beside room for its longest row: so a long row here and there does not have the others
-/// taken one by one.
+/// How many bytes of a body are written at once, beside room for its longest row: so a long row here and there does not have the others taken one by one.
 const ROOM: usize = 65_536;
 
 /// The bytes that are written, of which the first `at` were taken, and the body that is not. It is seen as the bytes that wait. None of the body is left
@@ -35,12 +34,18 @@ fn fill(laid: &mut Vec<u8>, body: &mut BodyCursor)
     ensures bytes { laid.new.items ++ body.new.bytes ≡ laid.old.items ++ body.old.bytes }
     ensures longest { body.new.longest ≡ body.old.longest }
     ensures room { vec_capacity laid.old ≤ vec_capacity laid.new }
-    ensures some { body.old.longest ≤ vec_capacity laid.old → length laid.new.items ≡ 0
+    ensures all { vec_len laid.new + body.old.longest ≤ vec_capacity laid.old
         → body.new.bytes ≡ [] }
 {
-    while !body.is_empty() && body.longest() <= laid.capacity() - laid.len() {
-        body.push_next(laid);
+    let room = laid.capacity();
+    let mut end = laid.len();
+    let Ok(()) = laid.resize(room, 0) else {
+        return;
+    };
+    while !body.is_empty() && body.longest() <= room - end {
+        end = body.put_next(laid.as_mut_slice(), end);
     }
+    laid.truncate(end);
 }
 
 impl Reply {
@@ -81,11 +86,8 @@ impl Reply {
             mut body,
         } = self;
         laid.drain(..at);
-        laid.reserve(body.size())?;
-        while !body.is_empty() {
-            laid.reserve(body.longest())?;
-            body.push_next(&mut laid);
-        }
+        laid.reserve(body.size().saturating_add(body.longest()))?;
+        fill(&mut laid, &mut body);
         Ok(laid)
     }
 

@@ -1,10 +1,11 @@
 -- How many digits numbers have, four at a time.
-use Rattle.std.proofs.Common.{◌≡◌, ℕ, suc, ◌+◌, ◌/◌, ◌%◌, ◌^◌, ◌<◌, ◌≤◌, ◌==◌, Bool, true, false, cond, List, [], ◌∷◌, ◌++◌, codes, length, length-append, refl, ap, arith}
+use Rattle.std.proofs.Common.{◌≡◌, ℕ, suc, ◌+◌, ◌/◌, ◌%◌, ◌^◌, ◌<◌, ◌≤◌, ◌==◌, Bool, true, false, cond, List, [], ◌∷◌, ◌++◌, codes, length, length-append, refl, ap, ◌∙◌, arith}
 use Rattle.std.specs.List.{list_all}
-use Rattle.std.proofs.lemmas.Fmt.{length-decimal-le_wide}
+use Rattle.std.proofs.lemmas.Fmt.{decimal_digit, length-decimal-le_wide}
+use Rattle.cell_types.specs.Date.{four_digits as digits_of_four}
 use Rattle.cell_types.specs.Decimal.{fraction_text, is_zero, millionths_text, six_digits, without_last_zeros}
 use Rattle.std.specs.Fmt.{decimal}
-use Rattle.itoa.proofs.Decimal.{length_four, length_one, length_pair, length_two}
+use Rattle.itoa.proofs.Decimal.{decimal_four, decimal_pair, decimal_two, length_four, length_one, length_pair, length_two}
 
 pub three_digits : (n : ℕ) → 100 ≤ n → n < 1_000 → length (decimal n) ≡ 3
 three_digits n low high = omega (arith, length_pair n low (omega arith), length_one (n / 100) (omega arith))
@@ -26,6 +27,27 @@ pub sixteen_more : (n : ℕ) → 10_000_000_000_000_000 ≤ n → n < 2 ^ 64 →
 sixteen_more n low high =
     let front : n / 100_000_000 / 100_000_000 ≡ n / 10_000_000_000_000_000 = omega arith in
     omega (arith, eight_more n (omega arith) high, eight_more (n / 100_000_000) (omega arith) (omega arith), ap (λ m. length (decimal m)) front)
+
+-- ---- the digits of a number below 10,000
+
+pub digits_one : (n : ℕ) → n < 10 → decimal n ≡ (48 + n % 100 % 10) ∷ []
+digits_one n high = let same : n % 100 % 10 ≡ n = omega arith in rw same (decimal_digit n high)
+
+pub digits_two : (n : ℕ) → 10 ≤ n → n < 100 → decimal n ≡ (48 + n % 100 / 10) ∷ (48 + n % 100 % 10) ∷ []
+digits_two n low high = let same : n % 100 ≡ n = omega arith in rw same (decimal_two n low high)
+
+pub digits_three : (n : ℕ) → 100 ≤ n → n < 1_000 → decimal n ≡ (48 + n / 100 % 10) ∷ (48 + n % 100 / 10) ∷ (48 + n % 100 % 10) ∷ []
+digits_three n low high =
+    let same : n / 100 % 10 ≡ n / 100 = omega arith in
+    decimal_pair n low (omega arith) ∙ rw (decimal_digit (n / 100) (omega arith), same) refl
+
+pub digits_four : (n : ℕ) → 1_000 ≤ n → n < 10_000 → decimal n ≡ (48 + n / 100 / 10) ∷ (48 + n / 100 % 10) ∷ (48 + n % 100 / 10) ∷ (48 + n % 100 % 10) ∷ []
+digits_four n low high =
+    decimal_pair n (omega arith) (omega arith) ∙ rw (decimal_two (n / 100) (omega arith) (omega arith)) refl
+
+-- and those of another
+pub digits_more : (n : ℕ) → 10_000 ≤ n → n < 2 ^ 64 → decimal n ≡ decimal (n / 10_000) ++ digits_of_four (n % 10_000)
+digits_more n low high = decimal_four n low high
 
 -- ---- no number is long
 

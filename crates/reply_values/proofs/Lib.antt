@@ -6,3 +6,4 @@ pub mod DigitLemmas
 pub mod RunLemmas
 pub mod SizeLemmas
 pub mod RoomLemmas
+pub mod PutLemmas

@@ -1,7 +1,74 @@
--- Want of room.
-use Rattle.std.proofs.Common.{Result, Ok, Err, OnErr}
+-- Room, refused or enough.
+use Rattle.std.specs.Prelude.{FitsSigned}
+use Rattle.std.proofs.Common.{◌≡◌, ℕ, suc, ◌+◌, ◌*◌, ◌/◌, ◌%◌, ◌^◌, ◌<◌, ◌≤◌, ℤ, pos, negsuc, ◌≤ℤ◌, Bool, true, false, cond, eqb, nat_lt, List, [], ◌∷◌, ◌++◌, Result, Ok, Err, OnErr, length, length-append, arith}
+use Rattle.std.specs.Int.{w64}
+use Rattle.std.specs.Fmt.{decimal, signed_decimal}
+use Rattle.std.specs.List.{flat_map}
+use Rattle.std.proofs.lemmas.Fmt.{length-decimal-le_wide}
+use Rattle.std.proofs.lemmas.Int.{ints}
+use Rattle.reply_values.specs.Csv.{csv_field, doubled_byte, needs_quotes}
+use Rattle.reply_values.specs.Json.{json_escaped, json_text}
+use Rattle.reply_values.specs.Size.{told}
+use Rattle.cell_types.specs.Decimal.{decimal_text, fraction_text, millionths_text}
+use Rattle.reply_values.proofs.DigitLemmas.{short_fraction, short_number}
 
 -- what follows from a refusal
 pub when_refused : {T E : Type 0} (r : Result T E) (A B : Type 0) → (A → B) → OnErr r A → OnErr r B
 when_refused (Ok x) A B f h = tt
 when_refused (Err e) A B f h = f h
+
+-- ---- numbers of bytes that texts do not pass
+
+six : (t : Bool) (xs ys : List ℕ) → length xs ≤ 6 → length ys ≤ 6 → length (cond t xs ys) ≤ 6
+six true xs ys a b = a
+six false xs ys a b = b
+
+escaped_few : (b : ℕ) → length (json_escaped b) ≤ 6
+escaped_few b =
+    six (eqb b 34) _ _ (omega arith) (six (eqb b 92) _ _ (omega arith) (six (eqb b 8) _ _ (omega arith) (six (eqb b 12) _ _ (omega arith)
+    (six (eqb b 10) _ _ (omega arith) (six (eqb b 13) _ _ (omega arith) (six (eqb b 9) _ _ (omega arith) (six (nat_lt b 32) _ _ (omega arith) (omega arith))))))))
+
+text_few : (text : List ℕ) → length (flat_map json_escaped text) ≤ 6 * length text
+text_few [] = omega arith
+text_few (b ∷ text) = omega (arith, length-append (json_escaped b) (flat_map json_escaped text), escaped_few b, text_few text)
+
+pub text_fits : (text : List ℕ) (most_of_it room : ℕ) → most_of_it ≡ told (length text * 6) → room ≡ told (most_of_it + 2) → told (length (json_text text)) ≤ room
+text_fits text most_of_it room product sum = omega (arith, text_few text, length-append (flat_map json_escaped text) (34 ∷ []), product, sum)
+
+doubled_few : (text : List ℕ) → length (flat_map doubled_byte text) ≤ 2 * length text
+doubled_few [] = omega arith
+doubled_few (b ∷ text) = omega (arith, length-append (doubled_byte b) (flat_map doubled_byte text), two (eqb b 34), doubled_few text)
+  where
+    two : (t : Bool) → length (cond t (34 ∷ 34 ∷ []) (b ∷ [])) ≤ 2
+    two true = omega arith
+    two false = omega arith
+
+pub field_fits : (text : List ℕ) (most_of_it room : ℕ) → most_of_it ≡ told (length text * 2) → room ≡ told (most_of_it + 2) → told (length (csv_field text)) ≤ room
+field_fits text most_of_it room product sum =
+    omega (arith, by (needs_quotes text), product, sum)
+  where
+    by : (t : Bool) → length (cond t (34 ∷ (flat_map doubled_byte text ++ 34 ∷ [])) text) ≤ 2 * length text + 2
+    by true = omega (arith, doubled_few text, length-append (flat_map doubled_byte text) (34 ∷ []))
+    by false = omega arith
+
+pub signed_few : (z : ℤ) → FitsSigned w64 z → length (signed_decimal z) ≤ 21
+signed_few (pos n) fits = omega (arith, short_number n (omega (arith, ints, fits)))
+signed_few (negsuc n) fits = omega (arith, short_number (suc n) (omega (arith, ints, fits)))
+
+pub other_few : (z : ℤ) → FitsSigned w64 z → pos 0 ≤ℤ z → length (signed_decimal z) ≤ 20
+other_few (pos n) fits above = short_number n (omega (arith, ints, fits))
+other_few (negsuc n) fits above = absurd (omega (arith, ints, above))
+
+millionths_few : (n : ℕ) → n < 2 ^ 64 → length (millionths_text n) ≤ 21
+millionths_few n fits =
+    omega (arith, length-append (decimal (n / 1_000_000)) (fraction_text (n % 1_000_000)), length-decimal-le_wide 14 (n / 1_000_000) (omega arith) (omega (arith, fits)) (omega (arith, fits)), short_fraction (n % 1_000_000))
+
+pub decimal_few : (z : ℤ) → FitsSigned w64 z → length (decimal_text z) ≤ 22
+unfolding decimal_text
+decimal_few (pos n) fits = omega (arith, millionths_few n (omega (arith, ints, fits)))
+decimal_few (negsuc n) fits = omega (arith, millionths_few (suc n) (omega (arith, ints, fits)))
+
+pub other_decimal_few : (z : ℤ) → FitsSigned w64 z → pos 0 ≤ℤ z → length (decimal_text z) ≤ 21
+unfolding decimal_text
+other_decimal_few (pos n) fits above = millionths_few n (omega (arith, ints, fits))
+other_decimal_few (negsuc n) fits above = absurd (omega (arith, ints, above))

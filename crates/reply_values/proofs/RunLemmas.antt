@@ -1,7 +1,7 @@
 -- Texts that need no escape.
 use Rattle.std.proofs.Common.{◌≡◌, ℕ, ◌+◌, Bool, true, false, cond, not, List, [], ◌∷◌, ◌++◌, length, take, drop, unwrap_or, refl, sym, ap, ◌∙◌, arith, append_assoc, tests}
 use Rattle.std.specs.List.{flat_map, position, position_or_len}
-use Rattle.std.proofs.lemmas.List.{take-append-drop, append-nil, nil_from_length}
+use Rattle.std.proofs.lemmas.List.{take-append-drop, take_all, append-nil, nil_from_length}
 use Rattle.std.proofs.lemmas.List.Concat.{flat_map-append}
 use Rattle.reply_values.specs.Json.{json_escaped, needs_escape}
 use Rattle.reply_values.proofs.BlockLemmas.{place_is_first}
@@ -28,6 +28,11 @@ place_of_run bs = place_is_first needs_escape bs
 
 pub plain_run : (bs : List ℕ) → flat_map json_escaped (take (run_of bs) bs) ≡ take (run_of bs) bs
 plain_run bs = rw place_of_run (flat_map_plain bs)
+
+-- a text that is one run stands for itself
+pub all_plain : (bs : List ℕ) → run_of bs ≡ length bs → flat_map json_escaped bs ≡ bs
+all_plain bs whole =
+    let front : take (run_of bs) bs ≡ bs = take_all (run_of bs) bs (omega (arith, whole)) in rw front at (plain_run bs)
 
 pub run_and_rest : (bs : List ℕ) → flat_map json_escaped bs ≡ take (run_of bs) bs ++ flat_map json_escaped (drop (run_of bs) bs)
 run_and_rest bs =

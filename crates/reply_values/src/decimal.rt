@@ -1,6 +1,6 @@
 //! The texts of decimals, which JSON and CSV write alike.
 ghost use Rattle.std.specs.Prelude.{◌≡◌, ◌+◌, ◌++◌, ◌<◌, ◌≤◌, OnErr, OnOk, length, vec_capacity, vec_len};
-ghost use Rattle.cell_types.specs.Date.{two_digits as digits_of_two};
+ghost use Rattle.cell_types.specs.Date.{four_digits as digits_of_four, two_digits as digits_of_two};
 ghost use Rattle.cell_types.specs.Decimal.{decimal_text, fraction_text, millionths_text, six_digits as digits_of_six, without_last_zeros as without_last_zeros_of};
 
 use itoa::Buffer;
@@ -10,6 +10,7 @@ use std::alloc::AllocError;
 pub const ONE: u64 = 1_000_000;
 
 /// Returns a number in two digits.
+#[inline(always)]
 pub fn two_digits(number: u8) -> [u8; 2]
     requires { number < 100 }
     ensures { result ≡ digits_of_two number }
@@ -17,15 +18,25 @@ pub fn two_digits(number: u8) -> [u8; 2]
     [b'0' + number / 10, b'0' + number % 10]
 }
 
+/// Returns a number in four digits.
+#[inline(always)]
+pub fn four_digits(number: u64) -> [u8; 4]
+    requires { number < 10_000 }
+    ensures { result ≡ digits_of_four number }
+{
+    let [a, b] = two_digits((number / 100) as u8);
+    let [c, d] = two_digits((number % 100) as u8);
+    [a, b, c, d]
+}
+
 /// Returns a number in six digits.
+#[inline(always)]
 pub fn six_digits(number: u32) -> [u8; 6]
     requires { number < 1_000_000 }
     ensures { result ≡ digits_of_six number }
 {
-    let rest = number % 10_000;
     let [a, b] = two_digits((number / 10_000) as u8);
-    let [c, d] = two_digits((rest / 100) as u8);
-    let [e, f] = two_digits((rest % 100) as u8);
+    let [c, d, e, f] = four_digits(u64::from(number % 10_000));
     [a, b, c, d, e, f]
 }
 

@@ -15,7 +15,7 @@ use jiff_core::civil::Date;
 use std::alloc::AllocError;
 
 /// Returns a hexadecimal digit in lower case.
-fn hex_digit(n: u8) -> u8
+pub fn hex_digit(n: u8) -> u8
     requires { n < 16 }
     ensures { result ≡ hex_digit n }
 {
@@ -82,11 +82,13 @@ fn run_len_by<const N: usize>(text: &[u8]) -> usize
 }
 
 /// Returns how many bytes at the front stand for themselves.
+#[inline(always)]
 pub fn run_len(text: &[u8]) -> usize
     ensures { result ≡ unwrap_or (position needs_escape text.now) (length text.now) }
 {
     match text.len() {
-        0..8 => short_run_len(text),
+        0..4 => short_run_len(text),
+        4..8 => run_len_by::<4>(text),
         8..16 => run_len_by::<8>(text),
         _ => run_len_by::<16>(text),
     }

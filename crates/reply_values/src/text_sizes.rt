@@ -41,6 +41,7 @@ fn inside_size(text: &[u8]) -> usize
 }
 
 /// Returns how many bytes a text takes in JSON, in quotes.
+#[inline(always)]
 pub fn text_size(text: &[u8]) -> usize
     ensures { result ≡ told (length (json_text text.now)) }
 {
@@ -57,6 +58,7 @@ pub fn text_member_size(name: &[u8], text: &[u8]) -> usize
 }
 
 /// Returns how many bytes a value takes in JSON.
+#[inline(always)]
 pub fn json_value_size(value: &Value<'_>) -> usize
     ensures { result ≡ told (length (json_value (value_view value.now))) }
 {
@@ -85,7 +87,8 @@ fn doubled_size(text: &[u8]) -> usize
 }
 
 /// Returns how many bytes a text takes in CSV, in double quotes if it needs them.
-fn field_size(text: &[u8]) -> usize
+#[inline(always)]
+pub fn field_size(text: &[u8]) -> usize
     ensures { result ≡ told (length (csv_field text.now)) }
 {
     if needs_quotes(text) {
@@ -96,6 +99,7 @@ fn field_size(text: &[u8]) -> usize
 }
 
 /// Returns how many bytes a value takes in CSV; null takes none.
+#[inline(always)]
 pub fn csv_value_size(value: &Value<'_>) -> usize
     ensures { result ≡ told (length (csv_value (value_view value.now))) }
 {

@@ -6,3 +6,4 @@ pub mod CodeLemmas
 pub mod PackedLemmas
 pub mod RowLemmas
 pub mod KindLemmas
+pub mod CellLemmas

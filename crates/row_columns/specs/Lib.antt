@@ -9,4 +9,5 @@ pub mod Chunks
 pub mod Text
 pub mod Piece
 pub mod Store
+pub mod Cell
 pub mod Inside

@@ -1,8 +1,10 @@
 //! One row of columns.
 ghost use Rattle.std.specs.Prelude.{◌≡◌, ◌<◌, Some, length, slice_get};
 ghost use Rattle.cell_types.specs.Value.{value_view};
+ghost use Rattle.row_columns.specs.Cell.{cell_view};
 ghost use Rattle.row_columns.specs.Store.{end_of, stored_row, IsStoredWide};
 
+use crate::cell::Cell;
 use crate::store::Store;
 use cell_types::Value;
 use std::marker::Model;
@@ -44,5 +46,14 @@ impl<'a> LentRow<'a> {
         ensures { slice_get self.now col ≡ Some (value_view result) }
     {
         self.store.value(self.number, col)
+    }
+
+    /// Returns the cell in a column, counted from 0, as it is kept.
+    #[inline(always)]
+    pub fn cell(&self, col: usize) -> Cell<'a>
+        requires { col < length self.now }
+        ensures { slice_get self.now col ≡ Some (cell_view result) }
+    {
+        self.store.cell(self.number, col)
     }
 }

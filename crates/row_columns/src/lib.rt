@@ -2,6 +2,7 @@
 //! as values. Some of their rows, in any order, and some of their columns are columns again. A caller sees them as a list of rows.
 #![tactic(auto)]
 
+mod cell;
 mod columns;
 mod lent_row;
 mod piece;
@@ -11,6 +12,7 @@ mod turns;
 mod value_rows;
 mod values;
 
+pub use cell::Cell;
 pub use columns::Columns;
 pub use lent_row::LentRow;
 pub use values::{lent, owned};

@@ -2,11 +2,13 @@
 ghost use Rattle.std.specs.Prelude.{◌≡◌, ◌<◌, ℕ, [], IfOk, IfSome, get_or, length, map, option_map, slice_index_or};
 ghost use Rattle.std.specs.List.{All};
 ghost use Rattle.cell_types.specs.Value.{null, value_view};
+ghost use Rattle.row_columns.specs.Cell.{cell_view};
 ghost use Rattle.row_columns.specs.Codes.{HaveCodesAt};
 ghost use Rattle.row_columns.specs.Picked.{values_at};
 ghost use Rattle.row_columns.specs.Piece.{piece_at, piece_row};
 ghost use Rattle.row_columns.specs.Text.{text_of_cell};
 
+use crate::cell::{Cell, cell_in};
 use block_summary::PackedColumn;
 use cell_types::Value;
 use std::alloc::{AllocError, Global};
@@ -60,6 +62,15 @@ impl Piece {
         ensures { value_view result ≡ slice_index_or (piece_row self.now row) col null }
     {
         self.columns[col].value(row)
+    }
+
+    /// Returns the cell of a row and a column, as it is kept; null past the rows.
+    #[inline(always)]
+    pub(crate) fn cell(&self, row: usize, col: usize) -> Cell<'_>
+        requires { col < length self.now }
+        ensures { cell_view result ≡ slice_index_or (piece_row self.now row) col null }
+    {
+        cell_in(&self.columns[col], row)
     }
 
     /// Returns the text of a row and a column, or `None` if the value is null, or no text, and past the rows.

@@ -4,6 +4,7 @@ ghost use Rattle.std.specs.List.{All};
 ghost use Rattle.block_summary.specs.Ranges.{column_of};
 ghost use Rattle.cell_types.specs.Column.{column_view};
 ghost use Rattle.cell_types.specs.Value.{null, value_view};
+ghost use Rattle.row_columns.specs.Cell.{cell_view};
 ghost use Rattle.row_columns.specs.Codes.{HaveCodes};
 ghost use Rattle.row_columns.specs.Kinds.{kinds_of};
 ghost use Rattle.row_columns.specs.Numbers.{numbers_from};
@@ -12,6 +13,7 @@ ghost use Rattle.row_columns.specs.Piece.{piece_at};
 ghost use Rattle.row_columns.specs.Store.{end_of, kind_of_type, stored_kinds, stored_row, IsPicked, IsStoredWide, HasTakenRows};
 ghost use Rattle.row_columns.specs.Text.{text_of_cell};
 
+use crate::cell::Cell;
 use crate::piece::Piece;
 use crate::value_rows::{rows_picked, rows_taken, text_of};
 use crate::values::lent;
@@ -132,6 +134,20 @@ impl Store {
         match self {
             Store::Blocks(_, pieces) => pieces[number / BLOCK_ROWS].value(number % BLOCK_ROWS, col),
             Store::Values(_, rows) => lent(&rows[number][col]),
+        }
+    }
+
+    /// Returns the cell of the row with a number, as it is kept.
+    #[inline(always)]
+    pub(crate) fn cell(&self, number: usize, col: usize) -> Cell<'_>
+        requires wide { IsStoredWide self.now }
+        requires number { number < end_of self.now }
+        requires col { col < length (stored_kinds self.now) }
+        ensures { cell_view result ≡ slice_index_or (stored_row self.now number) col null }
+    {
+        match self {
+            Store::Blocks(_, pieces) => pieces[number / BLOCK_ROWS].cell(number % BLOCK_ROWS, col),
+            Store::Values(_, rows) => Cell::Value(&rows[number][col]),
         }
     }
 

@@ -8,4 +8,4 @@ pub loop-place-preserved : goal.loop-place-preserved
 loop-place-preserved c =
     let name : TableOf → List ℕ = λ table. table.schema.name in
     row_more entry_text name c.args.tables.now c.index-tables-place.result _ _ _ _ _ c.loop-place.invariant c.loop-place-test.true c.index-tables-place.is
-    c.in_ok-push_comma.ensures.bytes (rw (c.as_bytes.ensures.value, c.name.ensures) at c.in_ok-push_entry.ensures)
+    c.in_ok-push_comma.ensures (rw (c.as_bytes.ensures.value, c.name.ensures) at c.in_ok-push_entry.ensures)

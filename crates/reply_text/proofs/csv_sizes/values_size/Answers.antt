@@ -1,6 +1,6 @@
 use Rattle.std.proofs.Common.{[], get_or, length, ap, ◌∙◌, arith, take_all}
 use Rattle.std.specs.List.{flat_map}
-use Rattle.cell_types.specs.Value.{value_view}
+use Rattle.row_columns.specs.Cell.{cell_view}
 use Rattle.reply_values.specs.Csv.{csv_value}
 use Rattle.reply_values.specs.Size.{told}
 use Rattle.reply_text.proofs.MemberLemmas.{value_in_lent}
@@ -10,10 +10,10 @@ use Rattle.reply_text.proofs.csv_sizes.values_size.Goals as goal
 pub loop-col-preserved : goal.loop-col-preserved
 loop-col-preserved c =
     let rows = c.args.columns.now.rows in
-    let value = value_view c.value.result in
+    let value = cell_view c.cell.result in
     let wide = c.rows_are_wide.ensures c.args.row [] c.requires in
     item_told csv_value (get_or rows c.args.row []) value c.loop-col.col c.loop-col.size _ (length (csv_value value)) (omega (arith, c.loop-col-test.true, c.width-col-end.ensures, wide)) c.loop-col.invariant
-    (ap (λ v. length (csv_value v)) (value_in_lent rows c.args.row c.loop-col.col c.lent_row-values.result value value c.requires c.lent_row-values.ensures.row c.value.ensures)) (told_one _ _ _ _ c.csv_value_size.ensures c.saturating_add-size.ensures)
+    (ap (λ v. length (csv_value v)) (value_in_lent rows c.args.row c.loop-col.col c.lent_row-values.result value value c.requires c.lent_row-values.ensures.row c.cell.ensures)) (told_one _ _ _ _ c.csv_cell_size.ensures c.saturating_add-size.ensures)
 
 pub returns : goal.returns
 returns c =

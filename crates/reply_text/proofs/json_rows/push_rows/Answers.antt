@@ -9,4 +9,4 @@ loop-row-preserved c =
     let rows = c.args.rows.now in
     let within : c.loop-row.row < length rows.rows = omega (arith, c.loop-row-test.true, c.len-row-end.ensures) in
     piece_joined (json_row rows.names) rows.rows (get_or rows.rows c.loop-row.row []) _ _ _ _ c.loop-row.invariant within
-    (get_or_default rows.rows c.loop-row.row [] (get_or rows.rows c.loop-row.row []) within) c.in_ok-push_item.ensures.bytes
+    (get_or_default rows.rows c.loop-row.row [] (get_or rows.rows c.loop-row.row []) within) c.in_ok-push_item.ensures

@@ -1,0 +1,13 @@
+//! The texts of cells as they are kept, in JSON (RFC 8259; OData 4.01 JSON Format) and in CSV (RFC 4180), each written into room that is there,
+//! how many bytes each takes, and how many it does not pass. Cells of rows that stand far from one another are read before they are needed.
+#![tactic(auto)]
+
+mod ahead;
+mod put;
+mod rooms;
+mod sizes;
+
+pub use ahead::{none_seen, read_ahead};
+pub use put::{put_csv_cell, put_json_cell};
+pub use rooms::{csv_cell_room, json_cell_room};
+pub use sizes::{csv_cell_size, json_cell_size};

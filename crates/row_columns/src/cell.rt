@@ -1,0 +1,113 @@
+//! Cells, as they are kept.
+ghost use Rattle.std.specs.Prelude.{◌≡◌, slice_index_or};
+ghost use Rattle.block_summary.specs.Types.{cell_of};
+ghost use Rattle.block_summary.specs.declared.number.PackedType.TheVariants as types;
+ghost use Rattle.cell_types.specs.Value.{null, value_view};
+ghost use Rattle.row_columns.specs.Cell.{cell_view, IsDayOrNull};
+
+use block_summary::{PackedColumn, PackedType};
+use cell_types::Value;
+use jiff_core::civil::Date;
+use text_columns::TextColumn;
+use typed_columns::BlockCells;
+
+/// A cell, as it is kept. It is as small as what it lends, so that a row is read without a [`Value`] between.
+#[derive(Clone, Copy, Drop)]
+pub enum Cell<'a> {
+    Null,
+    Integer(i64),
+    /// In millionths.
+    Decimal(i64),
+    Boolean(bool),
+    Date(Date),
+    Text(&'a str),
+    /// A value of any kind, of a row that is kept as values.
+    Value(&'a Value<'static>),
+}
+
+/// Returns the cell of a whole number, or of null.
+#[inline(always)]
+fn integer_cell(number: Option<i64>) -> Cell<'static>
+    ensures { cell_view result ≡ cell_of types.Integer number }
+{
+    match number {
+        Some(number) => Cell::Integer(number),
+        None => Cell::Null,
+    }
+}
+
+/// Returns the cell of a number of millionths, or of null.
+#[inline(always)]
+fn decimal_cell(number: Option<i64>) -> Cell<'static>
+    ensures { cell_view result ≡ cell_of types.Decimal number }
+{
+    match number {
+        Some(number) => Cell::Decimal(number),
+        None => Cell::Null,
+    }
+}
+
+/// Returns the cell of the number of a boolean, or of null.
+#[inline(always)]
+fn boolean_cell(number: Option<i64>) -> Cell<'static>
+    ensures { cell_view result ≡ cell_of types.Boolean number }
+{
+    match number {
+        Some(number) => Cell::Boolean(number == 1),
+        None => Cell::Null,
+    }
+}
+
+/// Returns the cell of a date, or of null.
+#[inline(always)]
+fn date_cell(value: &Value<'_>) -> Cell<'static>
+    requires { IsDayOrNull (value_view value.now) }
+    ensures { cell_view result ≡ value_view value.now }
+{
+    match value {
+        Value::Date(date) => Cell::Date(*date),
+        _ => Cell::Null,
+    }
+}
+
+/// Returns the cell of a row of numbers; null past the end.
+#[inline(always)]
+#[tactic(auto, using(crate::proofs::CellLemmas::typed_at))]
+fn number_cell(numbers: &PackedColumn, row: usize) -> Cell<'static>
+    ensures { cell_view result ≡ slice_index_or numbers.now row null }
+{
+    match numbers.packed_type() {
+        PackedType::Integer => integer_cell(numbers.number(row)),
+        PackedType::Decimal => decimal_cell(numbers.number(row)),
+        PackedType::Boolean => boolean_cell(numbers.number(row)),
+        PackedType::Date => date_cell(&numbers.value(row)),
+    }
+}
+
+/// Returns the cell of a row of texts; null past the end.
+#[inline(always)]
+fn text_cell<'t>(texts: &TextColumn<'t>, row: usize) -> Cell<'t>
+    ensures { cell_view result ≡ slice_index_or texts.now row null }
+{
+    if row >= texts.len() {
+        return Cell::Null;
+    }
+    match texts.text(row) {
+        Some(text) => Cell::Text(text),
+        None => Cell::Null,
+    }
+}
+
+/// Returns the cell of a row of a block; null past the end.
+#[inline(always)]
+pub(crate) fn cell_in(cells: &BlockCells, row: usize) -> Cell<'_>
+    ensures { cell_view result ≡ slice_index_or cells.now.cells row null }
+{
+    if let Some(numbers) = cells.packed() {
+        return number_cell(numbers, row);
+    }
+    match cells.texts() {
+        Some(texts) => text_cell(&texts, row),
+        None => Cell::Null,
+    }
+}
