@@ -1,6 +1,7 @@
 //! The conversion of a folder's files into a new folder that is served.
 use crate::metadata::{fit_schema, metadata_of};
 use crate::places::{table_of, tables_in};
+use crate::progress::show;
 use crate::publish::Half;
 use crate::rules::{ColumnRule, rules_in, rules_of};
 use crate::warnings::warnings_of;
@@ -74,6 +75,19 @@ fn file_alone(rt: &HostRuntime, name: &str, bytes: Vec<u8>) -> io::Result<Vec<Na
     Ok(files)
 }
 
+/// Returns what a draft guesses of a converted file: of `sample` in its place, if there is one.
+fn guess_converted(
+    rt: &HostRuntime,
+    name: &str,
+    files: &[NamedFile],
+    sample: Option<Vec<u8>>,
+) -> io::Result<Guess> {
+    match sample {
+        Some(bytes) => guess_file(rt, file_alone(rt, name, bytes)?.as_slice()),
+        None => guess_file(rt, files),
+    }
+}
+
 /// Adds a file that is converted, under the name that it gets.
 fn add_converted(
     rt: &HostRuntime,
@@ -92,11 +106,9 @@ fn add_converted(
         guess,
         ..
     } = converted;
+    show(rt, file, bytes.len(), "drafting the metadata")?;
     let files = file_alone(rt, name, bytes)?;
-    let mut guess = match guess {
-        Some(bytes) => guess_file(rt, file_alone(rt, name, bytes)?.as_slice())?,
-        None => guess_file(rt, files.as_slice())?,
-    };
+    let mut guess = guess_converted(rt, name, files.as_slice(), guess)?;
     if let Some(schema) = guess.schemas.first_mut() {
         fit_schema(rt.alloc(), schema, columns.as_slice())?;
     }
@@ -126,7 +138,10 @@ fn convert_file(
 ) -> io::Result<()> {
     let (file, name) = names;
     let path = format!(in rt.alloc(); "{}/{file}", asks.folder)?;
+    let length = std::fs::metadata(rt, path.as_str())?.len() as usize;
+    show(rt, file, length, "reading")?;
     let bytes = read_plain(rt.alloc(), rt, path.as_str(), true)?;
+    show(rt, file, length, "converting")?;
     let rules = rules_of(rt.alloc(), rules, table_of(name))?;
     let asked = asks_of(asks, rules.as_slice());
     match convert(rt.alloc(), &asked, bytes) {
@@ -191,7 +206,13 @@ fn accepted_metadata(rt: &HostRuntime, folder: Folder) -> io::Result<Option<Vec<
 
 /// Writes what is converted into a new folder, and returns the exit status. The files are written first, since the check of the metadata consumes them.
 fn write_folder(rt: &HostRuntime, asks: &Conversion<'_>, folder: Folder) -> io::Result<u8> {
+    let mut bytes = 0usize;
+    for file in folder.files.as_slice() {
+        bytes = bytes.saturating_add(file.bytes.len());
+    }
+    show(rt, asks.out, bytes, "writing")?;
     let half = Half::of_files(rt, asks.out, folder.files.as_slice())?;
+    show(rt, asks.out, bytes, "checking")?;
     match accepted_metadata(rt, folder) {
         Ok(Some(text)) => half.publish(rt, asks.out, text.as_slice())?,
         Ok(None) => {

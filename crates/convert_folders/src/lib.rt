@@ -5,6 +5,7 @@
 mod convert;
 mod metadata;
 mod places;
+mod progress;
 mod publish;
 mod rules;
 mod warnings;

@@ -13,7 +13,7 @@ use Rattle.value_forms.specs.declared.date.DayForm.{DayForm}
 use Rattle.value_forms.specs.declared.unit.Unit.{Unit}
 use Rattle.value_forms.specs.Dates.{form_day}
 use Rattle.value_forms.specs.Numbers.{marked_number}
-use Rattle.value_forms.specs.Rounding.{is_finer}
+use Rattle.value_forms.specs.Rounding.{in_six_places, is_finer}
 use Rattle.value_forms.specs.Scale.{exponent_number, percent_number}
 use Rattle.value_forms.specs.Times.{ends_in_time, is_between, is_midnight}
 use Rattle.value_forms.specs.Truths.{word_truth}
@@ -53,14 +53,14 @@ abbrev pub alone_made : List ℕ → CellMade
 alone_made text = record { text = text; time = None; difference = 0 }
 
 -- a number is rounded if it has more than six places, and is left as it is if not
-abbrev pub IsRounded : Bool → Option CellMade → Option CellMade → Type 0
-IsRounded true kept made = IsSomeAnd made (λ made. made.time ≡ None)
-IsRounded false kept made = made ≡ kept
+abbrev pub IsRounded : Bool → List ℕ → Option CellMade → Option CellMade → Type 0
+IsRounded true number kept made = IsSomeAnd made (λ made. (made.text ≡ in_six_places number) × (made.time ≡ None))
+IsRounded false number kept made = made ≡ kept
 
 -- what is made of a number, which is rounded if that is asked
 abbrev pub IsNumberMade : Bool → Option (List ℕ) → Option CellMade → Type 0
 IsNumberMade rounds None made = made ≡ None
-IsNumberMade rounds (Some number) made = IsRounded (rounds && is_finer number) (Some (alone_made number)) made
+IsNumberMade rounds (Some number) made = IsRounded (rounds && is_finer number) number (Some (alone_made number)) made
 
 -- a day with a time of day, which is kept or must be midnight
 abbrev pub timed : Bool → List ℕ → List ℕ → CellMade
@@ -79,7 +79,7 @@ truth_word false = codes "false"
 abbrev pub IsMadeBy : Form → List ℕ → Option CellMade → Type 0
 IsMadeBy Same text made = made ≡ None
 IsMadeBy (Number form) text made = IsNumberMade form.rounds (form_number form text) made
-IsMadeBy Round text made = IsRounded (is_finer text) None made
+IsMadeBy Round text made = IsRounded (is_finer text) text None made
 IsMadeBy (Day form) text made = made ≡ option_map alone_made (form_day form text)
 IsMadeBy (DayAndTime form) text made = made ≡ timed_day true form text
 IsMadeBy (Midnight form) text made = made ≡ timed_day false form text

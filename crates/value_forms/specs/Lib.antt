@@ -1,5 +1,6 @@
 pub mod Dates
 pub mod Forms
+pub mod Laws
 pub mod Numbers
 pub mod Rounding
 pub mod Scale

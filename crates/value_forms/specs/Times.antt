@@ -12,11 +12,15 @@ abbrev pub is_minute : ℕ → ℕ → ℕ → ℕ → Bool
 is_minute h i m n =
     are_two_digits h i && are_two_digits m n && nat_lt m 54 && (nat_lt h 50 || h == 50 && nat_lt i 52)
 
+-- below 60
+abbrev pub is_second : ℕ → ℕ → Bool
+is_second tens ones = are_two_digits tens ones && nat_lt tens 54
+
 -- two digits, and perhaps a point and more digits
 abbrev pub are_seconds : List ℕ → Bool
-are_seconds (tens ∷ (ones ∷ [])) = are_two_digits tens ones
+are_seconds (tens ∷ (ones ∷ [])) = is_second tens ones
 are_seconds (tens ∷ (ones ∷ (point ∷ (first ∷ rest)))) =
-    point == 46 && are_two_digits tens ones && list_all is_ascii_digit (first ∷ rest)
+    point == 46 && is_second tens ones && list_all is_ascii_digit (first ∷ rest)
 are_seconds _ = false
 
 -- `HH:mm`, `HH:mm:ss` or with a fraction of seconds

@@ -1,5 +1,5 @@
 -- Texts with their values, worked out by hand.
-use Rattle.std.specs.Prelude.{◌≡◌, Some, None, true, false, Ok, codes, pos}
+use Rattle.std.specs.Prelude.{◌≡◌, Some, None, true, false, Ok, codes, negsuc, pos}
 use Rattle.cell_types.specs.Date.{date_of}
 use Rattle.cell_types.specs.Decimal.{decimal_of}
 use Rattle.cell_types.specs.Value.{date, decimal}
@@ -9,7 +9,7 @@ use Rattle.value_forms.specs.declared.number.Marks.{Marks}
 use Rattle.value_forms.specs.Dates.{form_day}
 use Rattle.value_forms.specs.Forms.{alone_made, timed_day}
 use Rattle.value_forms.specs.Numbers.{marked_number}
-use Rattle.value_forms.specs.Rounding.{is_finer}
+use Rattle.value_forms.specs.Rounding.{is_finer, nearest_millionths}
 use Rattle.value_forms.specs.Scale.{exponent_number, moved, percent_number}
 use Rattle.value_forms.specs.Truths.{word_truth}
 use Rattle.value_forms.specs.Units.{after_unit, before_unit}
@@ -58,6 +58,13 @@ pub record WorkedMarks : Type 0 where
   -- seven places are too fine, unless the last one is a zero
   pub fine : is_finer (codes "0.1234567") ≡ true
   pub six : is_finer (codes "0.1234560") ≡ false
+  -- millionths: the nearest, and to the even one of two that are as near
+  pub nearest : nearest_millionths (codes "1.2345678") ≡ pos 1_234_568
+  pub carried : nearest_millionths (codes "9.9999996") ≡ pos 10_000_000
+  pub nearest_negative : nearest_millionths (codes "-7.00000051") ≡ negsuc 7_000_000
+  pub half_above : nearest_millionths (codes "0.0000015") ≡ pos 2
+  pub half_below : nearest_millionths (codes "0.0000025") ≡ pos 2
+  pub to_nothing : nearest_millionths (codes "-0.0000004") ≡ pos 0
 
 pub record WorkedDates : Type 0 where
   -- `01/02/2024` is 1 February with the day first, and 2 January with the month first
@@ -78,6 +85,9 @@ pub record WorkedDates : Type 0 where
   pub midnight : timed_day false (record { order = DayFirst; separator = 46; is_named = false }) (codes "01.02.2024 00:00:00")
       ≡ Some (alone_made (codes "2024-02-01"))
   pub no_midnight : timed_day false (record { order = DayFirst; separator = 46; is_named = false }) (codes "01.02.2024 00:01") ≡ None
+  pub last_second : timed_day true (record { order = DayFirst; separator = 46; is_named = false }) (codes "01.02.2024 23:59:59.9")
+      ≡ Some (record { text = codes "2024-02-01"; time = Some (codes "23:59:59.9"); difference = 0 })
+  pub no_second : timed_day true (record { order = DayFirst; separator = 46; is_named = false }) (codes "01.02.2024 23:59:60") ≡ None
   pub no_hour : timed_day true (record { order = DayFirst; separator = 46; is_named = false }) (codes "01.02.2024 24:00") ≡ None
 
 pub record WorkedTruths : Type 0 where

@@ -28,6 +28,13 @@ pub(crate) fn without_sign(text: &[u8]) -> &[u8]
     }
 }
 
+/// Returns true if a text begins with a minus.
+pub(crate) fn is_negative(text: &[u8]) -> bool
+    ensures { result ≡ starts_with_minus text.now }
+{
+    text.starts_with(b"-")
+}
+
 /// Returns true if each byte is a digit.
 pub(crate) fn are_digits(text: &[u8]) -> bool
     ensures { result ≡ list_all is_ascii_digit text.now }

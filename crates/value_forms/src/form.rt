@@ -122,8 +122,8 @@ fn form_number(
 
 /// Returns a number in six decimal places if it has more, and else `kept`.
 fn round_made(alloc: Global, number: &[u8], kept: Option<Made>) -> Result<Option<Made>, AllocError>
-    ensures { IfOk result (λ made. IsRounded (is_finer number.now) (option_map cell_made kept)
-        (option_map cell_made made)) }
+    ensures { IfOk result (λ made. IsRounded (is_finer number.now) number.now
+        (option_map cell_made kept) (option_map cell_made made)) }
 {
     match rounded_text(alloc, number)? {
         Some(rounded) => Ok(Some(Made {

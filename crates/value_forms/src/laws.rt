@@ -1,4 +1,5 @@
 //! The laws of the definitions of forms: each function is a theorem, and does nothing.
+ghost use Rattle.value_forms.specs.Laws.{RoundsHalfToEven};
 ghost use Rattle.value_forms.specs.Worked.{WorkedDates, WorkedMarks, WorkedTruths};
 
 /// States texts of numbers with their values, worked out by hand.
@@ -14,4 +15,9 @@ pub fn worked_dates()
 /// States words of true and false, worked out by hand.
 pub fn worked_truths()
     ensures { WorkedTruths }
+{}
+
+/// States that a number is rounded to the nearest one, and half of one to the even one (ISO 80000-1, annex B, rule A).
+pub fn rounds_half_to_even()
+    ensures { RoundsHalfToEven }
 {}

@@ -16,7 +16,7 @@ mod unit;
 
 pub use date::{DayForm, Order, day_text};
 pub use form::{Form, Made, NumberForm, Scale, made_by};
-pub use laws::{worked_dates, worked_numbers, worked_truths};
+pub use laws::{rounds_half_to_even, worked_dates, worked_numbers, worked_truths};
 pub use number::{Marks, number_text};
 pub use rounding::{Rounded, rounded_text};
 pub use scale::{exponent_text, percent_text};

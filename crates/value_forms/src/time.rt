@@ -1,7 +1,7 @@
 //! Days with a time of day after them.
 ghost use Rattle.std.specs.Prelude.{◌≡◌, ◌≤◌, IfSome, is_some, length};
 ghost use Rattle.std.specs.List.{after_last, before_last};
-ghost use Rattle.value_forms.specs.Times.{are_seconds, are_two_digits, ends_in_time, is_between, is_clock, is_midnight, is_minute, is_time, last_part_len};
+ghost use Rattle.value_forms.specs.Times.{are_seconds, are_two_digits, ends_in_time, is_between, is_clock, is_midnight, is_minute, is_second, is_time, last_part_len};
 
 use crate::decimal::{are_digits, before_end};
 
@@ -12,14 +12,21 @@ fn are_two_digits(tens: u8, ones: u8) -> bool
     tens.is_ascii_digit() && ones.is_ascii_digit()
 }
 
-/// Returns true if a text is a number of seconds, or with a fraction.
+/// Returns true if two bytes are the digits of a number below 60.
+fn is_second(tens: u8, ones: u8) -> bool
+    ensures { result ≡ is_second tens ones }
+{
+    are_two_digits(tens, ones) && tens < b'6'
+}
+
+/// Returns true if a text is a number of seconds below 60, or with a fraction.
 fn are_seconds(text: &[u8]) -> bool
     ensures { result ≡ are_seconds text.now }
 {
     match text {
-        [tens, ones] => are_two_digits(*tens, *ones),
+        [tens, ones] => is_second(*tens, *ones),
         [tens, ones, b'.', rest @ ..] => {
-            !rest.is_empty() && are_two_digits(*tens, *ones) && are_digits(rest)
+            !rest.is_empty() && is_second(*tens, *ones) && are_digits(rest)
         }
         _ => false,
     }

@@ -21,5 +21,7 @@ returns c = record {
   time = refl;
   midnight = refl;
   no_midnight = refl;
+  last_second = refl;
+  no_second = refl;
   no_hour = refl;
 }

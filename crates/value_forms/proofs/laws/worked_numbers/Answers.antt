@@ -1,11 +1,11 @@
 use Rattle.std.proofs.Common.{refl}
 use Rattle.cell_types.specs.Decimal.{decimal_of}
-use Rattle.value_forms.specs.Rounding.{is_finer}
+use Rattle.value_forms.specs.Rounding.{is_finer, nearest_even}
 use Rattle.value_forms.specs.Scale.{exponent_number, moved, percent_number}
 use Rattle.value_forms.proofs.laws.worked_numbers.Goals as goal
 
 pub returns : goal.returns
-unfolding decimal_of exponent_number is_finer moved percent_number
+unfolding decimal_of exponent_number is_finer moved nearest_even percent_number
 returns c = record {
   comma = refl;
   comma_value = refl;
@@ -33,4 +33,10 @@ returns c = record {
   no_unit = refl;
   fine = refl;
   six = refl;
+  nearest = refl;
+  carried = refl;
+  nearest_negative = refl;
+  half_above = refl;
+  half_below = refl;
+  to_nothing = refl;
 }
